@@ -1,0 +1,303 @@
+-- The judgement does not look at annotations: to judge a tree with other annotations is to judge it and change the annotations of the verdict.
+use Prim.Native.Nat.{ℕ, zero, suc}
+use mathlib.Core.List.{List, [], _∷_, map}
+use mathlib.Core.Bool.{Bool, true, false, cond, _&&_}
+use mathlib.Core.Option.{Option, none, some}
+use mathlib.Core.Path.{_≡_, refl, ap, ap₂, sym, _∙_}
+use lib.Dec.{eqb, leb}
+use lib.ListN.{length, length-map}
+use Rattle.meaning.specs.Tree.{Node, Nodes, Pairs, uint, nint, bytes, text, chunkedBytes, chunkedText, array, dict, tag, simple, float, ε, _▸_, ∅, _⇒_▸_, Pair, mapP, mapNodes, mapPairs, nodeList, pairList}
+use Rattle.meaning.specs.Check.{Check, pass, refuse, _>>=_, _>>_, _unless_, fault, inObject, inComponent, required, optional, each}
+use Rattle.meaning.specs.Text.{all, distinct, utf8}
+use Rattle.meaning.specs.Version.{versionShape, majorOne}
+use Rattle.meaning.specs.Model.{Word, Named, RootFields, ObjectFields, ComponentFields, Component, Object, Model}
+use Rattle.meaning.specs.Kind.{Kind, number, words, list, table, null, another, kind, asNumber, asWord, asList, asTable, presentKind, present, aNumber, aWord, aList, aTable, aText}
+use Rattle.meaning.specs.Field.{isSome, isKey, keyKind, keyOf, named, count, get, fields, rootFields, objectFields, componentFields, nameKind, nameOf, names}
+use Rattle.meaning.specs.Judge.{aDtype, aType, raw, component, part, lettersOf, attributesOf, object, judge}
+use Rattle.meaning.specs.Notes.{mapCheck, mapOption, mapWord, mapPair, mapNamed, mapKind, mapRoot, mapObjectFields, mapComponentFields, mapComponent, mapObject, mapModel}
+
+module _ {A B C : Type 0} where
+  pub map-bind : (h : B → C) (m : Check A) (k : A → Check B) → mapCheck h (m >>= k) ≡ (m >>= λ a. mapCheck h (k a))
+  map-bind h (pass a) k = refl
+  map-bind h (refuse n o c) k = refl
+
+  pub bind-map : (g : A → B) (m : Check A) (k : B → Check C) → (mapCheck g m >>= k) ≡ (m >>= λ a. k (g a))
+  bind-map g (pass a) k = refl
+  bind-map g (refuse n o c) k = refl
+
+  pub map-then : (h : B → C) (m : Check A) (k : Check B) → mapCheck h (m >> k) ≡ (m >> mapCheck h k)
+  map-then h (pass a) k = refl
+  map-then h (refuse n o c) k = refl
+
+  pub then-map : (g : A → B) (m : Check A) (k : Check C) → (mapCheck g m >> k) ≡ (m >> k)
+  then-map g (pass a) k = refl
+  then-map g (refuse n o c) k = refl
+
+module _ {A B C D : Type 0} (u : A → B) (v : C → D) where
+  pub each-map : (g : ℕ → A → Check C) (g′ : ℕ → B → Check D) → ((i : ℕ) (a : A) → g′ i (u a) ≡ mapCheck v (g i a))
+      → (i : ℕ) (l : List A) → each g′ i (map u l) ≡ mapCheck (map v) (each g i l)
+  each-map g g′ h i [] = refl
+  each-map g g′ h i (a ∷ l) = rw (h i a, each-map g g′ h (suc i) l) (simp (map-bind, bind-map))
+
+  pub optional-map : (g : A → Check C) (g′ : B → Check D) → ((a : A) → g′ (u a) ≡ mapCheck v (g a))
+      → (o : Option A) → optional g′ (mapOption u o) ≡ mapCheck (mapOption v) (optional g o)
+  optional-map g g′ h none = refl
+  optional-map g g′ h (some a) = rw (h a) (simp (map-bind, bind-map))
+
+module _ {A B : Type 0} where
+  pub inComponent-map : (u : A → B) (j : ℕ) (m : Check A) → inComponent j (mapCheck u m) ≡ mapCheck u (inComponent j m)
+  inComponent-map u j (pass a) = refl
+  inComponent-map u j (refuse n o c) = refl
+
+  pub inObject-map : (u : A → B) (j : ℕ) (m : Check A) → inObject j (mapCheck u m) ≡ mapCheck u (inObject j m)
+  inObject-map u j (pass a) = refl
+  inObject-map u j (refuse n o c) = refl
+
+  pub required-map : (u : A → B) (o : Option A) → required (mapOption u o) ≡ mapCheck u (required o)
+  required-map u none = refl
+  required-map u (some a) = refl
+
+  pub all-map : (u : A → B) (p : B → Bool) (l : List A) → all p (map u l) ≡ all (λ a. p (u a)) l
+  all-map u p [] = refl
+  all-map u p (a ∷ l) = ap (λ r. p (u a) && r) (all-map u p l)
+
+  pub map-map : {C : Type 0} (u : A → B) (v : B → C) (l : List A) → map v (map u l) ≡ map (λ a. v (u a)) l
+  map-map u v [] = refl
+  map-map {C} u v (a ∷ l) = ap {B = List C} (λ r. v (u a) ∷ r) (map-map u v l)
+
+pub ruleset Bind = (map-bind, bind-map, map-then, then-map, required-map, inComponent-map, inObject-map)
+
+module _ {P Q : Type 0} (f : P → Q) where
+  nodeList-map : (ns : Nodes P) → nodeList (mapNodes f ns) ≡ map (mapP f) (nodeList ns)
+  nodeList-map ε = refl
+  nodeList-map (_▸_ n ns) = ap {B = List (Node Q)} (λ r. mapP f n ∷ r) (nodeList-map ns)
+
+  pairList-map : (ns : Pairs P) → pairList (mapPairs f ns) ≡ map (mapPair f) (pairList ns)
+  pairList-map ∅ = refl
+  pairList-map (_⇒_▸_ k v ns) = ap {B = List (Pair Q)} (λ r. mapPair f (record { key = k; value = v }) ∷ r) (pairList-map ns)
+
+  null-map : (b : Bool) → cond {A = Kind Q} b null another ≡ mapKind f (cond b null another)
+  null-map true = refl
+  null-map false = refl
+
+  kind-map : (t : Node P) → kind (mapP f t) ≡ mapKind f (kind t)
+  unfolding kind
+  kind-map (uint p n) = refl
+  kind-map (nint p n) = refl
+  kind-map (bytes p bs) = refl
+  kind-map (text p bs) = refl
+  kind-map (chunkedBytes p cs) = refl
+  kind-map (chunkedText p cs) = refl
+  kind-map (array p ns) = ap list (nodeList-map ns)
+  kind-map (dict p ps) = ap table (pairList-map ps)
+  kind-map (tag p n t) = refl
+  kind-map (simple p n) = null-map (eqb n 22)
+  kind-map (float p w b) = refl
+
+  asNumber-map : (k : Kind P) → asNumber (mapKind f k) ≡ asNumber k
+  unfolding asNumber
+  asNumber-map (number n) = refl
+  asNumber-map (words w) = refl
+  asNumber-map (list l) = refl
+  asNumber-map (table l) = refl
+  asNumber-map null = refl
+  asNumber-map another = refl
+
+  asWord-map : (k : Kind P) → asWord (mapKind f k) ≡ mapCheck (mapWord f) (asWord k)
+  unfolding asWord
+  asWord-map (number n) = refl
+  asWord-map (words w) = refl
+  asWord-map (list l) = refl
+  asWord-map (table l) = refl
+  asWord-map null = refl
+  asWord-map another = refl
+
+  asList-map : (k : Kind P) → asList (mapKind f k) ≡ mapCheck (map (mapP f)) (asList k)
+  unfolding asList
+  asList-map (number n) = refl
+  asList-map (words w) = refl
+  asList-map (list l) = refl
+  asList-map (table l) = refl
+  asList-map null = refl
+  asList-map another = refl
+
+  asTable-map : (k : Kind P) → asTable (mapKind f k) ≡ mapCheck (map (mapPair f)) (asTable k)
+  unfolding asTable
+  asTable-map (number n) = refl
+  asTable-map (words w) = refl
+  asTable-map (list l) = refl
+  asTable-map (table l) = refl
+  asTable-map null = refl
+  asTable-map another = refl
+
+  presentKind-map : (t : Node P) (k : Kind P) → presentKind (mapP f t) (mapKind f k) ≡ mapOption (mapP f) (presentKind t k)
+  unfolding presentKind
+  presentKind-map t (number n) = refl
+  presentKind-map t (words w) = refl
+  presentKind-map t (list l) = refl
+  presentKind-map t (table l) = refl
+  presentKind-map t null = refl
+  presentKind-map t another = refl
+
+  keyKind-map : (k : Kind P) → keyKind (mapKind f k) ≡ keyKind k
+  unfolding keyKind
+  keyKind-map (number n) = refl
+  keyKind-map (words w) = refl
+  keyKind-map (list l) = refl
+  keyKind-map (table l) = refl
+  keyKind-map null = refl
+  keyKind-map another = refl
+
+  present-map : (o : Option (Node P)) → present (mapOption (mapP f) o) ≡ mapOption (mapP f) (present o)
+  unfolding present
+  present-map none = refl
+  present-map (some t) = simp (kind-map, presentKind-map)
+
+  aNumber-map : (t : Node P) → aNumber (mapP f t) ≡ aNumber t
+  unfolding aNumber
+  aNumber-map t = simp (kind-map, asNumber-map)
+
+  aWord-map : (t : Node P) → aWord (mapP f t) ≡ mapCheck (mapWord f) (aWord t)
+  unfolding aWord
+  aWord-map t = simp (kind-map, asWord-map)
+
+  aList-map : (t : Node P) → aList (mapP f t) ≡ mapCheck (map (mapP f)) (aList t)
+  unfolding aList
+  aList-map t = simp (kind-map, asList-map)
+
+  aTable-map : (t : Node P) → aTable (mapP f t) ≡ mapCheck (map (mapPair f)) (aTable t)
+  unfolding aTable
+  aTable-map t = simp (kind-map, asTable-map)
+
+  aText-map : (t : Node P) → aText (mapP f t) ≡ mapCheck (mapWord f) (aText t)
+  unfolding aText
+  aText-map t = simp (aWord-map, map-bind, bind-map, map-then, then-map)
+
+  keyOf-map : (p : Pair P) → keyOf (mapPair f p) ≡ keyOf p
+  unfolding keyOf
+  keyOf-map p = simp (kind-map, keyKind-map)
+
+  named-map : (n : List ℕ) (p : Pair P) → named n (mapPair f p) ≡ named n p
+  unfolding named
+  named-map n p = simp keyOf-map
+
+  count-map : (n : List ℕ) (ps : List (Pair P)) → count n (map (mapPair f) ps) ≡ count n ps
+  unfolding count
+  count-map n [] = refl
+  count-map n (p ∷ ps) = rw (named-map n p, count-map n ps)
+
+  cond-map : {A B : Type 0} (g : A → B) (b : Bool) (x y : A) → g (cond b x y) ≡ cond b (g x) (g y)
+  cond-map g true x y = refl
+  cond-map g false x y = refl
+
+  get-map : (n : List ℕ) (ps : List (Pair P)) → get n (map (mapPair f) ps) ≡ mapOption (mapP f) (get n ps)
+  unfolding get
+  get-map n [] = refl
+  get-map n (p ∷ ps) = rw (named-map n p, get-map n ps) (sym (cond-map (mapOption (mapP f)) (named n p) (some (p .value)) (get n ps)))
+
+  keys-map : (ps : List (Pair P)) → all (λ p. isSome (keyOf p)) (map (mapPair f) ps) ≡ all (λ p. isSome (keyOf p)) ps
+  keys-map [] = refl
+  keys-map (p ∷ ps) = rw (keyOf-map p, keys-map ps)
+
+  repeats-map : (ns : List (List ℕ)) (ps : List (Pair P)) → all (λ n. leb (count n (map (mapPair f) ps)) 1) ns ≡ all (λ n. leb (count n ps) 1) ns
+  repeats-map ns ps = simp count-map
+
+  fields-map : (ns : List (List ℕ)) (t : Node P) → fields ns (mapP f t) ≡ mapCheck (map (mapPair f)) (fields ns t)
+  unfolding fields
+  fields-map ns t = simp (aTable-map, keys-map, repeats-map, map-bind, bind-map, map-then, then-map)
+
+  rootFields-map : (t : Node P) → rootFields (mapP f t) ≡ mapCheck (mapRoot f) (rootFields t)
+  unfolding rootFields
+  rootFields-map t = simp (fields-map, get-map, map-bind, bind-map)
+
+  objectFields-map : (t : Node P) → objectFields (mapP f t) ≡ mapCheck (mapObjectFields f) (objectFields t)
+  unfolding objectFields
+  objectFields-map t = simp (fields-map, get-map, map-bind, bind-map)
+
+  componentFields-map : (t : Node P) → componentFields (mapP f t) ≡ mapCheck (mapComponentFields f) (componentFields t)
+  unfolding componentFields
+  componentFields-map t = simp (fields-map, get-map, map-bind, bind-map)
+
+  nameKind-map : (v : Node P) (k : Kind P) → nameKind (mapP f v) (mapKind f k) ≡ mapCheck (mapNamed f) (nameKind v k)
+  unfolding nameKind
+  nameKind-map v (number n) = refl
+  nameKind-map v (words w) = refl
+  nameKind-map v (list l) = refl
+  nameKind-map v (table l) = refl
+  nameKind-map v null = refl
+  nameKind-map v another = refl
+
+  nameOf-map : (p : Pair P) → nameOf (mapPair f p) ≡ mapCheck (mapNamed f) (nameOf p)
+  unfolding nameOf
+  nameOf-map p = simp (kind-map, nameKind-map)
+
+  names-map : (limit : ℕ) (t : Node P) → names limit (mapP f t) ≡ mapCheck (map (mapNamed f)) (names limit t)
+  unfolding names
+  names-map limit t =
+      simp (aTable-map, each-map (mapPair f) (mapNamed f) (λ i. nameOf) (λ i. nameOf) (λ i. nameOf-map), all-map, map-map, length-map, Bind)
+
+  aDtype-map : (t : Node P) → aDtype (mapP f t) ≡ aDtype t
+  unfolding aDtype
+  aDtype-map t = simp (aWord-map, Bind)
+
+  aType-map : (d : ℕ) (t : Node P) → aType d (mapP f t) ≡ mapCheck (mapWord f) (aType d t)
+  unfolding aType
+  aType-map d t = simp (aText-map, Bind)
+
+  raw-map : (t : Node P) → raw (mapP f t) ≡ raw t
+  unfolding raw
+  raw-map t = simp (aWord-map, Bind)
+
+  optional-type : (d : ℕ) (o : Option (Node P)) → optional (aType d) (mapOption (mapP f) o) ≡ mapCheck (mapOption (mapWord f)) (optional (aType d) o)
+  optional-type d = optional-map (mapP f) (mapWord f) (aType d) (aType d) (aType-map d)
+
+  optional-text : (o : Option (Node P)) → optional aText (mapOption (mapP f) o) ≡ mapCheck (mapOption (mapWord f)) (optional aText o)
+  optional-text = optional-map (mapP f) (mapWord f) aText aText aText-map
+
+  optional-same : {A : Type 0} (g : Node P → Check A) (g′ : Node Q → Check A) → ((a : Node P) → g′ (mapP f a) ≡ g a) → (o : Option (Node P)) → optional g′ (mapOption (mapP f) o) ≡ optional g o
+  optional-same g g′ h none = refl
+  optional-same g g′ h (some a) = rw (h a)
+
+  component-map : (start : ℕ) (n : Named P) → component start (mapNamed f n) ≡ mapCheck (mapComponent f) (component start n)
+  unfolding component
+  component-map start n =
+      simp (componentFields-map, aDtype-map, present-map, optional-type, optional-text, aNumber-map, optional-same aNumber aNumber aNumber-map, optional-same raw raw raw-map, Bind)
+
+  attributesOf-map : (t : Node P) → attributesOf (mapP f t) ≡ mapCheck (mapP f) (attributesOf t)
+  unfolding attributesOf
+  attributesOf-map t = simp (aTable-map, Bind)
+
+  optional-attributes : (o : Option (Node P)) → optional attributesOf (mapOption (mapP f) o) ≡ mapCheck (mapOption (mapP f)) (optional attributesOf o)
+  optional-attributes = optional-map (mapP f) (mapP f) attributesOf attributesOf attributesOf-map
+
+  each-number : (i : ℕ) (l : List (Node P)) → each (λ i. aNumber) i (map (mapP f) l) ≡ each (λ i. aNumber) i l
+  each-number i [] = refl
+  each-number i (a ∷ l) = rw (aNumber-map a, each-number (suc i) l)
+
+  letters-map : (o : Option (Word P)) → lettersOf (mapOption (mapWord f) o) ≡ lettersOf o
+  unfolding lettersOf
+  letters-map none = refl
+  letters-map (some w) = refl
+
+  part-map : (c : Component P) → part (mapComponent f c) ≡ part c
+  unfolding part
+  part-map c = simp letters-map
+
+  components-map : (start i : ℕ) (ns : List (Named P))
+      → each (λ j c. inComponent j (component start c)) i (map (mapNamed f) ns) ≡ mapCheck (map (mapComponent f)) (each (λ j c. inComponent j (component start c)) i ns)
+  components-map start =
+      each-map (mapNamed f) (mapComponent f) (λ j c. inComponent j (component start c)) (λ j c. inComponent j (component start c)) (λ j c. simp (component-map, Bind))
+
+  object-map : (start : ℕ) (n : Named P) → object start (mapNamed f n) ≡ mapCheck (mapObject f) (object start n)
+  unfolding object
+  object-map start n =
+      simp (objectFields-map, aList-map, each-number, aText-map, optional-attributes, names-map, components-map, map-map, part-map, Bind)
+
+  objects-map : (start i : ℕ) (ns : List (Named P))
+      → each (λ j c. inObject j (object start c)) i (map (mapNamed f) ns) ≡ mapCheck (map (mapObject f)) (each (λ j c. inObject j (object start c)) i ns)
+  objects-map start =
+      each-map (mapNamed f) (mapObject f) (λ j c. inObject j (object start c)) (λ j c. inObject j (object start c)) (λ j c. simp (object-map, Bind))
+
+  pub judge-map : (start : ℕ) (t : Node P) → judge start (mapP f t) ≡ mapCheck (mapModel f) (judge start t)
+  unfolding judge
+  judge-map start t = simp (rootFields-map, aWord-map, optional-attributes, names-map, objects-map, Bind)

@@ -1,0 +1,4 @@
+pub mod ReadNatural
+pub mod ReadPrefix
+pub mod JudgeNatural
+pub mod DropKeepsVerdict

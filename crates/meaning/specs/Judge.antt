@@ -1,0 +1,98 @@
+-- Document 01, "Order": the judgement of a manifest that is well-formed, over trees with any annotation. One line for each item of that paragraph.
+use Prim.Native.Nat.{ℕ, _+_, _%_}
+use mathlib.Core.List.{List, map}
+use mathlib.Core.Bool.{_&&_}
+use mathlib.Core.Option.{Option, none, some}
+use lib.ListN.{length}
+use lib.Dec.{eqb, leb}
+use Rattle.meaning.specs.Tree.{Node}
+use Rattle.meaning.specs.Check.{Check, pass, refuse, _>>=_, _>>_, _unless_, fault, inObject, inComponent, required, optional, each}
+use Rattle.meaning.specs.Text.{ascii, same}
+use Rattle.meaning.specs.Version.{versionShape, majorOne}
+use Rattle.meaning.specs.Refusal.{VERSION, MAJOR, COUNT, DTYPE, ENCODING, TYPE, ALIGN, BOUNDS}
+use Rattle.meaning.specs.Limit.{objectLimit, componentLimit, rankLimit, alignment}
+use Rattle.meaning.specs.Model.{Word, Named, Component, Object, Model}
+use Rattle.meaning.specs.Kind.{aNumber, aWord, aList, aTable, aText, present}
+use Rattle.meaning.specs.Field.{rootFields, objectFields, componentFields, names}
+use Rattle.meaning.specs.Types.{storages, codeFrom, logicals, listed, fitsOver}
+use Rattle.meaning.specs.Format.{Part, formatRules}
+
+unfoldable pub codeOr : Option ℕ → Check ℕ
+codeOr none = fault DTYPE
+codeOr (some c) = pass c
+
+module _ {P : Type 0} where
+  unfoldable pub aDtype : Node P → Check ℕ
+  aDtype t = do
+    w ← aWord t
+    codeOr (codeFrom 0 storages (w .letters))
+
+  unfoldable pub aType : ℕ → Node P → Check (Word P)
+  aType d t = do
+    w ← aText t
+    TYPE unless fitsOver d (listed logicals (w .letters))
+    pass w
+
+  unfoldable pub raw : Node P → Check (Unit {0})
+  raw t = do
+    w ← aWord t
+    ENCODING unless same (ascii "raw") (w .letters)
+
+  unfoldable pub attributesOf : Node P → Check (Node P)
+  attributesOf t = do
+    aTable t
+    pass t
+
+  -- a component of a file whose manifest begins at `start`
+  unfoldable pub component : ℕ → Named P → Check (Component P)
+  component start n = do
+    c ← componentFields (n .value)
+    dtype ← required (c .dtype)
+    offset ← required (c .offset)
+    length ← required (c .length)
+    d ← aDtype dtype
+    t ← optional (aType d) (present (c .type))
+    o ← aNumber offset
+    l ← aNumber length
+    optional aNumber (present (c .uncompressed-length))
+    optional raw (c .encoding)
+    g ← optional aText (present (c .digest))
+    ALIGN unless eqb (o % alignment) 0
+    BOUNDS unless (leb alignment o && leb (o + l) start)
+    pass (record { name = n .name; dtype = d; type = t; offset = o; length = l; digest = g })
+
+  unfoldable pub lettersOf : Option (Word P) → Option (List ℕ)
+  lettersOf none = none
+  lettersOf (some w) = some (w .letters)
+
+  unfoldable pub part : Component P → Part
+  part c = record { called = c .name .letters; code = c .dtype; typed = lettersOf (c .type); size = c .length }
+
+  unfoldable pub object : ℕ → Named P → Check (Object P)
+  object start n = do
+    o ← objectFields (n .value)
+    shape ← required (o .shape)
+    format ← required (o .format)
+    components ← required (o .components)
+    dims ← aList shape
+    s ← each (λ i. aNumber) 0 dims
+    COUNT unless leb (length s) rankLimit
+    f ← aText format
+    a ← optional attributesOf (o .attributes)
+    ns ← names componentLimit components
+    cs ← each (λ j c. inComponent j (component start c)) 0 ns
+    formatRules (f .letters) s (map part cs)
+    pass (record { name = n .name; shape = s; format = f; attributes = a; components = cs })
+
+  unfoldable pub judge : ℕ → Node P → Check (Model P)
+  judge start t = do
+    r ← rootFields t
+    version ← required (r .version)
+    v ← aWord version
+    VERSION unless versionShape (v .letters)
+    MAJOR unless majorOne (v .letters)
+    a ← optional attributesOf (r .attributes)
+    objects ← required (r .objects)
+    ns ← names objectLimit objects
+    os ← each (λ i o. inObject i (object start o)) 0 ns
+    pass (record { attributes = a; objects = os })
