@@ -200,7 +200,7 @@ module _ {A : Type 0} (m : Reader A) where
       subst (λ b. Turned m s b r′) (k .value) (subst (λ r. Turned m s a r) (k .rest) t)
 
   module _ (hm : Exact (still m)) (eats : Hungry (still m)) where
-    again-turn : (b g : ℕ) (c d x s : List ℕ) (a : A) (as′ : List A) → eqb b 255 ≡ false → 1 ≤ length c → b ∷ s ≡ c ++ (d ++ x)
+    pub again-turn : (b g : ℕ) (c d x s : List ℕ) (a : A) (as′ : List A) → eqb b 255 ≡ false → 1 ≤ length c → b ∷ s ≡ c ++ (d ++ x)
         → ((y : List ℕ) → m (c ++ y) ≡ got a y) → ((g : ℕ) → length d ≤ g → (y : List ℕ) → untilBreak m g (d ++ y) ≡ got as′ y)
         → length (c ++ d) ≤ g → (y : List ℕ) → untilBreak m g ((c ++ d) ++ y) ≡ got (a ∷ as′) y
     again-turn b g [] d x s a as′ e l z h k f y = absurd (omega arith)
@@ -232,7 +232,7 @@ module _ {A : Type 0} (m : Reader A) where
         go (got a s′) h z = go₂ a s′ h (untilBreak m f s′) refl z
         go (refused n q) h z = absurd (never-got z)
 
-    again-break : (b g : ℕ) → eqb b 255 ≡ true → 1 ≤ g → (x : List ℕ) → untilBreak m g (b ∷ x) ≡ got [] x
+    pub again-break : (b g : ℕ) → eqb b 255 ≡ true → 1 ≤ g → (x : List ℕ) → untilBreak m g (b ∷ x) ≡ got [] x
     again-break b zero e l x = absurd (omega arith)
     again-break b (suc g) e l x = at-break b g x e
 
@@ -303,7 +303,7 @@ module _ (it : Reader (Node (Unit {0}))) (hi : Exact (still it)) (eats : Hungry 
   rest-exact : (h : ℕ) → Exact (λ o. argument o (infoOf h) >>= λ a. content noNote it o (majorOf h) a)
   rest-exact h = bind-exact (λ o. argument o (infoOf h)) (λ o a. content noNote it o (majorOf h) a) (argument-exact (infoOf h)) λ a. content-exact (majorOf h) a
 
-never-beyond : {A : Type 0} (s : List ℕ) (a : A) (r : List ℕ) → beyond s ≡ got a r → ⊥
+pub never-beyond : {A : Type 0} (s : List ℕ) (a : A) (r : List ℕ) → beyond s ≡ got a r → ⊥
 unfolding beyond
 never-beyond [] a r e = never-got e
 never-beyond (b ∷ s) a r e = never-got e

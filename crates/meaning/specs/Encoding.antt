@@ -2,9 +2,16 @@
 -- definite or indefinite length, and where an indefinite string is cut. What is read is exactly this (proofs/Exact).
 use Prim.Native.Nat.{ℕ, zero, suc, _+_, _*_, _/_, _%_, _^_, _<_, _≤_}
 use mathlib.Core.List.{List, [], _∷_, _++_}
+use mathlib.Core.Bool.{true}
+use mathlib.Core.Path.{_≡_}
 use lib.ListN.{length}
+use lib.Pow.{areBytes}
 use Rattle.meaning.specs.Tree as tree
 use Rattle.meaning.specs.Tree.{Node, Nodes, Pairs, ε, _▸_, ∅, _⇒_▸_, nodeList, pairList}
+
+-- every number is below 256
+abbrev pub Bytes : List ℕ → Type 0
+Bytes s = areBytes s ≡ true
 
 -- w bytes of a number, the most significant first
 unfoldable pub big : ℕ → ℕ → List ℕ

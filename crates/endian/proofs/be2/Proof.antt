@@ -1,0 +1,21 @@
+use Rattle.endian.proofs.Laws as laws
+use native.Mathlib.Omega.{arith}
+use borrow.Author.Needs.{needs}
+use Rattle.endian.proofs.be2.Statement.{statement}
+use Rattle.endian.proofs.be2.Tie as tie
+use Rattle.endian.proofs.be2.Reads as reads
+use Rattle.endian.proofs.be2.Lts as lts
+use Rattle.endian.proofs.wide.Reads as wide-reads
+
+pub be2-spec : {M : Type 1} → statement M
+be2-spec =
+    tie.close
+    (tie.spec
+    (λ c. search needs)
+    (λ c κs. search needs)
+    (λ c. search needs)
+    (λ c. search needs)
+    (λ c. search needs)
+    (λ c κs. search needs)
+    (λ c. search needs)
+    (λ c. (omega (arith, laws.word-two ((c .before .before .before .before .before .args .s .now)) ((c .before .before .before .before .before .args .i))), omega arith)))
