@@ -1,0 +1,96 @@
+use Rattle.cbor.proofs.Loops as loops
+use Rattle.cbor.proofs.Passing.{shift-zero}
+use Rattle.cbor.specs.Ending.{code, HolderIs, PlainIs}
+use borrow.Rule.Slice.PartAt.{part-to-end}
+use lib.ListN.{getD}
+use mathlib.Core.Logic.{⊎-elim}
+use borrow.Author.Needs.{needs}
+use Prim.Native.Nat.{ℕ, suc, _+_, _-_, _<_, _≤_}
+use native.Mathlib.Omega.{arith}
+use mathlib.Core.Path.{_≡_, ap, sym, subst, _∙_}
+use lib.ListN.{length, drop}
+use Rattle.cbor.specs.Ending.{rest, shift, endless}
+use borrow.Fn.Kinds.{In}
+use borrow.Fn.PlainCycle.{Measures, is, falls, and}
+use Rattle.cbor.proofs.items.Reads as items
+use Rattle.cbor.proofs.items.Kinds as items-kinds
+use Rattle.cbor.proofs.+items.Lts-items as items-lts
+use Rattle.cbor.proofs.broken.Reads as broken-reads
+use Rattle.cbor.proofs.holder.Reads as holder-reads
+use Rattle.cbor.proofs.plain.Reads as plain-reads
+use Rattle.cbor.proofs.too_deep.Reads as too-deep-reads
+use Rattle.cbor.proofs.+items.{statement}
+use Rattle.cbor.proofs.+items.Tie.{close}
+
+abbrev μ-items : Measures 1 items-kinds.ps ℕ
+μ-items κs a = a .1 .1 .1 .0
+
+abbrev items-at : ℕ → In 1 items-kinds.ps
+items-at t = and 1 items-kinds.ps (is 1 items-kinds.ps μ-items t) items.Pre
+
+abbrev items-below : ℕ → In 1 items-kinds.ps
+items-below t = and 1 items-kinds.ps (falls 1 items-kinds.ps _<_ μ-items t) items.Pre
+
+abbrev items-Inv-loop : items-lts.InvT-loop
+items-Inv-loop s count mode left at₀ due₀ at due =
+    (1 ≤ left) × (at ≤ length s) × (due < 18_446_744_073_709_551_616) × (1 ≤ mode → endless ≤ due + at) × (rest mode count left s ≡ shift at (rest mode due left (drop at s)))
+
+abbrev items-μ-loop : items-lts.MeasureT-loop
+items-μ-loop s count mode left at₀ due₀ at due = length s - at
+
+pub +items-spec : {M : Type 1} → statement M
++items-spec = close μ-items λ t. items-lts.spec (
+  too-deep-reads.Asked,
+  too-deep-reads.Learnt,
+  broken-reads.Asked,
+  broken-reads.Learnt,
+  holder-reads.Asked,
+  holder-reads.Learnt,
+  items-below t,
+  items.Post,
+  plain-reads.Asked,
+  plain-reads.Learnt,
+)
+    (items-at t)
+    items.Post
+    items-Inv-loop
+    items-μ-loop
+    (λ c. search needs)
+    (λ c. search needs)
+    (λ c. search needs)
+    (λ c κs. search needs)
+    (λ c. let a = (c .before .before .before .before .args) in let s = a .s .now in let z : 0 ≡ a .left = omega arith in (c .too-deep .ensures) ∙ ap (λ x. code (rest (a .mode) (a .count) 0 x)) (part-to-end s 0) ∙ ap (λ d. code (rest (a .mode) (a .count) d s)) z)
+    (λ c. let a = (c .before .before .args) in (omega arith, omega arith, omega arith, (λ h. omega (arith, (c .before .before .pre .1) h)), sym (shift-zero (rest (a .mode) (a .count) (a .left) (a .s .now)))))
+    (λ c. let a = (c .before .before .before .before .before .args) in let s = a .s .now in let at = (c .before .before .loop .at) in let n = (c .before .before .loop .due) in let i = (c .before .before .loop .inv) in loops.due-missing (a .mode) (a .count) (a .left) s (omega arith) at n (i .4) (omega arith) (omega arith))
+    (λ c. search needs)
+    (λ c κs. search needs)
+    (λ c. let a = (c .before .before .before .before .before .before .before .before .args) in let s = a .s .now in let at = (c .before .before .before .before .before .loop .at) in let n = (c .before .before .before .before .before .loop .due) in let i = (c .before .before .before .before .before .loop .inv) in (c .broken .ensures) ∙ loops.due-breaks (a .mode) (a .count) (a .left) s (omega arith) at n (i .4) (omega arith) (omega arith) (omega arith))
+    (λ c. search needs)
+    (λ c. search needs)
+    (λ c. search needs)
+    (λ c κs. search needs)
+    (λ c. search needs)
+    (λ c. let a = (c .before .before .before .before .before .before .before .before .before .before .before .before .before .args) in let s = a .s .now in let at = (c .before .before .before .before .before .before .before .before .before .before .loop .at) in let n = (c .before .before .before .before .before .before .before .before .before .before .loop .due) in let i = (c .before .before .before .before .before .before .before .before .before .before .loop .inv) in loops.head-refused (a .mode) (a .count) (a .left) s (omega arith) at n (i .4) (omega arith) (i .0) (omega arith) (λ e. omega arith) ((c .before .before .holder .result)) (subst (λ x. HolderIs x ((c .before .before .holder .result))) (part-to-end s at) ((c .before .before .holder .ensures))) (loops.holds-others (getD s at 0) (omega arith) (omega arith)) (omega arith))
+    (λ c. search needs)
+    (λ c. search needs)
+    (λ c. search needs)
+    (λ c. search needs)
+    (λ c. search needs)
+    (λ c κs. search needs)
+    (λ c. search needs)
+    (λ c. let a = (c .before .before .before .before .before .before .before .before .before .before .before .before .before .before .before .before .before .args) in let s = a .s .now in let at = (c .before .before .before .before .before .before .before .before .before .before .before .before .before .before .loop .at) in let n = (c .before .before .before .before .before .before .before .before .before .before .before .before .before .before .loop .due) in let i = (c .before .before .before .before .before .before .before .before .before .before .before .before .before .before .loop .inv) in loops.holder-stops (a .mode) (a .count) (a .left) s (omega arith) at n (i .4) (omega arith) (i .0) (omega arith) (λ e. omega arith) ((c .before .before .before .before .before .before .holder .result)) (subst (λ x. HolderIs x ((c .before .before .before .before .before .before .holder .result))) (part-to-end s at) ((c .before .before .before .before .before .before .holder .ensures))) (loops.holds-others (getD s at 0) (omega arith) (omega arith)) (omega arith) ((c .before .items .result)) ((c .before .items .ensures) ∙ ap (λ x. code (rest ((c .before .before .before .before .before .before .holder .result .mode)) ((c .before .before .before .before .before .before .holder .result .count)) (a .left - 1) x)) (part-to-end s (at + (c .before .before .before .before .before .before .holder .result .size)))) (omega arith))
+    (λ c. search needs)
+    (λ c. search needs)
+    (λ c. let a = (c .before .before .before .before .before .before .before .before .before .before .before .before .before .before .before .before .before .args) in let s = a .s .now in let at = (c .before .before .before .before .before .before .before .before .before .before .before .before .before .before .loop .at) in let n = (c .before .before .before .before .before .before .before .before .before .before .before .before .before .before .loop .due) in let i = (c .before .before .before .before .before .before .before .before .before .before .before .before .before .before .loop .inv) in let t = loops.holder-passes (a .mode) (a .count) (a .left) s (omega arith) at n (i .4) (omega arith) (i .0) (omega arith) (λ e. omega arith) ((c .before .before .before .before .before .before .holder .result)) (subst (λ x. HolderIs x ((c .before .before .before .before .before .before .holder .result))) (part-to-end s at) ((c .before .before .before .before .before .before .holder .ensures))) (loops.holds-others (getD s at 0) (omega arith) (omega arith)) (omega arith) ((c .before .items .result)) ((c .before .items .ensures) ∙ ap (λ x. code (rest ((c .before .before .before .before .before .before .holder .result .mode)) ((c .before .before .before .before .before .before .holder .result .count)) (a .left - 1) x)) (part-to-end s (at + (c .before .before .before .before .before .before .holder .result .size)))) (omega arith) in omega (arith, t .further-on, t .within))
+    (λ c. let a = (c .before .before .before .before .before .before .before .before .before .before .before .before .before .before .before .before .before .args) in let s = a .s .now in let at = (c .before .before .before .before .before .before .before .before .before .before .before .before .before .before .loop .at) in let n = (c .before .before .before .before .before .before .before .before .before .before .before .before .before .before .loop .due) in let i = (c .before .before .before .before .before .before .before .before .before .before .before .before .before .before .loop .inv) in let t = loops.holder-passes (a .mode) (a .count) (a .left) s (omega arith) at n (i .4) (omega arith) (i .0) (omega arith) (λ e. omega arith) ((c .before .before .before .before .before .before .holder .result)) (subst (λ x. HolderIs x ((c .before .before .before .before .before .before .holder .result))) (part-to-end s at) ((c .before .before .before .before .before .before .holder .ensures))) (loops.holds-others (getD s at 0) (omega arith) (omega arith)) (omega arith) ((c .before .items .result)) ((c .before .items .ensures) ∙ ap (λ x. code (rest ((c .before .before .before .before .before .before .holder .result .mode)) ((c .before .before .before .before .before .before .holder .result .count)) (a .left - 1) x)) (part-to-end s (at + (c .before .before .before .before .before .before .holder .result .size)))) (omega arith) in (i .0, t .within, omega arith, (λ h. omega (arith, i .3 h, t .further-on)), t .then))
+    (λ c. search needs)
+    (λ c. search needs)
+    (λ c. search needs)
+    (λ c κs. search needs)
+    (λ c. search needs)
+    (λ c. let a = (c .before .before .before .before .before .before .before .before .before .before .before .args) in let s = a .s .now in let at = (c .before .before .before .before .before .before .before .before .loop .at) in let n = (c .before .before .before .before .before .before .before .before .loop .due) in let i = (c .before .before .before .before .before .before .before .before .loop .inv) in loops.plain-stops (a .mode) (a .count) (a .left) s (omega arith) at n (i .4) (omega arith) (i .0) (omega arith) (λ e. omega arith) ((c .before .plain .result)) (subst (λ x. PlainIs x ((c .before .plain .result))) (part-to-end s at) ((c .before .plain .ensures))) (loops.holds-none (getD s at 0) (λ x y. ⊎-elim (λ w. omega arith) (λ w. omega arith) ((c .before .before .before .if4 .came)))) (omega arith))
+    (λ c. search needs)
+    (λ c. search needs)
+    (λ c. let a = (c .before .before .before .before .before .before .before .before .before .before .before .args) in let s = a .s .now in let at = (c .before .before .before .before .before .before .before .before .loop .at) in let n = (c .before .before .before .before .before .before .before .before .loop .due) in let i = (c .before .before .before .before .before .before .before .before .loop .inv) in let t = loops.plain-passes (a .mode) (a .count) (a .left) s (omega arith) at n (i .4) (omega arith) (i .0) (omega arith) (λ e. omega arith) ((c .before .plain .result)) (subst (λ x. PlainIs x ((c .before .plain .result))) (part-to-end s at) ((c .before .plain .ensures))) (loops.holds-none (getD s at 0) (λ x y. ⊎-elim (λ w. omega arith) (λ w. omega arith) ((c .before .before .before .if4 .came)))) (omega arith) in omega (arith, t .further-on, t .within))
+    (λ c. let a = (c .before .before .before .before .before .before .before .before .before .before .before .args) in let s = a .s .now in let at = (c .before .before .before .before .before .before .before .before .loop .at) in let n = (c .before .before .before .before .before .before .before .before .loop .due) in let i = (c .before .before .before .before .before .before .before .before .loop .inv) in let t = loops.plain-passes (a .mode) (a .count) (a .left) s (omega arith) at n (i .4) (omega arith) (i .0) (omega arith) (λ e. omega arith) ((c .before .plain .result)) (subst (λ x. PlainIs x ((c .before .plain .result))) (part-to-end s at) ((c .before .plain .ensures))) (loops.holds-none (getD s at 0) (λ x y. ⊎-elim (λ w. omega arith) (λ w. omega arith) ((c .before .before .before .if4 .came)))) (omega arith) in (i .0, t .within, omega arith, (λ h. omega (arith, i .3 h, t .further-on)), t .then))
+    (λ c. let a = (c .before .before .before .before .args) in let s = a .s .now in let at = (c .before .loop .at) in let n = (c .before .loop .due) in let i = (c .before .loop .inv) in loops.all-passed (a .mode) (a .count) (a .left) s (omega arith) at n (i .1) (i .3) (i .4) (omega arith))

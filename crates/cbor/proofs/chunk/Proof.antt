@@ -1,0 +1,33 @@
+use lib.ListN.{length}
+use Rattle.cbor.proofs.Majors as majors
+use Rattle.cbor.proofs.FirstByte as first
+use Rattle.cbor.specs.Ending.{headOf, stringEnd}
+use borrow.Rule.Slice.PartAt.{part-to-end}
+use mathlib.Core.Path.{ap, sym, _∙_}
+use native.Mathlib.Omega.{arith}
+use borrow.Author.Needs.{needs}
+use Rattle.cbor.proofs.chunk.Statement.{statement}
+use Rattle.cbor.proofs.chunk.Tie as tie
+use Rattle.cbor.proofs.chunk.Reads as reads
+use Rattle.cbor.proofs.chunk.Lts as lts
+use Rattle.cbor.proofs.head.Reads as head-reads
+use Rattle.cbor.proofs.low_of.Reads as low-of-reads
+use Rattle.cbor.proofs.major_of.Reads as major-of-reads
+use Rattle.cbor.proofs.string_end.Reads as string-end-reads
+
+pub chunk-spec : {M : Type 1} → statement M
+chunk-spec =
+    tie.close
+    (tie.spec
+    (λ c. majors.chunk-none ((c .before .before .args .s .now)) ((c .before .before .args .major)) (omega arith))
+    (λ c. search needs)
+    (λ c κs. search needs)
+    (λ c. first.chunk-other ((c .before .before .before .before .before .args .s .now)) ((c .before .before .before .before .before .args .major)) (omega arith) (λ e. omega arith))
+    (λ c κs. search needs)
+    (λ c. first.chunk-open ((c .before .before .before .before .before .before .before .args .s .now)) ((c .before .before .before .before .before .before .before .args .major)) (omega arith) (omega arith) (omega arith))
+    (λ c. search needs)
+    (λ c. search needs)
+    (λ c. search needs)
+    (λ c κs. search needs)
+    (λ c κs. search needs)
+    (λ c. (c .string-end .ensures) ∙ ap (λ h. stringEnd (length ((c .before .before .before .before .before .before .before .before .before .before .args .s .now))) (h .size) (h .value)) ((c .before .head .ensures) ∙ ap headOf (part-to-end ((c .before .before .before .before .before .before .before .before .before .before .args .s .now)) 0)) ∙ first.chunk-ends ((c .before .before .before .before .before .before .before .before .before .before .args .s .now)) ((c .before .before .before .before .before .before .before .before .before .before .args .major)) (omega arith) (omega arith) (omega arith) (λ e. omega arith)))

@@ -1,0 +1,37 @@
+use mathlib.Core.Path.{subst}
+use Rattle.cbor.proofs.Rest as rest
+use Rattle.cbor.proofs.FirstByte as first
+use Rattle.cbor.specs.Ending.{code, headOf, StringIs}
+use borrow.Rule.Slice.PartAt.{part-to-end}
+use lib.ListN.{getD}
+use mathlib.Core.Path.{ap, sym, _∙_}
+use mathlib.Core.Logic.{⊎-elim}
+use native.Mathlib.Omega.{arith}
+use Prim.Native.Nat.{suc, _+_, _/_}
+use borrow.Author.Needs.{needs}
+use Rattle.cbor.proofs.plain.Statement.{statement}
+use Rattle.cbor.proofs.plain.Tie as tie
+use Rattle.cbor.proofs.plain.Reads as reads
+use Rattle.cbor.proofs.plain.Lts as lts
+use Rattle.cbor.proofs.head.Reads as head-reads
+use Rattle.cbor.proofs.low_of.Reads as low-of-reads
+use Rattle.cbor.proofs.string.Reads as string-reads
+
+pub plain-spec : {M : Type 1} → statement M
+plain-spec =
+    tie.close
+    (tie.spec
+    (λ c. λ d h. ap code (sym (rest.never-empty (suc d) ((c .before .before .args .s .now)) (omega arith))))
+    (λ c. search needs)
+    (λ c. search needs)
+    (λ c. search needs)
+    (λ c. search needs)
+    (λ c κs. search needs)
+    (λ c. λ d h. subst (λ p. StringIs p ((c .string .result))) (part-to-end ((c .before .before .before .before .before .before .before .args .s .now)) 0) ((c .string .ensures)) d (omega arith) (omega arith))
+    (λ c κs. search needs)
+    (λ c. λ d h. first.scalar-open ((c .before .before .before .before .before .before .args .s .now)) d (omega arith) (first.scalar (getD ((c .before .before .before .before .before .before .args .s .now)) 0 0) h (λ x y. ⊎-elim (λ w. omega arith) (λ w. omega arith) ((c .before .before .if2 .came)))) (omega arith))
+    (λ c. search needs)
+    (λ c. search needs)
+    (λ c. search needs)
+    (λ c κs. search needs)
+    (λ c. λ d h. ap (λ h. h .size) ((c .head .ensures) ∙ ap headOf (part-to-end ((c .before .before .before .before .before .before .before .before .args .s .now)) 0)) ∙ first.scalar-ends ((c .before .before .before .before .before .before .before .before .args .s .now)) d (omega arith) (first.scalar (getD ((c .before .before .before .before .before .before .before .before .args .s .now)) 0 0) h (λ x y. ⊎-elim (λ w. omega arith) (λ w. omega arith) ((c .before .before .before .before .if2 .came)))) (λ e. omega arith)))

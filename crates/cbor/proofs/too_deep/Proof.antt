@@ -1,0 +1,17 @@
+use Rattle.cbor.proofs.Answers as answers
+use Rattle.cbor.proofs.Passing as passing
+use Rattle.cbor.proofs.Rest as rest
+use Rattle.cbor.specs.Ending.{code}
+use mathlib.Core.Path.{ap, sym, _∙_}
+use native.Mathlib.Omega.{arith}
+use borrow.Author.Needs.{needs}
+use Rattle.cbor.proofs.too_deep.Statement.{statement}
+use Rattle.cbor.proofs.too_deep.Tie as tie
+use Rattle.cbor.proofs.too_deep.Reads as reads
+use Rattle.cbor.proofs.too_deep.Lts as lts
+use Rattle.cbor.proofs.broken.Reads as broken-reads
+
+pub too-deep-spec : {M : Type 1} → statement M
+too-deep-spec =
+    tie.close
+    (tie.spec (λ c. answers.nothing-due ((c .before .before .args .mode)) ((c .before .before .args .count)) 0 ((c .before .before .args .s .now)) ((c .before .before .pre)) (omega arith)) (λ c. ap code (sym (rest.rest-ends-early 0 ((c .before .before .before .args .mode)) ((c .before .before .before .args .count)) ((c .before .before .before .args .s .now)) (omega arith) (omega arith)))) (λ c. search needs) (λ c κs. search needs) (λ c. (c .broken .ensures) ∙ ap code (passing.shift-zero _ ∙ sym (rest.rest-breaks 0 ((c .before .before .before .before .before .before .args .mode)) ((c .before .before .before .before .before .before .args .count)) ((c .before .before .before .before .before .before .args .s .now)) (omega arith) (omega arith) (omega arith)))) (λ c. ap code (sym (rest.rest-stops 0 ((c .before .before .before .before .before .args .mode)) ((c .before .before .before .before .before .args .count)) ((c .before .before .before .before .before .args .s .now)) 7 (omega arith) (omega arith) (λ e. omega arith) (rest.never-deep ((c .before .before .before .before .before .args .s .now)) (omega arith) (λ e. omega arith))))))
