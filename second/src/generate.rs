@@ -1,0 +1,49 @@
+//! A seeded generator of files, single CBOR items and writer's rows, sound and damaged.
+
+mod file;
+mod items;
+mod plan;
+mod rng;
+mod rowset;
+
+use rng::Rng;
+
+/// Gives the same sequence for the same seed and calls.
+pub struct Generator {
+    rng: Rng,
+}
+
+/// What the writer is asked with.
+#[derive(Clone, Debug, PartialEq, Eq)]
+pub struct RowSet {
+    pub rows: Vec<u64>,
+    pub objects: u64,
+    pub components: u64,
+    pub attributes_place: u64,
+    pub attributes_length: u64,
+    pub buffer: Vec<u8>,
+}
+
+impl Generator {
+    pub fn new(seed: u64) -> Generator {
+        Generator {
+            rng: Rng::new(seed),
+        }
+    }
+
+    /// A file: sound, with one fault for any of refusals 1 to 23, with two, at a limit or one past
+    /// it, cut short or with bytes changed. Most are under 1 KiB; a few are as large as limits.
+    pub fn next_file(&mut self) -> Vec<u8> {
+        file::file(&mut self.rng)
+    }
+
+    /// One CBOR item, sound or damaged, sometimes with bytes after it.
+    pub fn next_item(&mut self) -> Vec<u8> {
+        items::item(&mut self.rng)
+    }
+
+    /// Rows and a buffer for the writer, sound or not.
+    pub fn next_rows(&mut self) -> RowSet {
+        rowset::rows(&mut self.rng)
+    }
+}

@@ -1,0 +1,20 @@
+//! A second reader, judge, lister, viewer and writer of `.zt` files, written from documents 01 and
+//! READINGS alone: it decodes the manifest to a tree and then judges the tree.
+
+#![forbid(unsafe_code)]
+
+pub mod antt;
+pub mod cbor;
+pub mod compose;
+pub mod encode;
+pub mod frame;
+pub mod generate;
+pub mod judge;
+pub mod listing;
+pub mod probes;
+pub mod refusal;
+pub mod rows;
+pub mod types;
+pub mod utf8;
+pub mod view;
+pub mod writer;

@@ -1,0 +1,82 @@
+//! `second list PATH…`, `second judge PATH…`, `second generate SEED COUNT DIR`, `second table SEED EACH`.
+
+use second::antt;
+use second::generate::Generator;
+use second::judge::judge_file;
+use second::listing::program_text;
+use std::fs;
+use std::io::{self, Write};
+use std::path::Path;
+use std::process::ExitCode;
+
+const USAGE: &str = "usage: second list PATH…
+       second judge PATH…
+       second generate SEED COUNT DIR
+       second table SEED EACH";
+
+fn main() -> ExitCode {
+    let arguments: Vec<String> = std::env::args().skip(1).collect();
+    let arguments: Vec<&str> = arguments.iter().map(String::as_str).collect();
+    match run(&arguments) {
+        Ok(()) => ExitCode::SUCCESS,
+        Err(error) => {
+            eprintln!("second: {error}");
+            ExitCode::FAILURE
+        }
+    }
+}
+
+fn run(arguments: &[&str]) -> io::Result<()> {
+    match arguments {
+        ["list", paths @ ..] if !paths.is_empty() => for_each(paths, program_text),
+        ["judge", paths @ ..] if !paths.is_empty() => {
+            for_each(paths, |file| format!("{}\n", judgement(file)).into_bytes())
+        }
+        ["generate", seed, count, directory] => {
+            generate(number(seed)?, number(count)?, Path::new(directory))
+        }
+        ["table", seed, each] => {
+            let each = usize::try_from(number(each)?).map_err(io::Error::other)?;
+            io::stdout().write_all(antt::module(number(seed)?, each).as_bytes())
+        }
+        _ => Err(io::Error::other(USAGE)),
+    }
+}
+
+fn number(text: &str) -> io::Result<u64> {
+    text.parse()
+        .map_err(|error| io::Error::other(format!("{text}: {error}")))
+}
+
+fn for_each(paths: &[&str], answer: impl Fn(&[u8]) -> Vec<u8>) -> io::Result<()> {
+    let mut out = io::stdout().lock();
+    for path in paths {
+        let file = fs::read(path).map_err(|error| io::Error::other(format!("{path}: {error}")))?;
+        out.write_all(&answer(&file))?;
+    }
+    Ok(())
+}
+
+/// Number, object and component; three zeros for an accepted file.
+fn judgement(file: &[u8]) -> String {
+    match judge_file(file) {
+        Ok(_) => "0 0 0".to_string(),
+        Err(refusal) => format!(
+            "{} {} {}",
+            refusal.number, refusal.object, refusal.component
+        ),
+    }
+}
+
+fn generate(seed: u64, count: u64, directory: &Path) -> io::Result<()> {
+    fs::create_dir_all(directory)?;
+    let mut generator = Generator::new(seed);
+    let mut answers = String::new();
+    for index in 0..count {
+        let file = generator.next_file();
+        let name = format!("{index:06}.zt");
+        answers += &format!("{name} {}\n", judgement(&file));
+        fs::write(directory.join(name), file)?;
+    }
+    fs::write(directory.join("answers.txt"), answers)
+}

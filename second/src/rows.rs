@@ -1,0 +1,239 @@
+//! The table: object and component rows of 64-bit numbers, and the reader that fills them.
+
+use crate::judge::{self, Component, Manifest, Object, RANK_LIMIT};
+use crate::refusal::{Refusal, ROOM};
+use std::ops::Range;
+
+pub const OBJECT_ROW: usize = 16;
+pub const COMPONENT_ROW: usize = 10;
+
+/// A place and a length; 0 and 0 means absent.
+#[derive(Clone, Copy, Debug, Default, PartialEq, Eq)]
+pub struct Part {
+    pub place: u64,
+    pub length: u64,
+}
+
+/// Sixteen numbers of the table.
+#[derive(Clone, Copy, Debug, PartialEq, Eq)]
+pub struct ObjectRow {
+    pub name: Part,
+    pub rank: u64,
+    pub dimensions: [u64; RANK_LIMIT],
+    pub format: Part,
+    pub attributes: Part,
+    pub components: u64,
+}
+
+/// Ten numbers of the table.
+#[derive(Clone, Copy, Debug, PartialEq, Eq)]
+pub struct ComponentRow {
+    pub name: Part,
+    pub dtype: u64,
+    pub logical: Part,
+    pub blob: Part,
+    pub digest: Part,
+    pub owner: u64,
+}
+
+/// What reading answers; all but the refusal is 0 if refused.
+#[derive(Clone, Copy, Debug, Default, PartialEq, Eq)]
+pub struct Answer {
+    pub number: u8,
+    pub object: u64,
+    pub component: u64,
+    pub objects: u64,
+    pub components: u64,
+    pub manifest_start: u64,
+    pub attributes_place: u64,
+    pub attributes_length: u64,
+}
+
+/// Reads a file into the lent table, which stays as it was on refusal and beyond the rows.
+pub fn read(file: &[u8], table: &mut [u64]) -> Answer {
+    match try_read(file, table) {
+        Ok(answer) => answer,
+        Err(refusal) => Answer {
+            number: refusal.number,
+            object: refusal.object,
+            component: refusal.component,
+            ..Answer::default()
+        },
+    }
+}
+
+fn try_read(file: &[u8], table: &mut [u64]) -> Result<Answer, Refusal> {
+    let (manifest_start, manifest) = judge::judge_file(file)?;
+    let rows = rows_of(&manifest, manifest_start);
+    table
+        .get_mut(..rows.len())
+        .ok_or(Refusal::whole(ROOM))?
+        .copy_from_slice(&rows);
+    let attributes = optional_part(&manifest.attributes, manifest_start);
+    let components: usize = manifest.objects.iter().map(|o| o.components.len()).sum();
+    Ok(Answer {
+        objects: manifest.objects.len() as u64,
+        components: components as u64,
+        manifest_start,
+        attributes_place: attributes.place,
+        attributes_length: attributes.length,
+        ..Answer::default()
+    })
+}
+
+/// All object rows, then all component rows, in manifest order.
+fn rows_of(manifest: &Manifest, manifest_start: u64) -> Vec<u64> {
+    let mut rows = Vec::new();
+    for object in &manifest.objects {
+        rows.extend(ObjectRow::of(object, manifest_start).numbers());
+    }
+    for (owner, object) in manifest.objects.iter().enumerate() {
+        for component in &object.components {
+            rows.extend(ComponentRow::of(component, manifest_start, owner as u64).numbers());
+        }
+    }
+    rows
+}
+
+fn part(span: &Range<usize>, manifest_start: u64) -> Part {
+    Part {
+        place: manifest_start + span.start as u64,
+        length: span.len() as u64,
+    }
+}
+
+fn optional_part(span: &Option<Range<usize>>, manifest_start: u64) -> Part {
+    span.as_ref()
+        .map_or(Part::default(), |span| part(span, manifest_start))
+}
+
+impl Part {
+    /// The bytes of this part, if it lies inside them.
+    pub fn of(self, bytes: &[u8]) -> Option<&[u8]> {
+        let place = usize::try_from(self.place).ok()?;
+        let length = usize::try_from(self.length).ok()?;
+        bytes.get(place..place.checked_add(length)?)
+    }
+}
+
+impl ObjectRow {
+    fn of(object: &Object, manifest_start: u64) -> ObjectRow {
+        let mut dimensions = [0; RANK_LIMIT];
+        dimensions[..object.shape.len()].copy_from_slice(&object.shape);
+        ObjectRow {
+            name: part(&object.name, manifest_start),
+            rank: object.shape.len() as u64,
+            dimensions,
+            format: part(&object.format, manifest_start),
+            attributes: optional_part(&object.attributes, manifest_start),
+            components: object.components.len() as u64,
+        }
+    }
+
+    pub fn from_numbers(numbers: [u64; OBJECT_ROW]) -> ObjectRow {
+        let [np, nl, rank, d0, d1, d2, d3, d4, d5, d6, d7, fp, fl, ap, al, components] = numbers;
+        ObjectRow {
+            name: pair(np, nl),
+            rank,
+            dimensions: [d0, d1, d2, d3, d4, d5, d6, d7],
+            format: pair(fp, fl),
+            attributes: pair(ap, al),
+            components,
+        }
+    }
+
+    pub fn numbers(&self) -> [u64; OBJECT_ROW] {
+        let [d0, d1, d2, d3, d4, d5, d6, d7] = self.dimensions;
+        [
+            self.name.place,
+            self.name.length,
+            self.rank,
+            d0,
+            d1,
+            d2,
+            d3,
+            d4,
+            d5,
+            d6,
+            d7,
+            self.format.place,
+            self.format.length,
+            self.attributes.place,
+            self.attributes.length,
+            self.components,
+        ]
+    }
+}
+
+impl ComponentRow {
+    fn of(component: &Component, manifest_start: u64, owner: u64) -> ComponentRow {
+        ComponentRow {
+            name: part(&component.name, manifest_start),
+            dtype: component.dtype as u64,
+            logical: optional_part(&component.logical, manifest_start),
+            blob: pair(component.offset, component.length),
+            digest: optional_part(&component.digest, manifest_start),
+            owner,
+        }
+    }
+
+    pub fn from_numbers(numbers: [u64; COMPONENT_ROW]) -> ComponentRow {
+        let [np, nl, dtype, tp, tl, offset, length, dp, dl, owner] = numbers;
+        ComponentRow {
+            name: pair(np, nl),
+            dtype,
+            logical: pair(tp, tl),
+            blob: pair(offset, length),
+            digest: pair(dp, dl),
+            owner,
+        }
+    }
+
+    pub fn numbers(&self) -> [u64; COMPONENT_ROW] {
+        [
+            self.name.place,
+            self.name.length,
+            self.dtype,
+            self.logical.place,
+            self.logical.length,
+            self.blob.place,
+            self.blob.length,
+            self.digest.place,
+            self.digest.length,
+            self.owner,
+        ]
+    }
+}
+
+fn pair(place: u64, length: u64) -> Part {
+    Part { place, length }
+}
+
+/// The rows of a table with these counts, or nothing if it is shorter than the counts say.
+pub fn split(
+    table: &[u64],
+    objects: u64,
+    components: u64,
+) -> Option<(Vec<ObjectRow>, Vec<ComponentRow>)> {
+    let object_numbers = numbers_of(objects, OBJECT_ROW)?;
+    let component_numbers = numbers_of(components, COMPONENT_ROW)?;
+    let (object_rows, rest) = table.split_at_checked(object_numbers)?;
+    let component_rows = rest.get(..component_numbers)?;
+    let (object_rows, _) = object_rows.as_chunks();
+    let (component_rows, _) = component_rows.as_chunks();
+    Some((
+        object_rows
+            .iter()
+            .map(|&n| ObjectRow::from_numbers(n))
+            .collect(),
+        component_rows
+            .iter()
+            .map(|&n| ComponentRow::from_numbers(n))
+            .collect(),
+    ))
+}
+
+/// How many numbers the rows take, if that many could be lent at all.
+fn numbers_of(count: u64, row: usize) -> Option<usize> {
+    usize::try_from(count).ok()?.checked_mul(row)
+}

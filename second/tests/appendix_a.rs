@@ -1,0 +1,216 @@
+//! The 82 items of RFC 7049's Appendix A: decoded, as unknown values, as attributes, as a manifest.
+
+mod common;
+
+use common::{component, judged, named, object, root, with};
+use second::cbor::{self, Kind, Node};
+use second::encode::Item;
+
+struct Example {
+    bytes: Vec<u8>,
+    diagnostic: String,
+}
+
+fn examples() -> Vec<Example> {
+    let table = include_str!("../data/appendix_a.tsv");
+    table.lines().skip(1).map(example).collect()
+}
+
+fn example(line: &str) -> Example {
+    let (hex, rest) = line.split_once('\t').unwrap();
+    let (diagnostic, _) = rest.rsplit_once('\t').unwrap();
+    let digits: Vec<char> = hex.chars().collect();
+    let byte = |pair: &[char]| u8::from_str_radix(&String::from_iter(pair), 16).unwrap();
+    Example {
+        bytes: digits.chunks(2).map(byte).collect(),
+        diagnostic: diagnostic.to_string(),
+    }
+}
+
+impl Example {
+    fn is_map(&self) -> bool {
+        self.bytes[0] >> 5 == 5
+    }
+
+    fn item(&self) -> Item {
+        Item::Raw(self.bytes.clone())
+    }
+}
+
+/// One dense object, to which a value may be added in each of the three maps.
+fn manifest(in_root: Option<(&str, Item)>, in_object: Option<(&str, Item)>) -> Vec<u8> {
+    let object = object(&[2], "dense", named([("data", component("f32", 64, 8))]));
+    let add = |map: Item, pair: Option<(&str, Item)>| match pair {
+        Some((key, value)) => with(map, key, value),
+        None => map,
+    };
+    add(root(named([("w", add(object, in_object))])), in_root).shortest()
+}
+
+#[test]
+fn there_are_82() {
+    assert_eq!(examples().len(), 82);
+}
+
+#[test]
+fn as_an_unknown_fields_value() {
+    for example in examples() {
+        let item = || example.item();
+        assert_eq!(judged(&manifest(Some(("x", item())), None), 72), (0, 0, 0));
+        assert_eq!(judged(&manifest(None, Some(("x", item()))), 72), (0, 0, 0));
+        let data = with(component("f32", 64, 8), "x", item());
+        let object = object(&[2], "dense", named([("data", data)]));
+        let manifest = root(named([("w", object)])).shortest();
+        assert_eq!(judged(&manifest, 72), (0, 0, 0), "{}", example.diagnostic);
+    }
+}
+
+#[test]
+fn as_attributes() {
+    for example in examples() {
+        let number = if example.is_map() { 0 } else { 8 };
+        let in_root = manifest(Some(("attributes", example.item())), None);
+        assert_eq!(
+            judged(&in_root, 72),
+            (number, 0, 0),
+            "{}",
+            example.diagnostic
+        );
+        let in_object = manifest(None, Some(("attributes", example.item())));
+        assert_eq!(
+            judged(&in_object, 72),
+            (number, 0, 0),
+            "{}",
+            example.diagnostic
+        );
+    }
+}
+
+#[test]
+fn as_a_whole_manifest() {
+    for example in examples() {
+        // Maps are without version (12), unless a key isn't text (9).
+        let number = match example.diagnostic.as_str() {
+            "{1: 2, 3: 4}" => 9,
+            _ if example.is_map() => 12,
+            _ => 8,
+        };
+        assert_eq!(
+            judged(&example.bytes, 8),
+            (number, 0, 0),
+            "{}",
+            example.diagnostic
+        );
+    }
+}
+
+#[test]
+fn cut_short_or_continued() {
+    for Example { bytes, .. } in examples() {
+        let length = bytes.len();
+        assert_eq!(cbor::skip_item(&bytes, 32), Ok(length));
+        for end in 0..length {
+            let fault = cbor::decode(&bytes[..end]).unwrap_err();
+            assert_eq!((fault.number, fault.place), (6, end));
+        }
+        let continued = [&bytes[..], &[0]].concat();
+        assert_eq!(cbor::skip_item(&continued, 32), Ok(length));
+        let fault = cbor::decode(&continued).unwrap_err();
+        assert_eq!((fault.number, fault.place), (6, length));
+    }
+}
+
+#[test]
+fn means_what_the_appendix_says() {
+    for Example { bytes, diagnostic } in examples() {
+        let node = cbor::decode(&bytes).unwrap();
+        match (&node.kind, diagnostic.parse::<f64>()) {
+            (Kind::Float { width, bits }, Ok(expected)) => {
+                let value = float(*width, *bits);
+                assert!(
+                    value.to_bits() == expected.to_bits() || value.is_nan() && expected.is_nan()
+                );
+            }
+            _ => {
+                // The tree forgets which containers are indefinite and where chunks were cut.
+                let expected = diagnostic.replace("[_ ", "[").replace("{_ ", "{");
+                let expected = expected.replace("', h'", "").replace("\", \"ming", "ming");
+                assert_eq!(shown(&bytes, &node), expected);
+            }
+        }
+    }
+}
+
+/// Diagnostic notation, RFC 7049, section 6.
+fn shown(bytes: &[u8], node: &Node) -> String {
+    let list = |parts: Vec<String>| parts.join(", ");
+    match &node.kind {
+        Kind::Unsigned(n) => n.to_string(),
+        Kind::Negative(n) => (-1 - i128::from(*n)).to_string(),
+        Kind::Bytes(content) => hex(&bytes[content.clone()]),
+        Kind::ChunkedBytes(content) => format!("(_ {})", hex(content)),
+        Kind::Text(content) => quoted(&bytes[content.clone()]),
+        Kind::ChunkedText(content) => format!("(_ {})", quoted(content)),
+        Kind::Array(nodes) => {
+            format!(
+                "[{}]",
+                list(nodes.iter().map(|node| shown(bytes, node)).collect())
+            )
+        }
+        Kind::Map(pairs) => {
+            let pair = |(key, value): &(Node, Node)| {
+                format!("{}: {}", shown(bytes, key), shown(bytes, value))
+            };
+            format!("{{{}}}", list(pairs.iter().map(pair).collect()))
+        }
+        Kind::Tag(number, content) => format!("{number}({})", shown(bytes, content)),
+        Kind::Simple(20) => "false".to_string(),
+        Kind::Simple(21) => "true".to_string(),
+        Kind::Simple(22) => "null".to_string(),
+        Kind::Simple(23) => "undefined".to_string(),
+        Kind::Simple(number) => format!("simple({number})"),
+        Kind::Float { width, bits } => format!("{:?}", float(*width, *bits)),
+    }
+}
+
+fn hex(bytes: &[u8]) -> String {
+    let digits: String = bytes.iter().map(|byte| format!("{byte:02x}")).collect();
+    format!("h'{digits}'")
+}
+
+fn quoted(bytes: &[u8]) -> String {
+    let mut out = String::new();
+    for unit in std::str::from_utf8(bytes).unwrap().encode_utf16() {
+        match u8::try_from(unit).ok().filter(u8::is_ascii) {
+            Some(byte @ (b'"' | b'\\')) => out.extend(['\\', char::from(byte)]),
+            Some(byte) => out.push(char::from(byte)),
+            None => out += &format!("\\u{unit:04x}"),
+        }
+    }
+    format!("\"{out}\"")
+}
+
+fn float(width: u8, bits: u64) -> f64 {
+    match width {
+        2 => half(bits),
+        4 => f64::from(f32::from_bits(bits as u32)),
+        _ => f64::from_bits(bits),
+    }
+}
+
+/// RFC 7049, Appendix D.
+fn half(bits: u64) -> f64 {
+    let exponent = (bits >> 10 & 0x1F) as i32;
+    let mantissa = (bits & 0x3FF) as f64;
+    let magnitude = match exponent {
+        0 => mantissa * 2f64.powi(-24),
+        31 if mantissa == 0.0 => f64::INFINITY,
+        31 => f64::NAN,
+        _ => (mantissa + 1024.0) * 2f64.powi(exponent - 25),
+    };
+    if bits & 0x8000 == 0 {
+        magnitude
+    } else {
+        -magnitude
+    }
+}

@@ -1,0 +1,72 @@
+//! The small program: what it prints and what it leaves in a directory.
+
+use second::frame;
+use second::generate::Generator;
+use std::fs;
+use std::path::{Path, PathBuf};
+use std::process::{Command, Output};
+
+/// A directory of this test's own, empty.
+fn directory(name: &str) -> PathBuf {
+    let directory = Path::new(env!("CARGO_TARGET_TMPDIR")).join(name);
+    let _ = fs::remove_dir_all(&directory);
+    fs::create_dir_all(&directory).unwrap();
+    directory
+}
+
+fn second(arguments: &[&str], directory: &Path) -> Output {
+    Command::new(env!("CARGO_BIN_EXE_second"))
+        .args(arguments)
+        .current_dir(directory)
+        .output()
+        .unwrap()
+}
+
+#[test]
+fn lists_and_judges_files() {
+    let directory = directory("lists_and_judges_files");
+    let sound = frame::assemble(&[], b"\xA2\x67version\x651.2.0\x67objects\xA0");
+    fs::write(directory.join("sound.zt"), &sound).unwrap();
+    fs::write(directory.join("short.zt"), &sound[..23]).unwrap();
+    let list = second(&["list", "sound.zt"], &directory);
+    assert_eq!(list.stdout, b"objects 0 components 0\n");
+    let list = second(&["list", "short.zt", "sound.zt"], &directory);
+    assert_eq!(list.stdout, b"refused 1 0 0\nobjects 0 components 0\n");
+    let judge = second(&["judge", "sound.zt", "short.zt"], &directory);
+    assert_eq!(judge.stdout, b"0 0 0\n1 0 0\n");
+    assert!(judge.status.success());
+}
+
+#[test]
+fn generates_files_with_their_answers() {
+    let directory = directory("generates_files_with_their_answers");
+    assert!(second(&["generate", "3", "20", "made"], &directory)
+        .status
+        .success());
+    let made = directory.join("made");
+    let answers = fs::read_to_string(made.join("answers.txt")).unwrap();
+    assert_eq!(answers.lines().count(), 20);
+    let mut generator = Generator::new(3);
+    for line in answers.lines() {
+        let (name, answer) = line.split_once(' ').unwrap();
+        assert_eq!(fs::read(made.join(name)).unwrap(), generator.next_file());
+        let judge = second(&["judge", name], &made);
+        assert_eq!(judge.stdout, format!("{answer}\n").into_bytes());
+    }
+}
+
+#[test]
+fn says_how_it_is_used() {
+    let directory = directory("says_how_it_is_used");
+    for arguments in [
+        &[][..],
+        &["list"],
+        &["judge"],
+        &["generate", "x", "1", "made"],
+        &["list", "no.zt"],
+    ] {
+        let output = second(arguments, &directory);
+        assert!(!output.status.success());
+        assert!(output.stdout.is_empty() && output.stderr.starts_with(b"second: "));
+    }
+}
