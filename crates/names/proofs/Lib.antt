@@ -1,0 +1,4 @@
+-- Laws that several proofs cite.
+pub mod NamedParts
+pub mod SortedNames
+pub mod TabledNames
