@@ -103,7 +103,7 @@ pub record Refuses (o : Outcome Argument) : Type 0 where
   pub is : o ≡ refused 6 at
 
 pub data Look (i : ℕ) (t : List ℕ) : Type 0 where
-  sized : (w n : ℕ) → w ≤ length t → ((o : List ℕ) → argument o i t ≡ got (known w n) (drop w t)) → (i ≡ 31 → ⊥) → Look i t
+  sized : (w n : ℕ) → w ≤ length t → ((o : List ℕ) → argument o i t ≡ got (known w n) (drop w t)) → i < 28 → Look i t
   loose : i ≡ 31 → ((o : List ℕ) → argument o i t ≡ got indefinite t) → Look i t
   wrong : (i ≡ 31 → ⊥) → ((o : List ℕ) → Refuses (argument o i t)) → Look i t
 
@@ -114,13 +114,13 @@ module _ (i : ℕ) (t : List ℕ) where
 
   look-small : i < 24 → Look i t
   unfolding argument
-  look-small h = sized 0 i (omega arith) (λ o. rw (lt-ltb i 24 h)) (λ e. omega arith)
+  look-small h = sized 0 i (omega arith) (λ o. rw (lt-ltb i 24 h)) (omega arith)
 
   look-wide : (w : ℕ) → 24 ≤ i → i < 28 → ((o : List ℕ) → getD longArguments (i - 24) malformed o t ≡ wide w t) → Look i t
   unfolding wide
   look-wide w h k is = ⊎-elim
       (λ l. wrong (λ e. omega arith) (λ o. record { at = []; is = later o h ∙ is o ∙ ap (λ x. read.after x (λ n. read.pure (known w n))) (number-ends-early w 0 t l) }))
-      (λ l. sized w (word w t 0 0) l (λ o. later o h ∙ is o ∙ ap (λ x. read.after x (λ n. read.pure (known w n))) (fits l)) (λ e. omega arith))
+      (λ l. sized w (word w t 0 0) l (λ o. later o h ∙ is o ∙ ap (λ x. read.after x (λ n. read.pure (known w n))) (fits l)) k)
       (lt-or (length t) w)
     where
       fits : w ≤ length t → number w 0 t ≡ got (word w t 0 0) (drop w t)

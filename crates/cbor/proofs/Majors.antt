@@ -61,7 +61,7 @@ pub data Scalar (b : ℕ) : Type 0 where
   low : b < 64 → Scalar b
   high : 224 ≤ b → Scalar b
 
-majors-late : (m : ℕ) → 7 ≤ m → getD read.majors m read.special ≡ read.special
+pub majors-late : (m : ℕ) → 7 ≤ m → getD read.majors m read.special ≡ read.special
 majors-late zero l = absurd (omega arith)
 majors-late (suc zero) l = absurd (omega arith)
 majors-late (suc (suc zero)) l = absurd (omega arith)
@@ -107,7 +107,7 @@ module _ (d b : ℕ) (t : List ℕ) where
   scalar-open k n = go (look (b % 32) t)
     where
       go : Look (b % 32) t → FAULT + 6 ≡ code (itemEnd (suc d) (b ∷ t))
-      go (sized w v l e x) = absurd (x n)
+      go (sized w v l e x) = absurd (omega arith)
       go (loose e x) = rw (item-loose d b t x, scalar-loose k)
       go (wrong x e) = absurd (x n)
 
@@ -150,7 +150,7 @@ module _ (m b : ℕ) (t : List ℕ) where
   chunk-open e n = go (look (b % 32) t)
     where
       go : Look (b % 32) t → FAULT + 6 ≡ code (ending (b ∷ t) (chunk m (b ∷ t)))
-      go (sized w v l h x) = absurd (x n)
+      go (sized w v l h x) = absurd (omega arith)
       go (loose h x) = rw (chunk-opens e, x (b ∷ t))
       go (wrong x h) = absurd (x n)
 
@@ -217,7 +217,7 @@ module _ (d b : ℕ) (t : List ℕ) (low : 64 ≤ b) (high : b < 128) where
   string-opens n = go (look (b % 32) t)
     where
       go : Look (b % 32) t → itemEnd (suc d) (b ∷ t) ≡ shift 1 (ending t (toBreak (chunk (b / 32)) t))
-      go (sized w v l e x) = absurd (x n)
+      go (sized w v l e x) = absurd (omega arith)
       go (loose e x) = ap (ending (b ∷ t)) (item-loose d b t x) ∙ string-loose
       go (wrong x e) = absurd (x n)
 
@@ -258,7 +258,7 @@ holder-loose : (b : ℕ) (t : List ℕ) (mode : ℕ) → b % 32 ≡ 31 → ((d :
 holder-loose b t mode n h = go (look (b % 32) t)
   where
     go : Look (b % 32) t → HolderIs (b ∷ t) (held (headOf (b ∷ t) .size) (headOf (b ∷ t) .value) mode)
-    go (sized w v l e x) = absurd (x n)
+    go (sized w v l e x) = absurd (omega arith)
     go (loose e x) = rw (head-loose b t x) (record {
       counted = λ k. refl;
       inside = λ k q d. ap (ending (b ∷ t)) (item-loose d b t x) ∙ h d;
@@ -323,6 +323,6 @@ module _ (b : ℕ) (t : List ℕ) (room : length (b ∷ t) < FAULT) where
   open-tag-refused l h n d = go (look (b % 32) t)
     where
       go : Look (b % 32) t → itemEnd (suc d) (b ∷ t) ≡ fault 6
-      go (sized w v k e x) = absurd (x n)
+      go (sized w v k e x) = absurd (omega arith)
       go (loose e x) = rw (item-loose d b t x, major 6 (omega arith))
       go (wrong x e) = absurd (x n)

@@ -1,0 +1,329 @@
+-- What the first bytes of an item say of it in a known place: a text, a number, null.
+use Prim.Native.Nat.{ℕ, zero, suc, _+_, _-_, _*_, _/_, _%_, _≤_, _<_}
+use native.Mathlib.Omega.{arith}
+use mathlib.Core.List.{List, [], _∷_}
+use mathlib.Core.Bool.{Bool, true, false, cond, _&&_}
+use mathlib.Core.Logic.{_⊎_, inl, inr, ⊎-elim}
+use mathlib.Core.Path.{_≡_, refl, ap, sym, _∙_, subst}
+use lib.ListN.{length, getD, take, drop, length-drop}
+use lib.Seq.{drop-drop}
+use lib.Dec.{eqb, leb}
+use borrow.Author.Tests.{eq-eqb, ne-eqb, le-leb, lt-leb, leb-true, leb-false}
+use Rattle.meaning.specs.Tree as tree
+use Rattle.meaning.specs.Tree.{Node, Pair}
+use Rattle.meaning.specs.Check.{Check, pass, fault}
+use Rattle.meaning.specs.Refusal.{KIND}
+use Rattle.meaning.specs.Model.{Word}
+use Rattle.meaning.specs.Kind as kinds
+use Rattle.meaning.specs.Kind.{Kind, kind}
+use Rattle.meaning.specs.Read as read
+use Rattle.meaning.specs.Read.{got, refused, known, indefinite, majorOf, run, Major, Argument}
+use Rattle.meaning.specs.Read.{unsigned, negative, byteString, textString, arrayOf, mapOf, tagged, special}
+use Rattle.meaning.proofs.ReadPrefix.{never-got, alike}
+use Rattle.cbor.specs.Ending.{headOf, argued, endless}
+use Rattle.cbor.proofs.Majors.{majors-late}
+use Rattle.walk.specs.Reading.{Ends, ends, Reads}
+use Rattle.cbor.proofs.Heads as heads
+use Rattle.endian.specs.Word.{word}
+use Rattle.endian.proofs.Laws.{word-one}
+use Rattle.endian.proofs.Which.{eq-or, lt-or}
+use Rattle.walk.specs.Places.{Whatever, isNull}
+use Rattle.walk.proofs.ReadSays.{Says, KindSays, kind-says, Stood, sized, loose, stood, nothing-read}
+
+-- the number of a major type
+abbrev numberOf : Major → ℕ
+numberOf unsigned = 0
+numberOf negative = 1
+numberOf byteString = 2
+numberOf textString = 3
+numberOf arrayOf = 4
+numberOf mapOf = 5
+numberOf tagged = 6
+numberOf special = 7
+
+module _ (b : ℕ) where
+  pub major-is : (m : ℕ) → b / 32 ≡ m → majorOf b ≡ getD read.majors m special
+  unfolding majorOf
+  major-is m e = rw e
+
+  -- a byte's major type tells where it lies
+  pub major-tells : (m : Major) → majorOf b ≡ m → (b / 32 ≡ numberOf m) ⊎ ((7 ≤ b / 32) × (m ≡ special))
+  major-tells m e = go (b / 32) refl
+    where
+      go : (k : ℕ) → b / 32 ≡ k → (b / 32 ≡ numberOf m) ⊎ ((7 ≤ b / 32) × (m ≡ special))
+      go zero h = inl (h ∙ ap numberOf (sym (major-is 0 h) ∙ e))
+      go (suc zero) h = inl (h ∙ ap numberOf (sym (major-is 1 h) ∙ e))
+      go (suc (suc zero)) h = inl (h ∙ ap numberOf (sym (major-is 2 h) ∙ e))
+      go (suc (suc (suc zero))) h = inl (h ∙ ap numberOf (sym (major-is 3 h) ∙ e))
+      go (suc (suc (suc (suc zero)))) h = inl (h ∙ ap numberOf (sym (major-is 4 h) ∙ e))
+      go (suc (suc (suc (suc (suc zero))))) h = inl (h ∙ ap numberOf (sym (major-is 5 h) ∙ e))
+      go (suc (suc (suc (suc (suc (suc zero)))))) h = inl (h ∙ ap numberOf (sym (major-is 6 h) ∙ e))
+      go (suc (suc (suc (suc (suc (suc (suc k))))))) h =
+          inr (omega arith, sym e ∙ major-is (suc (suc (suc (suc (suc (suc (suc k))))))) h ∙ majors-late (suc (suc (suc (suc (suc (suc (suc k))))))) (omega arith))
+
+  pub text-byte : majorOf b ≡ textString → b / 32 ≡ 3
+  text-byte e = ⊎-elim (λ h. h) (λ h. absurd (let y = h .1 in let z : _≡_ {A = ℕ} 0 1 = cc in omega arith)) (major-tells textString e)
+
+  pub unsigned-byte : majorOf b ≡ unsigned → b / 32 ≡ 0
+  unsigned-byte e = ⊎-elim (λ h. h) (λ h. absurd (let y = h .1 in let z : _≡_ {A = ℕ} 0 1 = cc in omega arith)) (major-tells unsigned e)
+
+-- kinds that aren't asked for
+abbrev NotWord : Kind Ends → Type 0
+NotWord k = kinds.asWord k ≡ fault KIND
+
+abbrev NotNumber : Kind Ends → Type 0
+NotNumber k = kinds.asNumber k ≡ fault KIND
+
+two-kinds : (P : Kind Ends → Type 0) → P kinds.null → P kinds.another → (a b : Bool) → P (cond a (cond b kinds.null kinds.another) kinds.another)
+two-kinds P x y true true = x
+two-kinds P x y true false = y
+two-kinds P x y false b = y
+
+not-word : (m : Major) (a : Argument) (k : Kind Ends) → KindSays m a k → (m ≡ textString → a ≡ indefinite) → NotWord k
+unfolding kinds.asWord
+not-word unsigned (known w n) k h x = rw h
+not-word unsigned indefinite k h x = absurd h
+not-word negative (known w n) k h x = rw h
+not-word negative indefinite k h x = absurd h
+not-word byteString a k h x = rw h
+not-word textString (known w n) k h x = absurd (let y = x refl in let z : _≡_ {A = ℕ} 0 1 = cc in omega arith)
+not-word textString indefinite k h x = rw h
+not-word arrayOf a k h x = rw (h .1)
+not-word mapOf a k h x = rw (h .1)
+not-word tagged (known w n) k h x = rw h
+not-word tagged indefinite k h x = absurd h
+not-word special (known w n) k h x = rw h (two-kinds NotWord refl refl (leb w 1) (eqb n 22))
+not-word special indefinite k h x = absurd h
+
+not-number : (m : Major) (a : Argument) (k : Kind Ends) → KindSays m a k → (m ≡ unsigned → ⊥) → NotNumber k
+unfolding kinds.asNumber
+not-number unsigned (known w n) k h x = absurd (x refl)
+not-number unsigned indefinite k h x = absurd h
+not-number negative (known w n) k h x = rw h
+not-number negative indefinite k h x = absurd h
+not-number byteString a k h x = rw h
+not-number textString (known w n) k h x = rw (h .2)
+not-number textString indefinite k h x = rw h
+not-number arrayOf a k h x = rw (h .1)
+not-number mapOf a k h x = rw (h .1)
+not-number tagged (known w n) k h x = rw h
+not-number tagged indefinite k h x = absurd h
+not-number special (known w n) k h x = rw h (two-kinds NotNumber refl refl (leb w 1) (eqb n 22))
+not-number special indefinite k h x = absurd h
+
+not-null : (m : Major) (a : Argument) (k : Kind Ends) → KindSays m a k → (m ≡ special → ⊥) → isNull k ≡ false
+not-null unsigned (known w n) k h x = rw h
+not-null unsigned indefinite k h x = absurd h
+not-null negative (known w n) k h x = rw h
+not-null negative indefinite k h x = absurd h
+not-null byteString a k h x = rw h
+not-null textString (known w n) k h x = rw (h .2)
+not-null textString indefinite k h x = rw h
+not-null arrayOf a k h x = rw (h .1)
+not-null mapOf a k h x = rw (h .1)
+not-null tagged (known w n) k h x = rw h
+not-null tagged indefinite k h x = absurd h
+not-null special a k h x = absurd (x refl)
+
+pub record Run (n : ℕ) (q x r : List ℕ) : Type 0 where
+  pub fits : n ≤ length q
+  pub taken : x ≡ take n q
+  pub left : r ≡ drop n q
+
+pub run-got : (n : ℕ) (q x r : List ℕ) → run n q ≡ got x r → Run n q x r
+unfolding run
+run-got n q x r = go (leb n (length q)) refl
+  where
+    go : (b : Bool) → leb n (length q) ≡ b → cond b (got (take n q) (drop n q)) (refused 6 []) ≡ got x r → Run n q x r
+    go true e h = record { fits = leb-true n (length q) e; taken = sym (alike h .value); left = sym (alike h .rest) }
+    go false e h = absurd (never-got h)
+
+-- ---------------------------------------------------------------- texts
+
+module _ (d b : ℕ) (t : List ℕ) (x : Node Ends) (r : List ℕ) where
+  text-no : (96 ≤ b → b < 124 → ⊥) → Reads (suc d) (b ∷ t) x r → kinds.aWord x ≡ fault KIND
+  unfolding kinds.aWord
+  text-no n e = go (stood d b t x r e)
+    where
+      not-text : b % 32 < 28 → majorOf b ≡ textString → ⊥
+      not-text k e = let z = text-byte b e in n (omega arith) (omega arith)
+
+      go : Stood d b t x r → kinds.asWord (kind x) ≡ fault KIND
+      go (sized w m l h k y) = not-word (majorOf b) (known w m) (kind x) (kind-says (b ∷ t) d (drop w t) x r (majorOf b) (known w m) y) (λ z. absurd (not-text k z))
+      go (loose k h y) = not-word (majorOf b) indefinite (kind x) (kind-says (b ∷ t) d t x r (majorOf b) indefinite y) (λ z. refl)
+
+  -- a text as it was read
+  pub record Texted : Type 0 where
+    pub size : ℕ
+    pub count : ℕ
+    pub head : headOf (b ∷ t) ≡ argued count size
+    pub fits : size + count ≤ length (b ∷ t)
+    pub word : kinds.aWord x ≡ pass (record { note = ends (b ∷ t) r; letters = take count (drop size (b ∷ t)) })
+    pub left : r ≡ drop (size + count) (b ∷ t)
+
+  text-yes : 96 ≤ b → b < 124 → Reads (suc d) (b ∷ t) x r → Texted
+  unfolding kinds.aWord kinds.asWord kind
+  text-yes low high e = go (stood d b t x r e)
+    where
+      go : Stood d b t x r → Texted
+      go (sized w n k h i y) =
+          let z = subst (λ m. Says (b ∷ t) d m (known w n) (drop w t) x r) (major-is b 3 (omega arith)) y in
+          let g : Run n (drop w t) (z .value) r = run-got n (drop w t) (z .value) r (z .is) in
+          let u : w + 1 ≡ suc w = omega arith in
+          record {
+            size = w + 1;
+            count = n;
+            head = h;
+            fits = omega (arith, g .fits, length-drop w t);
+            word = ap kinds.asWord (ap kind (z .node)) ∙ (rw (g .taken, u) refl);
+            left = g .left ∙ drop-drop n w t ∙ (let v : w + 1 + n ≡ suc (w + n) = omega arith in rw v refl);
+          }
+      go (loose k h y) = absurd (omega arith)
+
+  -- ---------------------------------------------------------------- numbers
+
+  number-no : 28 ≤ b → Reads (suc d) (b ∷ t) x r → kinds.aNumber x ≡ fault KIND
+  unfolding kinds.aNumber
+  number-no n e = go (stood d b t x r e)
+    where
+      not-unsigned : b % 32 < 28 → majorOf b ≡ unsigned → ⊥
+      not-unsigned k e = let z = unsigned-byte b e in omega arith
+
+      unsigned-loose : majorOf b ≡ unsigned → Says (b ∷ t) d (majorOf b) indefinite t x r → ⊥
+      unsigned-loose e y = subst (λ m. Says (b ∷ t) d m indefinite t x r) e y
+
+      go : Stood d b t x r → kinds.asNumber (kind x) ≡ fault KIND
+      go (sized w m l h k y) = not-number (majorOf b) (known w m) (kind x) (kind-says (b ∷ t) d (drop w t) x r (majorOf b) (known w m) y) (not-unsigned k)
+      go (loose k h y) = not-number (majorOf b) indefinite (kind x) (kind-says (b ∷ t) d t x r (majorOf b) indefinite y) (λ z. unsigned-loose z y)
+
+  number-yes : b < 28 → Reads (suc d) (b ∷ t) x r → kinds.aNumber x ≡ pass (headOf (b ∷ t) .value)
+  unfolding kinds.aNumber kinds.asNumber kind
+  number-yes low e = go (stood d b t x r e)
+    where
+      go : Stood d b t x r → kinds.asNumber (kind x) ≡ pass (headOf (b ∷ t) .value)
+      go (sized w n k h i y) =
+          let z = subst (λ m. Says (b ∷ t) d m (known w n) (drop w t) x r) (major-is b 0 (omega arith)) y in
+          ap kinds.asNumber (ap kind (z .0)) ∙ ap pass (sym (ap (λ a. a .value) h))
+      go (loose k h y) = absurd (omega arith)
+
+  -- ---------------------------------------------------------------- null
+
+  null-no : b < 224 → Reads (suc d) (b ∷ t) x r → isNull (kind x) ≡ false
+  null-no l e = go (stood d b t x r e)
+    where
+      not-special : majorOf b ≡ special → ⊥
+      not-special e = ⊎-elim (λ h. omega arith) (λ h. let y = h .0 in omega arith) (major-tells b special e)
+
+      go : Stood d b t x r → isNull (kind x) ≡ false
+      go (sized w n k h i y) = not-null (majorOf b) (known w n) (kind x) (kind-says (b ∷ t) d (drop w t) x r (majorOf b) (known w n) y) not-special
+      go (loose k h y) = not-null (majorOf b) indefinite (kind x) (kind-says (b ∷ t) d t x r (majorOf b) indefinite y) not-special
+
+  -- a simple value or a float, by the width and the value of its argument
+  pub record Special : Type 0 where
+    pub width : ℕ
+    pub value : ℕ
+    pub head : headOf (b ∷ t) ≡ argued value (width + 1)
+    pub fits : width ≤ length t
+    pub small : b % 32 < 28
+    pub null-is : isNull (kind x) ≡ (leb width 1 && eqb value 22)
+
+  special-here : 224 ≤ b → Reads (suc d) (b ∷ t) x r → Special
+  special-here l e = go (stood d b t x r e)
+    where
+      is : majorOf b ≡ special
+      is = major-is b (b / 32) refl ∙ majors-late (b / 32) (omega arith)
+
+      two : (a b : Bool) → isNull (cond a (cond b kinds.null kinds.another) kinds.another) ≡ (a && b)
+      two true true = refl
+      two true false = refl
+      two false b = refl
+
+      go : Stood d b t x r → Special
+      go (sized w n k h i y) =
+          let z = kind-says (b ∷ t) d (drop w t) x r special (known w n) (subst (λ m. Says (b ∷ t) d m (known w n) (drop w t) x r) is y) in
+          record { width = w; value = n; head = h; fits = k; small = i; null-is = ap isNull z ∙ two (leb w 1) (eqb n 22) }
+      go (loose k h y) = absurd (subst (λ m. Says (b ∷ t) d m indefinite t x r) is y)
+
+-- ---------------------------------------------------------------- by the first byte of any list
+
+pub text-none : (s : List ℕ) → length s ≡ 0 → Whatever s λ d t r. kinds.aWord t ≡ fault KIND
+text-none s l d t r e = absurd (nothing-read d s t r l e)
+
+pub text-other : (s : List ℕ) → 1 ≤ length s → (96 ≤ getD s 0 0 → getD s 0 0 < 124 → ⊥) → Whatever s λ d t r. kinds.aWord t ≡ fault KIND
+text-other [] l n d t r e = absurd (omega arith)
+text-other (b ∷ s) l n d t r e = text-no d b s t r n e
+
+pub text-short : (s : List ℕ) → 1 ≤ length s → 96 ≤ getD s 0 0 → getD s 0 0 < 124 → length s < headOf s .size + headOf s .value → Whatever s λ d t r. kinds.aWord t ≡ fault KIND
+text-short [] l x y n d t r e = absurd (omega arith)
+text-short (b ∷ s) l x y n d t r e =
+    let k = text-yes d b s t r x y e in
+    let v : headOf (b ∷ s) .value ≡ k .count = ap (λ a. a .value) (k .head) in
+    let z : headOf (b ∷ s) .size ≡ k .size = ap (λ a. a .size) (k .head) in
+    absurd (omega (arith, k .fits))
+
+pub text-here : (s : List ℕ) → 1 ≤ length s → 96 ≤ getD s 0 0 → getD s 0 0 < 124
+    → Whatever s λ d t r. kinds.aWord t ≡ pass (record { note = ends s r; letters = take (headOf s .value) (drop (headOf s .size) s) })
+text-here [] l x y d t r e = absurd (omega arith)
+text-here (b ∷ s) l x y d t r e =
+    let k = text-yes d b s t r x y e in
+    k .word ∙ sym (ap (λ a. pass (record { note = ends (b ∷ s) r; letters = take (a .value) (drop (a .size) (b ∷ s)) })) (k .head))
+
+pub number-other : (s : List ℕ) → (length s ≡ 0) ⊎ ((1 ≤ length s) × (28 ≤ getD s 0 0)) → Whatever s λ d t r. kinds.aNumber t ≡ fault KIND
+number-other s (inl l) d t r e = absurd (nothing-read d s t r l e)
+number-other [] (inr h) d t r e = absurd (let l = h .0 in omega arith)
+number-other (b ∷ s) (inr h) d t r e = number-no d b s t r (h .1) e
+
+pub number-here : (s : List ℕ) → 1 ≤ length s → getD s 0 0 < 28 → Whatever s λ d t r. kinds.aNumber t ≡ pass (headOf s .value)
+number-here [] l x d t r e = absurd (omega arith)
+number-here (b ∷ s) l x d t r e = number-yes d b s t r x e
+
+module _ (b : ℕ) (t : List ℕ) (d : ℕ) (x : Node Ends) (r : List ℕ) (k : Special d b t x r) where
+  -- the head's argument is what the first bytes say
+  same-width : {v z : ℕ} → argued v z ≡ headOf (b ∷ t) → (v ≡ k .value) × (z ≡ k .width + 1)
+  same-width e = (ap (λ a. a .value) (e ∙ k .head), ap (λ a. a .size) (e ∙ k .head))
+
+  null-small : b % 32 < 24 → isNull (kind x) ≡ eqb (b % 32) 22
+  null-small l =
+      let z = same-width (heads.head-small (b ∷ t) (b % 32) (omega arith) refl l) in
+      let u = z .0 in let v = z .1 in
+      k .null-is ∙ (rw (le-leb (k .width) 1 (omega arith), ← u) refl)
+
+  null-wide : (w i : ℕ) → ((s : List ℕ) → getD read.longArguments (i - 24) read.malformed [] s ≡ read.wide w s) → b % 32 ≡ i → 24 ≤ i → w ≤ 8
+      → (w < length (b ∷ t)) × (k .width ≡ w) × (k .value ≡ word w (b ∷ t) 1 0)
+  null-wide w i is e l m = ⊎-elim
+      (λ f. let z = same-width (heads.head-fits w i is (b ∷ t) (sym e) l f) in let u = z .0 in let v = z .1 in (f, omega arith, sym u))
+      (λ f. let z = same-width (heads.head-short w i is (b ∷ t) (sym e) l (omega arith) f) in let v = z .1 in let y = k .fits in absurd (omega arith))
+      (lt-or w (length (b ∷ t)))
+
+pub null-none : (s : List ℕ) → length s ≡ 0 → Whatever s λ d t r. isNull (kind t) ≡ false
+null-none s l d t r e = absurd (nothing-read d s t r l e)
+
+pub null-one : (s : List ℕ) → 1 ≤ length s → getD s 0 0 ≡ 246 → Whatever s λ d t r. isNull (kind t) ≡ true
+null-one [] l h d t r e = absurd (omega arith)
+null-one (b ∷ s) l h d t r e =
+    let k = special-here d b s t r (omega arith) e in
+    let z : b % 32 ≡ 22 = omega arith in
+    null-small b s d t r k (omega arith) ∙ eq-eqb (b % 32) 22 z
+
+pub null-two : (s : List ℕ) → 1 ≤ length s → getD s 0 0 ≡ 248 → Whatever s λ d t r. (1 < length s) × (isNull (kind t) ≡ eqb (getD s 1 0) 22)
+null-two [] l h d t r e = absurd (omega arith)
+null-two (b ∷ s) l h d t r e =
+    let k = special-here d b s t r (omega arith) e in
+    let z = null-wide b s d t r k 1 24 heads.is-24 (omega arith) (omega arith) (omega arith) in
+    let u = z .1 in
+    (z .0, k .null-is ∙ (rw (le-leb (k .width) 1 (omega arith)) (ap (λ v. eqb v 22) (z .2 ∙ word-one (b ∷ s) 1))))
+
+pub null-other : (s : List ℕ) → 1 ≤ length s → getD s 0 0 < 256 → (getD s 0 0 ≡ 246 → ⊥) → (getD s 0 0 ≡ 248 → ⊥) → Whatever s λ d t r. isNull (kind t) ≡ false
+null-other [] l y m n d t r e = absurd (omega arith)
+null-other (b ∷ s) l y m n d t r e = ⊎-elim (λ h. null-no d b s t r h e) (λ h. high (special-here d b s t r h e) h) (lt-or b 224)
+  where
+    wider : (k : Special d b s t r) (w i : ℕ) → ((s : List ℕ) → getD read.longArguments (i - 24) read.malformed [] s ≡ read.wide w s) → b % 32 ≡ i → 24 ≤ i → 2 ≤ w → w ≤ 8 → isNull (kind t) ≡ false
+    wider k w i is q g f j = let z = null-wide b s d t r k w i is q g j in let u = z .1 in k .null-is ∙ (rw (lt-leb (k .width) 1 (omega arith)) refl)
+
+    high : Special d b s t r → 224 ≤ b → isNull (kind t) ≡ false
+    high k h = ⊎-elim
+        (λ f. null-small b s d t r k f ∙ ne-eqb (b % 32) 22 (λ q. m (omega arith)))
+        (λ f. ⊎-elim (λ q. wider k 2 25 heads.is-25 q (omega arith) (omega arith) (omega arith))
+        (λ a. ⊎-elim (λ q. wider k 4 26 heads.is-26 q (omega arith) (omega arith) (omega arith))
+        (λ c. let g = k .small in wider k 8 27 heads.is-27 (omega arith) (omega arith) (omega arith) (omega arith))
+        (eq-or (b % 32) 26)) (eq-or (b % 32) 25)) (lt-or (b % 32) 24)

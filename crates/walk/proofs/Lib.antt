@@ -1,0 +1,2 @@
+pub mod ReadSays
+pub mod Found

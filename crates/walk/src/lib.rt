@@ -1,0 +1,82 @@
+// What stands at a place of the manifest, for the tree that is read there. Every slice begins with the item and runs to the manifest's end; a place is kept as the
+// number of bytes left there, and 0 is absence.
+ghost use mathlib.Core.Path.{_≡_};
+ghost use Prim.Native.Nat.{ℕ, _+_, _-_, _<_, _≤_};
+ghost use lib.ListN.{length};
+ghost use Rattle.walk.specs.Places as places;
+
+// Whole text: where its letters begin, and how many there are.
+pub enum Letters {
+    NoText,
+    Text(usize, usize),
+}
+
+// An unsigned integer.
+pub enum Numeral {
+    NoNumber,
+    Number(u64),
+}
+
+// A map or an array: how its parts are counted, how many are due, and where they begin.
+pub enum Opening {
+    NotOpen,
+    Opened(u64, u64, usize),
+}
+
+// The whole text that begins s.
+pub fn text(s: &[u8]) -> Letters
+    ensures { λ r. ⌜ places.Inside (now (s .entry)) r × places.TextIs (now (s .entry)) r ⌝ }
+{
+    if s.len() == 0 {
+        return Letters::NoText;
+    }
+    let b = s[0];
+    if b < 96 {
+        return Letters::NoText;
+    }
+    if 124 <= b {
+        return Letters::NoText;
+    }
+    let h = cbor::head(&s[0..]);
+    if s.len() < h.size {
+        return Letters::NoText;
+    }
+    if ((s.len() - h.size) as u64) < h.value {
+        return Letters::NoText;
+    }
+    Letters::Text(h.size, h.value as usize)
+}
+
+// The unsigned integer that begins s.
+pub fn number(s: &[u8]) -> Numeral
+    ensures { λ r. ⌜ places.NumberIs (now (s .entry)) r ⌝ }
+{
+    if s.len() == 0 {
+        return Numeral::NoNumber;
+    }
+    if 28 <= s[0] {
+        return Numeral::NoNumber;
+    }
+    let h = cbor::head(&s[0..]);
+    Numeral::Number(h.value)
+}
+
+// Is null at the start of s, in one byte or in two?
+pub fn null(s: &[u8]) -> bool
+    ensures { λ r. ⌜ places.NullIs (now (s .entry)) r ⌝ }
+{
+    if s.len() == 0 {
+        return false;
+    }
+    let b = s[0];
+    if b == 246 {
+        return true;
+    }
+    if b == 248 {
+        if s.len() < 2 {
+            return false;
+        }
+        return s[1] == 22;
+    }
+    false
+}
