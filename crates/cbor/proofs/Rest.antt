@@ -3,8 +3,9 @@ use Prim.Native.Nat.{ℕ, zero, suc, _+_, _-_, _%_, _≤_, _<_}
 use native.Mathlib.Omega.{arith}
 use mathlib.Core.List.{List, [], _∷_}
 use mathlib.Core.Bool.{Bool, true, false, cond}
+use mathlib.Core.Logic.{_⊎_, ⊎-elim}
 use mathlib.Core.Path.{_≡_, refl, ap, sym, _∙_}
-use lib.ListN.{length, getD, drop}
+use lib.ListN.{length, getD, drop, length-drop}
 use lib.Seq.{drop-drop}
 use lib.Dec.{eqb}
 use borrow.Author.Tests.{eq-eqb, ne-eqb, eqb-true, eqb-false}
@@ -231,3 +232,31 @@ module _ (d : ℕ) where
       go : (e : Ending) → itemEnd d s ≡ e → ((r : List ℕ) → paired n r ≡ rest 0 (n + n) d r) → paired (suc n) s ≡ rest 0 (suc (suc (n + n))) d s
       go (took k) e ih = go₂ k e (itemEnd d (drop k s)) refl ih
       go (fault c) e ih = pairs-stop n s c (pair-stops s c e) ∙ sym (items-stop (suc (n + n)) s c e)
+
+  -- ---------------------------------------------------------------- after a key, where a break is a fault like any other
+
+  abbrev ValueDue : ℕ → ℕ → Type 0
+  ValueDue mode n = (mode ≡ 0) ⊎ ((2 ≤ mode) × (n % 2 ≡ 0))
+
+  pub value-stops : (mode n : ℕ) (s : List ℕ) (c : ℕ) → 0 < n → ValueDue mode n → itemEnd d s ≡ fault c → rest mode n d s ≡ fault c
+  unfolding rest
+  value-stops mode zero s c p v e = absurd (omega arith)
+  value-stops zero (suc n) s c p v e = items-stop n s c e
+  value-stops (suc zero) (suc n) s c p v e = absurd (⊎-elim (λ h. omega arith) (λ h. let y = h .0 in omega arith) v)
+  value-stops (suc (suc m)) (suc n) s c p v e =
+      rw (eq-eqb (suc n % 2) 0 (⊎-elim (λ h. absurd (omega arith)) (λ h. h .1) v)) (bind-stops (item noNote d) (λ v. toBreak (pair noNote (item noNote d))) exact s c e)
+
+  pub value-goes-on : (mode n : ℕ) (s : List ℕ) (k : ℕ) → 0 < n → ValueDue mode n → itemEnd d s ≡ took k → rest mode n d s ≡ shift k (rest mode (n - 1) d (drop k s))
+  unfolding rest
+  value-goes-on mode zero s k p v e = absurd (omega arith)
+  value-goes-on zero (suc n) s k p v e = let z : suc n - 1 ≡ n = omega arith in rw z (count-goes-on n s k e)
+  value-goes-on (suc zero) (suc n) s k p v e = absurd (⊎-elim (λ h. omega arith) (λ h. let y = h .0 in omega arith) v)
+  value-goes-on (suc (suc m)) (suc n) s k p v e =
+      let z : suc n - 1 ≡ n = omega arith in
+      let y : suc n % 2 ≡ 0 = ⊎-elim (λ h. absurd (omega arith)) (λ h. h .1) v in
+      rw (z, eq-eqb (suc n % 2) 0 y, ne-eqb (n % 2) 0 (λ q. omega arith)) (bind-goes-on (item noNote d) (λ v. toBreak (pair noNote (item noNote d))) exact (λ v. pairs-exact) s k _ e (λ v. refl))
+
+  pub takes-a-byte : (s : List ℕ) (k : ℕ) → itemEnd d s ≡ took k → 1 ≤ k
+  takes-a-byte s k e =
+      let p = got-what (item noNote d) exact s k e in
+      omega (arith, item-hungry d [] s (p .value) (drop k s) (p .is), length-drop k s)

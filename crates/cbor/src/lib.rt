@@ -202,7 +202,7 @@ fn held(size: usize, count: u64, mode: u64) -> Holding
 }
 
 // How many items n pairs are, or more than any slice holds.
-fn doubled(n: u64) -> u64
+pub fn doubled(n: u64) -> u64
     ensures { λ r. ⌜ r ≡ spec.doubled n ⌝ }
 {
     if n < 0x4000_0000_0000_0000 {
@@ -239,7 +239,7 @@ fn holder(s: &[u8]) -> Holding
 }
 
 // The break byte at `at`, where `left` items are due.
-fn broken(mode: u64, left: u64, at: usize) -> usize
+pub fn broken(mode: u64, left: u64, at: usize) -> usize
     requires { ⌜ at < spec.FAULT ⌝ }
     ensures { λ r. ⌜ r ≡ spec.code (spec.shift at (spec.broken mode left)) ⌝ }
 {

@@ -74,7 +74,7 @@ NotWord k = kinds.asWord k ≡ fault KIND
 abbrev NotNumber : Kind Ends → Type 0
 NotNumber k = kinds.asNumber k ≡ fault KIND
 
-two-kinds : (P : Kind Ends → Type 0) → P kinds.null → P kinds.another → (a b : Bool) → P (cond a (cond b kinds.null kinds.another) kinds.another)
+pub two-kinds : (P : Kind Ends → Type 0) → P kinds.null → P kinds.another → (a b : Bool) → P (cond a (cond b kinds.null kinds.another) kinds.another)
 two-kinds P x y true true = x
 two-kinds P x y true false = y
 two-kinds P x y false b = y

@@ -1,15 +1,16 @@
 -- What is said of the item at the start of some bytes, for every tree that is read there.
-use Prim.Native.Nat.{ℕ, suc, _+_, _≤_}
-use mathlib.Core.List.{List}
+use Prim.Native.Nat.{ℕ, suc, _+_, _%_, _≤_, _<_}
+use mathlib.Core.List.{List, []}
 use mathlib.Core.Bool.{Bool, true, false}
 use mathlib.Core.Path.{_≡_}
-use lib.ListN.{length, take, drop}
+use lib.ListN.{length, getD, take, drop}
 use Rattle.meaning.specs.Tree.{Node, Pair}
 use Rattle.meaning.specs.Check.{Check, pass, refuse, fault}
 use Rattle.meaning.specs.Refusal.{KIND}
 use Rattle.meaning.specs.Model.{Word}
 use Rattle.meaning.specs.Kind as kinds
 use Rattle.meaning.specs.Kind.{Kind, kind}
+use Rattle.cbor.specs.Ending.{took, code, shift, itemEnd, rest, endless}
 use Rattle.walk.specs.Reading.{Ends, ends, Reads, Due}
 use Rattle.walk.specs.declared.Letters.{Letters}
 use Rattle.walk.specs.declared.Letters.the-variants.{NoText, Text}
@@ -17,6 +18,8 @@ use Rattle.walk.specs.declared.Numeral.{Numeral}
 use Rattle.walk.specs.declared.Numeral.the-variants.{NoNumber, Number}
 use Rattle.walk.specs.declared.Opening.{Opening}
 use Rattle.walk.specs.declared.Opening.the-variants.{NotOpen, Opened}
+use Rattle.walk.specs.declared.Entry.{Entry}
+use Rattle.walk.specs.declared.Entry.the-variants.{End, Value}
 
 -- whatever is read at s
 abbrev pub Whatever : List ℕ → (ℕ → Node Ends → List ℕ → Type 0) → Type 0
@@ -51,3 +54,27 @@ isNull kinds.another = false
 
 abbrev pub NullIs : List ℕ → Bool → Type 0
 NullIs s b = Whatever s λ d t r. isNull (kind t) ≡ b
+
+-- a map that begins s: its pairs stand `size` bytes further on
+pub record Mapped (d mode count : ℕ) (s : List ℕ) (t : Node Ends) : Type 0 where
+  pub pairs : List (Pair Ends)
+  pub kind-is : kind t ≡ kinds.table pairs
+  pub last : List ℕ
+  pub due : Due d mode count s pairs last
+
+pub record OpenMap (s : List ℕ) (mode count size : ℕ) : Type 0 where
+  pub within : size ≤ length s
+  -- two items for each pair, or no end but the break
+  pub even : mode ≡ 0 → count % 2 ≡ 0
+  pub loose : 1 ≤ mode → (mode ≡ 2) × (count ≡ endless)
+  pub ending-is : (d : ℕ) → itemEnd (suc d) s ≡ shift size (rest mode count d (drop size s))
+  pub trees : Whatever s λ d t r. Mapped d mode count (drop size s) t
+
+abbrev pub MapIs : List ℕ → Opening → Type 0
+MapIs s NotOpen = Whatever s λ d t r. kinds.aTable t ≡ fault KIND
+MapIs s (Opened mode count size) = OpenMap s mode count size
+
+-- one turn of a loop over a map's entries, of which `due` items are left: the end, or where the value stands
+abbrev pub EntryIs : ℕ → ℕ → ℕ → List ℕ → Entry → Type 0
+EntryIs d mode due s (End e) = (e ≡ code (rest mode due d s)) × ((ps : List (Pair Ends)) (r : List ℕ) → Due d mode due s ps r → ps ≡ [])
+EntryIs d mode due s (Value k) = (0 < due) × (1 ≤ length s) × (getD s 0 0 ≡ 255 → ⊥) × (itemEnd d s ≡ took k) × (k ≤ length s)

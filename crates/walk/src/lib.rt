@@ -80,3 +80,54 @@ pub fn null(s: &[u8]) -> bool
     }
     false
 }
+
+// The map that begins s.
+pub fn map(s: &[u8]) -> Opening
+    ensures { λ r. ⌜ places.MapIs (now (s .entry)) r ⌝ }
+{
+    if s.len() == 0 {
+        return Opening::NotOpen;
+    }
+    let b = s[0];
+    if b < 160 {
+        return Opening::NotOpen;
+    }
+    if 192 <= b {
+        return Opening::NotOpen;
+    }
+    let h = cbor::head(&s[0..]);
+    if s.len() < h.size {
+        return Opening::NotOpen;
+    }
+    if b == 191 {
+        return Opening::Opened(2, h.value, h.size);
+    }
+    Opening::Opened(0, cbor::doubled(h.value), h.size)
+}
+
+// A turn over a map's entries: how they end, or where the value of the next begins.
+pub enum Entry {
+    End(usize),
+    Value(usize),
+}
+
+// The entries of a map from s on, of which `due` items are left: past the next key, where `left` levels are left.
+pub fn past_key(s: &[u8], mode: u64, due: u64, left: u64) -> Entry
+    requires { ⌜ (1 ≤ mode → 0 < due) ⌝ }
+    ensures { λ r. ⌜ places.EntryIs left mode due (now (s .entry)) r ⌝ }
+{
+    if due == 0 {
+        return Entry::End(0);
+    }
+    if s.len() == 0 {
+        return Entry::End(cbor::MALFORMED);
+    }
+    if s[0] == 255 {
+        return Entry::End(cbor::broken(mode, due, 0));
+    }
+    let k = cbor::skip(&s[0..], left);
+    if s.len() < k {
+        return Entry::End(k);
+    }
+    Entry::Value(k)
+}

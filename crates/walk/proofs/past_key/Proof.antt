@@ -1,0 +1,28 @@
+use Rattle.walk.proofs.Turns as turns
+use Rattle.cbor.specs.Ending.{code, itemEnd}
+use borrow.Rule.Slice.PartAt.{part-to-end}
+use mathlib.Core.Path.{_≡_, ap, sym, _∙_}
+use native.Mathlib.Omega.{arith}
+use borrow.Author.Needs.{needs}
+use Rattle.walk.proofs.past_key.Statement.{statement}
+use Rattle.walk.proofs.past_key.Tie as tie
+use Rattle.walk.proofs.past_key.Reads as reads
+use Rattle.walk.proofs.past_key.Lts as lts
+use Rattle.cbor.proofs.broken.Reads as broken-reads
+use Rattle.cbor.proofs.skip.Reads as skip-reads
+
+pub past-key-spec : {M : Type 1} → statement M
+past-key-spec =
+    tie.close
+    (tie.spec
+    (λ c. turns.end-none ((c .before .before .args .left)) ((c .before .before .args .mode)) ((c .before .before .args .due)) ((c .before .before .args .s .now)) ((c .before .before .pre)) (omega arith))
+    (λ c. turns.end-missing ((c .before .before .before .args .left)) ((c .before .before .before .args .mode)) ((c .before .before .before .args .due)) ((c .before .before .before .args .s .now)) (omega arith) (omega arith))
+    (λ c. search needs)
+    (λ c κs. search needs)
+    (λ c. turns.end-breaks ((c .before .before .before .before .before .before .args .left)) ((c .before .before .before .before .before .before .args .mode)) ((c .before .before .before .before .before .before .args .due)) ((c .before .before .before .before .before .before .args .s .now)) ((c .broken .result)) (omega arith) (omega arith) (omega arith) ((c .broken .ensures)))
+    (λ c. search needs)
+    (λ c. search needs)
+    (λ c. search needs)
+    (λ c κs. search needs)
+    (λ c. let s = (c .before .before .before .before .before .before .before .before .args .s .now) in turns.end-faulty ((c .before .before .before .before .before .before .before .before .args .left)) ((c .before .before .before .before .before .before .before .before .args .mode)) ((c .before .before .before .before .before .before .before .before .args .due)) s (omega arith) (omega arith) (omega arith) (λ e. omega arith) ((c .before .skip .result)) ((c .before .skip .ensures) ∙ ap (λ p. code (itemEnd ((c .before .before .before .before .before .before .before .before .args .left)) p)) (part-to-end s 0)) (omega arith))
+    (λ c. let s = (c .before .before .before .before .before .before .before .before .args .s .now) in turns.a-value ((c .before .before .before .before .before .before .before .before .args .left)) ((c .before .before .before .before .before .before .before .before .args .mode)) ((c .before .before .before .before .before .before .before .before .args .due)) s (omega arith) (omega arith) (omega arith) (λ e. omega arith) ((c .before .skip .result)) ((c .before .skip .ensures) ∙ ap (λ p. code (itemEnd ((c .before .before .before .before .before .before .before .before .args .left)) p)) (part-to-end s 0)) (omega arith)))
