@@ -1,0 +1,50 @@
+-- For those who fill the rows: their number, one more row, and the numbers of a component with and without a logical type. Assumes nothing.
+use mathlib.Core.Path.{_≡_, refl, sym, ap, _∙_}
+use mathlib.Core.List.{List, [], _∷_, _++_, append-assoc}
+use mathlib.Core.Bool.{Bool, true, false, _&&_}
+use mathlib.Core.Option.{none, some}
+use Prim.Native.Nat.{ℕ, _*_}
+use native.Mathlib.Omega.{arith}
+use native.Mathlib.Nat.{one-mul}
+use lib.ListN.{length}
+use lib.Dec.{eqb}
+use Rattle.meaning.specs.Types.{widthOf, u64, logicals, listed, ratioOf, typeRatio}
+use Rattle.meaning.specs.Format.{Part, unit, plain, untyped}
+use Rattle.formats.specs.Parts.{partRow, partRows}
+
+pub rows-length : (cs : List Part) → length (partRows cs) ≡ 4 * length cs
+unfolding partRows partRow
+rows-length [] = refl
+rows-length (c ∷ cs) = let x = rows-length cs in omega arith
+
+pub rows-more : (cs ds : List Part) → partRows (cs ++ ds) ≡ partRows cs ++ partRows ds
+unfolding partRows
+rows-more [] ds = refl
+rows-more (c ∷ cs) ds = ap (λ l. partRow c ++ l) (rows-more cs ds) ∙ sym (append-assoc (partRow c) (partRows cs) (partRows ds))
+
+module _ (c : Part) where
+  module _ (bare : c .typed ≡ none) where
+    pub unit-bare : unit c ≡ widthOf (c .code)
+    unfolding unit typeRatio
+    unit-bare = rw bare (one-mul (widthOf (c .code)))
+
+    pub plain-bare : plain c ≡ eqb (c .code) 8
+    unfolding plain untyped u64
+    plain-bare = rw bare (go (eqb (c .code) 8))
+      where
+        go : (t : Bool) → (t && true) ≡ t
+        go true = refl
+        go false = refl
+
+  module _ (w : List ℕ) (typed : c .typed ≡ some w) where
+    pub unit-typed : unit c ≡ ratioOf (listed logicals w) * widthOf (c .code)
+    unfolding unit typeRatio
+    unit-typed = rw typed
+
+    pub plain-typed : plain c ≡ false
+    unfolding plain untyped u64
+    plain-typed = rw typed (go (eqb (c .code) 8))
+      where
+        go : (t : Bool) → (t && false) ≡ false
+        go true = refl
+        go false = refl

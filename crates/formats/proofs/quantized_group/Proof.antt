@@ -1,0 +1,28 @@
+-- `formats::quantized_group` meets its contract: the three roles in order. Assumes nothing.
+use Rattle.formats.proofs.Rules as laws
+use Rattle.formats.specs.Parts.{roleName, RoleThere}
+use borrow.Author.Tests.{not-true, not-false}
+use borrow.Author.Needs.{needs}
+use Rattle.formats.proofs.quantized_group.Statement.{statement}
+use Rattle.formats.proofs.quantized_group.Tie as tie
+
+pub quantized-group-spec : {M : Type 1} → statement M
+quantized-group-spec =
+    tie.close
+    (tie.spec
+    (λ c. search needs)
+    (λ c. search needs)
+    (λ c. search needs)
+    (λ c κs. search needs)
+    (λ c. λ cs is. laws.group-first (c .before .before .before .before .before .args .shape .now) cs (laws.seen (RoleThere (roleName 5)) (c .before .before .before .before .before .args .parts .now) (c .before .has-role .result) _ (c .before .has-role .ensures) (not-true _ (c .if1 .taken)) cs is))
+    (λ c. search needs)
+    (λ c. search needs)
+    (λ c. search needs)
+    (λ c κs. search needs)
+    (λ c. λ cs is. laws.group-second (c .before .before .before .before .before .before .before .before .args .shape .now) cs (laws.seen (RoleThere (roleName 5)) (c .before .before .before .before .before .before .before .before .args .parts .now) (c .before .before .before .before .has-role .result) _ (c .before .before .before .before .has-role .ensures) (not-false _ (c .before .before .before .if1 .left)) cs is) (laws.seen (RoleThere (roleName 6)) (c .before .before .before .before .before .before .before .before .args .parts .now) (c .before .has-role2 .result) _ (c .before .has-role2 .ensures) (not-true _ (c .if2 .taken)) cs is))
+    (λ c. search needs)
+    (λ c. search needs)
+    (λ c. search needs)
+    (λ c κs. search needs)
+    (λ c. λ cs is. laws.group-third (c .before .before .before .before .before .before .before .before .before .before .before .args .shape .now) cs (laws.seen (RoleThere (roleName 5)) (c .before .before .before .before .before .before .before .before .before .before .before .args .parts .now) (c .before .before .before .before .before .before .before .has-role .result) _ (c .before .before .before .before .before .before .before .has-role .ensures) (not-false _ (c .before .before .before .before .before .before .if1 .left)) cs is) (laws.seen (RoleThere (roleName 6)) (c .before .before .before .before .before .before .before .before .before .before .before .args .parts .now) (c .before .before .before .before .has-role2 .result) _ (c .before .before .before .before .has-role2 .ensures) (not-false _ (c .before .before .before .if2 .left)) cs is) (laws.seen (RoleThere (roleName 7)) (c .before .before .before .before .before .before .before .before .before .before .before .args .parts .now) (c .before .has-role3 .result) _ (c .before .has-role3 .ensures) (not-true _ (c .if3 .taken)) cs is))
+    (λ c. λ cs is. laws.group-right (c .before .before .before .before .before .before .before .before .before .before .before .args .shape .now) cs (laws.seen (RoleThere (roleName 5)) (c .before .before .before .before .before .before .before .before .before .before .before .args .parts .now) (c .before .before .before .before .before .before .before .has-role .result) _ (c .before .before .before .before .before .before .before .has-role .ensures) (not-false _ (c .before .before .before .before .before .before .if1 .left)) cs is) (laws.seen (RoleThere (roleName 6)) (c .before .before .before .before .before .before .before .before .before .before .before .args .parts .now) (c .before .before .before .before .has-role2 .result) _ (c .before .before .before .before .has-role2 .ensures) (not-false _ (c .before .before .before .if2 .left)) cs is) (laws.seen (RoleThere (roleName 7)) (c .before .before .before .before .before .before .before .before .before .before .before .args .parts .now) (c .before .has-role3 .result) _ (c .before .has-role3 .ensures) (not-false _ (c .if3 .left)) cs is)))

@@ -1,0 +1,193 @@
+// What a format asks of an object's components: RANK, ROLE and LENGTH of document 01. A component is a row of four numbers: the code of
+// its role (types::role_code), the bytes of one element (types::unit_of), 1 for plain u64 or else 0, and its length.
+ghost use mathlib.Core.Path.{_≡_};
+ghost use mathlib.Core.List.{List};
+ghost use Prim.Native.Nat.{ℕ, _<_};
+ghost use Rattle.types.specs.Row.{position};
+ghost use Rattle.types.specs.Known.{formatNames};
+ghost use Rattle.meaning.specs.Format as format;
+ghost use Rattle.formats.specs.Parts.{partRows, roleName, RoleIs, IndexIs, RoleThere, told, csrLengths, cooLengths};
+
+pub enum Ruled {
+    Right,
+    Wrong(u64, usize),
+}
+
+enum Filled {
+    Absent,
+    At(usize, u64, u64, u64),
+}
+
+enum Indexed {
+    Odd(usize),
+    Plain(usize, u64),
+}
+
+// The first component with this role: its index and its other numbers.
+fn role_of(parts: &[u64], code: u64) -> Filled
+    requires { ⌜ code < 8 ⌝ }
+    ensures { λ r. ⌜ ((cs : List format.Part) → now (parts .entry) ≡ partRows cs → RoleIs (roleName code) cs r) ⌝ }
+{
+    let mut i: usize = 0;
+    let mut at: usize = 0;
+    while 4 <= parts.len() - at {
+        if parts[at] == code {
+            return Filled::At(i, parts[at + 1], parts[at + 2], parts[at + 3]);
+        }
+        i += 1;
+        at += 4;
+    }
+    Filled::Absent
+}
+
+// The same of an index role: its index and length, or the component to blame.
+fn index_role(parts: &[u64], code: u64) -> Indexed
+    requires { ⌜ code < 8 ⌝ }
+    ensures { λ r. ⌜ ((cs : List format.Part) → now (parts .entry) ≡ partRows cs → IndexIs (roleName code) cs r) ⌝ }
+{
+    match role_of(&parts[0..], code) {
+        Filled::Absent => Indexed::Odd(0),
+        Filled::At(i, _, plain, size) => {
+            if plain == 1 {
+                return Indexed::Plain(i, size);
+            }
+            Indexed::Odd(i)
+        }
+    }
+}
+
+fn dense(shape: &[u64], parts: &[u64]) -> Ruled
+    ensures { λ r. ⌜ ((cs : List format.Part) → now (parts .entry) ≡ partRows cs → format.dense (now (shape .entry)) cs ≡ told r) ⌝ }
+{
+    match role_of(&parts[0..], 0) {
+        Filled::Absent => Ruled::Wrong(22, 0),
+        Filled::At(i, unit, _, size) => {
+            if lengths::dense_length(size, &shape[0..], unit) {
+                return Ruled::Right;
+            }
+            Ruled::Wrong(23, i)
+        }
+    }
+}
+
+// Values of component v, indices of x, row pointers of y: LENGTH.
+fn csr_lengths(
+    rows: u64,
+    v: usize,
+    unit: u64,
+    size: u64,
+    x: usize,
+    indices: u64,
+    y: usize,
+    pointers: u64,
+) -> Ruled
+    ensures { λ r. ⌜ csrLengths rows v unit size x indices y pointers ≡ told r ⌝ }
+{
+    if !lengths::is_whole(size, unit) {
+        return Ruled::Wrong(23, v);
+    }
+    if !lengths::is_product(indices, 8, lengths::count_of(size, unit)) {
+        return Ruled::Wrong(23, x);
+    }
+    if !lengths::pointer_length(pointers, rows) {
+        return Ruled::Wrong(23, y);
+    }
+    Ruled::Right
+}
+
+fn sparse_csr(shape: &[u64], parts: &[u64]) -> Ruled
+    ensures { λ r. ⌜ ((cs : List format.Part) → now (parts .entry) ≡ partRows cs → format.sparseCsr (now (shape .entry)) cs ≡ told r) ⌝ }
+{
+    if shape.len() != 2 {
+        return Ruled::Wrong(21, 0);
+    }
+    match role_of(&parts[0..], 1) {
+        Filled::Absent => Ruled::Wrong(22, 0),
+        Filled::At(v, unit, _, size) => match index_role(&parts[0..], 2) {
+            Indexed::Odd(j) => Ruled::Wrong(22, j),
+            Indexed::Plain(x, indices) => match index_role(&parts[0..], 3) {
+                Indexed::Odd(j) => Ruled::Wrong(22, j),
+                Indexed::Plain(y, pointers) => csr_lengths(
+                    shape[0],
+                    v,
+                    unit,
+                    size,
+                    x,
+                    indices,
+                    y,
+                    pointers,
+                ),
+            },
+        },
+    }
+}
+
+// Values of component v, coordinates of x: LENGTH.
+fn coo_lengths(rank: u64, v: usize, unit: u64, size: u64, x: usize, coords: u64) -> Ruled
+    ensures { λ r. ⌜ cooLengths rank v unit size x coords ≡ told r ⌝ }
+{
+    if !lengths::is_whole(size, unit) {
+        return Ruled::Wrong(23, v);
+    }
+    if !lengths::coordinate_length(coords, rank, lengths::count_of(size, unit)) {
+        return Ruled::Wrong(23, x);
+    }
+    Ruled::Right
+}
+
+fn sparse_coo(shape: &[u64], parts: &[u64]) -> Ruled
+    ensures { λ r. ⌜ ((cs : List format.Part) → now (parts .entry) ≡ partRows cs → format.sparseCoo (now (shape .entry)) cs ≡ told r) ⌝ }
+{
+    match role_of(&parts[0..], 1) {
+        Filled::Absent => Ruled::Wrong(22, 0),
+        Filled::At(v, unit, _, size) => match index_role(&parts[0..], 4) {
+            Indexed::Odd(j) => Ruled::Wrong(22, j),
+            Indexed::Plain(x, coords) => coo_lengths(shape.len() as u64, v, unit, size, x, coords),
+        },
+    }
+}
+
+// The role with this code is filled.
+fn has_role(parts: &[u64], code: u64) -> bool
+    requires { ⌜ code < 8 ⌝ }
+    ensures { λ r. ⌜ ((cs : List format.Part) → now (parts .entry) ≡ partRows cs → RoleThere (roleName code) cs r) ⌝ }
+{
+    match role_of(&parts[0..], code) {
+        Filled::Absent => false,
+        Filled::At(_, _, _, _) => true,
+    }
+}
+
+fn quantized_group(shape: &[u64], parts: &[u64]) -> Ruled
+    ensures { λ r. ⌜ ((cs : List format.Part) → now (parts .entry) ≡ partRows cs → format.quantizedGroup (now (shape .entry)) cs ≡ told r) ⌝ }
+{
+    if !has_role(&parts[0..], 5) {
+        return Ruled::Wrong(22, 0);
+    }
+    if !has_role(&parts[0..], 6) {
+        return Ruled::Wrong(22, 0);
+    }
+    if !has_role(&parts[0..], 7) {
+        return Ruled::Wrong(22, 0);
+    }
+    Ruled::Right
+}
+
+// The first rule that an object of this format (types::format_code), shape and components breaks: its number and component.
+pub fn judge(code: u64, shape: &[u64], parts: &[u64]) -> Ruled
+    ensures { λ r. ⌜ ((f : List ℕ) (cs : List format.Part) → code ≡ position formatNames f → now (parts .entry) ≡ partRows cs → format.formatRules f (now (shape .entry)) cs ≡ told r) ⌝ }
+{
+    if code == 0 {
+        return dense(&shape[0..], &parts[0..]);
+    }
+    if code == 1 {
+        return sparse_csr(&shape[0..], &parts[0..]);
+    }
+    if code == 2 {
+        return sparse_coo(&shape[0..], &parts[0..]);
+    }
+    if code == 3 {
+        return quantized_group(&shape[0..], &parts[0..]);
+    }
+    Ruled::Right
+}

@@ -1,0 +1,175 @@
+-- Where a name stands in a list says what the list has of it: laws over any list of storages and of logical types. Assumes nothing.
+use mathlib.Core.Path.{_≡_, refl, sym, ap, _∙_}
+use mathlib.Core.List.{List, [], _∷_, map}
+use mathlib.Core.Bool.{Bool, true, false, cond}
+use mathlib.Core.Option.{Option, none, some}
+use Prim.Native.Nat.{ℕ, zero, suc, _+_, _-_, _*_, _≤_, _<_}
+use native.Mathlib.Omega.{arith}
+use native.Mathlib.Nat.{mul-le-mul}
+use lib.ListN.{length, getD, take, drop, getElem?, List·getD-map, List·getD-eq-default}
+use lib.Dec.{eqb, leb}
+use borrow.Author.Tests.{leb-true}
+use borrow.Rule.Slice.PartAt.{part-to-end}
+use Rattle.meaning.specs.Text.{same, all}
+use Rattle.meaning.specs.Types.{Storage, storages, codeFrom, storageOf, widthOf, Logical, logicals, listed, fitsOver, ratioOf}
+use Rattle.types.specs.Row.{position, Rows}
+use Rattle.types.proofs.Tagged.{both-left, both-right}
+use Rattle.types.specs.Known.{codeOr, dtypeCode, storageNames, logicalNames}
+
+pub position-most : (ns : List (List ℕ)) (k : List ℕ) → position ns k ≤ length ns
+unfolding position
+position-most [] k = omega arith
+position-most (n ∷ ns) k = go (same n k) (position-most ns k)
+  where
+    go : (t : Bool) → position ns k ≤ length ns → cond t 0 (suc (position ns k)) ≤ suc (length ns)
+    go true h = omega arith
+    go false h = omega arith
+
+-- what a function that searches a table's rows with the whole of k answers
+pub whole : (k rows : List ℕ) (r : ℕ) → ((ns : List (List ℕ)) → Rows rows ns → r ≡ position ns (take (length k - 0) (drop 0 k))) → (ns : List (List ℕ)) → Rows rows ns → r ≡ position ns k
+whole k rows r h ns t = h ns t ∙ ap (position ns) (part-to-end k 0)
+
+module _ (k : List ℕ) where
+  pub code-position : (i : ℕ) (ss : List Storage) → codeOr (i + length ss) (codeFrom i ss k) ≡ i + position (map (λ s. s .called) ss) k
+  unfolding codeOr codeFrom position
+  code-position i [] = refl
+  code-position i (s ∷ ss) = go (same (s .called) k) (code-position (suc i) ss)
+    where
+      go : (t : Bool) → codeOr (suc i + length ss) (codeFrom (suc i) ss k) ≡ suc i + position (map (λ s. s .called) ss) k
+          → codeOr (i + suc (length ss)) (cond t (some i) (codeFrom (suc i) ss k)) ≡ i + cond t 0 (suc (position (map (λ s. s .called) ss) k))
+      go true h = omega arith
+      go false h = let e : i + suc (length ss) ≡ suc i + length ss = omega arith in ap (λ (n : ℕ). codeOr n (codeFrom (suc i) ss k)) e ∙ h ∙ omega arith
+
+  pub listed-position : (ls : List Logical) → listed ls k ≡ getElem? ls (position (map (λ l. l .called) ls) k)
+  unfolding listed position
+  listed-position [] = refl
+  listed-position (l ∷ ls) = go (same (l .called) k) (listed-position ls)
+    where
+      go : (t : Bool) → listed ls k ≡ getElem? ls (position (map (λ l. l .called) ls) k)
+          → cond t (some l) (listed ls k) ≡ getElem? (l ∷ ls) (cond t 0 (suc (position (map (λ l. l .called) ls) k)))
+      go true h = refl
+      go false h = h
+
+module _ {A : Type 0} where
+  pub element-in : (l : List A) (i : ℕ) (d : A) → i < length l → getElem? l i ≡ some (getD l i d)
+  element-in [] i d h = absurd (omega arith)
+  element-in (a ∷ l) zero d h = refl
+  element-in (a ∷ l) (suc i) d h = element-in l i d (omega arith)
+
+  pub element-out : (l : List A) (i : ℕ) → length l ≤ i → getElem? l i ≡ none
+  element-out [] i h = refl
+  element-out (a ∷ l) zero h = absurd (omega arith)
+  element-out (a ∷ l) (suc i) h = element-out l i (omega arith)
+
+-- ---------------------------------------------------------------- the tables of document 01
+
+pub one-name : (n k : List ℕ) (r : ℕ) → r ≡ position (n ∷ []) k → eqb r 0 ≡ same n k
+unfolding position
+one-name n k r e = rw e (go (same n k))
+  where
+    go : (t : Bool) → eqb (cond t 0 (suc 0)) 0 ≡ t
+    go true = refl
+    go false = refl
+
+pub storage-is : (k : List ℕ) (r : ℕ) → r ≡ position storageNames k → r ≡ dtypeCode k
+unfolding storages dtypeCode
+storage-is k r e = let x = code-position k 0 storages in omega arith
+
+code-below : (k : List ℕ) (i : ℕ) (ss : List Storage) (c : ℕ) → codeFrom i ss k ≡ some c → c < i + length ss
+unfolding codeFrom
+code-below k i [] c e = let z : _≡_ {A = ℕ} 0 1 = cc in absurd (omega arith)
+code-below k i (s ∷ ss) c e = go (same (s .called) k) e (code-below k (suc i) ss c)
+  where
+    go : (t : Bool) → cond t (some i) (codeFrom (suc i) ss k) ≡ some c → (codeFrom (suc i) ss k ≡ some c → c < suc i + length ss) → c < i + suc (length ss)
+    go true p ih = let x : i ≡ c = cc in omega arith
+    go false p ih = let x = ih p in omega arith
+
+-- for those who ask for a dtype: what the code says of meaning's `codeFrom`
+module _ (k : List ℕ) where
+  pub dtype-known : (c : ℕ) → c ≡ dtypeCode k → c < 13 → codeFrom 0 storages k ≡ some c
+  unfolding dtypeCode codeOr
+  dtype-known c e h = go (codeFrom 0 storages k) refl
+    where
+      go : (o : Option ℕ) → codeFrom 0 storages k ≡ o → o ≡ some c
+      go none p = let x : codeOr 13 (codeFrom 0 storages k) ≡ 13 = rw p in absurd (omega arith)
+      go (some d) p = let x : codeOr 13 (codeFrom 0 storages k) ≡ d = rw p in ap (λ (n : ℕ). some n) (let y : d ≡ c = omega arith in y)
+
+  pub dtype-none : 13 ≡ dtypeCode k → codeFrom 0 storages k ≡ none
+  unfolding storages dtypeCode codeOr
+  dtype-none e = go (codeFrom 0 storages k) refl
+    where
+      go : (o : Option ℕ) → codeFrom 0 storages k ≡ o → o ≡ none
+      go none p = refl
+      go (some d) p = let x : codeOr 13 (codeFrom 0 storages k) ≡ d = rw p in let y = code-below k 0 storages d p in absurd (omega arith)
+
+  pub dtype-most : dtypeCode k ≤ 13
+  unfolding storages
+  dtype-most = let x = storage-is k (position storageNames k) refl in let y = position-most storageNames k in omega arith
+
+pub width-is : (c : ℕ) → getD (map (λ s. s .width) storages) c 0 ≡ widthOf c
+unfolding widthOf storageOf
+width-is c = List·getD-map (λ s. s .width) storages c (record { called = []; width = 0 })
+
+pub width-none : (c : ℕ) → 13 ≤ c → 0 ≡ widthOf c
+unfolding storages
+width-none c h = sym (List·getD-eq-default (map (λ s. s .width) storages) 0 h) ∙ width-is c
+
+module _ (k : List ℕ) (i : ℕ) (is : i ≡ position logicalNames (take (length k - 0) (drop 0 k))) where
+  type-is : listed logicals k ≡ getElem? logicals i
+  type-is = listed-position k logicals ∙ ap (getElem? logicals) (sym (is ∙ ap (position logicalNames) (part-to-end k 0)))
+
+  module _ (d : Logical) (some-type : i < length logicals) where
+    listed-in : listed logicals k ≡ some (getD logicals i d)
+    listed-in = type-is ∙ element-in logicals i d some-type
+
+    pub fits-in : (c : ℕ) → eqb (getD (map (λ l. l .needs) logicals) i (d .needs)) c ≡ fitsOver c (listed logicals k)
+    unfolding fitsOver
+    fits-in c = rw listed-in (ap (λ (n : ℕ). eqb n c) (List·getD-map (λ l. l .needs) logicals i d))
+
+    pub ratio-in : getD (map (λ l. l .ratio) logicals) i (d .ratio) ≡ ratioOf (listed logicals k)
+    unfolding ratioOf
+    ratio-in = rw listed-in (List·getD-map (λ l. l .ratio) logicals i d)
+
+  module _ (no-type : length logicals ≤ i) where
+    listed-out : listed logicals k ≡ none
+    listed-out = type-is ∙ element-out logicals i no-type
+
+    pub fits-out : (c : ℕ) → true ≡ fitsOver c (listed logicals k)
+    unfolding fitsOver
+    fits-out c = rw listed-out
+
+    pub ratio-out : 1 ≡ ratioOf (listed logicals k)
+    unfolding ratioOf
+    ratio-out = rw listed-out
+
+-- ---------------------------------------------------------------- bounds, by a test of each table
+
+most : (m : ℕ) (xs : List ℕ) (i : ℕ) → all (λ x. leb x m) xs ≡ true → getD xs i 0 ≤ m
+most m [] i e = omega arith
+most m (x ∷ xs) zero e = leb-true x m (both-left (leb x m) (all (λ x. leb x m) xs) e)
+most m (x ∷ xs) (suc i) e = most m xs i (both-right (leb x m) (all (λ x. leb x m) xs) e)
+
+pub width-most : (c : ℕ) → widthOf c ≤ 8
+unfolding storages
+width-most c = rw (width-is c) at (most 8 (map (λ s. s .width) storages) c refl)
+
+ratio-in-list : (k : List ℕ) (ls : List Logical) → all (λ l. leb (l .ratio) 2) ls ≡ true → ratioOf (listed ls k) ≤ 2
+unfolding listed ratioOf
+ratio-in-list k [] e = omega arith
+ratio-in-list k (l ∷ ls) e =
+    pick (same (l .called) k) (leb-true (l .ratio) 2 (both-left (leb (l .ratio) 2) _ e)) (ratio-in-list k ls (both-right (leb (l .ratio) 2) _ e))
+  where
+    pick : (t : Bool) → l .ratio ≤ 2 → ratioOf (listed ls k) ≤ 2 → ratioOf (cond t (some l) (listed ls k)) ≤ 2
+    pick true a b = a
+    pick false a b = b
+
+pub ratio-most : (k : List ℕ) → ratioOf (listed logicals k) ≤ 2
+unfolding logicals
+ratio-most k = ratio-in-list k logicals refl
+
+module _ (k : List ℕ) (c r w : ℕ) (a : r ≡ ratioOf (listed logicals (take (length k - 0) (drop 0 k)))) (b : w ≡ widthOf c) where
+  pub unit-most : r * w ≤ 16
+  unit-most = let x : r ≤ 2 = rw a (ratio-most _) in let y : w ≤ 8 = rw b (width-most c) in mul-le-mul x y
+
+  pub unit-is : r * w ≡ ratioOf (listed logicals k) * widthOf c
+  unit-is = rw (a, b, part-to-end k 0)

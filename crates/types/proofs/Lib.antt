@@ -1,0 +1,4 @@
+pub mod Tell
+pub mod Tagged
+pub mod Named
+pub mod Codes

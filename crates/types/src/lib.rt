@@ -1,0 +1,107 @@
+// What the known texts of a manifest mean: the fields of its maps, storage and logical types, formats, roles.
+// Functions of bytes and numbers, for the reader and the writer alike.
+mod row;
+mod tables;
+
+ghost use mathlib.Core.Path.{_≡_};
+ghost use Prim.Native.Nat.{_*_};
+ghost use Rattle.types.specs.Row.{position};
+ghost use Rattle.types.specs.Known as known;
+ghost use Rattle.meaning.specs.Field as field;
+ghost use Rattle.meaning.specs.Text as text;
+ghost use Rattle.meaning.specs.Types as types;
+
+// The field of the root that k names, 3 for none.
+pub fn root_key(k: &[u8]) -> usize
+    ensures { λ r. ⌜ r ≡ position field.rootNames (now (k .entry)) ⌝ }
+{
+    row::row_of(&k[0..], &tables::ROOT)
+}
+
+// The field of an object that k names, 4 for none.
+pub fn object_key(k: &[u8]) -> usize
+    ensures { λ r. ⌜ r ≡ position field.objectNames (now (k .entry)) ⌝ }
+{
+    row::row_of(&k[0..], &tables::OBJECT)
+}
+
+// The field of a component that k names, 7 for none.
+pub fn component_key(k: &[u8]) -> usize
+    ensures { λ r. ⌜ r ≡ position field.componentNames (now (k .entry)) ⌝ }
+{
+    row::row_of(&k[0..], &tables::COMPONENT)
+}
+
+// The encoding is "raw".
+pub fn is_raw(k: &[u8]) -> bool
+    ensures { λ r. ⌜ r ≡ text.same (text.ascii "raw") (now (k .entry)) ⌝ }
+{
+    row::row_of(&k[0..], &tables::RAW) == 0
+}
+
+// The storage code that k names, 13 for none.
+pub fn dtype_code(k: &[u8]) -> u64
+    ensures { λ r. ⌜ r ≡ known.dtypeCode (now (k .entry)) ⌝ }
+{
+    row::row_of(&k[0..], &tables::STORAGE) as u64
+}
+
+// The bytes of a number of that storage, 0 for none.
+pub fn width_of(code: u64) -> u64
+    ensures { λ r. ⌜ r ≡ types.widthOf code ⌝ }
+{
+    if code < 13 {
+        return tables::WIDTH[code as usize];
+    }
+    0
+}
+
+// The row of the logical type k, 6 for one that is not listed.
+fn logical_row(k: &[u8]) -> usize
+    ensures { λ r. ⌜ r ≡ position known.logicalNames (now (k .entry)) ⌝ }
+{
+    row::row_of(&k[0..], &tables::LOGICAL)
+}
+
+// The logical type k may stand over the storage with this code.
+pub fn type_fits(k: &[u8], code: u64) -> bool
+    ensures { λ r. ⌜ r ≡ types.fitsOver code (types.listed types.logicals (now (k .entry))) ⌝ }
+{
+    let i = logical_row(&k[0..]);
+    if i < 6 {
+        return tables::NEEDS[i] == code;
+    }
+    true
+}
+
+// The numbers that stand for one element of the logical type k.
+pub fn ratio_of(k: &[u8]) -> u64
+    ensures { λ r. ⌜ r ≡ types.ratioOf (types.listed types.logicals (now (k .entry))) ⌝ }
+{
+    let i = logical_row(&k[0..]);
+    if i < 6 {
+        return tables::RATIO[i];
+    }
+    1
+}
+
+// The bytes of one element of the logical type k over the storage with this code.
+pub fn unit_of(k: &[u8], code: u64) -> u64
+    ensures { λ r. ⌜ r ≡ types.ratioOf (types.listed types.logicals (now (k .entry))) * types.widthOf code ⌝ }
+{
+    ratio_of(&k[0..]) * width_of(code)
+}
+
+// 0 dense, 1 sparse_csr, 2 sparse_coo, 3 quantized_group, 4 any other format.
+pub fn format_code(k: &[u8]) -> u64
+    ensures { λ r. ⌜ r ≡ position known.formatNames (now (k .entry)) ⌝ }
+{
+    row::row_of(&k[0..], &tables::FORMAT) as u64
+}
+
+// 0 data, 1 values, 2 indices, 3 indptr, 4 coords, 5 packed_weight, 6 scales, 7 zeros, 8 any other role.
+pub fn role_code(k: &[u8]) -> u64
+    ensures { λ r. ⌜ r ≡ position known.roleNames (now (k .entry)) ⌝ }
+{
+    row::row_of(&k[0..], &tables::ROLE) as u64
+}
