@@ -1,3 +1,4 @@
+-- The laws of formats that several proofs, or other crates, cite.
 pub mod Roles
 pub mod Rules
 pub mod Rows

@@ -14,8 +14,7 @@ use Rattle.meaning.specs.Check.{fault}
 use Rattle.meaning.specs.Refusal.{ROLE}
 use Rattle.meaning.specs.Text.{same}
 use Rattle.meaning.specs.Format.{Part, unit, plain, role}
-use Rattle.types.specs.Row.{position}
-use Rattle.types.specs.Known.{roleNames}
+use Rattle.types.specs.Known.{position, roleNames}
 use Rattle.formats.specs.Parts.{flag, partRow, partRows, roleName, RoleIs}
 use Rattle.formats.specs.declared.Filled.the-variants.{Absent, At}
 use Rattle.types.proofs.Tell.{place-tells}

@@ -13,8 +13,7 @@ use Rattle.meaning.specs.Refusal.{LENGTH}
 use Rattle.meaning.specs.Text.{same}
 use Rattle.meaning.specs.Types.{product}
 use Rattle.meaning.specs.Format.{Part, unit, plain, indexRole, long, whole, dense, sparseCsr, sparseCoo, quantizedGroup, formatRules}
-use Rattle.types.specs.Row.{position}
-use Rattle.types.specs.Known.{roleNames, formatNames}
+use Rattle.types.specs.Known.{position, roleNames, formatNames}
 use Rattle.formats.specs.Parts.{flag, partRows, roleName, rulesOf, told, RoleIs, IndexIs, RoleThere, csrLengths, cooLengths}
 use Rattle.formats.specs.declared.Ruled.{Ruled}
 use Rattle.formats.specs.declared.Ruled.the-variants.{Right, Wrong}

@@ -8,8 +8,7 @@ use lib.Dec.{eqb}
 use Rattle.meaning.specs.Check.{Check, pass, refuse, _>>_, _unless_, fault, inComponent}
 use Rattle.meaning.specs.Refusal.{ROLE, LENGTH}
 use Rattle.meaning.specs.Format.{Part, Role, unit, plain, role, indexRole, dense, sparseCsr, sparseCoo, quantizedGroup}
-use Rattle.types.specs.Row.{position}
-use Rattle.types.specs.Known.{roleNames}
+use Rattle.types.specs.Known.{position, roleNames}
 use Rattle.formats.specs.declared.Ruled.{Ruled}
 use Rattle.formats.specs.declared.Ruled.the-variants.{Right, Wrong}
 use Rattle.formats.specs.declared.Filled.{Filled}

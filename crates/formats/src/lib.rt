@@ -3,21 +3,23 @@
 ghost use mathlib.Core.Path.{_≡_};
 ghost use mathlib.Core.List.{List};
 ghost use Prim.Native.Nat.{ℕ, _<_};
-ghost use Rattle.types.specs.Row.{position};
-ghost use Rattle.types.specs.Known.{formatNames};
+ghost use Rattle.types.specs.Known.{position, formatNames};
 ghost use Rattle.meaning.specs.Format as format;
 ghost use Rattle.formats.specs.Parts.{partRows, roleName, RoleIs, IndexIs, RoleThere, told, csrLengths, cooLengths};
 
+// Whether the rules hold, or the number of the first that doesn't and the component's index.
 pub enum Ruled {
     Right,
     Wrong(u64, usize),
 }
 
+// The component that fills a role: its index, bytes of one element, 1 for plain u64, and length.
 enum Filled {
     Absent,
     At(usize, u64, u64, u64),
 }
 
+// An index role: the component to blame, or the index and the length.
 enum Indexed {
     Odd(usize),
     Plain(usize, u64),
@@ -56,6 +58,7 @@ fn index_role(parts: &[u64], code: u64) -> Indexed
     }
 }
 
+// dense: the role data, and its length.
 fn dense(shape: &[u64], parts: &[u64]) -> Ruled
     ensures { λ r. ⌜ ((cs : List format.Part) → now (parts .entry) ≡ partRows cs → format.dense (now (shape .entry)) cs ≡ told r) ⌝ }
 {
@@ -95,6 +98,7 @@ fn csr_lengths(
     Ruled::Right
 }
 
+// sparse_csr: the rank, the roles values, indices and indptr, and their lengths.
 fn sparse_csr(shape: &[u64], parts: &[u64]) -> Ruled
     ensures { λ r. ⌜ ((cs : List format.Part) → now (parts .entry) ≡ partRows cs → format.sparseCsr (now (shape .entry)) cs ≡ told r) ⌝ }
 {
@@ -135,6 +139,7 @@ fn coo_lengths(rank: u64, v: usize, unit: u64, size: u64, x: usize, coords: u64)
     Ruled::Right
 }
 
+// sparse_coo: the roles values and coords, and their lengths.
 fn sparse_coo(shape: &[u64], parts: &[u64]) -> Ruled
     ensures { λ r. ⌜ ((cs : List format.Part) → now (parts .entry) ≡ partRows cs → format.sparseCoo (now (shape .entry)) cs ≡ told r) ⌝ }
 {
@@ -158,8 +163,9 @@ fn has_role(parts: &[u64], code: u64) -> bool
     }
 }
 
-fn quantized_group(shape: &[u64], parts: &[u64]) -> Ruled
-    ensures { λ r. ⌜ ((cs : List format.Part) → now (parts .entry) ≡ partRows cs → format.quantizedGroup (now (shape .entry)) cs ≡ told r) ⌝ }
+// quantized_group: its three roles, in any shape.
+fn quantized_group(parts: &[u64]) -> Ruled
+    ensures { λ r. ⌜ ((shape : List ℕ) (cs : List format.Part) → now (parts .entry) ≡ partRows cs → format.quantizedGroup shape cs ≡ told r) ⌝ }
 {
     if !has_role(&parts[0..], 5) {
         return Ruled::Wrong(22, 0);
@@ -187,7 +193,7 @@ pub fn judge(code: u64, shape: &[u64], parts: &[u64]) -> Ruled
         return sparse_coo(&shape[0..], &parts[0..]);
     }
     if code == 3 {
-        return quantized_group(&shape[0..], &parts[0..]);
+        return quantized_group(&parts[0..]);
     }
     Ruled::Right
 }

@@ -1,1 +1,2 @@
+-- The definitions that the contracts of lengths cite.
 pub mod Place

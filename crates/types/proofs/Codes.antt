@@ -1,20 +1,20 @@
 -- Where a name stands in a list says what the list has of it: laws over any list of storages and of logical types. Assumes nothing.
 use mathlib.Core.Path.{_≡_, refl, sym, ap, _∙_}
 use mathlib.Core.List.{List, [], _∷_, map}
-use mathlib.Core.Bool.{Bool, true, false, cond}
+use mathlib.Core.Bool.{Bool, true, false, cond, _&&_}
 use mathlib.Core.Option.{Option, none, some}
 use Prim.Native.Nat.{ℕ, zero, suc, _+_, _-_, _*_, _≤_, _<_}
 use native.Mathlib.Omega.{arith}
 use native.Mathlib.Nat.{mul-le-mul}
 use lib.ListN.{length, getD, take, drop, getElem?, List·getD-map, List·getD-eq-default}
 use lib.Dec.{eqb, leb}
-use borrow.Author.Tests.{leb-true}
+use borrow.Author.Tests.{leb-true, eqb-true, eqb-false}
 use borrow.Rule.Slice.PartAt.{part-to-end}
 use Rattle.meaning.specs.Text.{same, all}
 use Rattle.meaning.specs.Types.{Storage, storages, codeFrom, storageOf, widthOf, Logical, logicals, listed, fitsOver, ratioOf}
-use Rattle.types.specs.Row.{position, Rows}
+use Rattle.types.specs.Row.{digitOf}
 use Rattle.types.proofs.Tagged.{both-left, both-right}
-use Rattle.types.specs.Known.{codeOr, dtypeCode, storageNames, logicalNames}
+use Rattle.types.specs.Known.{position, codeOr, dtypeCode, storageNames, logicalNames}
 
 pub position-most : (ns : List (List ℕ)) (k : List ℕ) → position ns k ≤ length ns
 unfolding position
@@ -24,10 +24,6 @@ position-most (n ∷ ns) k = go (same n k) (position-most ns k)
     go : (t : Bool) → position ns k ≤ length ns → cond t 0 (suc (position ns k)) ≤ suc (length ns)
     go true h = omega arith
     go false h = omega arith
-
--- what a function that searches a table's rows with the whole of k answers
-pub whole : (k rows : List ℕ) (r : ℕ) → ((ns : List (List ℕ)) → Rows rows ns → r ≡ position ns (take (length k - 0) (drop 0 k))) → (ns : List (List ℕ)) → Rows rows ns → r ≡ position ns k
-whole k rows r h ns t = h ns t ∙ ap (position ns) (part-to-end k 0)
 
 module _ (k : List ℕ) where
   pub code-position : (i : ℕ) (ss : List Storage) → codeOr (i + length ss) (codeFrom i ss k) ≡ i + position (map (λ s. s .called) ss) k
@@ -60,6 +56,24 @@ module _ {A : Type 0} where
   element-out [] i h = refl
   element-out (a ∷ l) zero h = absurd (omega arith)
   element-out (a ∷ l) (suc i) h = element-out l i (omega arith)
+
+-- ---------------------------------------------------------------- a table of digits, by one test
+
+abbrev pub below : (ℕ → Bool) → ℕ → Bool
+below f zero = true
+below f (suc n) = f n && below f n
+
+below-at : (f : ℕ → Bool) (n : ℕ) → below f n ≡ true → (i : ℕ) → i < n → f i ≡ true
+below-at f zero e i h = absurd (omega arith)
+below-at f (suc n) e i h = go (eqb i n) refl (below-at f n (both-right (f n) (below f n) e) i)
+  where
+    go : (t : Bool) → eqb i n ≡ t → (i < n → f i ≡ true) → f i ≡ true
+    go true p ih = rw (eqb-true i n p) (both-left (f n) (below f n) e)
+    go false p ih = ih (omega (arith, eqb-false i n p))
+
+-- the digits of a table are what f says
+pub digits : (f : ℕ → ℕ) (table n : ℕ) → below (λ i. eqb (digitOf table i) (f i)) n ≡ true → (i : ℕ) → i < n → digitOf table i ≡ f i
+digits f table n e i h = eqb-true (digitOf table i) (f i) (below-at (λ i. eqb (digitOf table i) (f i)) n e i h)
 
 -- ---------------------------------------------------------------- the tables of document 01
 

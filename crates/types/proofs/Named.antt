@@ -10,7 +10,8 @@ use lib.Dec.{leb, eqb}
 use borrow.Author.Tests.{ne-eqb, leb-true}
 use borrow.Rule.Slice.PartAt.{part-to-end}
 use Rattle.meaning.specs.Text.{same, all}
-use Rattle.types.specs.Row.{tagged, isRow, found, rowsOf, bytes, holds, position, Rows}
+use Rattle.types.specs.Row.{tagged, isRow, found, rowsOf, bytes, holds, Tells, Rows}
+use Rattle.types.specs.Known.{position}
 use Rattle.types.proofs.Tell.{same-true}
 use Rattle.types.proofs.Tagged.{both-left, both-right, bytes-take, bytes-drop, tagged-some, tagged-same}
 
@@ -52,18 +53,14 @@ module _ (a b c : ℕ) where
   pub found-last : (rows : List ℕ) (at i : ℕ) → length rows - at < 3 → found rows a b c ≡ i + found (drop at rows) a b c → i ≡ found rows a b c
   found-last rows at i h so = let z = length-drop at rows in let x = found-end (drop at rows) (omega arith) in omega arith
 
-  -- the three numbers tell which names k is
-  abbrev pub Tells : List ℕ → Type 0
-  Tells k = (n : List ℕ) → holds n ≡ true → (eqb (tagged (take 7 n)) a && (eqb (tagged (take 7 (drop 7 n))) b && eqb (tagged (drop 7 (drop 7 n))) c)) ≡ same n k
-
-  position-of : (k : List ℕ) → Tells k → (names : List (List ℕ)) → all holds names ≡ true → found (rowsOf names) a b c ≡ position names k
+  position-of : (k : List ℕ) → Tells a b c k → (names : List (List ℕ)) → all holds names ≡ true → found (rowsOf names) a b c ≡ position names k
   unfolding found rowsOf position
   position-of k t [] e = refl
   position-of k t (n ∷ ns) e =
       ap₂ (λ (s : Bool) (r : ℕ). cond s 0 (suc r)) (t n (both-left (holds n) (all holds ns) e)) (position-of k t ns (both-right (holds n) (all holds ns) e))
 
-  pub named : (k rows : List ℕ) (r : ℕ) → r ≡ found (take (length rows - 0) (drop 0 rows)) a b c → Tells k → (names : List (List ℕ)) → Rows rows names → r ≡ position names k
-  named k rows r e t names h = e ∙ ap (λ l. found l a b c) (part-to-end rows 0 ∙ h .are) ∙ position-of k t names (h .hold)
+  pub named : (k rows : List ℕ) (r : ℕ) (names : List (List ℕ)) → Rows rows names → Tells a b c (take (length k - 0) (drop 0 k)) → r ≡ found rows a b c → r ≡ position names k
+  named k rows r names h t e = e ∙ ap (λ l. found l a b c) (h .are) ∙ position-of (take (length k - 0) (drop 0 k)) t names (h .hold) ∙ ap (position names) (part-to-end k 0)
 
 -- ---------------------------------------------------------------- equal texts, in parts
 

@@ -8,7 +8,7 @@ use lib.ListN.{length, getD}
 use lib.Dec.{eqb, eqb·suc-zero, eqb·zero-suc, eqb·suc-suc}
 use borrow.Author.Tests.{eqb-true}
 use Rattle.meaning.specs.Text.{same, oneOf, distinct}
-use Rattle.types.specs.Row.{position}
+use Rattle.types.specs.Known.{position}
 
 pub not-both : {b : Bool} → b ≡ true → b ≡ false → ⊥
 not-both p q = let z : _≡_ {A = ℕ} 0 1 = cc in omega arith

@@ -1,9 +1,15 @@
--- The codes that texts name: storage types, formats, roles.
-use Prim.Native.Nat.{ℕ}
+-- The codes that texts name, by their place in a list: fields, storage types, formats, roles. What the public contracts cite.
+use Prim.Native.Nat.{ℕ, suc}
 use mathlib.Core.List.{List, [], _∷_, map}
+use mathlib.Core.Bool.{cond}
 use mathlib.Core.Option.{Option, none, some}
-use Rattle.meaning.specs.Text.{ascii}
+use Rattle.meaning.specs.Text.{ascii, same}
 use Rattle.meaning.specs.Types.{storages, codeFrom, logicals}
+
+-- the index of the first name that equals k, or the number of names
+unfoldable pub position : List (List ℕ) → List ℕ → ℕ
+position [] k = 0
+position (n ∷ ns) k = let r = position ns k in cond (same n k) 0 (suc r)
 
 -- a code, or n where there is none
 unfoldable pub codeOr : ℕ → Option ℕ → ℕ
@@ -19,6 +25,9 @@ storageNames = map (λ s. s .called) storages
 
 abbrev pub logicalNames : List (List ℕ)
 logicalNames = map (λ l. l .called) logicals
+
+abbrev pub rawNames : List (List ℕ)
+rawNames = ascii "raw" ∷ []
 
 unfoldable pub formatNames : List (List ℕ)
 formatNames = ascii "dense" ∷ ascii "sparse_csr" ∷ ascii "sparse_coo" ∷ ascii "quantized_group" ∷ []

@@ -1,2 +1,3 @@
+-- The definitions that the contracts of types cite.
 pub mod Row
 pub mod Known

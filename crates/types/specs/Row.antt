@@ -1,5 +1,5 @@
--- A text of at most 21 bytes as three numbers, seven bytes in each, and a table of known names as a list of such rows.
-use Prim.Native.Nat.{ℕ, suc, _+_, _*_}
+-- A text of at most 21 bytes as three numbers, seven bytes in each, and the known name that three numbers are.
+use Prim.Native.Nat.{ℕ, suc, _+_, _*_, _/_, _%_, _^_}
 use mathlib.Core.List.{List, [], _∷_}
 use mathlib.Core.Bool.{Bool, true, cond, _&&_}
 use mathlib.Core.Path.{_≡_}
@@ -11,6 +11,10 @@ use Rattle.meaning.specs.Text.{same, all}
 unfoldable pub tagged : List ℕ → ℕ
 tagged [] = 1
 tagged (b ∷ s) = b + 256 * tagged s
+
+-- the name n has these three numbers
+abbrev pub hits : List ℕ → ℕ → ℕ → ℕ → Bool
+hits n a b c = eqb (tagged (take 7 n)) a && (eqb (tagged (take 7 (drop 7 n))) b && eqb (tagged (drop 7 (drop 7 n))) c)
 
 abbrev pub isRow : List ℕ → ℕ → ℕ → ℕ → ℕ → Bool
 isRow rows at a b c = eqb (getD rows at 0) a && (eqb (getD rows (at + 1) 0) b && eqb (getD rows (at + 2) 0) c)
@@ -29,16 +33,19 @@ rowsOf (n ∷ ns) = tagged (take 7 n) ∷ (tagged (take 7 (drop 7 n)) ∷ (tagge
 abbrev pub bytes : List ℕ → Bool
 bytes s = all (λ b. ltb b 256) s
 
--- a name that a row can hold
+-- a name that has three numbers
 abbrev pub holds : List ℕ → Bool
 holds n = bytes n && leb (length n) 21
 
--- the index of the first name that equals k, or the number of names
-unfoldable pub position : List (List ℕ) → List ℕ → ℕ
-position [] k = 0
-position (n ∷ ns) k = let r = position ns k in cond (same n k) 0 (suc r)
+-- three numbers tell which names k is
+abbrev pub Tells : ℕ → ℕ → ℕ → List ℕ → Type 0
+Tells a b c k = (n : List ℕ) → holds n ≡ true → hits n a b c ≡ same n k
 
 -- the rows of these names
 pub record Rows (rows : List ℕ) (names : List (List ℕ)) : Type 0 where
   pub are : rows ≡ rowsOf names
   pub hold : all holds names ≡ true
+
+-- a hexadecimal digit of a number, counted from the lowest
+abbrev pub digitOf : ℕ → ℕ → ℕ
+digitOf table i = table / 2 ^ (4 * i) % 16

@@ -5,7 +5,6 @@ mod tables;
 
 ghost use mathlib.Core.Path.{_≡_};
 ghost use Prim.Native.Nat.{_*_};
-ghost use Rattle.types.specs.Row.{position};
 ghost use Rattle.types.specs.Known as known;
 ghost use Rattle.meaning.specs.Field as field;
 ghost use Rattle.meaning.specs.Text as text;
@@ -13,37 +12,42 @@ ghost use Rattle.meaning.specs.Types as types;
 
 // The field of the root that k names, 3 for none.
 pub fn root_key(k: &[u8]) -> usize
-    ensures { λ r. ⌜ r ≡ position field.rootNames (now (k .entry)) ⌝ }
+    ensures { λ r. ⌜ r ≡ known.position field.rootNames (now (k .entry)) ⌝ }
 {
-    row::row_of(&k[0..], &tables::ROOT)
+    let w = row::words_of(&k[0..]);
+    row::found(&tables::ROOT, w.a, w.b, w.c)
 }
 
 // The field of an object that k names, 4 for none.
 pub fn object_key(k: &[u8]) -> usize
-    ensures { λ r. ⌜ r ≡ position field.objectNames (now (k .entry)) ⌝ }
+    ensures { λ r. ⌜ r ≡ known.position field.objectNames (now (k .entry)) ⌝ }
 {
-    row::row_of(&k[0..], &tables::OBJECT)
+    let w = row::words_of(&k[0..]);
+    row::found(&tables::OBJECT, w.a, w.b, w.c)
 }
 
 // The field of a component that k names, 7 for none.
 pub fn component_key(k: &[u8]) -> usize
-    ensures { λ r. ⌜ r ≡ position field.componentNames (now (k .entry)) ⌝ }
+    ensures { λ r. ⌜ r ≡ known.position field.componentNames (now (k .entry)) ⌝ }
 {
-    row::row_of(&k[0..], &tables::COMPONENT)
+    let w = row::words_of(&k[0..]);
+    row::found(&tables::COMPONENT, w.a, w.b, w.c)
 }
 
 // The encoding is "raw".
 pub fn is_raw(k: &[u8]) -> bool
     ensures { λ r. ⌜ r ≡ text.same (text.ascii "raw") (now (k .entry)) ⌝ }
 {
-    row::row_of(&k[0..], &tables::RAW) == 0
+    let w = row::words_of(&k[0..]);
+    row::found(&tables::RAW, w.a, w.b, w.c) == 0
 }
 
 // The storage code that k names, 13 for none.
 pub fn dtype_code(k: &[u8]) -> u64
     ensures { λ r. ⌜ r ≡ known.dtypeCode (now (k .entry)) ⌝ }
 {
-    row::row_of(&k[0..], &tables::STORAGE) as u64
+    let w = row::words_of(&k[0..]);
+    row::found(&tables::STORAGE, w.a, w.b, w.c) as u64
 }
 
 // The bytes of a number of that storage, 0 for none.
@@ -51,25 +55,26 @@ pub fn width_of(code: u64) -> u64
     ensures { λ r. ⌜ r ≡ types.widthOf code ⌝ }
 {
     if code < 13 {
-        return tables::WIDTH[code as usize];
+        return row::digit(tables::WIDTH, code);
     }
     0
 }
 
-// The row of the logical type k, 6 for one that is not listed.
-fn logical_row(k: &[u8]) -> usize
-    ensures { λ r. ⌜ r ≡ position known.logicalNames (now (k .entry)) ⌝ }
+// The index of the logical type k, 6 for one that is not listed.
+fn logical_index(k: &[u8]) -> usize
+    ensures { λ r. ⌜ r ≡ known.position known.logicalNames (now (k .entry)) ⌝ }
 {
-    row::row_of(&k[0..], &tables::LOGICAL)
+    let w = row::words_of(&k[0..]);
+    row::found(&tables::LOGICAL, w.a, w.b, w.c)
 }
 
 // The logical type k may stand over the storage with this code.
 pub fn type_fits(k: &[u8], code: u64) -> bool
     ensures { λ r. ⌜ r ≡ types.fitsOver code (types.listed types.logicals (now (k .entry))) ⌝ }
 {
-    let i = logical_row(&k[0..]);
+    let i = logical_index(&k[0..]);
     if i < 6 {
-        return tables::NEEDS[i] == code;
+        return row::digit(tables::NEEDS, i as u64) == code;
     }
     true
 }
@@ -78,9 +83,9 @@ pub fn type_fits(k: &[u8], code: u64) -> bool
 pub fn ratio_of(k: &[u8]) -> u64
     ensures { λ r. ⌜ r ≡ types.ratioOf (types.listed types.logicals (now (k .entry))) ⌝ }
 {
-    let i = logical_row(&k[0..]);
+    let i = logical_index(&k[0..]);
     if i < 6 {
-        return tables::RATIO[i];
+        return row::digit(tables::RATIO, i as u64);
     }
     1
 }
@@ -94,14 +99,16 @@ pub fn unit_of(k: &[u8], code: u64) -> u64
 
 // 0 dense, 1 sparse_csr, 2 sparse_coo, 3 quantized_group, 4 any other format.
 pub fn format_code(k: &[u8]) -> u64
-    ensures { λ r. ⌜ r ≡ position known.formatNames (now (k .entry)) ⌝ }
+    ensures { λ r. ⌜ r ≡ known.position known.formatNames (now (k .entry)) ⌝ }
 {
-    row::row_of(&k[0..], &tables::FORMAT) as u64
+    let w = row::words_of(&k[0..]);
+    row::found(&tables::FORMAT, w.a, w.b, w.c) as u64
 }
 
 // 0 data, 1 values, 2 indices, 3 indptr, 4 coords, 5 packed_weight, 6 scales, 7 zeros, 8 any other role.
 pub fn role_code(k: &[u8]) -> u64
-    ensures { λ r. ⌜ r ≡ position known.roleNames (now (k .entry)) ⌝ }
+    ensures { λ r. ⌜ r ≡ known.position known.roleNames (now (k .entry)) ⌝ }
 {
-    row::row_of(&k[0..], &tables::ROLE) as u64
+    let w = row::words_of(&k[0..]);
+    row::found(&tables::ROLE, w.a, w.b, w.c) as u64
 }

@@ -1,9 +1,14 @@
-// Known names by numbers: a text is three numbers of seven bytes each, and a table has such a row for each of its names.
+// Texts as three numbers of seven bytes each, by which known names are told apart: a table has such a row for each of its names.
 ghost use mathlib.Core.Path.{_≡_};
-ghost use mathlib.Core.List.{List};
-ghost use Prim.Native.Nat.{ℕ, _+_, _≤_};
+ghost use Prim.Native.Nat.{_+_, _≤_, _<_};
 ghost use lib.ListN.{length};
-ghost use Rattle.types.specs.Row.{tagged as taggedOf, isRow, found as foundIn, position, Rows};
+ghost use Rattle.types.specs.Row.{tagged as taggedOf, Tells, isRow, found as foundIn, digitOf};
+
+pub struct Words {
+    pub a: u64,
+    pub b: u64,
+    pub c: u64,
+}
 
 // At most seven bytes as one number.
 fn tagged(k: &[u8]) -> u64
@@ -17,6 +22,35 @@ fn tagged(k: &[u8]) -> u64
         t = t * 256 + k[i] as u64;
     }
     t
+}
+
+// The numbers of a text's first seven bytes, of the next seven and of the rest. No name that is known is longer than 21 bytes or has a 0 there.
+pub fn words_of(k: &[u8]) -> Words
+    ensures { λ r. ⌜ Tells (r .a) (r .b) (r .c) (now (k .entry)) ⌝ }
+{
+    let n = k.len();
+    if n <= 7 {
+        return Words {
+            a: tagged(&k[0..]),
+            b: 1,
+            c: 1,
+        };
+    }
+    if n <= 14 {
+        return Words {
+            a: tagged(&k[0..7]),
+            b: tagged(&k[7..]),
+            c: 1,
+        };
+    }
+    if n <= 21 {
+        return Words {
+            a: tagged(&k[0..7]),
+            b: tagged(&k[7..14]),
+            c: tagged(&k[14..]),
+        };
+    }
+    Words { a: 0, b: 0, c: 0 }
 }
 
 // The row that begins at `at` is a, b, c.
@@ -34,7 +68,7 @@ fn row_is(rows: &[u64], at: usize, a: u64, b: u64, c: u64) -> bool
 }
 
 // The first row that is a, b, c, or the number of rows.
-fn found(rows: &[u64], a: u64, b: u64, c: u64) -> usize
+pub fn found(rows: &[u64], a: u64, b: u64, c: u64) -> usize
     ensures { λ r. ⌜ r ≡ foundIn (now (rows .entry)) a b c ⌝ }
 {
     let mut i: usize = 0;
@@ -49,24 +83,10 @@ fn found(rows: &[u64], a: u64, b: u64, c: u64) -> usize
     i
 }
 
-// The index of the name that k is among those whose rows these are, or the number of names. No row has a 0.
-pub fn row_of(k: &[u8], rows: &[u64]) -> usize
-    ensures { λ r. ⌜ ((names : List (List ℕ)) → Rows (now (rows .entry)) names → r ≡ position names (now (k .entry))) ⌝ }
+// A digit of a table of hexadecimal digits, counted from the lowest.
+pub fn digit(table: u64, i: u64) -> u64
+    requires { ⌜ i < 16 ⌝ }
+    ensures { λ r. ⌜ r ≡ digitOf table i ⌝ }
 {
-    let n = k.len();
-    if n <= 7 {
-        return found(&rows[0..], tagged(&k[0..]), 1, 1);
-    }
-    if n <= 14 {
-        return found(&rows[0..], tagged(&k[0..7]), tagged(&k[7..]), 1);
-    }
-    if n <= 21 {
-        return found(
-            &rows[0..],
-            tagged(&k[0..7]),
-            tagged(&k[7..14]),
-            tagged(&k[14..]),
-        );
-    }
-    found(&rows[0..], 0, 0, 0)
+    (table >> (4 * i)) % 16
 }

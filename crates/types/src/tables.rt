@@ -1,6 +1,5 @@
-// The rows of the known names (row.rt): for each name the numbers of its first seven bytes, the next seven and the rest.
-// The bytes are digits, the first the lowest, under a 1; the proof of each function that uses a table
-// computes it from the names.
+// The rows of the known names (row.rt): for each name the numbers of its first seven bytes, the next seven and the rest, the first byte
+// the lowest digit, under a 1. The proof of a function that uses a table computes it from the names of document 01.
 
 pub const ROOT: [u64; 9] = [
     0x016e_6f69_7372_6576, // version
@@ -164,10 +163,10 @@ pub const RAW: [u64; 3] = [
     1,
 ];
 
-// The width of each storage, in the order of its codes.
-pub const WIDTH: [u64; 13] = [8, 4, 2, 2, 8, 4, 2, 1, 8, 4, 2, 1, 1];
+// The width of each storage: a hexadecimal digit for each code, the lowest for 0.
+pub const WIDTH: u64 = 0x1_1248_1248_2248;
 
-// The storage that each logical type needs, in the order of their rows, and its ratio.
-pub const NEEDS: [u64; 6] = [11, 11, 11, 11, 1, 0];
+// In the same way the storage that each logical type needs, and its ratio.
+pub const NEEDS: u64 = 0x01_bbbb;
 
-pub const RATIO: [u64; 6] = [1, 1, 1, 1, 2, 2];
+pub const RATIO: u64 = 0x22_1111;

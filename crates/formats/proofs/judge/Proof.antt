@@ -1,4 +1,5 @@
 -- `formats::judge` meets its contract: the code tells the format's name, by the law `rules-by-code`. Assumes nothing.
+use borrow.Rule.Slice.PartAt.{part-to-end}
 use Rattle.formats.proofs.Rules as laws
 use Rattle.formats.specs.Parts.{rulesOf}
 use Rattle.meaning.specs.Format as format
@@ -38,9 +39,6 @@ judge-spec =
     (λ c. search needs)
     (λ c. search needs)
     (λ c. search needs)
-    (λ c. search needs)
-    (λ c. search needs)
-    (λ c. search needs)
     (λ c κs. search needs)
-    (λ c. unfold rulesOf in λ f cs e is. laws.with-code _ f (c .before .before .before .before .before .before .before .before .before .args .shape .now) cs e 3 (c .before .before .before .if4 .taken) ∙ laws.judged format.quantizedGroup (c .before .before .before .before .before .before .before .before .before .args .shape .now) (c .before .before .before .before .before .before .before .before .before .args .parts .now) (c .quantized-group .result) (c .quantized-group .ensures) cs is)
+    (λ c. unfold rulesOf in λ f cs e is. laws.with-code _ f (c .before .before .before .before .before .before .before .before .args .shape .now) cs e 3 (c .before .before .if4 .taken) ∙ (c .quantized-group .ensures) (c .before .before .before .before .before .before .before .before .args .shape .now) cs (part-to-end (c .before .before .before .before .before .before .before .before .args .parts .now) 0 ∙ is))
     (λ c. λ f cs e is. laws.other-code _ f (c .before .before .before .before .before .before .args .shape .now) cs e (c .before .before .before .if1 .left) (c .before .before .if2 .left) (c .before .if3 .left) (c .if4 .left)))

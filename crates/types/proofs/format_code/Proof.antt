@@ -1,5 +1,5 @@
 -- `types::format_code` meets its contract: the rows of the table are computed from the names. Assumes nothing.
-use Rattle.types.proofs.Codes.{whole}
+use Rattle.types.proofs.Named.{named}
 use Rattle.types.specs.Row.{tagged, rowsOf}
 use Rattle.types.specs.Known as known
 use mathlib.Core.Path.{refl}
@@ -14,6 +14,7 @@ format-code-spec =
     (λ c. search needs)
     (λ c. search needs)
     (λ c. search needs)
+    (λ c κs. search needs)
     (λ c. search needs)
     (λ c κs. search needs)
-    (λ c. unfold known.formatNames tagged rowsOf in whole (c .before .before .before .before .args .k .now) _ _ (c .row-of .ensures) known.formatNames (record { are = refl; hold = refl })))
+    (λ c. unfold known.formatNames tagged rowsOf in named _ _ _ (c .before .before .before .before .before .args .k .now) _ _ known.formatNames (record { are = refl; hold = refl }) (c .before .before .words-of .ensures) (c .found .ensures)))

@@ -1,0 +1,130 @@
+-- The names of a map judged: what the tally says of each of meaning's checks, in their order.
+use Prim.Native.Nat.{ℕ, zero, suc, _+_, _-_, _≤_, _<_, min}
+use native.Mathlib.Omega.{arith}
+use mathlib.Core.List.{List, [], _∷_, _++_, map}
+use mathlib.Core.Bool.{Bool, true, false, cond, _&&_, not}
+use mathlib.Core.Option.{Option, none, some}
+use mathlib.Core.Path.{_≡_, refl, ap, sym, _∙_, subst}
+use lib.ListN.{length, take, length-map}
+use lib.Seq.{take-all}
+use lib.Dec.{leb}
+use borrow.Author.Tests.{le-leb, lt-leb, not-true, not-false}
+use Rattle.meaning.specs.Tree.{Node, Pair, noteOf}
+use Rattle.meaning.specs.Check.{Check, pass, refuse, _>>=_, _>>_, _unless_, fault, each}
+use Rattle.meaning.specs.Text.{all, utf8, distinct}
+use Rattle.meaning.specs.Refusal.{KEY, TEXT, COUNT, TWICE}
+use Rattle.meaning.specs.Model as model
+use Rattle.meaning.specs.Model.{Word}
+use Rattle.meaning.specs.Kind as kinds
+use Rattle.meaning.specs.Kind.{Kind, kind}
+use Rattle.meaning.specs.Field.{isSome, keyOf, keyKind, nameKind, nameOf, names}
+use Rattle.meaning.proofs.JudgeNatural.{all-map, map-map}
+use Rattle.names.specs.Names.{name, listed}
+use Rattle.walk.specs.Reading.{Ends}
+use Rattle.naming.specs.declared.Tally.{Tally}
+use Rattle.naming.specs.declared.Named.{Named}
+use Rattle.naming.specs.declared.Named.the-variants.{No, Yes}
+use Rattle.naming.specs.Naming.{lettersOr, lettersOf, Tallied, quiet}
+
+-- a pair as a name and what it names, also where its key is none
+abbrev wordOr : Ends → Kind Ends → Word Ends
+wordOr e (kinds.number n) = record { note = e; letters = [] }
+wordOr e (kinds.words w) = w
+wordOr e (kinds.list l) = record { note = e; letters = [] }
+wordOr e (kinds.table l) = record { note = e; letters = [] }
+wordOr e kinds.null = record { note = e; letters = [] }
+wordOr e kinds.another = record { note = e; letters = [] }
+
+abbrev pub namedAnyway : Pair Ends → model.Named Ends
+namedAnyway p = record { name = wordOr (noteOf (p .key)) (kind (p .key)); value = p .value }
+
+name-kind : (e : Ends) (v : Node Ends) (k : Kind Ends) (b : Bool) → isSome (keyKind k) ≡ b → nameKind v k ≡ cond b (pass (record { name = wordOr e k; value = v })) (fault KEY)
+unfolding nameKind keyKind isSome
+name-kind e v (kinds.number n) b h = rw (← h) refl
+name-kind e v (kinds.words w) b h = rw (← h) refl
+name-kind e v (kinds.list l) b h = rw (← h) refl
+name-kind e v (kinds.table l) b h = rw (← h) refl
+name-kind e v kinds.null b h = rw (← h) refl
+name-kind e v kinds.another b h = rw (← h) refl
+
+name-of : (p : Pair Ends) (b : Bool) → isSome (keyOf p) ≡ b → nameOf p ≡ cond b (pass (namedAnyway p)) (fault KEY)
+unfolding nameOf keyOf
+name-of p b h = name-kind (noteOf (p .key)) (p .value) (kind (p .key)) b h
+
+letters-kind : (e : Ends) (k : Kind Ends) → wordOr e k .letters ≡ lettersOr (keyKind k)
+unfolding keyKind
+letters-kind e (kinds.number n) = refl
+letters-kind e (kinds.words w) = refl
+letters-kind e (kinds.list l) = refl
+letters-kind e (kinds.table l) = refl
+letters-kind e kinds.null = refl
+letters-kind e kinds.another = refl
+
+letters-of : (p : Pair Ends) → namedAnyway p .name .letters ≡ lettersOf p
+unfolding lettersOf keyOf
+letters-of p = letters-kind (noteOf (p .key)) (kind (p .key))
+
+each-name : (i : ℕ) (ps : List (Pair Ends)) (b : Bool) → all (λ p. isSome (keyOf p)) ps ≡ b → each (λ i. nameOf) i ps ≡ cond b (pass (map namedAnyway ps)) (fault KEY)
+each-name i [] b h = rw (← h) refl
+each-name i (p ∷ ps) b h = go (isSome (keyOf p)) refl (each-name (suc i) ps)
+  where
+    two : (t : Bool) → ((b : Bool) → all (λ p. isSome (keyOf p)) ps ≡ b → each (λ i. nameOf) (suc i) ps ≡ cond b (pass (map namedAnyway ps)) (fault KEY)) → all (λ p. isSome (keyOf p)) ps ≡ t
+        → (pass (namedAnyway p) >>= λ x. each (λ i. nameOf) (suc i) ps >>= λ xs. pass (x ∷ xs)) ≡ cond t (pass (namedAnyway p ∷ map namedAnyway ps)) (fault KEY)
+    two true ih e = rw (ih true e) refl
+    two false ih e = rw (ih false e) refl
+
+    go : (t : Bool) → isSome (keyOf p) ≡ t → ((b : Bool) → all (λ p. isSome (keyOf p)) ps ≡ b → each (λ i. nameOf) (suc i) ps ≡ cond b (pass (map namedAnyway ps)) (fault KEY))
+        → each (λ i. nameOf) i (p ∷ ps) ≡ cond b (pass (map namedAnyway (p ∷ ps))) (fault KEY)
+    go true e ih = rw (name-of p true e, ← h, e) (two (all (λ p. isSome (keyOf p)) ps) ih refl)
+    go false e ih = rw (name-of p false e, ← h, e) refl
+
+module _ (limit : ℕ) (x : Node Ends) (ps : List (Pair Ends)) (is : kind x ≡ kinds.table ps) where
+  pub odd-names : all (λ p. isSome (keyOf p)) ps ≡ false → names limit x ≡ fault KEY
+  unfolding names kinds.aTable kinds.asTable
+  odd-names e = rw (is, each-name 0 ps false e) refl
+
+  pub text-names : all (λ p. isSome (keyOf p)) ps ≡ true
+      → names limit x ≡ (TEXT unless all (λ p. utf8 (lettersOf p)) ps >> (COUNT unless leb (length ps) limit >> (TWICE unless distinct (map lettersOf ps) >> pass (map namedAnyway ps))))
+  unfolding names kinds.aTable kinds.asTable
+  text-names e =
+      rw (is, each-name 0 ps true e)
+      (simp (all-map, map-map, length-map, letters-of))
+
+-- ---------------------------------------------------------------- by the tally
+
+opposite : {a b : Bool} → a ≡ not b → (t : Bool) → a ≡ t → b ≡ not t
+opposite {a} {b} h t e = let z : not b ≡ t = sym h ∙ e in go b t z
+  where
+    go : (b t : Bool) → not b ≡ t → b ≡ not t
+    go true t z = ap not z
+    go false t z = ap not z
+
+module _ (m : List ℕ) (t : Tally) (left size : List ℕ) (done : List (Pair Ends)) (h : Tallied m done t left size) (x : Node Ends) (is : kind x ≡ kinds.table done) where
+  pub judge-odd : t .odd ≡ true → No 9 ≡ quiet (names (length left) x)
+  judge-odd e = ap quiet (sym (odd-names (length left) x done is (opposite (h .oddly) true e)))
+
+  module _ (fine : t .odd ≡ false) where
+    all-text : names (length left) x ≡ (TEXT unless all (λ p. utf8 (lettersOf p)) done >> (COUNT unless leb (length done) (length left) >> (TWICE unless distinct (map lettersOf done) >> pass (map namedAnyway done))))
+    all-text = text-names (length left) x done is (opposite (h .oddly) false fine)
+
+    pub judge-bad : t .bad ≡ true → No 10 ≡ quiet (names (length left) x)
+    judge-bad e = let z : all (λ p. utf8 (lettersOf p)) done ≡ false = opposite (h .badly) true e in rw (all-text, z) refl
+
+    module _ (good : t .bad ≡ false) where
+      pub judge-many : length left < t .count → No 15 ≡ quiet (names (length left) x)
+      judge-many l = let c = h .counted in let z : all (λ p. utf8 (lettersOf p)) done ≡ true = opposite (h .badly) false good in rw (all-text, z, lt-leb (length done) (length left) (omega arith)) refl
+
+      module _ (few : t .count ≤ length left) (r : Bool) (by : r ≡ distinct (listed (name m left size) 0 (t .count))) where
+        names-are : distinct (map lettersOf done) ≡ r
+        names-are =
+            let c = h .counted in
+            let z : min (length done) (length left) ≡ t .count = omega arith in
+            let l : listed (name m left size) 0 (t .count) ≡ map lettersOf done = rw z at (h .listed-are) ∙ take-all (length left) (map lettersOf done) (omega (arith, length-map done lettersOf)) in
+            sym (by ∙ ap distinct l)
+
+        pub judge-last : (quiet (names (length left) x)) ≡ cond r Yes (No 11)
+        judge-last = let c = h .counted in let z : all (λ p. utf8 (lettersOf p)) done ≡ true = opposite (h .badly) false good in rw (all-text, z, le-leb (length done) (length left) (omega arith), names-are) (two r)
+          where
+            two : (b : Bool) → quiet (TWICE unless b >> pass (map namedAnyway done)) ≡ cond b Yes (No 11)
+            two true = refl
+            two false = refl
