@@ -37,8 +37,38 @@ pub fn files() -> Vec<Vec<u8>> {
     );
     files.extend([1_024, 1_025].map(|count| file(&root(numbered_map(count, || named([]))))));
     files.extend([16_777_216_u64, 16_777_217].map(sized));
+    files.extend(UTF8_EDGES.iter().map(|name| called(name)));
+    files.push(called(&(0..128).collect::<Vec<u8>>()));
     files
 }
+
+/// The edges of RFC 3629's ranges, on both sides, and texts that end early.
+const UTF8_EDGES: [&[u8]; 24] = [
+    b"\x7f",
+    b"\x80",
+    b"\xc1\xbf",
+    b"\xc2\x80",
+    b"\xdf\xbf",
+    b"\xc2\x7f",
+    b"\xc2\xc0",
+    b"\xe0\x9f\xbf",
+    b"\xe0\xa0\x80",
+    b"\xe1\x80\x80",
+    b"\xed\x9f\xbf",
+    b"\xed\xa0\x80",
+    b"\xee\x80\x80",
+    b"\xee\xbf\xbf",
+    b"\xef\xbf\xbf",
+    b"\xf0\x8f\xbf\xbf",
+    b"\xf0\x90\x80\x80",
+    b"\xf1\x80\x80\x80",
+    b"\xf3\xbf\xbf\xbf",
+    b"\xf4\x8f\xbf\xbf",
+    b"\xf4\x90\x80\x80",
+    b"\xf5\x80\x80\x80",
+    b"\xe1\x80",
+    b"a\xc2",
+];
 
 /// Files that only the box's small program tells apart: by their length, and by the room that their rows take.
 pub fn program_files() -> Vec<Vec<u8>> {
@@ -90,6 +120,12 @@ fn one<Name: AsRef<str>>(format: &str, shape: &[u64], components: &[(Name, Item)
         "w",
         object(shape, format, Item::Map(pairs(components))),
     )])))
+}
+
+/// One object of this name that holds nothing.
+fn called(name: &[u8]) -> Vec<u8> {
+    let objects = vec![(Item::text(name), object(&[], "", named([])))];
+    file(&root(Item::Map(objects)))
 }
 
 fn file(manifest: &Item) -> Vec<u8> {
