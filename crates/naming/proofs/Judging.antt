@@ -24,19 +24,7 @@ use Rattle.walk.specs.Reading.{Ends}
 use Rattle.naming.specs.declared.Tally.{Tally}
 use Rattle.naming.specs.declared.Named.{Named}
 use Rattle.naming.specs.declared.Named.the-variants.{No, Yes}
-use Rattle.naming.specs.Naming.{lettersOr, lettersOf, Tallied, quiet}
-
--- a pair as a name and what it names, also where its key is none
-abbrev wordOr : Ends → Kind Ends → Word Ends
-wordOr e (kinds.number n) = record { note = e; letters = [] }
-wordOr e (kinds.words w) = w
-wordOr e (kinds.list l) = record { note = e; letters = [] }
-wordOr e (kinds.table l) = record { note = e; letters = [] }
-wordOr e kinds.null = record { note = e; letters = [] }
-wordOr e kinds.another = record { note = e; letters = [] }
-
-abbrev pub namedAnyway : Pair Ends → model.Named Ends
-namedAnyway p = record { name = wordOr (noteOf (p .key)) (kind (p .key)); value = p .value }
+use Rattle.naming.specs.Naming.{lettersOr, lettersOf, Tallied, wordOr, namedAnyway, told}
 
 name-kind : (e : Ends) (v : Node Ends) (k : Kind Ends) (b : Bool) → isSome (keyKind k) ≡ b → nameKind v k ≡ cond b (pass (record { name = wordOr e k; value = v })) (fault KEY)
 unfolding nameKind keyKind isSome
@@ -100,18 +88,18 @@ opposite {a} {b} h t e = let z : not b ≡ t = sym h ∙ e in go b t z
     go false t z = ap not z
 
 module _ (m : List ℕ) (t : Tally) (left size : List ℕ) (done : List (Pair Ends)) (h : Tallied m done t left size) (x : Node Ends) (is : kind x ≡ kinds.table done) where
-  pub judge-odd : t .odd ≡ true → No 9 ≡ quiet (names (length left) x)
-  judge-odd e = ap quiet (sym (odd-names (length left) x done is (opposite (h .oddly) true e)))
+  pub judge-odd : t .odd ≡ true → names (length left) x ≡ told done (No 9)
+  judge-odd e = odd-names (length left) x done is (opposite (h .oddly) true e)
 
   module _ (fine : t .odd ≡ false) where
     all-text : names (length left) x ≡ (TEXT unless all (λ p. utf8 (lettersOf p)) done >> (COUNT unless leb (length done) (length left) >> (TWICE unless distinct (map lettersOf done) >> pass (map namedAnyway done))))
     all-text = text-names (length left) x done is (opposite (h .oddly) false fine)
 
-    pub judge-bad : t .bad ≡ true → No 10 ≡ quiet (names (length left) x)
+    pub judge-bad : t .bad ≡ true → names (length left) x ≡ told done (No 10)
     judge-bad e = let z : all (λ p. utf8 (lettersOf p)) done ≡ false = opposite (h .badly) true e in rw (all-text, z) refl
 
     module _ (good : t .bad ≡ false) where
-      pub judge-many : length left < t .count → No 15 ≡ quiet (names (length left) x)
+      pub judge-many : length left < t .count → names (length left) x ≡ told done (No 15)
       judge-many l = let c = h .counted in let z : all (λ p. utf8 (lettersOf p)) done ≡ true = opposite (h .badly) false good in rw (all-text, z, lt-leb (length done) (length left) (omega arith)) refl
 
       module _ (few : t .count ≤ length left) (r : Bool) (by : r ≡ distinct (listed (name m left size) 0 (t .count))) where
@@ -122,9 +110,9 @@ module _ (m : List ℕ) (t : Tally) (left size : List ℕ) (done : List (Pair En
             let l : listed (name m left size) 0 (t .count) ≡ map lettersOf done = rw z at (h .listed-are) ∙ take-all (length left) (map lettersOf done) (omega (arith, length-map done lettersOf)) in
             sym (by ∙ ap distinct l)
 
-        pub judge-last : (quiet (names (length left) x)) ≡ cond r Yes (No 11)
+        pub judge-last : names (length left) x ≡ told done (cond r Yes (No 11))
         judge-last = let c = h .counted in let z : all (λ p. utf8 (lettersOf p)) done ≡ true = opposite (h .badly) false good in rw (all-text, z, le-leb (length done) (length left) (omega arith), names-are) (two r)
           where
-            two : (b : Bool) → quiet (TWICE unless b >> pass (map namedAnyway done)) ≡ cond b Yes (No 11)
+            two : (b : Bool) → (TWICE unless b >> pass (map namedAnyway done)) ≡ told done (cond b Yes (No 11))
             two true = refl
             two false = refl

@@ -7,7 +7,7 @@ use mathlib.Core.Path.{_≡_}
 use lib.ListN.{length, take, drop, set}
 use lib.Dec.{ltb}
 use Rattle.meaning.specs.Tree.{Node, Pair, noteOf}
-use Rattle.meaning.specs.Check.{Check, pass, refuse}
+use Rattle.meaning.specs.Check.{Check, pass, fault}
 use Rattle.meaning.specs.Text.{all, utf8}
 use Rattle.meaning.specs.Model as model
 use Rattle.meaning.specs.Model.{Word}
@@ -47,10 +47,23 @@ Noted s t left size t′ left′ size′ =
     (length left′ ≡ length left) × ((m : List ℕ) (at : ℕ) → at ≤ length m → s ≡ drop at m → (done : List (Pair Ends)) (d : ℕ) (p : Pair Ends) (r : List ℕ) → Reads (suc d) s (p .key) r
     → Tallied m done t left size → Tallied m (done ++ p ∷ []) t′ left′ size′)
 
-abbrev pub quiet : {A : Type 0} → Check A → Named
-quiet (pass a) = Yes
-quiet (refuse n o c) = No n
+-- a pair as a name and what it names, also where its key is none
+abbrev pub wordOr : Ends → Kind Ends → Word Ends
+wordOr e (number n) = record { note = e; letters = [] }
+wordOr e (words w) = w
+wordOr e (list l) = record { note = e; letters = [] }
+wordOr e (table l) = record { note = e; letters = [] }
+wordOr e null = record { note = e; letters = [] }
+wordOr e another = record { note = e; letters = [] }
+
+abbrev pub namedAnyway : Pair Ends → model.Named Ends
+namedAnyway p = record { name = wordOr (noteOf (p .key)) (kind (p .key)); value = p .value }
+
+-- an answer as a check
+abbrev pub told : List (Pair Ends) → Named → Check (List (model.Named Ends))
+told done (No n) = fault n
+told done Yes = pass (map namedAnyway done)
 
 -- for every map of these pairs
 abbrev pub Judged : List ℕ → Tally → List ℕ → List ℕ → Named → Type 0
-Judged m t left size r = (done : List (Pair Ends)) → Tallied m done t left size → (x : Node Ends) → kind x ≡ table done → r ≡ quiet (names (length left) x)
+Judged m t left size r = (done : List (Pair Ends)) → Tallied m done t left size → (x : Node Ends) → kind x ≡ table done → names (length left) x ≡ told done r

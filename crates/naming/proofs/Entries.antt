@@ -1,0 +1,27 @@
+-- A check of each entry in turn, entry by entry: one more at the end.
+use Prim.Native.Nat.{ℕ, zero, suc, _+_}
+use native.Mathlib.Omega.{arith}
+use mathlib.Core.List.{List, [], _∷_, _++_, map}
+use mathlib.Core.Path.{_≡_, refl, ap, sym, _∙_}
+use lib.ListN.{length}
+use Rattle.meaning.specs.Check.{Check, pass, refuse, _>>=_, each}
+
+module _ {A B : Type 0} (f : ℕ → A → Check B) where
+  pub each-snoc : (i : ℕ) (l : List A) (a : A) → each f i (l ++ a ∷ []) ≡ (each f i l >>= λ bs. f (i + length l) a >>= λ b. pass (bs ++ b ∷ []))
+  each-snoc i [] a = let z : i + 0 ≡ i = omega arith in rw z (go (f i a))
+    where
+      go : (c : Check B) → (c >>= λ b. pass [] >>= λ bs. pass (b ∷ bs)) ≡ (c >>= λ b. pass ([] ++ b ∷ []))
+      go (pass b) = refl
+      go (refuse n o c) = refl
+  each-snoc i (x ∷ l) a = let z : i + suc (length l) ≡ suc i + length l = omega arith in rw (z, each-snoc (suc i) l a) (go (f i x) (each f (suc i) l) (f (suc i + length l) a))
+    where
+      go : (c : Check B) (d : Check (List B)) (e : Check B)
+          → (c >>= λ b. (d >>= λ bs. e >>= λ y. pass (bs ++ y ∷ [])) >>= λ bs. pass (b ∷ bs)) ≡ ((c >>= λ b. d >>= λ bs. pass (b ∷ bs)) >>= λ bs. e >>= λ y. pass (bs ++ y ∷ []))
+      go (refuse n o c) d e = refl
+      go (pass b) (refuse n o c) e = refl
+      go (pass b) (pass bs) (refuse n o c) = refl
+      go (pass b) (pass bs) (pass y) = refl
+
+pub each-of-map : {A B C : Type 0} (f : ℕ → B → Check C) (u : A → B) (i : ℕ) (l : List A) → each f i (map u l) ≡ each (λ i a. f i (u a)) i l
+each-of-map f u i [] = refl
+each-of-map f u i (a ∷ l) = rw (each-of-map f u (suc i) l) refl
