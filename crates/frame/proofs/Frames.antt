@@ -1,0 +1,47 @@
+-- The frame's checks, one after the other.
+use Prim.Native.Nat.{ℕ, _+_, _-_, _≤_, _<_}
+use native.Mathlib.Omega.{arith}
+use mathlib.Core.List.{List}
+use mathlib.Core.Bool.{Bool, true, false, _&&_}
+use mathlib.Core.Path.{_≡_, refl, ap, sym, _∙_}
+use lib.ListN.{length, take, drop}
+use lib.Dec.{leb}
+use borrow.Author.Tests.{le-leb, lt-leb}
+use Rattle.meaning.specs.Check.{Check, pass, fault, _>>=_, _>>_, _unless_}
+use Rattle.meaning.specs.Text.{same}
+use Rattle.meaning.specs.Refusal.{SHORT, HEADER, FOOTER, BIG, FIT}
+use Rattle.meaning.specs.Limit.{manifestLimit}
+use Rattle.meaning.specs.Frame.{Frame, frame, magic, little}
+
+module _ (file : List ℕ) where
+  pub too-short : length file < 24 → frame file ≡ fault SHORT
+  unfolding frame
+  too-short l = rw (lt-leb 24 (length file) l) refl
+
+  module _ (long : 24 ≤ length file) where
+    pub no-header : false ≡ same magic (take 8 file) → frame file ≡ fault HEADER
+    unfolding frame
+    no-header h = rw (le-leb 24 (length file) long, ← h) refl
+
+    module _ (header : true ≡ same magic (take 8 file)) where
+      pub no-footer : false ≡ same magic (drop (length file - 8) file) → frame file ≡ fault FOOTER
+      unfolding frame
+      no-footer f = rw (le-leb 24 (length file) long, ← header, ← f) refl
+
+      module _ (footer : true ≡ same magic (drop (length file - 8) file)) (size : ℕ) (is : size ≡ little (take 8 (drop (length file - 16) file))) where
+        pub too-big : manifestLimit < size → frame file ≡ fault BIG
+        unfolding frame
+        too-big b = rw (le-leb 24 (length file) long, ← header, ← footer, ← is, lt-leb size manifestLimit b) refl
+
+        module _ (small : size ≤ manifestLimit) where
+          pub no-size : size ≡ 0 → frame file ≡ fault FIT
+          unfolding frame
+          no-size z = rw (le-leb 24 (length file) long, ← header, ← footer, ← is, le-leb size manifestLimit small, z) refl
+
+          pub no-fit : 1 ≤ size → length file - 24 < size → frame file ≡ fault FIT
+          unfolding frame
+          no-fit o f = rw (le-leb 24 (length file) long, ← header, ← footer, ← is, le-leb size manifestLimit small, le-leb 1 size o, lt-leb size (length file - 24) f) refl
+
+          pub framed : 1 ≤ size → size ≤ length file - 24 → frame file ≡ pass (record { start = length file - 16 - size; size = size })
+          unfolding frame
+          framed o f = rw (le-leb 24 (length file) long, ← header, ← footer, ← is, le-leb size manifestLimit small, le-leb 1 size o, le-leb size (length file - 24) f) refl
