@@ -46,7 +46,7 @@ static double each(job *f, const void *input, unsigned times) {
     return (now() - start) / times;
 }
 
-/* One line: what it costs us and the peer, in ns for each unit of input, in MB of `bytes` a second where there are any, and the ratio of times. */
+/* One line: what it costs us and the peer, in ns for each unit of input, in MB of `bytes` a second, and the ratio of times. */
 static void compare(const char *what, job *ours, const char *name, job *peer, const void *input, double units, size_t bytes) {
     double a = 1e9, b = 1e9;
     unsigned times = 1 + (unsigned)(5e-3 / each(ours, input, 1));
@@ -55,7 +55,7 @@ static void compare(const char *what, job *ours, const char *name, job *peer, co
         a = x < a ? x : a;
         b = y < b ? y : b;
     }
-    printf("%-44s %10.1f ns %7.0f MB/s | %-18s %10.1f ns %7.0f MB/s | %5.2f\n", what, 1e9 * a / units, (double)bytes / a / 1e6, name,
+    printf("%-44s %10.2f ns %7.0f MB/s | %-18s %10.2f ns %7.0f MB/s | %5.2f\n", what, 1e9 * a / units, (double)bytes / a / 1e6, name,
            1e9 * b / units, (double)bytes / b / 1e6, a / b);
 }
 

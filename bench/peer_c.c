@@ -16,37 +16,31 @@ static inline const uint8_t *argument(const uint8_t *p, const uint8_t *e, unsign
     return 0;
 }
 
-static const uint8_t *chunks(const uint8_t *p, const uint8_t *e, unsigned major) {
-    uint64_t v;
-    while (p != e) {
-        unsigned b = *p++;
-        if (b == 0xFF) return p;
-        if (b >> 5 != major) return 0;
-        p = argument(p, e, b & 31, &v);
-        if (!p || v > (uint64_t)(e - p)) return 0;
-        p += v;
-    }
-    return 0;
-}
-
-static const uint8_t *item(const uint8_t *p, const uint8_t *e, int depth);
-
-static const uint8_t *to_break(const uint8_t *p, const uint8_t *e, int depth, int is_map) {
-    while (p != e) {
-        if (*p == 0xFF) return p + 1;
-        if (!(p = item(p, e, depth))) return 0;
-        if (is_map && !(p = item(p, e, depth))) return 0;
-    }
-    return 0;
-}
-
+/* One function, since split in three it is slower. */
 static const uint8_t *item(const uint8_t *p, const uint8_t *e, int depth) {
     uint64_t v;
     if (p == e || depth == 0) return 0;
     unsigned b = *p++, major = b >> 5;
     if ((b & 31) == 31) {
-        if (major == 2 || major == 3) return chunks(p, e, major);
-        if (major == 4 || major == 5) return to_break(p, e, depth - 1, major == 5);
+        if (major == 2 || major == 3) {
+            for (;;) {
+                if (p == e) return 0;
+                b = *p++;
+                if (b == 0xFF) return p;
+                if (b >> 5 != major) return 0;
+                p = argument(p, e, b & 31, &v);
+                if (!p || v > (uint64_t)(e - p)) return 0;
+                p += v;
+            }
+        }
+        if (major == 4 || major == 5) {
+            for (;;) {
+                if (p == e) return 0;
+                if (*p == 0xFF) return p + 1;
+                if (!(p = item(p, e, depth - 1))) return 0;
+                if (major == 5 && !(p = item(p, e, depth - 1))) return 0;
+            }
+        }
         return 0;
     }
     p = argument(p, e, b & 31, &v);
