@@ -58,7 +58,7 @@ fn all() -> Vec<Vector> {
 
 /// An item, each of its beginnings if it is short, and with a byte after it.
 fn cut_and_longer(item: Vec<u8>) -> Vec<Vec<u8>> {
-    let shortest = if item.len() <= 20 { 0 } else { item.len() - 1 };
+    let shortest = if item.len() < 31 { 0 } else { item.len() - 1 };
     let mut made: Vec<_> = (shortest..=item.len())
         .map(|length| item[..length].to_vec())
         .collect();

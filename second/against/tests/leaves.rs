@@ -1,6 +1,8 @@
 //! Each proved leaf against the second program, or plain Rust, on generated and mutated inputs.
 //! The seed is fixed; `SEED=n` takes another. Each test prints how often each answer occurred.
 
+#![forbid(unsafe_code)]
+
 use second::cbor::{skip_item, DEPTH};
 use second::frame::MAGIC;
 use second::generate::rng::Rng;
