@@ -3,7 +3,7 @@
 mod file;
 mod items;
 mod plan;
-mod rng;
+pub mod rng;
 mod rowset;
 
 use rng::Rng;
@@ -40,6 +40,11 @@ impl Generator {
     /// One CBOR item, sound or damaged, sometimes with bytes after it.
     pub fn next_item(&mut self) -> Vec<u8> {
         items::item(&mut self.rng)
+    }
+
+    /// Cuts bytes short, changes some of them, or puts some behind them.
+    pub fn damage(&mut self, bytes: &mut Vec<u8>) {
+        items::damage(&mut self.rng, bytes)
     }
 
     /// Rows and a buffer for the writer, sound or not.

@@ -368,7 +368,7 @@ fn present(node: Option<&Node>) -> Option<&Node> {
 }
 
 /// The major run of a version: two or three runs of 1 to 9 digits joined by dots.
-fn major(version: &[u8]) -> Option<&[u8]> {
+pub fn major(version: &[u8]) -> Option<&[u8]> {
     let runs: Vec<&[u8]> = version.split(|&byte| byte == b'.').collect();
     let sound = |run: &&[u8]| {
         (1..=9).contains(&run.len())

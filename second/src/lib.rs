@@ -16,5 +16,6 @@ pub mod refusal;
 pub mod rows;
 pub mod types;
 pub mod utf8;
+pub mod vectors;
 pub mod view;
 pub mod writer;

@@ -1,9 +1,11 @@
-//! `second list PATH…`, `second judge PATH…`, `second generate SEED COUNT DIR`, `second table SEED EACH`.
+//! `second list PATH…`, `second judge PATH…`, `second generate SEED COUNT DIR`, `second table SEED EACH`,
+//! `second vectors CRATE`.
 
 use second::antt;
 use second::generate::Generator;
 use second::judge::judge_file;
 use second::listing::program_text;
+use second::vectors;
 use std::fs;
 use std::io::{self, Write};
 use std::path::Path;
@@ -12,7 +14,8 @@ use std::process::ExitCode;
 const USAGE: &str = "usage: second list PATH…
        second judge PATH…
        second generate SEED COUNT DIR
-       second table SEED EACH";
+       second table SEED EACH
+       second vectors CRATE";
 
 fn main() -> ExitCode {
     let arguments: Vec<String> = std::env::args().skip(1).collect();
@@ -38,6 +41,11 @@ fn run(arguments: &[&str]) -> io::Result<()> {
         ["table", seed, each] => {
             let each = usize::try_from(number(each)?).map_err(io::Error::other)?;
             io::stdout().write_all(antt::module(number(seed)?, each).as_bytes())
+        }
+        ["vectors", crate_folder] => {
+            let folder = Path::new(crate_folder);
+            fs::write(folder.join("data/vectors"), vectors::file())?;
+            fs::write(folder.join("stdout"), vectors::printed())
         }
         _ => Err(io::Error::other(USAGE)),
     }
