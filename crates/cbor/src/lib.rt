@@ -7,7 +7,6 @@ ghost use Rattle.meaning.specs.Read as read;
 ghost use Rattle.cbor.specs.Ending as spec;
 use endian::be2;
 use endian::be4;
-use endian::be8;
 use endian::wide;
 
 pub const MALFORMED: usize = 0x8000_0000_0000_0006;
@@ -46,7 +45,8 @@ fn argument(value: u64, size: usize) -> Argued
     }
 }
 
-// The head that begins s, if its low five bits are 24 or more.
+// The head that begins s, if its low five bits are 24 or more. The first four bytes of a long argument are read in one place: with two, `head` is too large to be
+// inlined, and every item costs a call through memory.
 fn long_head(s: &[u8], low: u8) -> Argued
     requires { ⌜ (24 ≤ low) × (1 ≤ length (now s)) × (low ≡ getD (now s) 0 0 % 32) ⌝ }
     ensures { λ r. ⌜ r ≡ spec.headOf (now (s .entry)) ⌝ }
@@ -64,22 +64,23 @@ fn long_head(s: &[u8], low: u8) -> Argued
         }
         return argument(be2(s, 1), 3);
     }
-    if low == 26 {
-        if n < 5 {
-            return argument(0, MALFORMED);
-        }
-        return argument(be4(s, 1), 5);
-    }
-    if low == 27 {
-        if n < 9 {
-            return argument(0, MALFORMED);
-        }
-        return argument(be8(s, 1), 9);
-    }
     if low == 31 {
         return argument(ENDLESS, 1);
     }
-    argument(0, MALFORMED)
+    if 27 < low {
+        return argument(0, MALFORMED);
+    }
+    if n < 5 {
+        return argument(0, MALFORMED);
+    }
+    let high = be4(s, 1);
+    if low == 26 {
+        return argument(high, 5);
+    }
+    if n < 9 {
+        return argument(0, MALFORMED);
+    }
+    argument(high * 4294967296 + be4(s, 5), 9)
 }
 
 // The head that begins s: its argument, and its size or a refusal.

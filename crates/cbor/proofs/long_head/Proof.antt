@@ -1,6 +1,8 @@
 use mathlib.Core.Path.{_∙_, ap, sym}
+use mathlib.Core.Logic.{⊎-elim}
 use Rattle.cbor.specs.Ending.{argued}
 use Rattle.endian.proofs.Laws as words
+use Rattle.endian.proofs.Which.{eq-or}
 use Rattle.cbor.proofs.Heads as heads
 use native.Mathlib.Omega.{arith}
 use borrow.Author.Needs.{needs}
@@ -11,7 +13,6 @@ use Rattle.cbor.proofs.long_head.Lts as lts
 use Rattle.cbor.proofs.argument.Reads as argument-reads
 use Rattle.endian.proofs.be2.Reads as be2-reads
 use Rattle.endian.proofs.be4.Reads as be4-reads
-use Rattle.endian.proofs.be8.Reads as be8-reads
 use Rattle.endian.proofs.wide.Reads as wide-reads
 
 pub long-head-spec : {M : Type 1} → statement M
@@ -30,16 +31,18 @@ long-head-spec =
     (λ c κs. search needs)
     (λ c. (c .argument4 .ensures) ∙ ap (λ v. argued v 3) ((c .before .be2 .ensures .0)) ∙ heads.head-fits 2 25 heads.is-25 ((c .before .before .before .before .before .before .args .s .now)) (omega arith) (omega arith) (omega arith))
     (λ c κs. search needs)
-    (λ c. (c .argument5 .ensures) ∙ heads.head-short 4 26 heads.is-26 ((c .before .before .before .before .before .before .args .s .now)) (omega arith) (omega arith) (omega arith) (omega arith))
+    (λ c. (c .argument5 .ensures) ∙ heads.head-open (c .before .before .before .before .before .args .s .now) (omega arith) (omega arith))
+    (λ c κs. search needs)
+    (λ c. (c .argument6 .ensures) ∙ heads.head-wrong (c .before .before .before .before .before .before .args .s .now) (c .before .before .before .before .before .before .args .low) (omega arith) (omega arith) (λ e. omega arith) (omega arith))
+    (λ c κs. search needs)
+    (λ c. (c .argument7 .ensures) ∙ ⊎-elim (λ e. heads.head-short 4 26 heads.is-26 (c .before .before .before .before .before .before .before .args .s .now) (omega arith) (omega arith) (omega arith) (omega arith)) (λ e. heads.head-short 8 27 heads.is-27 (c .before .before .before .before .before .before .before .args .s .now) (omega arith) (omega arith) (omega arith) (omega arith)) (eq-or (c .before .before .before .before .before .before .before .args .low) 26))
     (λ c κs. search needs)
     (λ c κs. search needs)
-    (λ c. (c .argument6 .ensures) ∙ ap (λ v. argued v 5) ((c .before .be4 .ensures .0)) ∙ heads.head-fits 4 26 heads.is-26 ((c .before .before .before .before .before .before .before .args .s .now)) (omega arith) (omega arith) (omega arith))
+    (λ c. (c .argument8 .ensures) ∙ ap (λ v. argued v 5) (c .before .before .be4 .ensures .0) ∙ heads.head-fits 4 26 heads.is-26 (c .before .before .before .before .before .before .before .before .before .args .s .now) (omega arith) (omega arith) (omega arith))
     (λ c κs. search needs)
-    (λ c. (c .argument7 .ensures) ∙ heads.head-short 8 27 heads.is-27 ((c .before .before .before .before .before .before .before .args .s .now)) (omega arith) (omega arith) (omega arith) (omega arith))
+    (λ c. (c .argument9 .ensures) ∙ heads.head-short 8 27 heads.is-27 (c .before .before .before .before .before .before .before .before .before .before .args .s .now) (omega arith) (omega arith) (omega arith) (omega arith))
+    (λ c. search needs)
     (λ c κs. search needs)
+    (λ c. search needs)
     (λ c κs. search needs)
-    (λ c. (c .argument8 .ensures) ∙ ap (λ v. argued v 9) ((c .before .be8 .ensures)) ∙ heads.head-fits 8 27 heads.is-27 ((c .before .before .before .before .before .before .before .before .args .s .now)) (omega arith) (omega arith) (omega arith))
-    (λ c κs. search needs)
-    (λ c. (c .argument9 .ensures) ∙ heads.head-open ((c .before .before .before .before .before .before .before .args .s .now)) (omega arith) (omega arith))
-    (λ c κs. search needs)
-    (λ c. (c .argument10 .ensures) ∙ heads.head-wrong ((c .before .before .before .before .before .before .before .args .s .now)) ((c .before .before .before .before .before .before .before .args .low)) (omega arith) (omega arith) (λ e. omega arith) (omega arith)))
+    (λ c. (c .argument10 .ensures) ∙ ap (λ v. argued v 9) (omega (arith, words.word-eight (c .before .before .before .before .before .before .before .before .before .before .before .args .s .now) 1)) ∙ heads.head-fits 8 27 heads.is-27 (c .before .before .before .before .before .before .before .before .before .before .before .args .s .now) (omega arith) (omega arith) (omega arith)))
