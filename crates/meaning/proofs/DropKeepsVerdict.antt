@@ -13,7 +13,7 @@ use Rattle.meaning.specs.Version.{versionShape, majorOne}
 use Rattle.meaning.specs.Model.{Word, Named, RootFields, ObjectFields, ComponentFields, Component, Object, Model}
 use Rattle.meaning.specs.Kind.{Kind, number, words, list, table, null, another, kind, asNumber, asWord, asList, asTable, presentKind, present, aNumber, aWord, aList, aTable, aText}
 use Rattle.meaning.specs.Field.{rootNames, objectNames, componentNames, isSome, isKey, keyKind, keyOf, named, count, get, fields, rootFields, objectFields, componentFields, nameKind, nameOf, names}
-use Rattle.meaning.specs.Judge.{component, object, judge}
+use Rattle.meaning.specs.Judge.{component, componentsOf, object, aVersion, objectsOf, judge}
 use Rattle.meaning.specs.Notes.{mapCheck, mapOption, mapModel, bare}
 use Rattle.meaning.specs.Computed.{computed}
 use Rattle.meaning.specs.Drop.{isUnknown, plainVersion, known, inMap, inText, onValue, onField, dropComponent, dropObject, dropRoot}
@@ -278,10 +278,13 @@ module _ {P : Type 0} where
         Bind,
       )
 
+  componentsOf-drop : (start : ℕ) (t : Node P) → componentsOf start (inMap (map (onValue dropComponent)) t) ≡ componentsOf start t
+  unfolding componentsOf namedOn
+  componentsOf-drop start t = simp (names-onValue, each-same (namedOn dropComponent) (λ j c. inComponent j (component start c)) (λ j c. simp component-drop), Bind)
+
   object-drop : (start : ℕ) (n : Named P) → object start (namedOn dropObject n) ≡ object start n
   unfolding object namedOn objectOn
-  object-drop start n =
-      simp (objectFields-drop, names-onValue, each-same (namedOn dropComponent) (λ j c. inComponent j (component start c)) (λ j c. simp component-drop), Bind)
+  object-drop start n = simp (objectFields-drop, componentsOf-drop, Bind)
 
   -- ---------------------------------------------------------------- the root
 
@@ -302,10 +305,17 @@ module _ {P : Type 0} where
         Bind,
       )
 
+  aVersion-plain : (t : Node P) → aVersion (inText plainVersion t) ≡ aVersion t
+  unfolding aVersion textOn
+  aVersion-plain t = simp (aWord-inText, shape-plain, major-plain, Bind)
+
+  objectsOf-drop : (start : ℕ) (t : Node P) → objectsOf start (inMap (map (onValue dropObject)) t) ≡ objectsOf start t
+  unfolding objectsOf namedOn
+  objectsOf-drop start t = simp (names-onValue, each-same (namedOn dropObject) (λ i o. inObject i (object start o)) (λ i o. simp object-drop), Bind)
+
   judge-drop : (start : ℕ) (t : Node P) → judge start (dropRoot t) ≡ judge start t
-  unfolding judge rootOn textOn
-  judge-drop start t =
-      simp (rootFields-drop, aWord-inText, names-onValue, each-same (namedOn dropObject) (λ i o. inObject i (object start o)) (λ i o. simp object-drop), shape-plain, major-plain, Bind)
+  unfolding judge rootOn
+  judge-drop start t = simp (rootFields-drop, aVersion-plain, objectsOf-drop, Bind)
 
 -- Two manifests of the same meaning, unknown fields and the minor version apart, get the same verdict, annotations apart.
 pub tolerant : {P Q : Type 0} (start : ℕ) (t : Node P) (u : Node Q) → dropRoot (meaning t) ≡ dropRoot (meaning u) → bare (judge start t) ≡ bare (judge start u)

@@ -13,7 +13,7 @@ use Rattle.meaning.specs.Version.{versionShape, majorOne}
 use Rattle.meaning.specs.Model.{Word, Named, RootFields, ObjectFields, ComponentFields, Component, Object, Model}
 use Rattle.meaning.specs.Kind.{Kind, number, words, list, table, null, another, kind, asNumber, asWord, asList, asTable, presentKind, present, aNumber, aWord, aList, aTable, aText}
 use Rattle.meaning.specs.Field.{isSome, isKey, keyKind, keyOf, named, count, get, fields, rootFields, objectFields, componentFields, nameKind, nameOf, names}
-use Rattle.meaning.specs.Judge.{aDtype, aType, raw, component, part, lettersOf, attributesOf, object, judge}
+use Rattle.meaning.specs.Judge.{aDtype, aType, raw, component, part, lettersOf, attributesOf, shapeOf, componentsOf, object, aVersion, objectsOf, judge}
 use Rattle.meaning.specs.Notes.{mapCheck, mapOption, mapWord, mapPair, mapNamed, mapKind, mapRoot, mapObjectFields, mapComponentFields, mapComponent, mapObject, mapModel}
 
 module _ {A B C : Type 0} where
@@ -288,16 +288,31 @@ module _ {P Q : Type 0} (f : P → Q) where
   components-map start =
       each-map (mapNamed f) (mapComponent f) (λ j c. inComponent j (component start c)) (λ j c. inComponent j (component start c)) (λ j c. simp (component-map, Bind))
 
+  shapeOf-map : (t : Node P) → shapeOf (mapP f t) ≡ shapeOf t
+  unfolding shapeOf
+  shapeOf-map t = simp (aList-map, each-number, Bind)
+
+  componentsOf-map : (start : ℕ) (t : Node P) → componentsOf start (mapP f t) ≡ mapCheck (map (mapComponent f)) (componentsOf start t)
+  unfolding componentsOf
+  componentsOf-map start t = simp (names-map, components-map, Bind)
+
   object-map : (start : ℕ) (n : Named P) → object start (mapNamed f n) ≡ mapCheck (mapObject f) (object start n)
   unfolding object
-  object-map start n =
-      simp (objectFields-map, aList-map, each-number, aText-map, optional-attributes, names-map, components-map, map-map, part-map, Bind)
+  object-map start n = simp (objectFields-map, shapeOf-map, aText-map, optional-attributes, componentsOf-map, map-map, part-map, Bind)
 
   objects-map : (start i : ℕ) (ns : List (Named P))
       → each (λ j c. inObject j (object start c)) i (map (mapNamed f) ns) ≡ mapCheck (map (mapObject f)) (each (λ j c. inObject j (object start c)) i ns)
   objects-map start =
       each-map (mapNamed f) (mapObject f) (λ j c. inObject j (object start c)) (λ j c. inObject j (object start c)) (λ j c. simp (object-map, Bind))
 
+  aVersion-map : (t : Node P) → aVersion (mapP f t) ≡ aVersion t
+  unfolding aVersion
+  aVersion-map t = simp (aWord-map, Bind)
+
+  objectsOf-map : (start : ℕ) (t : Node P) → objectsOf start (mapP f t) ≡ mapCheck (map (mapObject f)) (objectsOf start t)
+  unfolding objectsOf
+  objectsOf-map start t = simp (names-map, objects-map, Bind)
+
   pub judge-map : (start : ℕ) (t : Node P) → judge start (mapP f t) ≡ mapCheck (mapModel f) (judge start t)
   unfolding judge
-  judge-map start t = simp (rootFields-map, aWord-map, optional-attributes, names-map, objects-map, Bind)
+  judge-map start t = simp (rootFields-map, aVersion-map, optional-attributes, objectsOf-map, Bind)

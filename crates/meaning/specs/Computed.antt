@@ -13,5 +13,5 @@ use Rattle.meaning.specs.View
 use Rattle.meaning.specs.Listing
 
 unfoldable pub computed : Unit {0}
-unfolding Read.here Read.byte Read.run Read.number Read.stop Read.times Read.untilBreak Read.toBreak Read.wide Read.longArguments Read.argument Read.majorOf Read.infoOf Read.definite Read.chunk Read.closed Read.beyond Read.close Read.pair Read.content Read.item Read.manifest Read.noNote Read.spanTo Text.within Text.tail Text.follow Text.following Text.utf8 Version.push Version.runs Version.digit Version.plainRun Version.versionShape Version.firstIsOne Version.majorOne Kind.kind Kind.asNumber Kind.asWord Kind.asList Kind.asTable Kind.aNumber Kind.aWord Kind.aList Kind.aTable Kind.aText Kind.presentKind Kind.present Field.rootNames Field.objectNames Field.componentNames Field.isSome Field.isKey Field.keyKind Field.keyOf Field.named Field.count Field.get Field.fields Field.rootFields Field.objectFields Field.componentFields Field.nameKind Field.nameOf Field.names Types.storages Types.codeFrom Types.storageOf Types.widthOf Types.f64 Types.f32 Types.u64 Types.u8 Types.logicals Types.listed Types.fitsOver Types.ratioOf Types.typeRatio Types.product Format.unit Format.role Format.untyped Format.plain Format.indexRole Format.long Format.whole Format.dense Format.sparseCsr Format.sparseCoo Format.quantizedGroup Format.formatRules Judge.codeOr Judge.aDtype Judge.aType Judge.raw Judge.attributesOf Judge.component Judge.lettersOf Judge.part Judge.object Judge.judge Frame.magic Frame.little Frame.frame Frame.checked Frame.reading Rows.wordSpan Rows.optionalSpan Rows.attributesSpan Rows.dimensions Rows.objectRow Rows.componentRow Rows.objectRows Rows.rowsOf Rows.componentRows Rows.rows Rows.componentCount Rows.roomFor Rows.roomy Rows.answer Rows.tableAfter Rows.readInto View.viewed View.partAt View.view Listing.digits Listing.decimal Listing.hex Listing.shown Listing.shownText Listing.blanked Listing.line Listing.blobLine Listing.blobLines Listing.objectLine Listing.objectLines Listing.listing Listing.listingOf Listing.printed
+unfolding Read.here Read.byte Read.run Read.number Read.stop Read.times Read.untilBreak Read.toBreak Read.wide Read.longArguments Read.argument Read.majorOf Read.infoOf Read.definite Read.chunk Read.closed Read.beyond Read.close Read.pair Read.content Read.item Read.manifest Read.noNote Read.spanTo Text.within Text.tail Text.follow Text.following Text.utf8 Version.push Version.runs Version.digit Version.plainRun Version.versionShape Version.firstIsOne Version.majorOne Kind.kind Kind.asNumber Kind.asWord Kind.asList Kind.asTable Kind.aNumber Kind.aWord Kind.aList Kind.aTable Kind.aText Kind.presentKind Kind.present Field.rootNames Field.objectNames Field.componentNames Field.isSome Field.isKey Field.keyKind Field.keyOf Field.named Field.count Field.get Field.fields Field.rootFields Field.objectFields Field.componentFields Field.nameKind Field.nameOf Field.names Types.storages Types.codeFrom Types.storageOf Types.widthOf Types.f64 Types.f32 Types.u64 Types.u8 Types.logicals Types.listed Types.fitsOver Types.ratioOf Types.typeRatio Types.product Format.unit Format.role Format.untyped Format.plain Format.indexRole Format.long Format.whole Format.dense Format.sparseCsr Format.sparseCoo Format.quantizedGroup Format.formatRules Judge.codeOr Judge.aDtype Judge.aType Judge.raw Judge.attributesOf Judge.component Judge.lettersOf Judge.part Judge.shapeOf Judge.componentsOf Judge.object Judge.aVersion Judge.objectsOf Judge.judge Frame.magic Frame.little Frame.frame Frame.checked Frame.reading Rows.wordSpan Rows.optionalSpan Rows.attributesSpan Rows.dimensions Rows.objectRow Rows.componentRow Rows.objectRows Rows.rowsOf Rows.componentRows Rows.rows Rows.componentCount Rows.roomFor Rows.roomy Rows.answer Rows.tableAfter Rows.readInto View.viewed View.partAt View.view Listing.digits Listing.decimal Listing.hex Listing.shown Listing.shownText Listing.blanked Listing.line Listing.blobLine Listing.blobLines Listing.objectLine Listing.objectLines Listing.listing Listing.listingOf Listing.printed
 computed = tt

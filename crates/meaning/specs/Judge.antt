@@ -68,31 +68,51 @@ module _ {P : Type 0} where
   unfoldable pub part : Component P → Part
   part c = record { called = c .name .letters; code = c .dtype; typed = lettersOf (c .type); size = c .length }
 
+  -- an array of unsigned integers, its rank within the limit
+  unfoldable pub shapeOf : Node P → Check (List ℕ)
+  shapeOf t = do
+    dims ← aList t
+    s ← each (λ i. aNumber) 0 dims
+    COUNT unless leb (length s) rankLimit
+    pass s
+
+  -- names, then each component in turn
+  unfoldable pub componentsOf : ℕ → Node P → Check (List (Component P))
+  componentsOf start t = do
+    ns ← names componentLimit t
+    each (λ j c. inComponent j (component start c)) 0 ns
+
   unfoldable pub object : ℕ → Named P → Check (Object P)
   object start n = do
     o ← objectFields (n .value)
     shape ← required (o .shape)
     format ← required (o .format)
     components ← required (o .components)
-    dims ← aList shape
-    s ← each (λ i. aNumber) 0 dims
-    COUNT unless leb (length s) rankLimit
+    s ← shapeOf shape
     f ← aText format
     a ← optional attributesOf (o .attributes)
-    ns ← names componentLimit components
-    cs ← each (λ j c. inComponent j (component start c)) 0 ns
+    cs ← componentsOf start components
     formatRules (f .letters) s (map part cs)
     pass (record { name = n .name; shape = s; format = f; attributes = a; components = cs })
+
+  unfoldable pub aVersion : Node P → Check (Unit {0})
+  aVersion t = do
+    v ← aWord t
+    VERSION unless versionShape (v .letters)
+    MAJOR unless majorOne (v .letters)
+
+  -- names, then each object in turn, finished before the next
+  unfoldable pub objectsOf : ℕ → Node P → Check (List (Object P))
+  objectsOf start t = do
+    ns ← names objectLimit t
+    each (λ i o. inObject i (object start o)) 0 ns
 
   unfoldable pub judge : ℕ → Node P → Check (Model P)
   judge start t = do
     r ← rootFields t
     version ← required (r .version)
-    v ← aWord version
-    VERSION unless versionShape (v .letters)
-    MAJOR unless majorOne (v .letters)
+    aVersion version
     a ← optional attributesOf (r .attributes)
     objects ← required (r .objects)
-    ns ← names objectLimit objects
-    os ← each (λ i o. inObject i (object start o)) 0 ns
+    os ← objectsOf start objects
     pass (record { attributes = a; objects = os })
