@@ -1,8 +1,8 @@
 -- The array that begins some bytes: its items, counted or up to a break, for every tree that is read there; and whether one more of them is due.
-use Prim.Native.Nat.{ℕ, zero, suc, _+_, _-_, _/_, _%_, _≤_, _<_}
+use Prim.Native.Nat.{ℕ, suc, _+_, _-_, _/_, _≤_, _<_}
 use native.Mathlib.Omega.{arith}
 use mathlib.Core.List.{List, [], _∷_}
-use mathlib.Core.Bool.{Bool, true, false}
+use mathlib.Core.Bool.{true, false}
 use mathlib.Core.Logic.{⊎-elim}
 use mathlib.Core.Path.{_≡_, refl, ap, sym, _∙_, subst}
 use lib.ListN.{length, getD, drop}
@@ -103,7 +103,7 @@ more-counted s mode count done m d [] r h = let z = h .counted m in sym (le-ltb 
 more-counted s mode count done m d (x ∷ xs) r h = let z = h .counted m in sym (lt-ltb done count (omega arith))
 
 -- where no item ends well, none is read
-none-read : (d c : ℕ) (s : List ℕ) (xs : List (Node Ends)) (r : List ℕ) → itemEnd d s ≡ ending.fault c → NodeChain d s xs r → isAny xs ≡ false
+pub none-read : (d c : ℕ) (s : List ℕ) (xs : List (Node Ends)) (r : List ℕ) → itemEnd d s ≡ ending.fault c → NodeChain d s xs r → isAny xs ≡ false
 none-read d c s [] r e h = refl
 none-read d c s (x ∷ xs) r e h =
     let k = ate d s x (h .0) (h .1) in

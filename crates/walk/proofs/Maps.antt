@@ -6,7 +6,7 @@ use mathlib.Core.Bool.{Bool, true, false, cond}
 use mathlib.Core.Logic.{_⊎_, inl, inr, ⊎-elim}
 use mathlib.Core.Path.{_≡_, refl, ap, sym, _∙_, subst}
 use lib.ListN.{length, getD, drop, length-drop}
-use lib.Dec.{eqb, leb, ltb}
+use lib.Dec.{ltb}
 use borrow.Author.Tests.{lt-ltb}
 use Rattle.meaning.specs.Tree as tree
 use Rattle.meaning.specs.Tree.{Node, Pair, pairs, pairList-pairs}
@@ -15,8 +15,8 @@ use Rattle.meaning.specs.Refusal.{KIND}
 use Rattle.meaning.specs.Kind as kinds
 use Rattle.meaning.specs.Kind.{Kind, kind}
 use Rattle.meaning.specs.Read as read
-use Rattle.meaning.specs.Read.{got, known, indefinite, majorOf, Major, Argument, times, toBreak, pair, item}
-use Rattle.meaning.specs.Read.{unsigned, negative, byteString, textString, arrayOf, mapOf, tagged, special}
+use Rattle.meaning.specs.Read.{known, indefinite, majorOf, Major, Argument, pair, item}
+use Rattle.meaning.specs.Read.{mapOf}
 use Rattle.cbor.specs.Ending.{headOf, argued, endless, FAULT, held, doubled, holds, HolderIs}
 use Rattle.cbor.proofs.Heads as heads
 use Rattle.cbor.proofs.FirstByte as first

@@ -8,9 +8,6 @@ use Rattle.walk.proofs.Lists as lists
 use borrow.Author.Needs.{needs}
 use Rattle.walk.proofs.list.Statement.{statement}
 use Rattle.walk.proofs.list.Tie as tie
-use Rattle.walk.proofs.list.Reads as reads
-use Rattle.walk.proofs.list.Lts as lts
-use Rattle.cbor.proofs.head.Reads as head-reads
 
 pub list-spec : {M : Type 1} → statement M
 list-spec =

@@ -3,8 +3,6 @@ use Rattle.walk.proofs.Lists as lists
 use borrow.Author.Needs.{needs}
 use Rattle.walk.proofs.more.Statement.{statement}
 use Rattle.walk.proofs.more.Tie as tie
-use Rattle.walk.proofs.more.Reads as reads
-use Rattle.walk.proofs.more.Lts as lts
 
 pub more-spec : {M : Type 1} → statement M
 more-spec = tie.close (tie.spec (λ c. lists.more-counted ((c .before .args .s .now)) ((c .before .args .mode)) ((c .before .args .count)) ((c .before .args .done)) (omega arith)) (λ c. lists.more-missing ((c .before .before .args .s .now)) ((c .before .before .args .mode)) _ (omega arith)) (λ c. search needs) (λ c. lists.more-broken ((c .before .before .before .before .args .s .now)) ((c .before .before .before .before .args .mode)) _ (omega arith) (omega arith)) (λ c. lists.more-here ((c .before .before .before .before .args .s .now)) ((c .before .before .before .before .args .mode)) _ (omega arith) (λ e. omega arith)))
