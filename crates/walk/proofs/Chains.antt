@@ -1,4 +1,4 @@
--- Pairs that are read one after the other: from counts and from breaks, the bytes that they take, and what an item takes.
+-- Parts that are read one after the other, by their count or up to a break; pairs, the bytes that they take, and what an item takes.
 use Prim.Native.Nat.{ℕ, zero, suc, _+_, _-_, _≤_, _<_}
 use native.Mathlib.Omega.{arith}
 use mathlib.Core.List.{List, [], _∷_}
@@ -13,7 +13,7 @@ use Rattle.meaning.proofs.ReadPrefix.{never-got, alike, Alike, item-exact, item
 use Rattle.cbor.specs.Ending.{Ending, took, fault, ending, itemEnd}
 use Rattle.cbor.proofs.Passing.{Got, got-what}
 use Rattle.cbor.proofs.Agree.{annotations-change-no-ending, rest-follows}
-use Rattle.walk.specs.Reading.{Ends, ends, Reads, Chain}
+use Rattle.walk.specs.Reading.{Ends, ends, Reads, Row, Chain}
 use Rattle.walk.proofs.ReadSays.{Bound, bound}
 
 -- what an item that was read takes
@@ -31,6 +31,49 @@ ate d s t r e =
     let h : length (drop (length s - length r) s) < length s = item-hungry d [] s (p .value) (drop (length s - length r) s) (p .is) in
     record { size = length s - length r; ends-so = k; is = rest-follows ends d s t r (length s - length r) e k; some = omega (arith, h, length-drop (length s - length r) s); fits = p .within }
 
+-- parts of any kind, by their count or up to a break
+module _ {A : Type 0} (m : Reader A) where
+  pub record Counted (n : ℕ) (s : List ℕ) (xs : List A) (r : List ℕ) : Type 0 where
+    pub row : Row m s xs r
+    pub count : length xs ≡ n
+
+  pub counted : (n : ℕ) (s : List ℕ) (xs : List A) (r : List ℕ) → times m n s ≡ got xs r → Counted n s xs r
+  unfolding times
+  counted zero s xs r e = let z = alike e in subst (λ xs. Counted 0 s xs r) (z .value) (record { row = z .rest; count = refl })
+  counted (suc n) s xs r e =
+      let b = bound (m s) _ xs r e in
+      let c = bound (times m n (b .next)) _ xs r (b .then) in
+      let z : Alike (b .value ∷ c .value) xs (c .next) r = alike (c .then) in
+      let h = counted n (b .next) (c .value) r (c .is ∙ ap (got (c .value)) (z .rest)) in
+      subst (λ xs. Counted (suc n) s xs r) (z .value) (record { row = (b .next, b .is, h .row); count = ap suc (h .count) })
+
+  pub record Broken (s : List ℕ) (xs : List A) (r : List ℕ) : Type 0 where
+    pub last : List ℕ
+    pub row : Row m s xs last
+    pub breaks : last ≡ 255 ∷ r
+
+  broken : (f : ℕ) (s : List ℕ) (xs : List A) (r : List ℕ) → untilBreak m f s ≡ got xs r → Broken s xs r
+  unfolding untilBreak stop
+  broken zero s xs r e = absurd (never-got e)
+  broken (suc f) [] xs r e = absurd (never-got e)
+  broken (suc f) (b ∷ s) xs r e = go (eqb b 255) refl (λ s xs r. broken f s xs r)
+    where
+      go : (t : Bool) → eqb b 255 ≡ t → ((s : List ℕ) (xs : List A) (r : List ℕ) → untilBreak m f s ≡ got xs r → Broken s xs r) → Broken (b ∷ s) xs r
+      go true t ih =
+          let z : Alike [] xs s r = alike (rw t at e) in
+          let y : b ≡ 255 = eqb-true b 255 t in
+          subst (λ xs. Broken (b ∷ s) xs r) (z .value) (record { last = b ∷ s; row = refl; breaks = rw (y, z .rest) refl })
+      go false t ih =
+          let c = bound (m (b ∷ s)) (λ x. untilBreak m f >>= λ xs. pure (x ∷ xs)) xs r (rw t at e) in
+          let g = bound (untilBreak m f (c .next)) (λ xs. pure (c .value ∷ xs)) xs r (c .then) in
+          let z : Alike (c .value ∷ g .value) xs (g .next) r = alike (g .then) in
+          let h = ih (c .next) (g .value) r (g .is ∙ ap (got (g .value)) (z .rest)) in
+          subst (λ xs. Broken (b ∷ s) xs r) (z .value) (record { last = h .last; row = (c .next, c .is, h .row); breaks = h .breaks })
+
+  pub until-broken : (s : List ℕ) (xs : List A) (r : List ℕ) → toBreak m s ≡ got xs r → Broken s xs r
+  unfolding toBreak
+  until-broken s xs r e = broken (length s) s xs r e
+
 module _ (d : ℕ) where
   -- a pair is a key, and then a value
   pub record Paired (s : List ℕ) (p : Pair Ends) (r : List ℕ) : Type 0 where
@@ -46,48 +89,9 @@ module _ (d : ℕ) where
       let z : Alike (record { key = b .value; value = c .value }) p (c .next) r = alike (c .then) in
       subst (λ p. Paired s p r) (z .value) (record { middle = b .next; key = b .is; value = c .is ∙ ap (got (c .value)) (z .rest) })
 
-  pub record Counted (n : ℕ) (s : List ℕ) (ps : List (Pair Ends)) (r : List ℕ) : Type 0 where
-    pub chain : Chain d s ps r
-    pub count : length ps ≡ n
-
-  pub counted : (n : ℕ) (s : List ℕ) (ps : List (Pair Ends)) (r : List ℕ) → times (pair ends (item ends d)) n s ≡ got ps r → Counted n s ps r
-  unfolding times
-  counted zero s ps r e = let z = alike e in subst (λ ps. Counted 0 s ps r) (z .value) (record { chain = z .rest; count = refl })
-  counted (suc n) s ps r e =
-      let b = bound (pair ends (item ends d) s) _ ps r e in
-      let c = bound (times (pair ends (item ends d)) n (b .next)) _ ps r (b .then) in
-      let z : Alike (b .value ∷ c .value) ps (c .next) r = alike (c .then) in
-      let p = paired s (b .value) (b .next) (b .is) in
-      let h = counted n (b .next) (c .value) r (c .is ∙ ap (got (c .value)) (z .rest)) in
-      subst (λ ps. Counted (suc n) s ps r) (z .value) (record { chain = (p .middle, b .next, p .key, p .value, h .chain); count = ap suc (h .count) })
-
-  pub record Broken (s : List ℕ) (ps : List (Pair Ends)) (r : List ℕ) : Type 0 where
-    pub last : List ℕ
-    pub chain : Chain d s ps last
-    pub breaks : last ≡ 255 ∷ r
-
-  broken : (f : ℕ) (s : List ℕ) (ps : List (Pair Ends)) (r : List ℕ) → untilBreak (pair ends (item ends d)) f s ≡ got ps r → Broken s ps r
-  unfolding untilBreak stop
-  broken zero s ps r e = absurd (never-got e)
-  broken (suc f) [] ps r e = absurd (never-got e)
-  broken (suc f) (b ∷ s) ps r e = go (eqb b 255) refl (λ s ps r. broken f s ps r)
-    where
-      go : (t : Bool) → eqb b 255 ≡ t → ((s : List ℕ) (ps : List (Pair Ends)) (r : List ℕ) → untilBreak (pair ends (item ends d)) f s ≡ got ps r → Broken s ps r) → Broken (b ∷ s) ps r
-      go true t ih =
-          let z : Alike [] ps s r = alike (rw t at e) in
-          let y : b ≡ 255 = eqb-true b 255 t in
-          subst (λ ps. Broken (b ∷ s) ps r) (z .value) (record { last = b ∷ s; chain = refl; breaks = rw (y, z .rest) refl })
-      go false t ih =
-          let c = bound (pair ends (item ends d) (b ∷ s)) (λ x. untilBreak (pair ends (item ends d)) f >>= λ xs. pure (x ∷ xs)) ps r (rw t at e) in
-          let g = bound (untilBreak (pair ends (item ends d)) f (c .next)) (λ xs. pure (c .value ∷ xs)) ps r (c .then) in
-          let z : Alike (c .value ∷ g .value) ps (g .next) r = alike (g .then) in
-          let p = paired (b ∷ s) (c .value) (c .next) (c .is) in
-          let h = ih (c .next) (g .value) r (g .is ∙ ap (got (g .value)) (z .rest)) in
-          subst (λ ps. Broken (b ∷ s) ps r) (z .value) (record { last = h .last; chain = (p .middle, c .next, p .key, p .value, h .chain); breaks = h .breaks })
-
-  pub until-broken : (s : List ℕ) (ps : List (Pair Ends)) (r : List ℕ) → toBreak (pair ends (item ends d)) s ≡ got ps r → Broken s ps r
-  unfolding toBreak
-  until-broken s ps r e = broken (length s) s ps r e
+  pub pairs-chained : (ps : List (Pair Ends)) (s r : List ℕ) → Row (pair ends (item ends d)) s ps r → Chain d s ps r
+  pairs-chained [] s r h = h
+  pairs-chained (p ∷ ps) s r h = let q = paired s p (h .0) (h .1) in (q .middle, h .0, q .key, q .value, pairs-chained ps (h .0) r (h .2))
 
   -- a pair takes two bytes at least
   pub chain-long : (ps : List (Pair Ends)) (s r : List ℕ) → Chain d s ps r → length ps + length ps + length r ≤ length s

@@ -74,56 +74,40 @@ NotWord k = kinds.asWord k ≡ fault KIND
 abbrev NotNumber : Kind Ends → Type 0
 NotNumber k = kinds.asNumber k ≡ fault KIND
 
-pub two-kinds : (P : Kind Ends → Type 0) → P kinds.null → P kinds.another → (a b : Bool) → P (cond a (cond b kinds.null kinds.another) kinds.another)
-two-kinds P x y true true = x
-two-kinds P x y true false = y
-two-kinds P x y false b = y
+-- what holds of every kind that a major type and an argument may say
+pub by-kind : (P : Kind Ends → Type 0) (m : Major) (a : Argument) (k : Kind Ends) → KindSays m a k
+    → (m ≡ unsigned → (n : ℕ) → P (kinds.number n)) → (m ≡ textString → (a ≡ indefinite → ⊥) → (w : Word Ends) → P (kinds.words w))
+    → (m ≡ arrayOf → (xs : List (Node Ends)) → P (kinds.list xs)) → (m ≡ mapOf → (ps : List (Pair Ends)) → P (kinds.table ps)) → (m ≡ special → P kinds.null) → P kinds.another → P k
+by-kind P unsigned (known w n) k h number words list table null other = rw h (number refl n)
+by-kind P unsigned indefinite k h number words list table null other = absurd h
+by-kind P negative (known w n) k h number words list table null other = rw h other
+by-kind P negative indefinite k h number words list table null other = absurd h
+by-kind P byteString a k h number words list table null other = rw h other
+by-kind P textString (known w n) k h number words list table null other =
+    rw (h .2) (words refl (λ e. let z : _≡_ {A = ℕ} 0 1 = cc in omega arith) (record { note = h .1; letters = h .0 }))
+by-kind P textString indefinite k h number words list table null other = rw h other
+by-kind P arrayOf a k h number words list table null other = rw (h .1) (list refl (h .0))
+by-kind P mapOf a k h number words list table null other = rw (h .1) (table refl (h .0))
+by-kind P tagged (known w n) k h number words list table null other = rw h other
+by-kind P tagged indefinite k h number words list table null other = absurd h
+by-kind P special (known w n) k h number words list table null other = rw h (two (leb w 1) (eqb n 22))
+  where
+    two : (a b : Bool) → P (cond a (cond b kinds.null kinds.another) kinds.another)
+    two true true = null refl
+    two true false = other
+    two false b = other
+by-kind P special indefinite k h number words list table null other = absurd h
 
 not-word : (m : Major) (a : Argument) (k : Kind Ends) → KindSays m a k → (m ≡ textString → a ≡ indefinite) → NotWord k
 unfolding kinds.asWord
-not-word unsigned (known w n) k h x = rw h
-not-word unsigned indefinite k h x = absurd h
-not-word negative (known w n) k h x = rw h
-not-word negative indefinite k h x = absurd h
-not-word byteString a k h x = rw h
-not-word textString (known w n) k h x = absurd (let y = x refl in let z : _≡_ {A = ℕ} 0 1 = cc in omega arith)
-not-word textString indefinite k h x = rw h
-not-word arrayOf a k h x = rw (h .1)
-not-word mapOf a k h x = rw (h .1)
-not-word tagged (known w n) k h x = rw h
-not-word tagged indefinite k h x = absurd h
-not-word special (known w n) k h x = rw h (two-kinds NotWord refl refl (leb w 1) (eqb n 22))
-not-word special indefinite k h x = absurd h
+not-word m a k h x = by-kind NotWord m a k h (λ e n. refl) (λ e n w. absurd (n (x e))) (λ e xs. refl) (λ e ps. refl) (λ e. refl) refl
 
 not-number : (m : Major) (a : Argument) (k : Kind Ends) → KindSays m a k → (m ≡ unsigned → ⊥) → NotNumber k
 unfolding kinds.asNumber
-not-number unsigned (known w n) k h x = absurd (x refl)
-not-number unsigned indefinite k h x = absurd h
-not-number negative (known w n) k h x = rw h
-not-number negative indefinite k h x = absurd h
-not-number byteString a k h x = rw h
-not-number textString (known w n) k h x = rw (h .2)
-not-number textString indefinite k h x = rw h
-not-number arrayOf a k h x = rw (h .1)
-not-number mapOf a k h x = rw (h .1)
-not-number tagged (known w n) k h x = rw h
-not-number tagged indefinite k h x = absurd h
-not-number special (known w n) k h x = rw h (two-kinds NotNumber refl refl (leb w 1) (eqb n 22))
-not-number special indefinite k h x = absurd h
+not-number m a k h x = by-kind NotNumber m a k h (λ e n. absurd (x e)) (λ e n w. refl) (λ e xs. refl) (λ e ps. refl) (λ e. refl) refl
 
 not-null : (m : Major) (a : Argument) (k : Kind Ends) → KindSays m a k → (m ≡ special → ⊥) → isNull k ≡ false
-not-null unsigned (known w n) k h x = rw h
-not-null unsigned indefinite k h x = absurd h
-not-null negative (known w n) k h x = rw h
-not-null negative indefinite k h x = absurd h
-not-null byteString a k h x = rw h
-not-null textString (known w n) k h x = rw (h .2)
-not-null textString indefinite k h x = rw h
-not-null arrayOf a k h x = rw (h .1)
-not-null mapOf a k h x = rw (h .1)
-not-null tagged (known w n) k h x = rw h
-not-null tagged indefinite k h x = absurd h
-not-null special a k h x = absurd (x refl)
+not-null m a k h x = by-kind (λ k. isNull k ≡ false) m a k h (λ e n. refl) (λ e n w. refl) (λ e xs. refl) (λ e ps. refl) (λ e. absurd (x e)) refl
 
 pub record Run (n : ℕ) (q x r : List ℕ) : Type 0 where
   pub fits : n ≤ length q

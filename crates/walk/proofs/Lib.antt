@@ -2,4 +2,5 @@ pub mod ReadSays
 pub mod Found
 pub mod Chains
 pub mod Maps
+pub mod Lists
 pub mod Turns

@@ -6,7 +6,7 @@ use mathlib.Core.Bool.{Bool, true, false, cond}
 use mathlib.Core.Logic.{_⊎_, inl, inr, ⊎-elim}
 use mathlib.Core.Path.{_≡_, refl, ap, sym, _∙_, subst}
 use lib.ListN.{length, getD, drop, length-drop}
-use lib.Dec.{eqb, leb, ltb}
+use lib.Dec.{ltb}
 use borrow.Author.Tests.{lt-ltb}
 use Rattle.meaning.specs.Tree as tree
 use Rattle.meaning.specs.Tree.{Node, Pair, pairs, pairList-pairs}
@@ -15,8 +15,8 @@ use Rattle.meaning.specs.Refusal.{KIND}
 use Rattle.meaning.specs.Kind as kinds
 use Rattle.meaning.specs.Kind.{Kind, kind}
 use Rattle.meaning.specs.Read as read
-use Rattle.meaning.specs.Read.{got, known, indefinite, majorOf, Major, Argument, times, toBreak, pair, item}
-use Rattle.meaning.specs.Read.{unsigned, negative, byteString, textString, arrayOf, mapOf, tagged, special}
+use Rattle.meaning.specs.Read.{known, indefinite, majorOf, Major, Argument, pair, item}
+use Rattle.meaning.specs.Read.{mapOf}
 use Rattle.cbor.specs.Ending.{headOf, argued, endless, FAULT, held, doubled, holds, HolderIs}
 use Rattle.cbor.proofs.Heads as heads
 use Rattle.cbor.proofs.FirstByte as first
@@ -25,27 +25,15 @@ use Rattle.endian.proofs.Which.{eq-or, lt-or}
 use Rattle.walk.specs.Reading.{Ends, ends, Reads, Due}
 use Rattle.walk.specs.Places.{Whatever, Mapped, OpenMap}
 use Rattle.walk.proofs.ReadSays.{Says, KindSays, kind-says, Stood, sized, loose, stood, nothing-read}
-use Rattle.walk.proofs.Found.{major-is, major-tells, two-kinds}
-use Rattle.walk.proofs.Chains.{counted, until-broken, chain-long}
+use Rattle.walk.proofs.Found.{major-is, major-tells, by-kind}
+use Rattle.walk.proofs.Chains.{counted, until-broken, pairs-chained, chain-long}
 
 abbrev NotTable : Kind Ends → Type 0
 NotTable k = kinds.asTable k ≡ fault KIND
 
 not-table : (m : Major) (a : Argument) (k : Kind Ends) → KindSays m a k → (m ≡ mapOf → ⊥) → NotTable k
 unfolding kinds.asTable
-not-table unsigned (known w n) k h x = rw h
-not-table unsigned indefinite k h x = absurd h
-not-table negative (known w n) k h x = rw h
-not-table negative indefinite k h x = absurd h
-not-table byteString a k h x = rw h
-not-table textString (known w n) k h x = rw (h .2)
-not-table textString indefinite k h x = rw h
-not-table arrayOf a k h x = rw (h .1)
-not-table mapOf a k h x = absurd (x refl)
-not-table tagged (known w n) k h x = rw h
-not-table tagged indefinite k h x = absurd h
-not-table special (known w n) k h x = rw h (two-kinds NotTable refl refl (leb w 1) (eqb n 22))
-not-table special indefinite k h x = absurd h
+not-table m a k h x = by-kind NotTable m a k h (λ e n. refl) (λ e n w. refl) (λ e xs. refl) (λ e ps. absurd (x e)) (λ e. refl) refl
 
 map-byte : (b : ℕ) → majorOf b ≡ mapOf → b / 32 ≡ 5
 map-byte b e = ⊎-elim (λ h. h) (λ h. absurd (let y = h .1 in let z : _≡_ {A = ℕ} 0 1 = cc in omega arith)) (major-tells b mapOf e)
@@ -63,9 +51,9 @@ no-map (b ∷ s) n d t r e = go (stood d b s t r e)
     go (loose k h y) = not-table (majorOf b) indefinite (kind t) (kind-says (b ∷ s) d s t r (majorOf b) indefinite y) other
 
 -- a head that runs past the bytes is no head of a tree
-pub no-head : (s : List ℕ) → 1 ≤ length s → length s < headOf s .size → Whatever s λ d t r. kinds.aTable t ≡ fault KIND
+pub no-head : (s : List ℕ) → 1 ≤ length s → length s < headOf s .size → Whatever s λ d t r. ⊥
 no-head [] l n d t r e = absurd (omega arith)
-no-head (b ∷ s) l n d t r e = absurd (go (stood d b s t r e))
+no-head (b ∷ s) l n d t r e = go (stood d b s t r e)
   where
     go : Stood d b s t r → ⊥
     go (sized w v k h i y) = let z : headOf (b ∷ s) .size ≡ w + 1 = ap (λ a. a .size) h in omega arith
@@ -94,15 +82,16 @@ module _ (b : ℕ) (s : List ℕ) (room : length (b ∷ s) < FAULT) (low : 160 �
       go : Stood d b s t r → Mapped d 0 (doubled (headOf (b ∷ s) .value)) (drop (headOf (b ∷ s) .size) (b ∷ s)) t
       go (sized w v l h k y) =
           let z = subst (λ m. Says (b ∷ s) d m (known w v) (drop w s) t r) is-map y in
-          let c = counted d v (drop w s) (z .value) r (z .is) in
-          let q = chain-long d (z .value) (drop w s) r (c .chain) in
+          let c = counted (pair ends (item ends d)) v (drop w s) (z .value) r (z .is) in
+          let p = pairs-chained d (z .value) (drop w s) r (c .row) in
+          let q = chain-long d (z .value) (drop w s) r p in
           let u : w + 1 ≡ suc w = omega arith in
           let x = c .count in
           rw h (rw (u, doubled-is v (omega (arith, length-drop w s))) (record {
             pairs = z .value;
             kind-is = ap kind (z .node) ∙ ap kinds.table (pairList-pairs (z .value));
             last = r;
-            due = record { chain = c .chain; counted = λ _. omega arith; closed = λ k. absurd (omega arith) };
+            due = record { chain = p; counted = λ _. omega arith; closed = λ k. absurd (omega arith) };
           }))
       go (loose k h y) = absurd (n (omega arith))
 
@@ -114,12 +103,12 @@ module _ (b : ℕ) (s : List ℕ) (room : length (b ∷ s) < FAULT) (low : 160 �
       go (sized w v l h k y) = absurd (omega arith)
       go (loose k h y) =
           let z = subst (λ m. Says (b ∷ s) d m indefinite s t r) is-map y in
-          let c = until-broken d s (z .value) r (z .is) in
+          let c = until-broken (pair ends (item ends d)) s (z .value) r (z .is) in
           rw h (record {
             pairs = z .value;
             kind-is = ap kind (z .node) ∙ ap kinds.table (pairList-pairs (z .value));
             last = c .last;
-            due = record { chain = c .chain; counted = λ k. absurd (omega arith); closed = λ k. ap (λ l. getD l 0 0) (c .breaks) };
+            due = record { chain = pairs-chained d (z .value) s (c .last) (c .row); counted = λ k. absurd (omega arith); closed = λ k. ap (λ l. getD l 0 0) (c .breaks) };
           })
 
 pub map-counted : (s : List ℕ) → 1 ≤ length s → length s < FAULT → 160 ≤ getD s 0 0 → getD s 0 0 < 192 → (getD s 0 0 ≡ 191 → ⊥) → headOf s .size ≤ length s
@@ -133,7 +122,7 @@ map-counted (b ∷ s) l r x y n f = record {
   trees = counted-map b s r x y n;
 }
 
-loose-value : (b : ℕ) (s : List ℕ) → b % 32 ≡ 31 → headOf (b ∷ s) ≡ argued endless 1
+pub loose-value : (b : ℕ) (s : List ℕ) → b % 32 ≡ 31 → headOf (b ∷ s) ≡ argued endless 1
 loose-value b s e = sym (heads.head-open (b ∷ s) (sym e) (omega arith))
 
 pub map-broken : (s : List ℕ) → 1 ≤ length s → length s < FAULT → getD s 0 0 ≡ 191 → headOf s .size ≤ length s → OpenMap s 2 (headOf s .value) (headOf s .size)

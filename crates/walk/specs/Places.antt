@@ -1,6 +1,6 @@
 -- What is said of the item at the start of some bytes, for every tree that is read there.
 use Prim.Native.Nat.{ℕ, suc, _+_, _%_, _≤_, _<_}
-use mathlib.Core.List.{List, []}
+use mathlib.Core.List.{List, [], _∷_}
 use mathlib.Core.Bool.{Bool, true, false}
 use mathlib.Core.Path.{_≡_}
 use lib.ListN.{length, getD, take, drop}
@@ -11,7 +11,7 @@ use Rattle.meaning.specs.Model.{Word}
 use Rattle.meaning.specs.Kind as kinds
 use Rattle.meaning.specs.Kind.{Kind, kind}
 use Rattle.cbor.specs.Ending.{took, code, shift, itemEnd, rest, endless}
-use Rattle.walk.specs.Reading.{Ends, ends, Reads, Due}
+use Rattle.walk.specs.Reading.{Ends, ends, Reads, Due, DueNodes}
 use Rattle.walk.specs.declared.Letters.{Letters}
 use Rattle.walk.specs.declared.Letters.the-variants.{NoText, Text}
 use Rattle.walk.specs.declared.Numeral.{Numeral}
@@ -78,3 +78,27 @@ MapIs s (Opened mode count size) = OpenMap s mode count size
 abbrev pub EntryIs : ℕ → ℕ → ℕ → List ℕ → Entry → Type 0
 EntryIs d mode due s (End e) = (e ≡ code (rest mode due d s)) × ((ps : List (Pair Ends)) (r : List ℕ) → Due d mode due s ps r → ps ≡ [])
 EntryIs d mode due s (Value k) = (0 < due) × (1 ≤ length s) × (getD s 0 0 ≡ 255 → ⊥) × (itemEnd d s ≡ took k) × (k ≤ length s)
+
+-- an array that begins s: its items stand `size` bytes further on
+pub record Listed (d mode count : ℕ) (s : List ℕ) (t : Node Ends) : Type 0 where
+  pub items : List (Node Ends)
+  pub kind-is : kind t ≡ kinds.list items
+  pub last : List ℕ
+  pub due : DueNodes d mode count s items last
+
+pub record OpenList (s : List ℕ) (mode count size : ℕ) : Type 0 where
+  pub within : size ≤ length s
+  pub loose : 1 ≤ mode → (mode ≡ 1) × (count ≡ endless)
+  pub trees : Whatever s λ d t r. Listed d mode count (drop size s) t
+
+abbrev pub ListIs : List ℕ → Opening → Type 0
+ListIs s NotOpen = Whatever s λ d t r. kinds.aList t ≡ fault KIND
+ListIs s (Opened mode count size) = OpenList s mode count size
+
+abbrev pub isAny : List (Node Ends) → Bool
+isAny [] = false
+isAny (x ∷ xs) = true
+
+-- is one more item due from s on?
+abbrev pub MoreIs : ℕ → ℕ → List ℕ → Bool → Type 0
+MoreIs mode due s b = (d : ℕ) (xs : List (Node Ends)) (r : List ℕ) → DueNodes d mode due s xs r → isAny xs ≡ b

@@ -5,7 +5,7 @@ use mathlib.Core.Option.{Option, none, some}
 use mathlib.Core.Path.{_≡_}
 use lib.ListN.{length, getD}
 use Rattle.meaning.specs.Tree.{Node, Pair, noteOf}
-use Rattle.meaning.specs.Read.{got, item}
+use Rattle.meaning.specs.Read.{Reader, got, item}
 
 pub record Ends : Type 0 where
   pub start : List ℕ
@@ -32,6 +32,21 @@ Chain d s (p ∷ ps) r = (m : List ℕ) × (q : List ℕ) × Reads d s (p .key) 
 pub record Due (d mode due : ℕ) (s : List ℕ) (ps : List (Pair Ends)) (r : List ℕ) : Type 0 where
   pub chain : Chain d s ps r
   pub counted : mode ≡ 0 → due ≡ length ps + length ps
+  pub closed : 1 ≤ mode → getD r 0 0 ≡ 255
+
+module _ {A : Type 0} where
+  -- parts that one reader reads one after the other
+  abbrev pub Row : Reader A → List ℕ → List A → List ℕ → Type 0
+  Row m s [] r = s ≡ r
+  Row m s (x ∷ xs) r = (q : List ℕ) × (m s ≡ got x q) × Row m q xs r
+
+abbrev pub NodeChain : ℕ → List ℕ → List (Node Ends) → List ℕ → Type 0
+NodeChain d = Row (item ends d)
+
+-- nodes that are still due: `due` of them (mode 0), or those up to a break
+pub record DueNodes (d mode due : ℕ) (s : List ℕ) (xs : List (Node Ends)) (r : List ℕ) : Type 0 where
+  pub chain : NodeChain d s xs r
+  pub counted : mode ≡ 0 → due ≡ length xs
   pub closed : 1 ≤ mode → getD r 0 0 ≡ 255
 
 module _ {A S : Type 0} where

@@ -105,6 +105,46 @@ pub fn map(s: &[u8]) -> Opening
     Opening::Opened(0, cbor::doubled(h.value), h.size)
 }
 
+// The array that begins s.
+pub fn list(s: &[u8]) -> Opening
+    ensures { λ r. ⌜ places.ListIs (now (s .entry)) r ⌝ }
+{
+    if s.len() == 0 {
+        return Opening::NotOpen;
+    }
+    let b = s[0];
+    if b < 128 {
+        return Opening::NotOpen;
+    }
+    if 160 <= b {
+        return Opening::NotOpen;
+    }
+    let h = cbor::head(&s[0..]);
+    if s.len() < h.size {
+        return Opening::NotOpen;
+    }
+    if b == 159 {
+        return Opening::Opened(1, h.value, h.size);
+    }
+    Opening::Opened(0, h.value, h.size)
+}
+
+// Is one more item of an array due from s on, after `done` of `count` (mode 0), or up to the break?
+pub fn more(s: &[u8], mode: u64, count: u64, done: usize) -> bool
+    ensures { λ r. ⌜ places.MoreIs mode (count - done) (now (s .entry)) r ⌝ }
+{
+    if mode == 0 {
+        return (done as u64) < count;
+    }
+    if s.len() == 0 {
+        return false;
+    }
+    if s[0] == 255 {
+        return false;
+    }
+    true
+}
+
 // A turn over a map's entries: how they end, or where the value of the next begins.
 pub enum Entry {
     End(usize),
