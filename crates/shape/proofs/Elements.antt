@@ -25,7 +25,7 @@ use Rattle.walk.specs.declared.Opening.{Opening}
 use Rattle.walk.specs.declared.Opening.the-variants.{NotOpen, Opened}
 use Rattle.walk.specs.declared.Numeral.{Numeral}
 use Rattle.walk.specs.declared.Numeral.the-variants.{NoNumber, Number}
-use Rattle.walk.proofs.Lists.{none-read, next-node}
+use Rattle.walk.proofs.Lists.{none-read, past-node}
 use Rattle.meaning.specs.Judge.{shapeOf}
 use Rattle.shape.specs.Shape.{put, ShapeRead}
 use Rattle.shape.specs.declared.Shaped.the-variants.{No, Yes}
@@ -78,18 +78,18 @@ joined-next : (found : List ℕ) (n : ℕ) (c : Check (List ℕ)) → joined fou
 joined-next found n (pass more) = ap bounded (sym (append-assoc found (n ∷ []) more))
 joined-next found n (refuse m o c) = refl
 
-module _ (d mode due : ℕ) (s dims : List ℕ) (rank : ℕ) (verdict : Check (List ℕ)) (found : List ℕ) where
-  module _ (x : Node Ends) (xs : List (Node Ends)) (h : Rest d mode due s dims rank verdict found (x ∷ xs)) where
+module _ {d mode due : ℕ} {s dims : List ℕ} {rank : ℕ} {verdict : Check (List ℕ)} {found : List ℕ} where
+  module _ {x : Node Ends} {xs : List (Node Ends)} (h : Rest d mode due s dims rank verdict found (x ∷ xs)) where
     not-a-number : aNumber x ≡ fault KIND → verdict ≡ fault KIND
     not-a-number e = h .verdict-is ∙ (rw e refl)
 
-    another : (n k : ℕ) → length dims ≡ rankLimit → aNumber x ≡ pass n → itemEnd d s ≡ took k → Rest d mode (due - 1) (drop k s) (put dims rank n) (rank + 1) verdict (found ++ n ∷ []) xs
-    another n k room e z =
+    another : {n k : ℕ} → length dims ≡ rankLimit → aNumber x ≡ pass n → itemEnd d s ≡ took k → Rest d mode (due - 1) (drop k s) (put dims rank n) (rank + 1) verdict (found ++ n ∷ []) xs
+    another {n} {k} room e z =
         let u : rank + 1 ≡ suc rank = omega arith in
         let many = h .many in
         record {
           last = h .last;
-          due = next-node d mode due k s x xs (h .last) z (h .due) .after;
+          due = past-node z (h .due);
           many = length-append found (n ∷ []) ∙ (omega arith);
           noted = λ l. rw (u, lt-ltb rank (length dims) (omega arith)) (ap (λ f. f ++ n ∷ []) (h .noted (omega arith)) ∙ sym (take-suc-set dims rank n (omega arith)));
           verdict-is = h .verdict-is ∙ (rw (e, u) (joined-next found n (numbers (suc rank) xs)));
@@ -110,14 +110,14 @@ module _ (d mode due : ℕ) (s dims : List ℕ) (rank : ℕ) (verdict : Check (L
 abbrev From : List ℕ → ℕ → List ℕ
 From s at = take (length s - at) (drop at s)
 
-module _ (d : ℕ) (s dims : List ℕ) (room : length dims ≡ rankLimit) (v : Opening) (h : ListIs (From s 0) v) where
+module _ {d : ℕ} {s dims : List ℕ} (room : length dims ≡ rankLimit) {v : Opening} (h : ListIs (From s 0) v) where
   pub no-list : v ≡ NotOpen → ShapeRead d s dims (No 8)
   unfolding shapeOf
   no-list e = let k : ListIs s NotOpen = rw (part-to-end s 0, e) at h in record { room = room; trees = λ t r x. rw (k d t r x) refl }
 
-  pub begins : (mode count size : ℕ) → v ≡ Opened mode count size → Passing d mode count s dims size 0
+  pub begins : {mode count size : ℕ} → v ≡ Opened mode count size → Passing d mode count s dims size 0
   unfolding shapeOf kinds.aList kinds.asList
-  begins mode count size e =
+  begins {mode} {count} {size} e =
       let k : ListIs s (Opened mode count size) = rw (part-to-end s 0, e) at h in
       record {
         within = k .within;
@@ -129,74 +129,76 @@ module _ (d : ℕ) (s dims : List ℕ) (room : length dims ≡ rankLimit) (v : O
             record { found = []; items = l .items; rest = record { last = l .last; due = rw z (l .due); many = refl; noted = λ _. refl; verdict-is = rw (l .kind-is) refl } };
       }
 
-module _ (d mode count : ℕ) (s dims : List ℕ) (at rank : ℕ) (p : Passing d mode count s dims at rank) (more : Bool) (h : MoreIs mode (count - rank) (From s at) more) where
-  abbrev Here : Node Ends → List ℕ → List (Node Ends) → Type 0
-  Here t = Rest d mode (count - rank) (drop at s) dims rank (shapeOf t)
+module _ {d mode count : ℕ} {s dims : List ℕ} {at rank : ℕ} (p : Passing d mode count s dims at rank) where
+  module _ (short : length s < FAULT) {k : ℕ} (is-k : k ≡ code (itemEnd d (From s at))) where
+    ends-so : k ≡ code (itemEnd d (drop at s))
+    ends-so = is-k ∙ ap (λ u. code (itemEnd d u)) (part-to-end s at)
 
-  any-due : (t : Node Ends) (r : List ℕ) (e : Reads (suc d) s t r) → isAny (p .trees t r e .items) ≡ more
-  any-due t r e = let z = p .trees t r e .rest in subst (λ u. MoreIs mode (count - rank) u more) (part-to-end s at) h d (p .trees t r e .items) (z .last) (z .due)
+    pub takes-a-byte : k ≤ length s - at → 1 ≤ k
+    takes-a-byte l = loops.takes-a-byte (item noNote d) (item-exact d) (item-hungry d) s short at (p .within) k ends-so l
 
-  module _ (done : more ≡ false) where
-    at-the-end : (P : Node Ends → Type 0) → ((t : Node Ends) (found : List ℕ) → Here t found [] → P t) → (t : Node Ends) (r : List ℕ) → Reads (suc d) s t r → P t
-    at-the-end P f t r e = go (p .trees t r e .items) (any-due t r e ∙ done) (p .trees t r e .rest)
-      where
-        go : (items : List (Node Ends)) → isAny items ≡ false → Here t (p .trees t r e .found) items → P t
-        go [] z y = f t (p .trees t r e .found) y
-        go (x ∷ xs) z y = absurd (let z : _≡_ {A = ℕ} 0 1 = cc in omega arith)
+  module _ {more : Bool} (h : MoreIs mode (count - rank) (From s at) more) where
+    abbrev Here : Node Ends → List ℕ → List (Node Ends) → Type 0
+    Here t = Rest d mode (count - rank) (drop at s) dims rank (shapeOf t)
 
-    pub many-dimensions : rankLimit < rank → ShapeRead d s dims (No 15)
-    many-dimensions l = record { room = p .room; trees = at-the-end _ λ t found y. too-many d mode (count - rank) (drop at s) dims rank (shapeOf t) found y l }
+    any-due : (t : Node Ends) (r : List ℕ) (e : Reads (suc d) s t r) → isAny (p .trees t r e .items) ≡ more
+    any-due t r e = let z = p .trees t r e .rest in subst (λ u. MoreIs mode (count - rank) u more) (part-to-end s at) h d (p .trees t r e .items) (z .last) (z .due)
 
-    pub dimensions-are : rank ≤ rankLimit → ShapeRead d s dims (Yes rank)
-    dimensions-are l = record { room = p .room; trees = at-the-end _ λ t found y. (not-too-many d mode (count - rank) (drop at s) dims rank (shapeOf t) found y l, l) }
+    module _ (done : more ≡ false) where
+      at-the-end : (P : Node Ends → Type 0) → ((t : Node Ends) (found : List ℕ) → Here t found [] → P t) → (t : Node Ends) (r : List ℕ) → Reads (suc d) s t r → P t
+      at-the-end P f t r e = go (p .trees t r e .items) (any-due t r e ∙ done) (p .trees t r e .rest)
+        where
+          go : (items : List (Node Ends)) → isAny items ≡ false → Here t (p .trees t r e .found) items → P t
+          go [] z y = f t (p .trees t r e .found) y
+          go (x ∷ xs) z y = absurd (let z : _≡_ {A = ℕ} 0 1 = cc in omega arith)
 
-  module _ (on : more ≡ true) (v : Numeral) (is-v : NumberIs (From s at) v) where
-    at-the-next : (P : Node Ends → Type 0) → ((t : Node Ends) (found : List ℕ) (x : Node Ends) (xs : List (Node Ends)) → aNumber x ≡ numeral v → Here t found (x ∷ xs) → P t)
-        → (t : Node Ends) (r : List ℕ) → Reads (suc d) s t r → P t
-    at-the-next P f t r e = go (p .trees t r e .items) (any-due t r e ∙ on) (p .trees t r e .rest)
-      where
-        go : (items : List (Node Ends)) → isAny items ≡ true → Here t (p .trees t r e .found) items → P t
-        go [] z y = absurd (let z : _≡_ {A = ℕ} 0 1 = cc in omega arith)
-        go (x ∷ xs) z y =
-            let c = y .due .chain in
-            f t (p .trees t r e .found) x xs (number-here d (drop at s) v (subst (λ u. NumberIs u v) (part-to-end s at) is-v) x (c .0) (c .1)) y
+      pub many-dimensions : rankLimit < rank → ShapeRead d s dims (No 15)
+      many-dimensions l = record { room = p .room; trees = at-the-end _ λ t found y. too-many y l }
 
-    pub no-number : v ≡ NoNumber → ShapeRead d s dims (No 8)
-    no-number e = record { room = p .room; trees = at-the-next _ λ t found x xs z y. not-a-number d mode (count - rank) (drop at s) dims rank (shapeOf t) found x xs y (z ∙ ap numeral e) }
+      pub dimensions-are : rank ≤ rankLimit → ShapeRead d s dims (Yes rank)
+      dimensions-are l = record { room = p .room; trees = at-the-end _ λ t found y. (not-too-many y l, l) }
 
-    module _ (short : length s < FAULT) (n : ℕ) (is-n : v ≡ Number n) (k : ℕ) (is-k : k ≡ code (itemEnd d (From s at))) (noted : List ℕ) (is-noted : noted ≡ put dims rank n) where
-      ends-so : k ≡ code (itemEnd d (drop at s))
-      ends-so = is-k ∙ ap (λ u. code (itemEnd d u)) (part-to-end s at)
+    module _ (on : more ≡ true) where
+      at-the-next : (v : Numeral) → NumberIs (From s at) v → (P : Node Ends → Type 0) → ((t : Node Ends) (found : List ℕ) (x : Node Ends) (xs : List (Node Ends)) → aNumber x ≡ numeral v → Here t found (x ∷ xs) → P t)
+          → (t : Node Ends) (r : List ℕ) → Reads (suc d) s t r → P t
+      at-the-next v is-v P f t r e = go (p .trees t r e .items) (any-due t r e ∙ on) (p .trees t r e .rest)
+        where
+          go : (items : List (Node Ends)) → isAny items ≡ true → Here t (p .trees t r e .found) items → P t
+          go [] z y = absurd (let z : _≡_ {A = ℕ} 0 1 = cc in omega arith)
+          go (x ∷ xs) z y =
+              let c = y .due .chain in
+              f t (p .trees t r e .found) x xs (number-here d (drop at s) v (subst (λ u. NumberIs u v) (part-to-end s at) is-v) x (c .0) (c .1)) y
 
-      still-room : length noted ≡ rankLimit
-      still-room = ap length is-noted ∙ length-put dims rank n ∙ p .room
+      module _ {v : Numeral} (is-v : NumberIs (From s at) v) where
+        pub no-number : v ≡ NoNumber → ShapeRead d s dims (No 8)
+        no-number e = record { room = p .room; trees = at-the-next v is-v _ λ t found x xs z y. not-a-number y (z ∙ ap numeral e) }
 
-      -- no element of a tree is refused
-      pub no-end : length s - at < k → ShapeRead d s noted (No 8)
-      no-end l =
-          let f = loops.fails (item noNote d) (item-exact d) (item-hungry d) s short at (p .within) k ends-so l in
-          record {
-            room = still-room;
-            trees = at-the-next _ λ t found x xs z y.
-                absurd (let z : true ≡ false = none-read d (f .number) (drop at s) (x ∷ xs) (y .last) (f .is-fault) (y .due .chain) in let z : _≡_ {A = ℕ} 0 1 = cc in omega arith);
-          }
+        module _ (short : length s < FAULT) {n : ℕ} (is-n : v ≡ Number n) {k : ℕ} (is-k : k ≡ code (itemEnd d (From s at))) {noted : List ℕ} (is-noted : noted ≡ put dims rank n) where
+          still-room : length noted ≡ rankLimit
+          still-room = ap length is-noted ∙ length-put dims rank n ∙ p .room
 
-      module _ (l : k ≤ length s - at) where
-        pub takes-a-byte : 1 ≤ k
-        takes-a-byte = loops.takes-a-byte (item noNote d) (item-exact d) (item-hungry d) s short at (p .within) k ends-so l
+          -- no element of a tree is refused
+          pub no-end : length s - at < k → ShapeRead d s noted (No 8)
+          no-end l =
+              let f = loops.fails (item noNote d) (item-exact d) (item-hungry d) s short at (p .within) k (ends-so short is-k) l in
+              record {
+                room = still-room;
+                trees = at-the-next v is-v _ λ t found x xs z y.
+                    absurd (let z : true ≡ false = none-read d (f .number) (drop at s) (x ∷ xs) (y .last) (f .is-fault) (y .due .chain) in let z : _≡_ {A = ℕ} 0 1 = cc in omega arith);
+              }
 
-        pub goes-on : Passing d mode count s noted (at + k) (rank + 1)
-        goes-on =
-            let w = p .within in let m = p .few in let o = takes-a-byte in
-            let e = loops.passes (item noNote d) (item-exact d) (item-hungry d) s short at (p .within) k ends-so l in
-            let z : count - rank - 1 ≡ count - (rank + 1) = omega arith in
-            record {
-              within = omega arith;
-              few = omega arith;
-              room = still-room;
-              trees = at-the-next _ λ t found x xs q y. record {
-                found = found ++ n ∷ [];
-                items = xs;
-                rest = rw (is-noted, ← z, ← drop-drop k at s) (another d mode (count - rank) (drop at s) dims rank (shapeOf t) found x xs y n k (p .room) (q ∙ ap numeral is-n) e);
-              };
-            }
+          pub goes-on : k ≤ length s - at → Passing d mode count s noted (at + k) (rank + 1)
+          goes-on l =
+              let w = p .within in let m = p .few in let o = takes-a-byte short is-k l in
+              let e = loops.passes (item noNote d) (item-exact d) (item-hungry d) s short at (p .within) k (ends-so short is-k) l in
+              let z : count - rank - 1 ≡ count - (rank + 1) = omega arith in
+              record {
+                within = omega arith;
+                few = omega arith;
+                room = still-room;
+                trees = at-the-next v is-v _ λ t found x xs q y. record {
+                  found = found ++ n ∷ [];
+                  items = xs;
+                  rest = rw (is-noted, ← z, ← drop-drop k at s) (another y (p .room) (q ∙ ap numeral is-n) e);
+                };
+              }

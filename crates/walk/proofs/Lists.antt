@@ -18,7 +18,7 @@ use Rattle.cbor.specs.Ending as ending
 use Rattle.cbor.specs.Ending.{headOf, took, itemEnd}
 use Rattle.cbor.proofs.Rest as due
 use Rattle.cbor.proofs.Agree.{rest-follows}
-use Rattle.walk.specs.Reading.{Ends, ends, Reads, NodeChain, DueNodes}
+use Rattle.walk.specs.Reading.{Ends, ends, NodeChain, DueNodes}
 use Rattle.walk.specs.Places.{Whatever, Listed, OpenList, MoreIs, isAny}
 use Rattle.walk.proofs.ReadSays.{Says, KindSays, kind-says, Stood, sized, loose, stood, nothing-read}
 use Rattle.walk.proofs.Found.{major-is, major-tells, by-kind}
@@ -120,16 +120,12 @@ pub more-here : (s : List ℕ) (mode n : ℕ) → 1 ≤ mode → (getD s 0 0 ≡
 more-here s mode n m e d [] r h = absurd (e (ap (λ u. getD u 0 0) (h .chain) ∙ h .closed m))
 more-here s mode n m e d (x ∷ xs) r h = refl
 
--- the next item, which takes k bytes, and those after it
-pub record NextNode (d mode due k : ℕ) (s : List ℕ) (x : Node Ends) (xs : List (Node Ends)) (r : List ℕ) : Type 0 where
-  pub here : Reads d s x (drop k s)
-  pub after : DueNodes d mode (due - 1) (drop k s) xs r
-
-pub next-node : (d mode n k : ℕ) (s : List ℕ) (x : Node Ends) (xs : List (Node Ends)) (r : List ℕ) → itemEnd d s ≡ took k → DueNodes d mode n s (x ∷ xs) r → NextNode d mode n k s x xs r
-next-node d mode n k s x xs r e h =
+-- past the next item, which takes k bytes
+pub past-node : {d mode n k : ℕ} {s : List ℕ} {x : Node Ends} {xs : List (Node Ends)} {r : List ℕ} → itemEnd d s ≡ took k → DueNodes d mode n s (x ∷ xs) r → DueNodes d mode (n - 1) (drop k s) xs r
+past-node {d} {mode} {n} {k} {s} {x} {xs} {r} e h =
     let c = h .chain in
-    let z : c .0 ≡ drop k s = rest-follows ends d s x (c .0) k (c .1) e in
     record {
-      here = subst (λ u. Reads d s x u) z (c .1);
-      after = record { chain = subst (λ u. NodeChain d u xs r) z (c .2); counted = λ m. let y = h .counted m in omega arith; closed = h .closed };
+      chain = subst (λ u. NodeChain d u xs r) (rest-follows ends d s x (c .0) k (c .1) e) (c .2);
+      counted = λ m. let y = h .counted m in omega arith;
+      closed = h .closed;
     }
