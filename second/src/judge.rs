@@ -63,9 +63,9 @@ pub fn judge(manifest: &[u8], manifest_start: u64) -> Result<Manifest, Refusal> 
     judge.root(&root)
 }
 
-struct Judge<'a> {
-    bytes: &'a [u8],
-    manifest_start: u64,
+pub struct Judge<'a> {
+    pub bytes: &'a [u8],
+    pub manifest_start: u64,
 }
 
 impl<'a> Judge<'a> {
@@ -174,7 +174,7 @@ impl<'a> Judge<'a> {
         })
     }
 
-    fn placed(&self, offset: u64, length: u64) -> Result<(), u8> {
+    pub fn placed(&self, offset: u64, length: u64) -> Result<(), u8> {
         if !offset.is_multiple_of(64) {
             return Err(ALIGN);
         }
@@ -186,7 +186,7 @@ impl<'a> Judge<'a> {
     }
 
     /// The format's checks: the refusal and the index of the component it belongs to.
-    fn format_rules(&self, object: &Object) -> Result<(), (u8, usize)> {
+    pub fn format_rules(&self, object: &Object) -> Result<(), (u8, usize)> {
         let format = Format::of(&self.bytes[object.format.clone()]);
         if format == Format::SparseCsr && object.shape.len() != 2 {
             return Err((RANK, 0));

@@ -1,5 +1,7 @@
 //! The proved leaves of `crates/exported`, as safe functions.
 
+pub mod tally;
+
 /// What `skip` adds to the number of a refusal.
 const FAULT: usize = 1 << 63;
 
@@ -7,10 +9,6 @@ const FAULT: usize = 1 << 63;
 mod exported {
     extern "C" {
         pub fn leaf_skip(s: *const u8, length: usize, left: u64) -> usize;
-        pub fn leaf_utf8(t: *const u8, length: usize) -> bool;
-        pub fn leaf_version_shape(v: *const u8, length: usize) -> bool;
-        pub fn leaf_major_one(v: *const u8, length: usize) -> bool;
-        pub fn leaf_is_magic(part: *const u8, length: usize) -> bool;
         pub fn leaf_same(a: *const u8, a_length: usize, b: *const u8, b_length: usize) -> bool;
         pub fn leaf_order(a: *const u8, a_length: usize, b: *const u8, b_length: usize) -> usize;
         pub fn leaf_no_twice(
@@ -24,7 +22,115 @@ mod exported {
             ix: *mut u16,
             ix_length: usize,
         ) -> bool;
+        pub fn leaf_type_fits(k: *const u8, length: usize, code: u64) -> bool;
+        pub fn leaf_dense_length(n: u64, shape: *const u64, rank: usize, unit: u64) -> bool;
+        pub fn leaf_judge(
+            code: u64,
+            shape: *const u64,
+            rank: usize,
+            parts: *const u64,
+            parts_length: usize,
+        ) -> super::Ruling;
+        pub fn leaf_frame(file: *const u8, length: usize) -> super::Place;
     }
+}
+
+/// A refusal's number and its component; 0 and 0 for none.
+#[repr(C)]
+#[derive(Debug, PartialEq, Eq)]
+pub struct Ruling {
+    pub number: u64,
+    pub component: usize,
+}
+
+/// 0, and where the manifest starts and its size; or a refusal's number, 0 and 0.
+#[repr(C)]
+#[derive(Debug, PartialEq, Eq)]
+pub struct Place {
+    pub number: u64,
+    pub start: usize,
+    pub size: usize,
+}
+
+/// Leaves of one text, as safe functions.
+macro_rules! of_text {
+    ($($name:ident: $leaf:ident -> $answer:ty;)*) => {$(
+        pub fn $name(text: &[u8]) -> $answer {
+            extern "C" {
+                fn $leaf(text: *const u8, length: usize) -> $answer;
+            }
+            // SAFETY: the pointer and the length are a slice's.
+            unsafe { $leaf(text.as_ptr(), text.len()) }
+        }
+    )*};
+}
+
+of_text! {
+    utf8: leaf_utf8 -> bool;
+    version_shape: leaf_version_shape -> bool;
+    major_one: leaf_major_one -> bool;
+    is_magic: leaf_is_magic -> bool;
+    root_key: leaf_root_key -> usize;
+    object_key: leaf_object_key -> usize;
+    component_key: leaf_component_key -> usize;
+    is_raw: leaf_is_raw -> bool;
+    dtype_code: leaf_dtype_code -> u64;
+    ratio_of: leaf_ratio_of -> u64;
+    format_code: leaf_format_code -> u64;
+    role_code: leaf_role_code -> u64;
+}
+
+/// Leaves of numbers, as safe functions.
+macro_rules! of_numbers {
+    ($($name:ident: $leaf:ident($($number:ident),*) -> $answer:ty;)*) => {$(
+        pub fn $name($($number: u64),*) -> $answer {
+            extern "C" {
+                fn $leaf($($number: u64),*) -> $answer;
+            }
+            // SAFETY: numbers alone.
+            unsafe { $leaf($($number),*) }
+        }
+    )*};
+}
+
+of_numbers! {
+    width_of: leaf_width_of(code) -> u64;
+    is_product: leaf_is_product(n, a, b) -> bool;
+    is_whole: leaf_is_whole(n, unit) -> bool;
+    count_of: leaf_count_of(n, unit) -> u64;
+    pointer_length: leaf_pointer_length(n, rows) -> bool;
+    coordinate_length: leaf_coordinate_length(n, rank, count) -> bool;
+    place: leaf_place(start, offset, length) -> u64;
+}
+
+pub fn type_fits(logical: &[u8], code: u64) -> bool {
+    // SAFETY: the pointer and the length are a slice's.
+    unsafe { exported::leaf_type_fits(logical.as_ptr(), logical.len(), code) }
+}
+
+pub fn dense_length(n: u64, shape: &[u64], unit: u64) -> bool {
+    // SAFETY: the pointer and the length are a slice's.
+    unsafe { exported::leaf_dense_length(n, shape.as_ptr(), shape.len(), unit) }
+}
+
+/// A part is four numbers: the role's code, bytes of one element, 1 for plain u64, length.
+pub fn judge(format: u64, shape: &[u64], parts: &[[u64; 4]]) -> Ruling {
+    let parts = parts.as_flattened();
+    // SAFETY: each pointer and length are a slice's.
+    unsafe {
+        exported::leaf_judge(
+            format,
+            shape.as_ptr(),
+            shape.len(),
+            parts.as_ptr(),
+            parts.len(),
+        )
+    }
+}
+
+pub fn frame(file: &[u8]) -> Place {
+    // SAFETY: the pointer and the length are a slice's.
+    unsafe { exported::leaf_frame(file.as_ptr(), file.len()) }
 }
 
 /// How many bytes the item at the front takes, or 6 or 7.
@@ -35,26 +141,6 @@ pub fn skip(bytes: &[u8], levels: u32) -> Result<usize, u8> {
         None => Ok(answer),
         Some(number) => Err(u8::try_from(number).unwrap()),
     }
-}
-
-pub fn utf8(text: &[u8]) -> bool {
-    // SAFETY: the pointer and the length are a slice's.
-    unsafe { exported::leaf_utf8(text.as_ptr(), text.len()) }
-}
-
-pub fn version_shape(version: &[u8]) -> bool {
-    // SAFETY: the pointer and the length are a slice's.
-    unsafe { exported::leaf_version_shape(version.as_ptr(), version.len()) }
-}
-
-pub fn major_one(version: &[u8]) -> bool {
-    // SAFETY: the pointer and the length are a slice's.
-    unsafe { exported::leaf_major_one(version.as_ptr(), version.len()) }
-}
-
-pub fn is_magic(part: &[u8]) -> bool {
-    // SAFETY: the pointer and the length are a slice's.
-    unsafe { exported::leaf_is_magic(part.as_ptr(), part.len()) }
 }
 
 pub fn same(a: &[u8], b: &[u8]) -> bool {

@@ -3,6 +3,7 @@
 
 #![forbid(unsafe_code)]
 
+use against::tally::{hex, seed, yes_or_no, Tally};
 use second::cbor::{skip_item, DEPTH};
 use second::frame::MAGIC;
 use second::generate::rng::Rng;
@@ -10,78 +11,11 @@ use second::generate::Generator;
 use second::judge::major;
 use second::utf8::is_utf8;
 use std::cmp::Ordering;
-use std::collections::{BTreeMap, HashSet};
-use std::fmt::{Debug, Display};
+use std::collections::HashSet;
 
 const ITEMS: u64 = 4_000_000;
 const TEXTS: u64 = 500_000;
 const LISTS: u64 = 100_000;
-
-fn seed() -> u64 {
-    match std::env::var("SEED") {
-        Ok(seed) => seed.parse().expect("SEED is a number"),
-        Err(_) => 1,
-    }
-}
-
-/// How often each answer occurred.
-struct Tally {
-    what: &'static str,
-    answers: BTreeMap<String, u64>,
-}
-
-impl Tally {
-    fn of(what: &'static str) -> Tally {
-        Tally {
-            what,
-            answers: BTreeMap::new(),
-        }
-    }
-
-    /// Holds the two answers for one input, as `shown` prints it, against each other.
-    fn compare<A: PartialEq + Debug>(
-        &mut self,
-        label: impl Display,
-        proved: A,
-        second: A,
-        shown: impl FnOnce() -> String,
-    ) {
-        if proved != second {
-            let (what, shown) = (self.what, shown());
-            panic!("{what}: {proved:?}, the second program: {second:?}, for {shown}");
-        }
-        *self.answers.entry(label.to_string()).or_default() += 1;
-    }
-
-    /// Prints the counts; every answer that can be given must have been, or the inputs show too little.
-    fn report(&self, kinds: usize) {
-        let counts: Vec<String> = self
-            .answers
-            .iter()
-            .map(|(answer, count)| format!("{count} {answer}"))
-            .collect();
-        let total: u64 = self.answers.values().sum();
-        println!(
-            "{}, seed {}: {total} compared: {}",
-            self.what,
-            seed(),
-            counts.join(", ")
-        );
-        assert_eq!(self.answers.len(), kinds);
-    }
-}
-
-fn hex(bytes: &[u8]) -> String {
-    bytes.iter().map(|byte| format!("{byte:02x}")).collect()
-}
-
-fn yes_or_no(answer: bool) -> &'static str {
-    if answer {
-        "yes"
-    } else {
-        "no"
-    }
-}
 
 /// Mostly all the levels, often few.
 fn levels(rng: &mut Rng) -> u32 {
