@@ -121,7 +121,7 @@ module _ {S : Type 0} (f : S → Pair Ends → S) (d mode count : ℕ) (s : List
   in-bytes = value-within f d mode count s z room at n st w k h
 
   -- a value is due
-  value-due : (0 < n - 1) × ((mode ≡ 0) ⊎ ((2 ≤ mode) × ((n - 1) % 2 ≡ 0)))
+  pub value-due : (0 < n - 1) × ((mode ≡ 0) ⊎ ((2 ≤ mode) × ((n - 1) % 2 ≡ 0)))
   value-due = ⊎-elim counting breaking (eq-or mode 0)
     where
       counting : mode ≡ 0 → (0 < n - 1) × ((mode ≡ 0) ⊎ ((2 ≤ mode) × ((n - 1) % 2 ≡ 0)))
