@@ -11,11 +11,10 @@ use borrow.Rule.Slice.PartAt.{part-to-end}
 use Rattle.meaning.specs.Tree.{Node}
 use Rattle.meaning.specs.Check.{Check, pass, refuse, optional}
 use Rattle.meaning.specs.Model.{Word}
-use Rattle.meaning.specs.Kind.{aNumber, aText, present}
+use Rattle.meaning.specs.Kind.{aNumber, present}
 use Rattle.meaning.specs.Judge.{aDtype, aType, raw}
 use Rattle.lengths.specs.Place.{placed, number}
 use Rattle.walk.specs.Reading.{Ends}
-use Rattle.walk.specs.Places.{numeral}
 use Rattle.walk.specs.declared.Numeral.{Numeral}
 use Rattle.walk.specs.declared.Numeral.the-variants.{NoNumber, Number}
 use Rattle.fields.specs.Slots.{Stands, Holds}

@@ -3,7 +3,7 @@ use mathlib.Core.Path.{_≡_, refl, sym, ap, _∙_, subst}
 use mathlib.Core.List.{List}
 use mathlib.Core.Bool.{Bool, true, false}
 use mathlib.Core.Option.{Option, none, some}
-use Prim.Native.Nat.{ℕ, suc, _-_, _<_}
+use Prim.Native.Nat.{ℕ, suc, _-_}
 use native.Mathlib.Omega.{arith}
 use lib.ListN.{length, drop}
 use borrow.Rule.Slice.PartAt.{part-to-end}
@@ -15,9 +15,7 @@ use Rattle.walk.specs.Reading.{Ends, Reads}
 use Rattle.walk.specs.Places.{Whatever, isNull, NullIs, NumberIs}
 use Rattle.walk.specs.declared.Numeral.{Numeral}
 use Rattle.walk.specs.declared.Numeral.the-variants.{NoNumber, Number}
-use Rattle.fields.specs.Slots.{Stands, Holds}
 use Rattle.fields.proofs.Texts.{Here}
-use Rattle.component.specs.declared.value.Fine.{Fine}
 use Rattle.component.specs.declared.value.Fine.the-variants.{No as Bad, Yes as Good}
 use Rattle.component.specs.Value.{fine, AtPlace, AtMost}
 

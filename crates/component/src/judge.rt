@@ -1,4 +1,5 @@
 // The judgement of a component in pieces, from the places of its fields in s.
+use crate::Judged;
 use crate::place::digested;
 use crate::place::dtype_at;
 use crate::place::encoded;
@@ -8,7 +9,6 @@ use crate::place::unpacked;
 use crate::value::Coded;
 use crate::value::Fine;
 use crate::value::Spot;
-use crate::Judged;
 use walk::Numeral;
 ghost use mathlib.Core.Path.{_≡_};
 ghost use lib.ListN.{length};

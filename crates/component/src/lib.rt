@@ -9,7 +9,6 @@ use judge::verdict;
 use pass::entries;
 use walk::Opening;
 ghost use mathlib.Core.Path.{_≡_};
-ghost use Prim.Native.Nat.{ℕ};
 ghost use Rattle.cbor.specs.Ending.{code, itemEnd};
 ghost use Rattle.component.specs.Verdict.{ComponentIs};
 
@@ -41,7 +40,10 @@ pub fn component(c: &[u8], start: u64) -> Whole
             if c.len() - size < e {
                 return Whole { end: e, verdict: v };
             }
-            Whole { end: size + e, verdict: v }
+            Whole {
+                end: size + e,
+                verdict: v,
+            }
         }
     }
 }

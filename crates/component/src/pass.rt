@@ -2,7 +2,7 @@
 use walk::Entry;
 use walk::Letters;
 ghost use mathlib.Core.Path.{_≡_};
-ghost use Prim.Native.Nat.{ℕ, _≤_};
+ghost use Prim.Native.Nat.{_≤_};
 ghost use lib.ListN.{length};
 ghost use Rattle.meaning.specs.Field.{componentNames};
 ghost use Rattle.cbor.specs.Ending.{code, rest};

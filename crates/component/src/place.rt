@@ -1,11 +1,11 @@
 // The fields of a component at their places in s; `left` is 0 for one that is absent.
+use crate::value::Coded;
+use crate::value::Fine;
+use crate::value::Spot;
 use crate::value::dtype_of;
 use crate::value::raw_of;
 use crate::value::text_of;
 use crate::value::type_of;
-use crate::value::Coded;
-use crate::value::Fine;
-use crate::value::Spot;
 use fields::place_of;
 use walk::Numeral;
 ghost use Rattle.component.specs.Value as is;

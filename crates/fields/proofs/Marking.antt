@@ -1,17 +1,16 @@
 -- One mark in the slots, a branch each; and one pair of a map in a loop over its entries.
-use mathlib.Core.Path.{_≡_, refl, sym, ap, _∙_}
+use mathlib.Core.Path.{_≡_, refl, ap, _∙_}
 use mathlib.Core.List.{List}
 use mathlib.Core.Bool.{Bool, true, false, cond}
 use Prim.Native.Nat.{ℕ, suc, _+_, _-_, _≤_, _<_}
 use lib.ListN.{length, getD, drop, set, length-drop, length-set}
 use lib.Dec.{ltb, eqb}
 use borrow.Author.Tests.{eq-eqb, ne-eqb, lt-ltb, le-ltb}
-use Rattle.meaning.specs.Tree.{Node, Pair, noteOf}
-use Rattle.meaning.specs.Kind.{kind}
+use Rattle.meaning.specs.Tree.{Pair, noteOf}
 use Rattle.meaning.specs.Field as field
-use Rattle.walk.specs.Reading.{Ends, Reads, leftAt}
+use Rattle.walk.specs.Reading.{Ends, Reads}
 use Rattle.walk.proofs.ReadSays.{note-of}
-use Rattle.fields.specs.Slots.{slotOf, marked, marks, SlotIs}
+use Rattle.fields.specs.Slots.{marked, marks, SlotIs}
 
 module _ (known : ℕ) (p : List ℕ) (k left : ℕ) where
   pub mark-late : known ≤ k → set p k left ≡ marked known p k left

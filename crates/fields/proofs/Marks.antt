@@ -3,13 +3,13 @@ use mathlib.Core.Path.{_≡_, refl, sym, ap, ap₂, _∙_}
 use mathlib.Core.List.{List, [], _∷_}
 use mathlib.Core.Bool.{Bool, true, false, cond, _&&_}
 use mathlib.Core.Option.{Option, none, some}
-use Prim.Native.Nat.{ℕ, zero, suc, _+_, _-_, _≤_, _<_}
+use Prim.Native.Nat.{ℕ, suc, _+_, _-_, _≤_, _<_}
 use native.Mathlib.Omega.{arith}
-use lib.ListN.{length, getD, set, replicate}
+use lib.ListN.{length, getD, set}
 use lib.Seq.{getD-set-same, getD-set-other}
 use lib.Dec.{ltb, leb, eqb}
 use borrow.Author.Tests.{eq-eqb, ne-eqb, eqb-true, eqb-false, lt-leb, ltb-true, ltb-false}
-use Rattle.meaning.specs.Tree.{Node, Pair, noteOf}
+use Rattle.meaning.specs.Tree.{Pair, noteOf}
 use Rattle.meaning.specs.Text.{same, all, oneOf}
 use Rattle.meaning.specs.Field as field
 use Rattle.types.specs.Row.{position}
@@ -17,7 +17,7 @@ use Rattle.types.proofs.Codes.{position-most}
 use Rattle.types.proofs.Tell.{not-both}
 use Rattle.text.proofs.SameIsEqual.{same-eq, eq-same, ne-same}
 use Rattle.walk.specs.Reading.{Ends, leftAt, foldl}
-use Rattle.fields.specs.Slots.{slotOf, marked, marks}
+use Rattle.fields.specs.Slots.{slotOf, marks}
 use Rattle.fields.proofs.Marking.{mark-late, mark-first, mark-again, marked-length}
 
 -- equal positions of a name that is there are equal names

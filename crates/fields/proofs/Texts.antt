@@ -1,5 +1,5 @@
 -- The whole text that begins s, as `walk::text` answers it for s lent whole: for every tree that is read there, and for the slot of a key.
-use mathlib.Core.Path.{_≡_, refl, sym, ap, _∙_, subst}
+use mathlib.Core.Path.{_≡_, refl, ap, _∙_, subst}
 use mathlib.Core.List.{List}
 use mathlib.Core.Option.{none, some}
 use Prim.Native.Nat.{ℕ, suc, _+_, _-_, _≤_}

@@ -1,9 +1,8 @@
+-- `fields::mark` meets its contract: a law for each branch.
 use Rattle.fields.proofs.Marking as marking
 use borrow.Author.Needs.{needs}
 use Rattle.fields.proofs.mark.Statement.{statement}
 use Rattle.fields.proofs.mark.Tie as tie
-use Rattle.fields.proofs.mark.Reads as reads
-use Rattle.fields.proofs.mark.Lts as lts
 
 pub mark-spec : {M : Type 1} → statement M
 mark-spec =

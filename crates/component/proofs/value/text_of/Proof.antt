@@ -1,85 +1,26 @@
+-- `component::value::text_of` meets its contract: a law for each branch.
 use native.Mathlib.Omega.{arith}
 use Rattle.fields.proofs.Texts.{letters-in}
 use Rattle.component.proofs.Values as values
 use borrow.Author.Needs.{needs}
 use Rattle.component.proofs.value.text_of.Statement.{statement}
 use Rattle.component.proofs.value.text_of.Tie as tie
-use Rattle.component.proofs.value.text_of.Reads as reads
-use Rattle.component.proofs.value.text_of.Lts as lts
-use Rattle.text.proofs.utf8.Reads as utf8-reads
-use Rattle.walk.proofs.text.Reads as text-reads
-
--- src/value.rt:60:22
-sub-text : tie.Need-sub-text
-sub-text c = search needs
-
--- src/value.rt:60:22
-part-text-start : tie.Need-part-text-start
-part-text-start c = search needs
-
--- src/value.rt:60:22
-part-text-end : tie.Need-part-text-end
-part-text-end c = search needs
-
--- src/value.rt:60:11
-text-requires : tie.Need-text-requires
-text-requires c κs = search needs
-
--- src/value.rt:61:28
-enum-told : tie.Need-enum-told
-enum-told c = search needs
-
--- src/value.rt:62:23
-enum-known-at : tie.Need-enum-known-at
-enum-known-at c = search needs
-
--- src/value.rt:63:21
-add-e : tie.Need-add-e
-add-e c = omega (arith, letters-in (c .before .before .before .before .before .before .args .s .now) _ (c .before .before .before .text .ensures .0) _ _ (c .before .at .given .1))
-
--- src/value.rt:64:27
-sub-utf8 : tie.Need-sub-utf8
-sub-utf8 c = search needs
-
--- src/value.rt:64:27
-part-utf8-start : tie.Need-part-utf8-start
-part-utf8-start c = search needs
-
--- src/value.rt:64:27
-part-utf8-end : tie.Need-part-utf8-end
-part-utf8-end c = omega (arith, letters-in (c .before .before .before .before .before .before .args .s .now) _ (c .before .before .before .text .ensures .0) _ _ (c .before .at .given .1))
-
--- src/value.rt:64:16
-utf8-requires : tie.Need-utf8-requires
-utf8-requires c κs = search needs
-
--- src/value.rt:65:17
-returns : tie.Need-returns
-returns c = values.text-some (c .before .before .before .before .before .before .before .before .before .args .s .now) _ (c .before .before .before .before .before .before .text .ensures .1) _ _ (c .before .before .before .before .at .given .1) _ (c .before .utf8 .ensures) (c .if1 .taken)
-
--- src/value.rt:57:1
-returns-2 : tie.Need-returns-2
-returns-2 c = values.text-kind (c .before .before .before .before .before .args .s .now) _ (c .before .before .text .ensures .1) (c .enum-told .given .1)
-
--- src/value.rt:57:1
-returns-3 : tie.Need-returns-3
-returns-3 c = values.text-other (c .before .before .before .before .before .before .before .before .before .args .s .now) _ (c .before .before .before .before .before .before .text .ensures .1) _ _ (c .before .before .before .before .at .given .1) _ (c .before .utf8 .ensures) (c .if1 .left)
 
 pub text-of-spec : {M : Type 1} → statement M
 text-of-spec =
     tie.close
     (tie.spec
-    sub-text
-    part-text-start
-    part-text-end
-    text-requires
-    enum-told
-    enum-known-at
-    add-e
-    sub-utf8
-    part-utf8-start
-    part-utf8-end
-    utf8-requires
-    returns
-    returns-2
-    returns-3)
+    (λ c. search needs)
+    (λ c. search needs)
+    (λ c. search needs)
+    (λ c κs. search needs)
+    (λ c. search needs)
+    (λ c. search needs)
+    (λ c. omega (arith, letters-in (c .before .before .before .before .before .before .args .s .now) _ (c .before .before .before .text .ensures .0) _ _ (c .before .at .given .1)))
+    (λ c. search needs)
+    (λ c. search needs)
+    (λ c. omega (arith, letters-in (c .before .before .before .before .before .before .args .s .now) _ (c .before .before .before .text .ensures .0) _ _ (c .before .at .given .1)))
+    (λ c κs. search needs)
+    (λ c. values.text-some (c .before .before .before .before .before .before .before .before .before .args .s .now) _ (c .before .before .before .before .before .before .text .ensures .1) _ _ (c .before .before .before .before .at .given .1) _ (c .before .utf8 .ensures) (c .if1 .taken))
+    (λ c. values.text-kind (c .before .before .before .before .before .args .s .now) _ (c .before .before .text .ensures .1) (c .enum-told .given .1))
+    (λ c. values.text-other (c .before .before .before .before .before .before .before .before .before .args .s .now) _ (c .before .before .before .before .before .before .text .ensures .1) _ _ (c .before .before .before .before .at .given .1) _ (c .before .utf8 .ensures) (c .if1 .left)))
