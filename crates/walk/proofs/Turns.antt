@@ -10,7 +10,7 @@ use Rattle.meaning.specs.Tree.{Node, Pair, noteOf}
 use Rattle.cbor.specs.Ending.{Ending, took, fault, FAULT, code, shift, itemEnd, rest, broken, endless}
 use Rattle.meaning.specs.Read.{item, noNote}
 use Rattle.cbor.proofs.Rest as due
-use Rattle.cbor.proofs.Passing.{Fine, fine-ending, shift-shift, shift-zero, is-took, is-fault}
+use Rattle.cbor.proofs.Passing.{Fine, Faulty, fine-ending, shift-shift, shift-zero, is-took, is-fault}
 use Rattle.cbor.proofs.Loops as loops
 use Rattle.walk.specs.Reading.{Ends, ends, Reads, Chain, Due, foldl}
 use Rattle.walk.specs.Places.{EntryIs}
@@ -121,7 +121,7 @@ module _ {S : Type 0} (f : S → Pair Ends → S) (d mode count : ℕ) (s : List
   in-bytes = value-within f d mode count s z room at n st w k h
 
   -- a value is due
-  value-due : (0 < n - 1) × ((mode ≡ 0) ⊎ ((2 ≤ mode) × ((n - 1) % 2 ≡ 0)))
+  pub value-due : (0 < n - 1) × ((mode ≡ 0) ⊎ ((2 ≤ mode) × ((n - 1) % 2 ≡ 0)))
   value-due = ⊎-elim counting breaking (eq-or mode 0)
     where
       counting : mode ≡ 0 → (0 < n - 1) × ((mode ≡ 0) ⊎ ((2 ≤ mode) × ((n - 1) % 2 ≡ 0)))
@@ -140,10 +140,38 @@ module _ {S : Type 0} (f : S → Pair Ends → S) (d mode count : ℕ) (s : List
   key-passed : rest mode count d s ≡ shift (at + k) (rest mode (n - 1) d (drop (at + k) s))
   key-passed = after-key f d mode count s z room at n st w k h
 
+  faulty : length s - (at + k) < e → Faulty (drop (at + k) s) short-value e (itemEnd d (drop (at + k) s))
+  faulty l = is-fault (drop (at + k) s) short-value e (itemEnd d (drop (at + k) s)) (fine-ending (drop (at + k) s) (item noNote d (drop (at + k) s))) is (omega (arith, length-drop (at + k) s))
+
   pub value-fails : length s - (at + k) < e → e ≡ code (rest mode count d s)
   value-fails l =
-      let y = is-fault (drop (at + k) s) short-value e (itemEnd d (drop (at + k) s)) (fine-ending (drop (at + k) s) (item noNote d (drop (at + k) s))) is (omega (arith, length-drop (at + k) s)) in
+      let y = faulty l in
       y .coded ∙ ap code (sym (key-passed ∙ ap (shift (at + k)) (due.value-stops d mode (n - 1) (drop (at + k) s) (y .number) (value-due .0) (value-due .1) (y .is))))
+
+  sized-alike : (u : List ℕ) (t : Node Ends) (r : List ℕ) (j : ℕ) → itemEnd d u ≡ took j → Reads d u t r → r ≡ drop j u
+  sized-alike u t r j q x =
+      let a = ate d u t r x in
+      let y : a .size ≡ j = let v : took (a .size) ≡ took j = sym (a .ends-so) ∙ q in cc in
+      a .is ∙ ap (λ i. drop i u) y
+
+  no-more : (r : List ℕ) → Due d mode n (drop at s) [] r → ⊥
+  no-more r y = ⊎-elim (λ m. let c = y .counted m in let g = h .0 in omega arith) (λ m. h .2 (ap (λ u. getD u 0 0) (y .chain) ∙ y .closed (omega arith))) (eq-or mode 0)
+
+  value-at : (p : Pair Ends) (m q : List ℕ) → Reads d (drop at s) (p .key) m → Reads d m (p .value) q → (m ≡ drop (at + k) s) × Reads d (drop (at + k) s) (p .value) q
+  value-at p m q x y = let a : m ≡ drop (at + k) s = sized-alike (drop at s) (p .key) m k (h .3) x ∙ drop-drop k at s in (a, subst (λ u. Reads d u (p .value) q) a y)
+
+  -- where the value isn't read, no pairs are due
+  pub fails-unread : length s - (at + k) < e → (ps : List (Pair Ends)) (r : List ℕ) → Due d mode count s ps r → ⊥
+  fails-unread l ps r x = go (w .trees ps r x .pairs) (w .trees ps r x .due)
+    where
+      go : (rs : List (Pair Ends)) → Due d mode n (drop at s) rs r → ⊥
+      go [] y = no-more r y
+      go (p ∷ rs) y =
+          let c = y .chain in
+          let b = ate d (drop (at + k) s) (p .value) (c .1) (value-at p (c .0) (c .1) (c .2) (c .3) .1) in
+          let f = faulty l in
+          let z : took (b .size) ≡ fault (f .number) = sym (b .ends-so) ∙ f .is in
+          let i : _≡_ {A = ℕ} 0 1 = cc in omega arith
 
   -- the pair that is read here
   pub record Entered (p : Pair Ends) : Type 0 where
@@ -157,24 +185,15 @@ module _ {S : Type 0} (f : S → Pair Ends → S) (d mode count : ℕ) (s : List
     pub further-on : at < at + k + e
     further-on = let a = due.takes-a-byte d (drop at s) k (h .3) in let b = due.takes-a-byte d (drop (at + k) s) e value-ends in omega arith
 
-    sized-alike : (u : List ℕ) (t : Node Ends) (r : List ℕ) (j : ℕ) → itemEnd d u ≡ took j → Reads d u t r → r ≡ drop j u
-    sized-alike u t r j q x =
-        let a = ate d u t r x in
-        let y : a .size ≡ j = let v : took (a .size) ≡ took j = sym (a .ends-so) ∙ q in cc in
-        a .is ∙ ap (λ i. drop i u) y
-
     turn-trees : (q : S) → ((p : Pair Ends) → Entered p → q ≡ f st p) → (ps : List (Pair Ends)) (r : List ℕ) → Due d mode count s ps r → Left f d mode (n - 2) (drop (at + k + e) s) q (foldl f z ps) r
     turn-trees q step ps r x = go (w .trees ps r x .pairs) (w .trees ps r x .due) (w .trees ps r x .same)
       where
-        no-more : Due d mode n (drop at s) [] r → ⊥
-        no-more y = ⊎-elim (λ m. let c = y .counted m in let g = h .0 in omega arith) (λ m. h .2 (ap (λ u. getD u 0 0) (y .chain) ∙ y .closed (omega arith))) (eq-or mode 0)
-
         go : (rs : List (Pair Ends)) → Due d mode n (drop at s) rs r → foldl f st rs ≡ foldl f z ps → Left f d mode (n - 2) (drop (at + k + e) s) q (foldl f z ps) r
-        go [] y same = absurd (no-more y)
+        go [] y same = absurd (no-more r y)
         go (p ∷ rs) y same =
             let c = y .chain in
-            let a : c .0 ≡ drop (at + k) s = sized-alike (drop at s) (p .key) (c .0) k (h .3) (c .2) ∙ drop-drop k at s in
-            let v : Reads d (drop (at + k) s) (p .value) (c .1) = subst (λ u. Reads d u (p .value) (c .1)) a (c .3) in
+            let a : c .0 ≡ drop (at + k) s = value-at p (c .0) (c .1) (c .2) (c .3) .0 in
+            let v : Reads d (drop (at + k) s) (p .value) (c .1) = value-at p (c .0) (c .1) (c .2) (c .3) .1 in
             let b : c .1 ≡ drop (at + k + e) s = sized-alike (drop (at + k) s) (p .value) (c .1) e value-ends v ∙ drop-drop e (at + k) s in
             let t : q ≡ f st p = step p (record { key = subst (λ u. Reads d (drop at s) (p .key) u) a (c .2); value = subst (λ u. Reads d (drop (at + k) s) (p .value) u) b v }) in
             record {

@@ -1,0 +1,7 @@
+pub mod Values
+pub mod Places
+pub mod Pieces
+pub mod Entries
+pub mod Sound
+pub mod Verdicts
+pub mod MapOrNot

@@ -1,0 +1,73 @@
+-- What stands at a place: absent, null, or an item that was asked about at the part from `at` on.
+use mathlib.Core.Path.{_≡_, refl, sym, ap, _∙_, subst}
+use mathlib.Core.List.{List}
+use mathlib.Core.Bool.{Bool, true, false}
+use mathlib.Core.Option.{Option, none, some}
+use Prim.Native.Nat.{ℕ, suc, _-_}
+use native.Mathlib.Omega.{arith}
+use lib.ListN.{length, drop}
+use borrow.Rule.Slice.PartAt.{part-to-end}
+use Rattle.meaning.specs.Tree.{Node}
+use Rattle.meaning.specs.Check.{optional}
+use Rattle.meaning.specs.Kind as kinds
+use Rattle.meaning.specs.Kind.{Kind, kind, aNumber, present, presentKind}
+use Rattle.walk.specs.Reading.{Ends, Reads}
+use Rattle.walk.specs.Places.{Whatever, isNull, NullIs, NumberIs}
+use Rattle.walk.specs.declared.Numeral.{Numeral}
+use Rattle.walk.specs.declared.Numeral.the-variants.{NoNumber, Number}
+use Rattle.fields.proofs.Texts.{Here}
+use Rattle.component.specs.declared.value.Fine.the-variants.{No as Bad, Yes as Good}
+use Rattle.component.specs.Value.{fine, AtPlace, AtMost}
+
+null-absent : (t : Node Ends) → isNull (kind t) ≡ true → present (some t) ≡ none
+unfolding present presentKind
+null-absent t = go (kind t)
+  where
+    go : (k : Kind Ends) → isNull k ≡ true → presentKind t k ≡ none
+    go (kinds.number n) e = absurd (let z : _≡_ {A = ℕ} 0 1 = cc in omega arith)
+    go (kinds.words w) e = absurd (let z : _≡_ {A = ℕ} 0 1 = cc in omega arith)
+    go (kinds.list l) e = absurd (let z : _≡_ {A = ℕ} 0 1 = cc in omega arith)
+    go (kinds.table l) e = absurd (let z : _≡_ {A = ℕ} 0 1 = cc in omega arith)
+    go kinds.null e = refl
+    go kinds.another e = absurd (let z : _≡_ {A = ℕ} 0 1 = cc in omega arith)
+
+other-present : (t : Node Ends) → isNull (kind t) ≡ false → present (some t) ≡ some t
+unfolding present presentKind
+other-present t = go (kind t)
+  where
+    go : (k : Kind Ends) → isNull k ≡ false → presentKind t k ≡ some t
+    go (kinds.number n) e = refl
+    go (kinds.words w) e = refl
+    go (kinds.list l) e = refl
+    go (kinds.table l) e = refl
+    go kinds.null e = absurd (let z : _≡_ {A = ℕ} 0 1 = cc in omega arith)
+    go kinds.another e = refl
+
+pub number-none : (s : List ℕ) (w : Numeral) → NumberIs s w → w ≡ NoNumber → Whatever s λ d t q. Bad 8 ≡ fine (optional aNumber (some t))
+number-none s w h e d t q r = let z = h d t q r in rw (z, e) refl
+
+pub number-some : (s : List ℕ) (w : Numeral) → NumberIs s w → (n : ℕ) → w ≡ Number n → Whatever s λ d t q. Good ≡ fine (optional aNumber (some t))
+number-some s w h n e d t q r = let z = h d t q r in rw (z, e) refl
+
+module _ (s : List ℕ) (left : ℕ) where
+  pub there : (at : ℕ) → at ≡ length s - left → (P : Node Ends → Type 0) → (Whatever (Here s at) λ d t q. P t) → AtPlace s left P
+  there at is P h d t x = h d t (x .rest) (subst (λ u. Reads (suc d) u t (x .rest)) (sym (part-to-end s at ∙ ap (λ (i : ℕ). drop i s) is)) (x .reads))
+
+  -- a check F of what may be absent answers r
+  module _ {R : Type 0} (F : Option (Node Ends) → R) (r : R) where
+    pub nothing-there : left ≡ 0 → r ≡ F none → AtMost s left (λ o. r ≡ F o)
+    nothing-there z e d none h = e
+    nothing-there z e d (some t) h = let x = h .0 in absurd (omega arith)
+
+    module _ (at : ℕ) (is : at ≡ length s - left) (here : left ≡ 0 → ⊥) where
+      pub something-there : (Whatever (Here s at) λ d t q. r ≡ F (some t)) → AtMost s left (λ o. r ≡ F o)
+      something-there h d none e = absurd (here e)
+      something-there h d (some t) x = there at is (λ t. r ≡ F (some t)) h d t (x .1)
+
+  -- where null counts as absent
+  module _ {R : Type 0} (F : Option (Node Ends) → R) (r : R) (at : ℕ) (is : at ≡ length s - left) (here : left ≡ 0 → ⊥) (b : Bool) (asked : NullIs (Here s at) b) where
+    pub null-there : b ≡ true → r ≡ F none → AtMost s left (λ o. r ≡ F (present o))
+    null-there e f = something-there (λ o. F (present o)) r at is here (λ d t q x. f ∙ ap F (sym (null-absent t (asked d t q x ∙ e))))
+
+    pub item-there : b ≡ false → (Whatever (Here s at) λ d t q. r ≡ F (some t)) → AtMost s left (λ o. r ≡ F (present o))
+    item-there e h = something-there (λ o. F (present o)) r at is here (λ d t q x. h d t q x ∙ ap F (sym (other-present t (asked d t q x ∙ e))))

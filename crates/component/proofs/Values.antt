@@ -1,0 +1,86 @@
+-- The texts of a component, a branch each: l is what `walk::text` answered for s, lent whole.
+use mathlib.Core.Path.{_≡_, refl}
+use mathlib.Core.List.{List}
+use mathlib.Core.Bool.{Bool, true, false}
+use Prim.Native.Nat.{ℕ, _<_, _≤_}
+use native.Mathlib.Omega.{arith}
+use lib.ListN.{length}
+use Rattle.meaning.specs.Text.{ascii, same, utf8}
+use Rattle.meaning.specs.Kind.{aText}
+use Rattle.meaning.specs.Types.{fitsOver, listed, logicals}
+use Rattle.meaning.specs.Judge.{codeOr, aDtype, aType, raw}
+use Rattle.types.specs.Known.{dtypeCode}
+use Rattle.types.proofs.Codes.{dtype-known, dtype-none, dtype-most}
+use Rattle.walk.specs.Places.{TextIs as Lettered}
+use Rattle.walk.specs.declared.Letters.{Letters}
+use Rattle.walk.specs.declared.Letters.the-variants.{NoText, Text}
+use Rattle.fields.proofs.Texts.{Here, no-word, word, letters}
+use Rattle.component.specs.declared.value.Coded.the-variants.{No as NoCode, Yes as Code}
+use Rattle.component.specs.declared.value.Fine.the-variants.{No as Bad, Yes as Good}
+use Rattle.component.specs.declared.value.Spot.the-variants.{No as NoSpot, Yes as At}
+use Rattle.component.specs.Value.{DtypeIs, RawIs, TextIs, TypeIs}
+
+module _ (s : List ℕ) (l : Letters) (h : Lettered (Here s 0) l) where
+  module _ (e : l ≡ NoText) where
+    pub dtype-kind : DtypeIs s (NoCode 8)
+    unfolding aDtype
+    dtype-kind d t q r = rw (no-word s l h e d t q r) refl
+
+    pub raw-kind : RawIs s (Bad 8)
+    unfolding raw
+    raw-kind d t q r = rw (no-word s l h e d t q r) refl
+
+    pub text-kind : TextIs s (NoSpot 8)
+    unfolding aText
+    text-kind d t q r = rw (no-word s l h e d t q r) refl
+
+    pub type-kind : (code : ℕ) → TypeIs s code (NoSpot 8)
+    unfolding aType aText
+    type-kind code d t q r = rw (no-word s l h e d t q r) refl
+
+  module _ (at n : ℕ) (e : l ≡ Text at n) where
+    abbrev spelled : List ℕ
+    spelled = letters s l h at n e
+
+    module _ (code : ℕ) (is : code ≡ dtypeCode spelled) where
+      pub dtype-some : code < 13 → DtypeIs s (Code code)
+      unfolding aDtype codeOr
+      dtype-some k d t q r = rw (word s l h at n e d t q r) (rw (dtype-known spelled code is k) refl)
+
+      pub dtype-other : 13 ≤ code → DtypeIs s (NoCode 16)
+      unfolding aDtype codeOr
+      dtype-other k d t q r =
+          let m = dtype-most spelled in let z : 13 ≡ dtypeCode spelled = omega arith in
+          rw (word s l h at n e d t q r) (rw (dtype-none spelled z) refl)
+
+    module _ (b : Bool) (is : b ≡ same (ascii "raw") spelled) where
+      pub raw-some : b ≡ true → RawIs s Good
+      unfolding raw
+      raw-some y d t q r = rw (word s l h at n e d t q r) (rw (← is, y) refl)
+
+      pub raw-other : b ≡ false → RawIs s (Bad 17)
+      unfolding raw
+      raw-other y d t q r = rw (word s l h at n e d t q r) (rw (← is, y) refl)
+
+    module _ (b : Bool) (is : b ≡ utf8 spelled) where
+      pub text-some : b ≡ true → TextIs s (At (length s))
+      unfolding aText
+      text-some y d t q r = rw (word s l h at n e d t q r) (rw (← is, y) refl)
+
+      pub text-other : b ≡ false → TextIs s (NoSpot 10)
+      unfolding aText
+      text-other y d t q r = rw (word s l h at n e d t q r) (rw (← is, y) refl)
+
+      module _ (code : ℕ) where
+        pub type-text : b ≡ false → TypeIs s code (NoSpot 10)
+        unfolding aType aText
+        type-text y d t q r = rw (word s l h at n e d t q r) (rw (← is, y) refl)
+
+        module _ (y : b ≡ true) (a : Bool) (fits : a ≡ fitsOver code (listed logicals spelled)) where
+          pub type-some : a ≡ true → TypeIs s code (At (length s))
+          unfolding aType aText
+          type-some z d t q r = rw (word s l h at n e d t q r) (rw (← is, y) (rw (← fits, z) refl))
+
+          pub type-other : a ≡ false → TypeIs s code (NoSpot 18)
+          unfolding aType aText
+          type-other z d t q r = rw (word s l h at n e d t q r) (rw (← is, y) (rw (← fits, z) refl))

@@ -1,0 +1,19 @@
+-- `component::place::number_at` meets its contract: a law for each branch.
+use mathlib.Core.Path.{_≡_}
+use Rattle.walk.specs.Places.{numeral}
+use Rattle.meaning.specs.Kind.{aNumber}
+use Rattle.component.proofs.Places as places
+use borrow.Author.Needs.{needs}
+use Rattle.component.proofs.place.number_at.Statement.{statement}
+use Rattle.component.proofs.place.number_at.Tie as tie
+
+pub number-at-spec : {M : Type 1} → statement M
+number-at-spec =
+    tie.close
+    (tie.spec
+    (λ c κs. search needs)
+    (λ c. search needs)
+    (λ c. search needs)
+    (λ c. search needs)
+    (λ c κs. search needs)
+    (λ c. places.there (c .before .before .before .before .args .s .now) (c .before .before .before .before .args .left) _ (c .before .before .place-of .ensures) (λ t. aNumber t ≡ numeral (c .number .result)) (c .number .ensures)))

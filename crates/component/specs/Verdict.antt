@@ -1,0 +1,143 @@
+-- A component's judgement in pieces, one for each function, and what the whole walk answers.
+use Prim.Native.Nat.{ℕ, suc}
+use mathlib.Core.List.{List}
+use mathlib.Core.Bool.{cond}
+use mathlib.Core.Option.{Option}
+use mathlib.Core.Path.{_≡_}
+use lib.ListN.{getD, replicate}
+use lib.Dec.{eqb}
+use Rattle.meaning.specs.Tree.{Node, Pair}
+use Rattle.meaning.specs.Check.{Check, pass, refuse, _>>=_, _>>_, optional}
+use Rattle.meaning.specs.Refusal.{KEY, TWICE, MISSING}
+use Rattle.meaning.specs.Model.{Word, Component}
+use Rattle.meaning.specs.Kind.{kind, table, aNumber, aText, present}
+use Rattle.meaning.specs.Field.{componentNames}
+use Rattle.meaning.specs.Judge.{aDtype, aType, raw, component}
+use Rattle.lengths.specs.Place.{placed}
+use Rattle.walk.specs.Reading.{Ends, Reads, Chain, Due, foldl}
+use Rattle.fields.specs.Slots.{marks, Stands, Holds}
+use Rattle.component.specs.declared.Judged.{Judged}
+use Rattle.component.specs.declared.Judged.the-variants.{No, Yes}
+use Rattle.component.specs.declared.judge.Stored.{Stored}
+use Rattle.component.specs.declared.judge.Stored.the-variants.{No as NoStorage, Yes as Storage}
+use Rattle.component.specs.declared.judge.Stretch.{Stretch}
+use Rattle.component.specs.declared.judge.Stretch.the-variants.{No as NoExtent, Yes as Reaching}
+use Rattle.component.specs.declared.value.Fine.{Fine}
+use Rattle.component.specs.declared.value.Fine.the-variants.{No as Bad, Yes as Good}
+use Rattle.component.specs.declared.value.Spot.{Spot}
+use Rattle.component.specs.Value.{leftWord, spot}
+
+-- the slots p after pairs that are due at s, from the slots z
+abbrev pub Placed : ℕ → ℕ → List ℕ → List ℕ → List ℕ → Type 0
+Placed mode count s z p = (ps : List (Pair Ends)) (r : List ℕ) → Due 27 mode count s ps r → p ≡ foldl (marks componentNames) z ps
+
+-- keys, repeats, missing fields: what the slots say
+unfoldable pub known : List ℕ → Fine
+known p =
+    cond (eqb (getD p 8 0) 0)
+    (cond (eqb (getD p 9 0) 0)
+    (cond (eqb (getD p 0 0) 0) (Bad MISSING)
+    (cond (eqb (getD p 2 0) 0) (Bad MISSING)
+    (cond (eqb (getD p 3 0) 0) (Bad MISSING) Good)))
+    (Bad TWICE))
+    (Bad KEY)
+
+-- ---------------------------------------------------------------- dtype and type
+
+pub record Kept : Type 0 where
+  pub dtype : ℕ
+  pub type : Option (Word Ends)
+
+unfoldable pub storage : Node Ends → Option (Node Ends) → Check Kept
+storage dtype type = do
+  d ← aDtype dtype
+  t ← optional (aType d) (present type)
+  pass (record { dtype = d; type = t })
+
+abbrev pub stored : Check Kept → Stored
+stored (pass k) = Storage (k .dtype) (leftWord (k .type))
+stored (refuse n o c) = NoStorage n
+
+abbrev pub StorageAt : List ℕ → ℕ → ℕ → Stored → Type 0
+StorageAt s a b r = (d : ℕ) (x : Node Ends) (y : Option (Node Ends)) → Stands (suc d) s a x → Holds (suc d) s b y → r ≡ stored (storage x y)
+
+-- ---------------------------------------------------------------- offset and length
+
+pub record Reach : Type 0 where
+  pub offset : ℕ
+  pub length : ℕ
+
+unfoldable pub extent : Node Ends → Node Ends → Check Reach
+extent offset length = do
+  o ← aNumber offset
+  l ← aNumber length
+  pass (record { offset = o; length = l })
+
+abbrev pub reached : Check Reach → Stretch
+reached (pass x) = Reaching (x .offset) (x .length)
+reached (refuse n o c) = NoExtent n
+
+abbrev pub ExtentAt : List ℕ → ℕ → ℕ → Stretch → Type 0
+ExtentAt s a b r = (d : ℕ) (x y : Node Ends) → Stands (suc d) s a x → Stands (suc d) s b y → r ≡ reached (extent x y)
+
+-- ---------------------------------------------------------------- uncompressed length, encoding, digest
+
+unfoldable pub extras : Option (Node Ends) → Option (Node Ends) → Option (Node Ends) → Check (Option (Word Ends))
+extras unpacked encoding digest = do
+  optional aNumber (present unpacked)
+  optional raw encoding
+  optional aText (present digest)
+
+abbrev pub ExtrasAt : List ℕ → ℕ → ℕ → ℕ → Spot → Type 0
+ExtrasAt s a b c r = (d : ℕ) (u e g : Option (Node Ends)) → Holds (suc d) s a u → Holds (suc d) s b e → Holds (suc d) s c g → r ≡ spot (extras u e g)
+
+-- ---------------------------------------------------------------- the whole
+
+abbrev pub judged : Check (Component Ends) → Judged
+judged (pass c) = Yes (c .dtype) (leftWord (c .type)) (c .offset) (c .length) (leftWord (c .digest))
+judged (refuse n o c) = No n
+
+abbrev pub unlessNo : Check (Unit {0}) → Judged → Judged
+unlessNo (pass a) r = r
+unlessNo (refuse n o c) r = No n
+
+abbrev pub placedAt : ℕ → ℕ → ℕ → ℕ → ℕ → ℕ → Judged
+placedAt start code t o l g = unlessNo (placed start o l) (Yes code t o l g)
+
+-- the fields of a component that has all it needs, and where they stand
+pub record Fields : Type 0 where
+  pub dtype : Node Ends
+  pub type : Option (Node Ends)
+  pub offset : Node Ends
+  pub length : Node Ends
+  pub unpacked : Option (Node Ends)
+  pub encoding : Option (Node Ends)
+  pub digest : Option (Node Ends)
+
+pub record Found (d : ℕ) (s p : List ℕ) (f : Fields) : Type 0 where
+  pub dtype : Stands (suc d) s (getD p 0 0) (f .dtype)
+  pub type : Holds (suc d) s (getD p 1 0) (f .type)
+  pub offset : Stands (suc d) s (getD p 2 0) (f .offset)
+  pub length : Stands (suc d) s (getD p 3 0) (f .length)
+  pub unpacked : Holds (suc d) s (getD p 4 0) (f .unpacked)
+  pub encoding : Holds (suc d) s (getD p 5 0) (f .encoding)
+  pub digest : Holds (suc d) s (getD p 6 0) (f .digest)
+
+unfoldable pub sound : ℕ → Word Ends → Fields → Check (Component Ends)
+sound start n f = do
+  k ← storage (f .dtype) (f .type)
+  x ← extent (f .offset) (f .length)
+  g ← extras (f .unpacked) (f .encoding) (f .digest)
+  placed start (x .offset) (x .length)
+  pass (record { name = n; dtype = k .dtype; type = k .type; offset = x .offset; length = x .length; digest = g })
+
+abbrev pub SoundIs : List ℕ → ℕ → List ℕ → Judged → Type 0
+SoundIs s start p r = (d : ℕ) (f : Fields) → Found d s p f → (n : Word Ends) → r ≡ judged (sound start n f)
+
+-- for every map of the pairs that are read from s on, where p holds their slots
+abbrev pub VerdictIs : List ℕ → ℕ → List ℕ → Judged → Type 0
+VerdictIs s start p r = (d : ℕ) (ps : List (Pair Ends)) (q : List ℕ) → Chain (suc d) s ps q → p ≡ foldl (marks componentNames) (replicate 10 0) ps
+    → (t : Node Ends) → kind t ≡ table ps → (n : Word Ends) → r ≡ judged (component start (record { name = n; value = t }))
+
+abbrev pub ComponentIs : List ℕ → ℕ → Judged → Type 0
+ComponentIs s start r = (t : Node Ends) (q : List ℕ) → Reads 28 s t q → (n : Word Ends) → r ≡ judged (component start (record { name = n; value = t }))

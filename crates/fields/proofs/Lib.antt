@@ -1,0 +1,4 @@
+pub mod Marking
+pub mod Marks
+pub mod Standing
+pub mod Texts

@@ -1,0 +1,73 @@
+-- The whole text that begins s, as `walk::text` answers it for s lent whole: for every tree that is read there, and for the slot of a key.
+use mathlib.Core.Path.{_≡_, refl, ap, _∙_, subst}
+use mathlib.Core.List.{List}
+use mathlib.Core.Option.{none, some}
+use Prim.Native.Nat.{ℕ, suc, _+_, _-_, _≤_}
+use native.Mathlib.Omega.{arith}
+use lib.ListN.{length, take, drop}
+use borrow.Rule.Slice.PartAt.{part-to-end}
+use Rattle.meaning.specs.Check.{pass, fault}
+use Rattle.meaning.specs.Refusal.{KIND}
+use Rattle.meaning.specs.Model.{Word}
+use Rattle.meaning.specs.Kind as kinds
+use Rattle.meaning.specs.Kind.{Kind, kind}
+use Rattle.meaning.specs.Field.{keyKind}
+use Rattle.types.specs.Known.{position}
+use Rattle.types.proofs.Codes.{position-most}
+use Rattle.walk.specs.Reading.{Ends, ends}
+use Rattle.walk.specs.Places.{Whatever, textAt, TextIs, Inside}
+use Rattle.walk.specs.declared.Letters.{Letters}
+use Rattle.walk.specs.declared.Letters.the-variants.{NoText, Text}
+use Rattle.fields.specs.Slots.{slotOf, SlotIs}
+
+-- the part of s from `at` on, as it is lent
+abbrev pub Here : List ℕ → ℕ → List ℕ
+Here s at = take (length s - at) (drop at s)
+
+no-key : (k : Kind Ends) → kinds.asWord k ≡ fault KIND → keyKind k ≡ none
+unfolding kinds.asWord keyKind
+no-key (kinds.number n) e = refl
+no-key (kinds.words w) e = absurd (let z : _≡_ {A = ℕ} 0 1 = cc in omega arith)
+no-key (kinds.list l) e = refl
+no-key (kinds.table l) e = refl
+no-key kinds.null e = refl
+no-key kinds.another e = refl
+
+key-is : (k : Kind Ends) (w : Word Ends) → kinds.asWord k ≡ pass w → keyKind k ≡ some (w .letters)
+unfolding kinds.asWord keyKind
+key-is (kinds.number n) w e = absurd (let z : _≡_ {A = ℕ} 0 1 = cc in omega arith)
+key-is (kinds.words v) w e = let z : v ≡ w = cc in ap (λ (u : Word Ends). some (u .letters)) z
+key-is (kinds.list l) w e = absurd (let z : _≡_ {A = ℕ} 0 1 = cc in omega arith)
+key-is (kinds.table l) w e = absurd (let z : _≡_ {A = ℕ} 0 1 = cc in omega arith)
+key-is kinds.null w e = absurd (let z : _≡_ {A = ℕ} 0 1 = cc in omega arith)
+key-is kinds.another w e = absurd (let z : _≡_ {A = ℕ} 0 1 = cc in omega arith)
+
+module _ (s : List ℕ) (l : Letters) where
+  pub letters-in : Inside (Here s 0) l → (at n : ℕ) → l ≡ Text at n → at + n ≤ length s
+  letters-in h at n e = rw (part-to-end s 0) at (rw e at h)
+
+  module _ (h : TextIs (Here s 0) l) where
+    whole : TextIs s l
+    whole = subst (λ u. TextIs u l) (part-to-end s 0) h
+
+    module _ (e : l ≡ NoText) where
+      pub no-word : Whatever s λ d t r. kinds.aWord t ≡ fault KIND
+      no-word d t r q = whole d t r q ∙ ap (textAt s r) e
+
+      pub slot-odd : (names : List (List ℕ)) → SlotIs names s (suc (length names))
+      unfolding slotOf kinds.aWord
+      slot-odd names d t r q = rw (no-key (kind t) (no-word d t r q)) refl
+
+    module _ (at n : ℕ) (e : l ≡ Text at n) where
+      -- its letters, as they are lent
+      abbrev pub letters : List ℕ
+      letters = take (at + n - at) (drop at s)
+
+      pub word : Whatever s λ d t r. kinds.aWord t ≡ pass (record { note = ends s r; letters = letters })
+      word d t r q =
+          let z : n ≡ at + n - at = omega arith in
+          whole d t r q ∙ ap (textAt s r) e ∙ ap (λ (i : ℕ). pass (record { note = ends s r; letters = take i (drop at s) })) z
+
+      pub slot-known : (names : List (List ℕ)) (k : ℕ) → k ≡ position names letters → (k ≤ suc (length names)) × SlotIs names s k
+      unfolding slotOf kinds.aWord
+      slot-known names k is = (omega (arith, position-most names letters), λ d t r q. rw (key-is (kind t) _ (word d t r q)) is)

@@ -1,0 +1,42 @@
+-- Slots for the fields of a map: the known names in order, then an unknown name, a key that isn't whole text, a known name again. Each holds the bytes left at a value.
+use Prim.Native.Nat.{ℕ, suc, _+_, _-_, _≤_, _<_}
+use mathlib.Core.List.{List}
+use mathlib.Core.Bool.{cond}
+use mathlib.Core.Option.{Option, none, some}
+use mathlib.Core.Path.{_≡_}
+use lib.ListN.{length, getD, drop, set}
+use lib.Dec.{ltb, eqb}
+use Rattle.meaning.specs.Tree.{Node, Pair, noteOf}
+use Rattle.meaning.specs.Kind.{kind}
+use Rattle.meaning.specs.Field.{keyKind, keyOf}
+use Rattle.types.specs.Known.{position}
+use Rattle.walk.specs.Reading.{Ends, Reads, leftAt}
+use Rattle.walk.specs.Places.{Whatever}
+
+unfoldable pub slotOf : List (List ℕ) → Option (List ℕ) → ℕ
+slotOf names none = suc (length names)
+slotOf names (some k) = position names k
+
+-- the slots p after a value at slot k with `left` bytes left
+unfoldable pub marked : ℕ → List ℕ → ℕ → ℕ → List ℕ
+marked known p k left = cond (ltb k known) (cond (eqb (getD p k 0) 0) (set p k left) (set p (known + 2) left)) (set p k left)
+
+-- the slots p after a pair
+unfoldable pub marks : List (List ℕ) → List ℕ → Pair Ends → List ℕ
+marks names p q = marked (length names) p (slotOf names (keyOf q)) (leftAt (some (q .value)))
+
+-- k is the slot of the key that begins s
+abbrev pub SlotIs : List (List ℕ) → List ℕ → ℕ → Type 0
+SlotIs names s k = Whatever s λ d t r. k ≡ slotOf names (keyKind (kind t))
+
+-- the item t is read at the part of s where `left` bytes are left
+pub record Stands (d : ℕ) (s : List ℕ) (left : ℕ) (t : Node Ends) : Type 0 where
+  pub rest : List ℕ
+  pub within : left ≤ length s
+  pub left-is : left ≡ length (noteOf t .start)
+  pub reads : Reads d (drop (length s - left) s) t rest
+
+-- what stands at a place that may be none
+abbrev pub Holds : ℕ → List ℕ → ℕ → Option (Node Ends) → Type 0
+Holds d s left none = left ≡ 0
+Holds d s left (some t) = (0 < left) × Stands d s left t
