@@ -282,7 +282,7 @@ fn place() {
     for _ in 0..ROUNDS {
         let aligned = number(&mut rng) & !63;
         let offset = match rng.index(4) {
-            0 => near(&mut rng, aligned),
+            0 => aligned ^ 1 << rng.below(7),
             _ => aligned,
         };
         let length = number(&mut rng);
