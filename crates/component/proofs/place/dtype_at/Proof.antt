@@ -16,4 +16,4 @@ dtype-at-spec =
     (λ c. search needs)
     (λ c. search needs)
     (λ c κs. search needs)
-    (λ c. places.there (c .before .before .before .before .args .s .now) (c .before .before .before .before .args .left) _ (c .before .before .place-of .ensures) (λ t. _ ≡ coded (aDtype t)) (c .dtype-of .ensures)))
+    (λ c. places.there (c .before .before .before .before .args .s .now) (c .before .before .before .before .args .left) _ (c .before .before .place-of .ensures) (λ t. aDtype t ≡ coded (c .dtype-of .result)) (c .dtype-of .ensures)))
