@@ -1,10 +1,10 @@
 -- What is said of one field of a component, in the words of meaning's checks: of the item that begins some bytes, and of what stands at a place that may be none.
-use Prim.Native.Nat.{ℕ, suc}
+use Prim.Native.Nat.{ℕ}
 use mathlib.Core.List.{List}
 use mathlib.Core.Option.{Option, none, some}
 use mathlib.Core.Path.{_≡_}
 use lib.ListN.{length}
-use Rattle.meaning.specs.Tree.{Node, nothing}
+use Rattle.meaning.specs.Tree.{nothing}
 use Rattle.meaning.specs.Check.{Check, pass, fault, optional}
 use Rattle.meaning.specs.Notes.{mapCheck}
 use Rattle.meaning.specs.Model.{Word}
@@ -13,7 +13,7 @@ use Rattle.meaning.specs.Judge.{aDtype, aType, raw}
 use Rattle.walk.specs.Reading.{Ends}
 use Rattle.walk.specs.Places.{Whatever, numeral}
 use Rattle.walk.specs.declared.Numeral.{Numeral}
-use Rattle.fields.specs.Slots.{Stands, Holds}
+use Rattle.fields.specs.Slots.{ItemAt, OptionAt}
 use Rattle.component.specs.declared.value.Coded.{Coded}
 use Rattle.component.specs.declared.value.Coded.the-variants.{No as NoCode, Yes as Code}
 use Rattle.component.specs.declared.value.Fine.{Fine}
@@ -60,12 +60,6 @@ abbrev pub TypeIs : List ℕ → ℕ → Spot → Type 0
 TypeIs s code r = Whatever s λ d t q. placeOf (optional (aType code) (some t)) ≡ spot r
 
 -- ---------------------------------------------------------------- what stands at a place
-
-abbrev pub ItemAt : List ℕ → ℕ → (Node Ends → Type 0) → Type 0
-ItemAt s left P = (d : ℕ) (t : Node Ends) → Stands (suc d) s left t → P t
-
-abbrev pub OptionAt : List ℕ → ℕ → (Option (Node Ends) → Type 0) → Type 0
-OptionAt s left P = (d : ℕ) (o : Option (Node Ends)) → Holds (suc d) s left o → P o
 
 abbrev pub DtypeAt : List ℕ → ℕ → Coded → Type 0
 DtypeAt s left r = ItemAt s left λ t. aDtype t ≡ coded r

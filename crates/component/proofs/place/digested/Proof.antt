@@ -3,7 +3,7 @@ use mathlib.Core.Path.{refl}
 use Rattle.meaning.specs.Kind.{aText, present}
 use Rattle.meaning.specs.Check.{optional}
 use Rattle.component.specs.Value.{placeOf}
-use Rattle.component.proofs.Places as places
+use Rattle.fields.proofs.Places as places
 use borrow.Author.Needs.{needs}
 use Rattle.component.proofs.place.digested.Statement.{statement}
 use Rattle.component.proofs.place.digested.Tie as tie

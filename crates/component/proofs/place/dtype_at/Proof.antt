@@ -2,7 +2,7 @@
 use mathlib.Core.Path.{_≡_}
 use Rattle.meaning.specs.Judge.{aDtype}
 use Rattle.component.specs.Value.{coded}
-use Rattle.component.proofs.Places as places
+use Rattle.fields.proofs.Places as places
 use borrow.Author.Needs.{needs}
 use Rattle.component.proofs.place.dtype_at.Statement.{statement}
 use Rattle.component.proofs.place.dtype_at.Tie as tie

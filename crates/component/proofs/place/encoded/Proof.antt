@@ -3,7 +3,7 @@ use mathlib.Core.Path.{refl}
 use Rattle.meaning.specs.Judge.{raw}
 use Rattle.meaning.specs.Check.{optional}
 use Rattle.component.specs.Value.{passes}
-use Rattle.component.proofs.Places as places
+use Rattle.fields.proofs.Places as places
 use borrow.Author.Needs.{needs}
 use Rattle.component.proofs.place.encoded.Statement.{statement}
 use Rattle.component.proofs.place.encoded.Tie as tie

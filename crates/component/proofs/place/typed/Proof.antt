@@ -4,7 +4,7 @@ use Rattle.meaning.specs.Judge.{aType}
 use Rattle.meaning.specs.Kind.{present}
 use Rattle.meaning.specs.Check.{optional}
 use Rattle.component.specs.Value.{placeOf}
-use Rattle.component.proofs.Places as places
+use Rattle.fields.proofs.Places as places
 use borrow.Author.Needs.{needs}
 use Rattle.component.proofs.place.typed.Statement.{statement}
 use Rattle.component.proofs.place.typed.Tie as tie

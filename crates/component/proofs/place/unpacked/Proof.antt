@@ -3,7 +3,8 @@ use mathlib.Core.Path.{refl}
 use Rattle.meaning.specs.Kind.{aNumber, present}
 use Rattle.meaning.specs.Check.{optional}
 use Rattle.component.specs.Value.{passes}
-use Rattle.component.proofs.Places as places
+use Rattle.fields.proofs.Places as places
+use Rattle.component.proofs.Values as values
 use borrow.Author.Needs.{needs}
 use Rattle.component.proofs.place.unpacked.Statement.{statement}
 use Rattle.component.proofs.place.unpacked.Tie as tie
@@ -25,5 +26,5 @@ unpacked-spec =
     (λ c κs. search needs)
     (λ c. search needs)
     (λ c. search needs)
-    (λ c. places.item-there (c .before .before .before .before .before .before .before .before .before .before .args .s .now) (c .before .before .before .before .before .before .before .before .before .before .args .left) (λ o. passes (optional aNumber o)) _ _ (c .before .before .before .before .before .before .before .place-of .ensures) (c .before .before .before .before .before .before .before .before .if1 .left) _ (c .before .before .before .before .before .null .ensures) (c .before .before .before .before .if2 .left) (places.number-none _ _ (c .before .before .number .ensures) (c .enum-told .given .1)))
-    (λ c. places.item-there (c .before .before .before .before .before .before .before .before .before .before .args .s .now) (c .before .before .before .before .before .before .before .before .before .before .args .left) (λ o. passes (optional aNumber o)) _ _ (c .before .before .before .before .before .before .before .place-of .ensures) (c .before .before .before .before .before .before .before .before .if1 .left) _ (c .before .before .before .before .before .null .ensures) (c .before .before .before .before .if2 .left) (places.number-some _ _ (c .before .before .number .ensures) _ (c .enum-told2 .given .1))))
+    (λ c. places.item-there (c .before .before .before .before .before .before .before .before .before .before .args .s .now) (c .before .before .before .before .before .before .before .before .before .before .args .left) (λ o. passes (optional aNumber o)) _ _ (c .before .before .before .before .before .before .before .place-of .ensures) (c .before .before .before .before .before .before .before .before .if1 .left) _ (c .before .before .before .before .before .null .ensures) (c .before .before .before .before .if2 .left) (values.number-none _ _ (c .before .before .number .ensures) (c .enum-told .given .1)))
+    (λ c. places.item-there (c .before .before .before .before .before .before .before .before .before .before .args .s .now) (c .before .before .before .before .before .before .before .before .before .before .args .left) (λ o. passes (optional aNumber o)) _ _ (c .before .before .before .before .before .before .before .place-of .ensures) (c .before .before .before .before .before .before .before .before .if1 .left) _ (c .before .before .before .before .before .null .ensures) (c .before .before .before .before .if2 .left) (values.number-some _ _ (c .before .before .number .ensures) _ (c .enum-told2 .given .1))))

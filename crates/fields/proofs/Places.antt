@@ -8,16 +8,12 @@ use native.Mathlib.Omega.{arith}
 use lib.ListN.{length, drop}
 use borrow.Rule.Slice.PartAt.{part-to-end}
 use Rattle.meaning.specs.Tree.{Node}
-use Rattle.meaning.specs.Check.{optional}
 use Rattle.meaning.specs.Kind as kinds
-use Rattle.meaning.specs.Kind.{Kind, kind, aNumber, present, presentKind}
+use Rattle.meaning.specs.Kind.{Kind, kind, present, presentKind}
 use Rattle.walk.specs.Reading.{Ends, Reads}
-use Rattle.walk.specs.Places.{Whatever, isNull, NullIs, NumberIs}
-use Rattle.walk.specs.declared.Numeral.{Numeral}
-use Rattle.walk.specs.declared.Numeral.the-variants.{NoNumber, Number}
+use Rattle.walk.specs.Places.{Whatever, isNull, NullIs}
 use Rattle.fields.proofs.Texts.{Here}
-use Rattle.component.specs.declared.value.Fine.the-variants.{No as Bad, Yes as Good}
-use Rattle.component.specs.Value.{passes, fine, ItemAt, OptionAt}
+use Rattle.fields.specs.Slots.{ItemAt, OptionAt}
 
 null-absent : (t : Node Ends) → isNull (kind t) ≡ true → present (some t) ≡ none
 unfolding present presentKind
@@ -42,12 +38,6 @@ other-present t = go (kind t)
     go (kinds.table l) e = refl
     go kinds.null e = absurd (let z : _≡_ {A = ℕ} 0 1 = cc in omega arith)
     go kinds.another e = refl
-
-pub number-none : (s : List ℕ) (w : Numeral) → NumberIs s w → w ≡ NoNumber → Whatever s λ d t q. passes (optional aNumber (some t)) ≡ fine (Bad 8)
-number-none s w h e d t q r = let z = h d t q r in rw (z, e) refl
-
-pub number-some : (s : List ℕ) (w : Numeral) → NumberIs s w → (n : ℕ) → w ≡ Number n → Whatever s λ d t q. passes (optional aNumber (some t)) ≡ fine Good
-number-some s w h n e d t q r = let z = h d t q r in rw (z, e) refl
 
 module _ (s : List ℕ) (left : ℕ) where
   pub there : (at : ℕ) → at ≡ length s - left → (P : Node Ends → Type 0) → (Whatever (Here s at) λ d t q. P t) → ItemAt s left P
