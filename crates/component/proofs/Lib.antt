@@ -1,5 +1,4 @@
 pub mod Values
-pub mod Places
 pub mod Pieces
 pub mod Entries
 pub mod Sound

@@ -1,24 +1,28 @@
--- The texts of a component, a branch each: l is what `walk::text` answered for s, lent whole.
+-- The values of a component, a branch each: l is what `walk::text` answered for s, lent whole.
 use mathlib.Core.Path.{_≡_, refl}
 use mathlib.Core.List.{List}
+use mathlib.Core.Option.{some}
 use mathlib.Core.Bool.{Bool, true, false}
 use Prim.Native.Nat.{ℕ, _<_, _≤_}
 use native.Mathlib.Omega.{arith}
 use lib.ListN.{length}
 use Rattle.meaning.specs.Text.{ascii, same, utf8}
-use Rattle.meaning.specs.Kind.{aText}
+use Rattle.meaning.specs.Kind.{aNumber, aText}
+use Rattle.meaning.specs.Check.{optional}
 use Rattle.meaning.specs.Types.{fitsOver, listed, logicals}
 use Rattle.meaning.specs.Judge.{codeOr, aDtype, aType, raw}
 use Rattle.types.specs.Known.{dtypeCode}
 use Rattle.types.proofs.Codes.{dtype-known, dtype-none, dtype-most}
-use Rattle.walk.specs.Places.{TextIs as Lettered}
+use Rattle.walk.specs.Places.{Whatever, TextIs as Lettered, NumberIs}
+use Rattle.walk.specs.declared.Numeral.{Numeral}
+use Rattle.walk.specs.declared.Numeral.the-variants.{NoNumber, Number}
 use Rattle.walk.specs.declared.Letters.{Letters}
 use Rattle.walk.specs.declared.Letters.the-variants.{NoText, Text}
 use Rattle.fields.proofs.Texts.{Here, no-word, word, letters}
 use Rattle.component.specs.declared.value.Coded.the-variants.{No as NoCode, Yes as Code}
 use Rattle.component.specs.declared.value.Fine.the-variants.{No as Bad, Yes as Good}
 use Rattle.component.specs.declared.value.Spot.the-variants.{No as NoSpot, Yes as At}
-use Rattle.component.specs.Value.{DtypeIs, RawIs, TextIs, TypeIs}
+use Rattle.component.specs.Value.{passes, fine, DtypeIs, RawIs, TextIs, TypeIs}
 
 module _ (s : List ℕ) (l : Letters) (h : Lettered (Here s 0) l) where
   module _ (e : l ≡ NoText) where
@@ -84,3 +88,11 @@ module _ (s : List ℕ) (l : Letters) (h : Lettered (Here s 0) l) where
           pub type-other : a ≡ false → TypeIs s code (NoSpot 18)
           unfolding aType aText
           type-other z d t q r = rw (word s l h at n e d t q r) (rw (← is, y) (rw (← fits, z) refl))
+
+-- ---------------------------------------------------------------- the uncompressed length, of any value
+
+pub number-none : (s : List ℕ) (w : Numeral) → NumberIs s w → w ≡ NoNumber → Whatever s λ d t q. passes (optional aNumber (some t)) ≡ fine (Bad 8)
+number-none s w h e d t q r = let z = h d t q r in rw (z, e) refl
+
+pub number-some : (s : List ℕ) (w : Numeral) → NumberIs s w → (n : ℕ) → w ≡ Number n → Whatever s λ d t q. passes (optional aNumber (some t)) ≡ fine Good
+number-some s w h n e d t q r = let z = h d t q r in rw (z, e) refl

@@ -22,8 +22,8 @@ use Rattle.meaning.specs.Judge as judge
 use Rattle.types.specs.Known.{position}
 use Rattle.lengths.specs.Place.{placed}
 use Rattle.walk.specs.Reading.{Ends, Chain, foldl}
-use Rattle.fields.specs.Slots.{marks, Stands, Holds}
-use Rattle.fields.proofs.Standing.{keys-are-text, none-twice, field-stands}
+use Rattle.fields.specs.Slots.{marks, Holds}
+use Rattle.fields.proofs.Standing.{hold-none, Item, hold-some, keys-are-text, none-twice, field-stands}
 use Rattle.fields.proofs.Texts.{Here}
 use Rattle.component.specs.declared.Judged.{Judged}
 use Rattle.component.specs.declared.Judged.the-variants.{No}
@@ -153,19 +153,6 @@ module _ (start : ℕ) (t : Node Ends) (ps : List (Pair Ends)) (kt : kind t ≡ 
 
 -- ---------------------------------------------------------------- from the slots
 
-hold-none : (d : ℕ) (s : List ℕ) (l : ℕ) (o : Option (Node Ends)) → Holds d s l o → l ≡ 0 → o ≡ none
-hold-none d s l none h e = refl
-hold-none d s l (some t) h e = let x = h .0 in absurd (omega arith)
-
-record Standing (d : ℕ) (s : List ℕ) (l : ℕ) (o : Option (Node Ends)) : Type 0 where
-  pub item : Node Ends
-  pub is : o ≡ some item
-  pub stands : Stands d s l item
-
-hold-some : (d : ℕ) (s : List ℕ) (l : ℕ) (o : Option (Node Ends)) → Holds d s l o → (l ≡ 0 → ⊥) → Standing d s l o
-hold-some d s l none h n = absurd (n h)
-hold-some d s l (some t) h n = record { item = t; is = refl; stands = h .1 }
-
 module _ (s : List ℕ) (start : ℕ) (p : List ℕ) where
   module _ (d : ℕ) (ps : List (Pair Ends)) (q : List ℕ) (chain : Chain (suc d) s ps q) (is : p ≡ foldl (marks componentNames) (replicate 10 0) ps)
       (t : Node Ends) (kt : kind t ≡ table ps) (n : Word Ends) where
@@ -225,13 +212,13 @@ module _ (s : List ℕ) (start : ℕ) (p : List ℕ) where
     unfolding known
     told = go (eqb (getD p 8 0) 0) refl (eqb (getD p 9 0) 0) refl (eqb (getD p 0 0) 0) refl (eqb (getD p 2 0) 0) refl (eqb (getD p 3 0) 0) refl
       where
-        dtype-there : eqb (getD p 0 0) 0 ≡ false → Standing (suc d) s (getD p 0 0) (get (ascii "dtype") ps)
+        dtype-there : eqb (getD p 0 0) 0 ≡ false → Item (suc d) s (getD p 0 0) (get (ascii "dtype") ps)
         dtype-there e = hold-some (suc d) s (getD p 0 0) (get (ascii "dtype") ps) at-dtype (eqb-false (getD p 0 0) 0 e)
 
-        offset-there : eqb (getD p 2 0) 0 ≡ false → Standing (suc d) s (getD p 2 0) (get (ascii "offset") ps)
+        offset-there : eqb (getD p 2 0) 0 ≡ false → Item (suc d) s (getD p 2 0) (get (ascii "offset") ps)
         offset-there e = hold-some (suc d) s (getD p 2 0) (get (ascii "offset") ps) at-offset (eqb-false (getD p 2 0) 0 e)
 
-        length-there : eqb (getD p 3 0) 0 ≡ false → Standing (suc d) s (getD p 3 0) (get (ascii "length") ps)
+        length-there : eqb (getD p 3 0) 0 ≡ false → Item (suc d) s (getD p 3 0) (get (ascii "length") ps)
         length-there e = hold-some (suc d) s (getD p 3 0) (get (ascii "length") ps) at-length (eqb-false (getD p 3 0) 0 e)
 
         go : (x₁ : Bool) → eqb (getD p 8 0) 0 ≡ x₁ → (x₂ : Bool) → eqb (getD p 9 0) 0 ≡ x₂ → (x₃ : Bool) → eqb (getD p 0 0) 0 ≡ x₃ → (x₄ : Bool) → eqb (getD p 2 0) 0 ≡ x₄ → (x₅ : Bool) → eqb (getD p 3 0) 0 ≡ x₅

@@ -1,18 +1,19 @@
 -- What is said of one field of a component, in the words of meaning's checks: of the item that begins some bytes, and of what stands at a place that may be none.
-use Prim.Native.Nat.{ℕ, suc}
+use Prim.Native.Nat.{ℕ}
 use mathlib.Core.List.{List}
 use mathlib.Core.Option.{Option, none, some}
 use mathlib.Core.Path.{_≡_}
 use lib.ListN.{length}
-use Rattle.meaning.specs.Tree.{Node}
-use Rattle.meaning.specs.Check.{Check, pass, refuse, optional}
+use Rattle.meaning.specs.Tree.{nothing}
+use Rattle.meaning.specs.Check.{Check, pass, fault, optional}
+use Rattle.meaning.specs.Notes.{mapCheck}
 use Rattle.meaning.specs.Model.{Word}
 use Rattle.meaning.specs.Kind.{aNumber, aText, present}
 use Rattle.meaning.specs.Judge.{aDtype, aType, raw}
 use Rattle.walk.specs.Reading.{Ends}
 use Rattle.walk.specs.Places.{Whatever, numeral}
 use Rattle.walk.specs.declared.Numeral.{Numeral}
-use Rattle.fields.specs.Slots.{Stands, Holds}
+use Rattle.fields.specs.Slots.{ItemAt, OptionAt}
 use Rattle.component.specs.declared.value.Coded.{Coded}
 use Rattle.component.specs.declared.value.Coded.the-variants.{No as NoCode, Yes as Code}
 use Rattle.component.specs.declared.value.Fine.{Fine}
@@ -20,59 +21,60 @@ use Rattle.component.specs.declared.value.Fine.the-variants.{No as Bad, 
 use Rattle.component.specs.declared.value.Spot.{Spot}
 use Rattle.component.specs.declared.value.Spot.the-variants.{No as NoSpot, Yes as At}
 
-abbrev pub coded : Check ℕ → Coded
-coded (pass n) = Code n
-coded (refuse n o c) = NoCode n
+-- the outcomes that these answers stand for
+abbrev pub coded : Coded → Check ℕ
+coded (NoCode n) = fault n
+coded (Code c) = pass c
 
-abbrev pub fine : {A : Type 0} → Check A → Fine
-fine (pass a) = Good
-fine (refuse n o c) = Bad n
+abbrev pub fine : Fine → Check (Unit {0})
+fine (Bad n) = fault n
+fine Good = pass tt
+
+abbrev pub spot : Spot → Check ℕ
+spot (NoSpot n) = fault n
+spot (At left) = pass left
 
 -- how many bytes are left where a text's item begins; 0 for none
 abbrev pub leftWord : Option (Word Ends) → ℕ
 leftWord none = 0
 leftWord (some w) = length (w .note .start)
 
-abbrev pub spot : Check (Option (Word Ends)) → Spot
-spot (pass w) = At (leftWord w)
-spot (refuse n o c) = NoSpot n
+abbrev pub placeOf : Check (Option (Word Ends)) → Check ℕ
+placeOf = mapCheck leftWord
+
+abbrev pub passes : {A : Type 0} → Check A → Check (Unit {0})
+passes = mapCheck nothing
 
 -- ---------------------------------------------------------------- the item that begins s
 
 abbrev pub DtypeIs : List ℕ → Coded → Type 0
-DtypeIs s r = Whatever s λ d t q. r ≡ coded (aDtype t)
+DtypeIs s r = Whatever s λ d t q. aDtype t ≡ coded r
 
 abbrev pub RawIs : List ℕ → Fine → Type 0
-RawIs s r = Whatever s λ d t q. r ≡ fine (optional raw (some t))
+RawIs s r = Whatever s λ d t q. passes (optional raw (some t)) ≡ fine r
 
 abbrev pub TextIs : List ℕ → Spot → Type 0
-TextIs s r = Whatever s λ d t q. r ≡ spot (optional aText (some t))
+TextIs s r = Whatever s λ d t q. placeOf (optional aText (some t)) ≡ spot r
 
 abbrev pub TypeIs : List ℕ → ℕ → Spot → Type 0
-TypeIs s code r = Whatever s λ d t q. r ≡ spot (optional (aType code) (some t))
+TypeIs s code r = Whatever s λ d t q. placeOf (optional (aType code) (some t)) ≡ spot r
 
 -- ---------------------------------------------------------------- what stands at a place
 
-abbrev pub AtPlace : List ℕ → ℕ → (Node Ends → Type 0) → Type 0
-AtPlace s left P = (d : ℕ) (t : Node Ends) → Stands (suc d) s left t → P t
-
-abbrev pub AtMost : List ℕ → ℕ → (Option (Node Ends) → Type 0) → Type 0
-AtMost s left P = (d : ℕ) (o : Option (Node Ends)) → Holds (suc d) s left o → P o
-
 abbrev pub DtypeAt : List ℕ → ℕ → Coded → Type 0
-DtypeAt s left r = AtPlace s left λ t. r ≡ coded (aDtype t)
+DtypeAt s left r = ItemAt s left λ t. aDtype t ≡ coded r
 
 abbrev pub NumberAt : List ℕ → ℕ → Numeral → Type 0
-NumberAt s left r = AtPlace s left λ t. aNumber t ≡ numeral r
+NumberAt s left r = ItemAt s left λ t. aNumber t ≡ numeral r
 
 abbrev pub Typed : List ℕ → ℕ → ℕ → Spot → Type 0
-Typed s left code r = AtMost s left λ o. r ≡ spot (optional (aType code) (present o))
+Typed s left code r = OptionAt s left λ o. placeOf (optional (aType code) (present o)) ≡ spot r
 
 abbrev pub Digested : List ℕ → ℕ → Spot → Type 0
-Digested s left r = AtMost s left λ o. r ≡ spot (optional aText (present o))
+Digested s left r = OptionAt s left λ o. placeOf (optional aText (present o)) ≡ spot r
 
 abbrev pub Unpacked : List ℕ → ℕ → Fine → Type 0
-Unpacked s left r = AtMost s left λ o. r ≡ fine (optional aNumber (present o))
+Unpacked s left r = OptionAt s left λ o. passes (optional aNumber (present o)) ≡ fine r
 
 abbrev pub Encoded : List ℕ → ℕ → Fine → Type 0
-Encoded s left r = AtMost s left λ o. r ≡ fine (optional raw o)
+Encoded s left r = OptionAt s left λ o. passes (optional raw o) ≡ fine r

@@ -7,7 +7,8 @@ use mathlib.Core.Path.{_≡_}
 use lib.ListN.{getD, replicate}
 use lib.Dec.{eqb}
 use Rattle.meaning.specs.Tree.{Node, Pair}
-use Rattle.meaning.specs.Check.{Check, pass, refuse, _>>=_, _>>_, optional}
+use Rattle.meaning.specs.Check.{Check, pass, refuse, fault, _>>=_, _>>_, optional}
+use Rattle.meaning.specs.Notes.{mapCheck}
 use Rattle.meaning.specs.Refusal.{KEY, TWICE, MISSING}
 use Rattle.meaning.specs.Model.{Word, Component}
 use Rattle.meaning.specs.Kind.{kind, table, aNumber, aText, present}
@@ -25,7 +26,7 @@ use Rattle.component.specs.declared.judge.Stretch.the-variants.{No as No
 use Rattle.component.specs.declared.value.Fine.{Fine}
 use Rattle.component.specs.declared.value.Fine.the-variants.{No as Bad, Yes as Good}
 use Rattle.component.specs.declared.value.Spot.{Spot}
-use Rattle.component.specs.Value.{leftWord, spot}
+use Rattle.component.specs.Value.{leftWord, placeOf, spot}
 
 -- the slots p after pairs that are due at s, from the slots z
 abbrev pub Placed : ℕ → ℕ → List ℕ → List ℕ → List ℕ → Type 0
@@ -54,12 +55,15 @@ storage dtype type = do
   t ← optional (aType d) (present type)
   pass (record { dtype = d; type = t })
 
-abbrev pub stored : Check Kept → Stored
-stored (pass k) = Storage (k .dtype) (leftWord (k .type))
-stored (refuse n o c) = NoStorage n
+abbrev pub stored : Stored → Check (ℕ × ℕ)
+stored (NoStorage n) = fault n
+stored (Storage code left) = pass (code, left)
+
+abbrev pub placesOf : Kept → ℕ × ℕ
+placesOf k = (k .dtype, leftWord (k .type))
 
 abbrev pub StorageAt : List ℕ → ℕ → ℕ → Stored → Type 0
-StorageAt s a b r = (d : ℕ) (x : Node Ends) (y : Option (Node Ends)) → Stands (suc d) s a x → Holds (suc d) s b y → r ≡ stored (storage x y)
+StorageAt s a b r = (d : ℕ) (x : Node Ends) (y : Option (Node Ends)) → Stands (suc d) s a x → Holds (suc d) s b y → mapCheck placesOf (storage x y) ≡ stored r
 
 -- ---------------------------------------------------------------- offset and length
 
@@ -73,12 +77,12 @@ extent offset length = do
   l ← aNumber length
   pass (record { offset = o; length = l })
 
-abbrev pub reached : Check Reach → Stretch
-reached (pass x) = Reaching (x .offset) (x .length)
-reached (refuse n o c) = NoExtent n
+abbrev pub reached : Stretch → Check Reach
+reached (NoExtent n) = fault n
+reached (Reaching o l) = pass (record { offset = o; length = l })
 
 abbrev pub ExtentAt : List ℕ → ℕ → ℕ → Stretch → Type 0
-ExtentAt s a b r = (d : ℕ) (x y : Node Ends) → Stands (suc d) s a x → Stands (suc d) s b y → r ≡ reached (extent x y)
+ExtentAt s a b r = (d : ℕ) (x y : Node Ends) → Stands (suc d) s a x → Stands (suc d) s b y → extent x y ≡ reached r
 
 -- ---------------------------------------------------------------- uncompressed length, encoding, digest
 
@@ -89,7 +93,7 @@ extras unpacked encoding digest = do
   optional aText (present digest)
 
 abbrev pub ExtrasAt : List ℕ → ℕ → ℕ → ℕ → Spot → Type 0
-ExtrasAt s a b c r = (d : ℕ) (u e g : Option (Node Ends)) → Holds (suc d) s a u → Holds (suc d) s b e → Holds (suc d) s c g → r ≡ spot (extras u e g)
+ExtrasAt s a b c r = (d : ℕ) (u e g : Option (Node Ends)) → Holds (suc d) s a u → Holds (suc d) s b e → Holds (suc d) s c g → placeOf (extras u e g) ≡ spot r
 
 -- ---------------------------------------------------------------- the whole
 

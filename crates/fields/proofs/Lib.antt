@@ -2,3 +2,4 @@ pub mod Marking
 pub mod Marks
 pub mod Standing
 pub mod Texts
+pub mod Places

@@ -63,6 +63,20 @@ module _ (d : ℕ) where
       holds-of none h = refl
       holds-of (some t) h = let x = h t refl in (some-left (drop (length s - length (noteOf t .start)) s) t (x .rest) (x .reads), x)
 
+-- a place is 0 where nothing stands
+pub hold-none : (d : ℕ) (s : List ℕ) (l : ℕ) (o : Option (Node Ends)) → Holds d s l o → l ≡ 0 → o ≡ none
+hold-none d s l none h e = refl
+hold-none d s l (some t) h e = let x = h .0 in absurd (omega arith)
+
+pub record Item (d : ℕ) (s : List ℕ) (l : ℕ) (o : Option (Node Ends)) : Type 0 where
+  pub item : Node Ends
+  pub is : o ≡ some item
+  pub stands : Stands d s l item
+
+pub hold-some : (d : ℕ) (s : List ℕ) (l : ℕ) (o : Option (Node Ends)) → Holds d s l o → (l ≡ 0 → ⊥) → Item d s l o
+hold-some d s l none h n = absurd (n h)
+hold-some d s l (some t) h n = record { item = t; is = refl; stands = h .1 }
+
 -- the slots of pairs that are read from s on
 module _ (names : List (List ℕ)) (d : ℕ) (s : List ℕ) (ps : List (Pair Ends)) (r : List ℕ) (chain : Chain d s ps r)
     (p : List ℕ) (is : p ≡ foldl (marks names) (replicate (length names + 3) 0) ps) where

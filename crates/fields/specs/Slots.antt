@@ -40,3 +40,10 @@ pub record Stands (d : ℕ) (s : List ℕ) (left : ℕ) (t : Node Ends) : Type 0
 abbrev pub Holds : ℕ → List ℕ → ℕ → Option (Node Ends) → Type 0
 Holds d s left none = left ≡ 0
 Holds d s left (some t) = (0 < left) × Stands d s left t
+
+-- whatever stands at a place; and at a place that may be none
+abbrev pub ItemAt : List ℕ → ℕ → (Node Ends → Type 0) → Type 0
+ItemAt s left P = (d : ℕ) (t : Node Ends) → Stands (suc d) s left t → P t
+
+abbrev pub OptionAt : List ℕ → ℕ → (Option (Node Ends) → Type 0) → Type 0
+OptionAt s left P = (d : ℕ) (o : Option (Node Ends)) → Holds (suc d) s left o → P o

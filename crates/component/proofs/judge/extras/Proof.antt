@@ -26,4 +26,4 @@ extras-spec =
     (λ c κs. search needs)
     (λ c. pieces.no-unpacked (c .before .before .before .before .before .before .args .s .now) _ _ _ _ (c .before .before .before .unpacked .ensures) _ (c .before .n .given .1))
     (λ c. pieces.no-encoding (c .before .before .before .before .before .before .before .before .before .before .args .s .now) _ _ _ _ (c .before .before .before .before .before .before .before .unpacked .ensures) (c .before .before .before .before .before .enum-told .given .1) _ (c .before .before .before .encoded .ensures) _ (c .before .n2 .given .1))
-    (λ c. pieces.then-digest (c .before .before .before .before .before .before .before .before .before .before .before .args .s .now) _ _ _ _ (c .before .before .before .before .before .before .before .before .unpacked .ensures) (c .before .before .before .before .before .before .enum-told .given .1) _ (c .before .before .before .before .encoded .ensures) (c .before .before .enum-told2 .given .1) _ (c .digested .ensures)))
+    (λ c. pieces.then-digest (c .before .before .before .before .before .before .before .before .before .before .before .args .s .now) _ _ _ _ (c .before .before .before .before .before .before .before .before .unpacked .ensures) (c .before .before .before .before .before .before .enum-told .given .1) _ (c .before .before .before .before .encoded .ensures) (c .before .before .enum-told2 .given .1) (c .digested .result) (c .digested .ensures)))

@@ -2,8 +2,8 @@
 use mathlib.Core.Path.{refl}
 use Rattle.meaning.specs.Kind.{aText, present}
 use Rattle.meaning.specs.Check.{optional}
-use Rattle.component.specs.Value.{spot}
-use Rattle.component.proofs.Places as places
+use Rattle.component.specs.Value.{placeOf}
+use Rattle.fields.proofs.Places as places
 use borrow.Author.Needs.{needs}
 use Rattle.component.proofs.place.digested.Statement.{statement}
 use Rattle.component.proofs.place.digested.Tie as tie
@@ -12,15 +12,15 @@ pub digested-spec : {M : Type 1} → statement M
 digested-spec =
     tie.close
     (tie.spec
-    (λ c. unfold present in places.nothing-there (c .before .before .args .s .now) (c .before .before .args .left) (λ o. spot (optional aText (present o))) _ (c .if1 .taken) refl)
+    (λ c. unfold present in places.nothing-there (c .before .before .args .s .now) (c .before .before .args .left) (λ o. placeOf (optional aText (present o))) _ (c .if1 .taken) refl)
     (λ c κs. search needs)
     (λ c. search needs)
     (λ c. search needs)
     (λ c. search needs)
     (λ c κs. search needs)
-    (λ c. places.null-there (c .before .before .before .before .before .before .args .s .now) (c .before .before .before .before .before .before .args .left) (λ o. spot (optional aText o)) _ _ (c .before .before .before .place-of .ensures) (c .before .before .before .before .if1 .left) _ (c .before .null .ensures) (c .if2 .taken) refl)
+    (λ c. places.null-there (c .before .before .before .before .before .before .args .s .now) (c .before .before .before .before .before .before .args .left) (λ o. placeOf (optional aText o)) _ _ (c .before .before .before .place-of .ensures) (c .before .before .before .before .if1 .left) _ (c .before .null .ensures) (c .if2 .taken) refl)
     (λ c. search needs)
     (λ c. search needs)
     (λ c. search needs)
     (λ c κs. search needs)
-    (λ c. places.item-there (c .before .before .before .before .before .before .before .before .args .s .now) (c .before .before .before .before .before .before .before .before .args .left) (λ o. spot (optional aText o)) _ _ (c .before .before .before .before .before .place-of .ensures) (c .before .before .before .before .before .before .if1 .left) _ (c .before .before .before .null .ensures) (c .before .before .if2 .left) (c .text-of .ensures)))
+    (λ c. places.item-there (c .before .before .before .before .before .before .before .before .args .s .now) (c .before .before .before .before .before .before .before .before .args .left) (λ o. placeOf (optional aText o)) _ _ (c .before .before .before .before .before .place-of .ensures) (c .before .before .before .before .before .before .if1 .left) _ (c .before .before .before .null .ensures) (c .before .before .if2 .left) (c .text-of .ensures)))

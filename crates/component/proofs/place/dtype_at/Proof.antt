@@ -2,7 +2,7 @@
 use mathlib.Core.Path.{_≡_}
 use Rattle.meaning.specs.Judge.{aDtype}
 use Rattle.component.specs.Value.{coded}
-use Rattle.component.proofs.Places as places
+use Rattle.fields.proofs.Places as places
 use borrow.Author.Needs.{needs}
 use Rattle.component.proofs.place.dtype_at.Statement.{statement}
 use Rattle.component.proofs.place.dtype_at.Tie as tie
@@ -16,4 +16,4 @@ dtype-at-spec =
     (λ c. search needs)
     (λ c. search needs)
     (λ c κs. search needs)
-    (λ c. places.there (c .before .before .before .before .args .s .now) (c .before .before .before .before .args .left) _ (c .before .before .place-of .ensures) (λ t. _ ≡ coded (aDtype t)) (c .dtype-of .ensures)))
+    (λ c. places.there (c .before .before .before .before .args .s .now) (c .before .before .before .before .args .left) _ (c .before .before .place-of .ensures) (λ t. aDtype t ≡ coded (c .dtype-of .result)) (c .dtype-of .ensures)))

@@ -2,8 +2,8 @@
 use mathlib.Core.Path.{refl}
 use Rattle.meaning.specs.Judge.{raw}
 use Rattle.meaning.specs.Check.{optional}
-use Rattle.component.specs.Value.{fine}
-use Rattle.component.proofs.Places as places
+use Rattle.component.specs.Value.{passes}
+use Rattle.fields.proofs.Places as places
 use borrow.Author.Needs.{needs}
 use Rattle.component.proofs.place.encoded.Statement.{statement}
 use Rattle.component.proofs.place.encoded.Tie as tie
@@ -12,10 +12,10 @@ pub encoded-spec : {M : Type 1} → statement M
 encoded-spec =
     tie.close
     (tie.spec
-    (λ c. places.nothing-there (c .before .before .args .s .now) (c .before .before .args .left) (λ o. fine (optional raw o)) _ (c .if1 .taken) refl)
+    (λ c. places.nothing-there (c .before .before .args .s .now) (c .before .before .args .left) (λ o. passes (optional raw o)) _ (c .if1 .taken) refl)
     (λ c κs. search needs)
     (λ c. search needs)
     (λ c. search needs)
     (λ c. search needs)
     (λ c κs. search needs)
-    (λ c. places.something-there (c .before .before .before .before .before .args .s .now) (c .before .before .before .before .before .args .left) (λ o. fine (optional raw o)) _ _ (c .before .before .place-of .ensures) (c .before .before .before .if1 .left) (c .raw-of .ensures)))
+    (λ c. places.something-there (c .before .before .before .before .before .args .s .now) (c .before .before .before .before .before .args .left) (λ o. passes (optional raw o)) _ _ (c .before .before .place-of .ensures) (c .before .before .before .if1 .left) (c .raw-of .ensures)))

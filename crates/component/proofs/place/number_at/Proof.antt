@@ -2,7 +2,7 @@
 use mathlib.Core.Path.{_≡_}
 use Rattle.walk.specs.Places.{numeral}
 use Rattle.meaning.specs.Kind.{aNumber}
-use Rattle.component.proofs.Places as places
+use Rattle.fields.proofs.Places as places
 use borrow.Author.Needs.{needs}
 use Rattle.component.proofs.place.number_at.Statement.{statement}
 use Rattle.component.proofs.place.number_at.Tie as tie

@@ -8,16 +8,12 @@ use native.Mathlib.Omega.{arith}
 use lib.ListN.{length, drop}
 use borrow.Rule.Slice.PartAt.{part-to-end}
 use Rattle.meaning.specs.Tree.{Node}
-use Rattle.meaning.specs.Check.{optional}
 use Rattle.meaning.specs.Kind as kinds
-use Rattle.meaning.specs.Kind.{Kind, kind, aNumber, present, presentKind}
+use Rattle.meaning.specs.Kind.{Kind, kind, present, presentKind}
 use Rattle.walk.specs.Reading.{Ends, Reads}
-use Rattle.walk.specs.Places.{Whatever, isNull, NullIs, NumberIs}
-use Rattle.walk.specs.declared.Numeral.{Numeral}
-use Rattle.walk.specs.declared.Numeral.the-variants.{NoNumber, Number}
+use Rattle.walk.specs.Places.{Whatever, isNull, NullIs}
 use Rattle.fields.proofs.Texts.{Here}
-use Rattle.component.specs.declared.value.Fine.the-variants.{No as Bad, Yes as Good}
-use Rattle.component.specs.Value.{fine, AtPlace, AtMost}
+use Rattle.fields.specs.Slots.{ItemAt, OptionAt}
 
 null-absent : (t : Node Ends) → isNull (kind t) ≡ true → present (some t) ≡ none
 unfolding present presentKind
@@ -43,31 +39,25 @@ other-present t = go (kind t)
     go kinds.null e = absurd (let z : _≡_ {A = ℕ} 0 1 = cc in omega arith)
     go kinds.another e = refl
 
-pub number-none : (s : List ℕ) (w : Numeral) → NumberIs s w → w ≡ NoNumber → Whatever s λ d t q. Bad 8 ≡ fine (optional aNumber (some t))
-number-none s w h e d t q r = let z = h d t q r in rw (z, e) refl
-
-pub number-some : (s : List ℕ) (w : Numeral) → NumberIs s w → (n : ℕ) → w ≡ Number n → Whatever s λ d t q. Good ≡ fine (optional aNumber (some t))
-number-some s w h n e d t q r = let z = h d t q r in rw (z, e) refl
-
 module _ (s : List ℕ) (left : ℕ) where
-  pub there : (at : ℕ) → at ≡ length s - left → (P : Node Ends → Type 0) → (Whatever (Here s at) λ d t q. P t) → AtPlace s left P
+  pub there : (at : ℕ) → at ≡ length s - left → (P : Node Ends → Type 0) → (Whatever (Here s at) λ d t q. P t) → ItemAt s left P
   there at is P h d t x = h d t (x .rest) (subst (λ u. Reads (suc d) u t (x .rest)) (sym (part-to-end s at ∙ ap (λ (i : ℕ). drop i s) is)) (x .reads))
 
-  -- a check F of what may be absent answers r
+  -- a check F of what may be absent has the outcome r
   module _ {R : Type 0} (F : Option (Node Ends) → R) (r : R) where
-    pub nothing-there : left ≡ 0 → r ≡ F none → AtMost s left (λ o. r ≡ F o)
+    pub nothing-there : left ≡ 0 → F none ≡ r → OptionAt s left (λ o. F o ≡ r)
     nothing-there z e d none h = e
     nothing-there z e d (some t) h = let x = h .0 in absurd (omega arith)
 
     module _ (at : ℕ) (is : at ≡ length s - left) (here : left ≡ 0 → ⊥) where
-      pub something-there : (Whatever (Here s at) λ d t q. r ≡ F (some t)) → AtMost s left (λ o. r ≡ F o)
+      pub something-there : (Whatever (Here s at) λ d t q. F (some t) ≡ r) → OptionAt s left (λ o. F o ≡ r)
       something-there h d none e = absurd (here e)
-      something-there h d (some t) x = there at is (λ t. r ≡ F (some t)) h d t (x .1)
+      something-there h d (some t) x = there at is (λ t. F (some t) ≡ r) h d t (x .1)
 
   -- where null counts as absent
   module _ {R : Type 0} (F : Option (Node Ends) → R) (r : R) (at : ℕ) (is : at ≡ length s - left) (here : left ≡ 0 → ⊥) (b : Bool) (asked : NullIs (Here s at) b) where
-    pub null-there : b ≡ true → r ≡ F none → AtMost s left (λ o. r ≡ F (present o))
-    null-there e f = something-there (λ o. F (present o)) r at is here (λ d t q x. f ∙ ap F (sym (null-absent t (asked d t q x ∙ e))))
+    pub null-there : b ≡ true → F none ≡ r → OptionAt s left (λ o. F (present o) ≡ r)
+    null-there e f = something-there (λ o. F (present o)) r at is here (λ d t q x. ap F (null-absent t (asked d t q x ∙ e)) ∙ f)
 
-    pub item-there : b ≡ false → (Whatever (Here s at) λ d t q. r ≡ F (some t)) → AtMost s left (λ o. r ≡ F (present o))
-    item-there e h = something-there (λ o. F (present o)) r at is here (λ d t q x. h d t q x ∙ ap F (sym (other-present t (asked d t q x ∙ e))))
+    pub item-there : b ≡ false → (Whatever (Here s at) λ d t q. F (some t) ≡ r) → OptionAt s left (λ o. F (present o) ≡ r)
+    item-there e h = something-there (λ o. F (present o)) r at is here (λ d t q x. ap F (other-present t (asked d t q x ∙ e)) ∙ h d t q x)
