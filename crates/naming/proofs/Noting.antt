@@ -27,7 +27,9 @@ use Rattle.walk.specs.declared.Letters.the-variants.{NoText, Text}
 use Rattle.walk.specs.Places.{TextIs, Inside}
 use Rattle.naming.specs.declared.Tally.{Tally}
 use borrow.Rule.Slice.PartAt.{part-to-end}
-use Rattle.naming.specs.Naming.{tally, put, lettersOf, Tallied, Noted}
+use Rattle.walk.specs.Put.{put}
+use Rattle.walk.proofs.Puts.{length-put}
+use Rattle.naming.specs.Naming.{tally, lettersOf, Tallied, Noted}
 
 -- ---------------------------------------------------------------- lists with one more at the end
 
@@ -57,13 +59,6 @@ unfolding listed
 listed-alike f g i zero h = refl
 listed-alike f g i (suc k) h =
     ap₂ {C = List (List ℕ)} (λ x r. x ∷ r) (h i (omega arith) (omega arith)) (listed-alike f g (suc i) k (λ j l m. h j (omega arith) (omega arith)))
-
-pub length-put : (l : List ℕ) (i x : ℕ) → length (put l i x) ≡ length l
-length-put l i x = go (ltb i (length l))
-  where
-    go : (b : Bool) → length (cond b (set l i x) l) ≡ length l
-    go true = length-set l i x
-    go false = refl
 
 -- ---------------------------------------------------------------- the arrays
 

@@ -22,9 +22,6 @@ use Rattle.naming.specs.declared.Named.the-variants.{No, Yes}
 abbrev pub tally : ℕ → Bool → Bool → Tally
 tally n odd bad = record { count = n; odd = odd; bad = bad }
 
-abbrev pub put : List ℕ → ℕ → ℕ → List ℕ
-put l i x = cond (ltb i (length l)) (set l i x) l
-
 -- a key's letters, none where it isn't whole text
 abbrev pub lettersOr : Option (List ℕ) → List ℕ
 lettersOr none = []

@@ -5,6 +5,7 @@ ghost use mathlib.Core.Path.{_≡_};
 ghost use mathlib.Core.List.{List, _∷_, [], _++_};
 ghost use Prim.Native.Nat.{ℕ, _+_, _<_, _≤_};
 ghost use lib.ListN.{length};
+ghost use Rattle.walk.specs.Put.{put};
 ghost use Rattle.naming.specs.Naming as spec;
 
 // How many keys there were, and whether one of them was no whole text, or no UTF-8.
@@ -31,7 +32,7 @@ fn told(count: usize, odd: bool, bad: bool) -> Tally
 
 // Puts x at i, if there is room.
 fn put(a: &mut [usize], i: usize, x: usize)
-    ensures { λ r. ⌜ now (a .exit) ≡ spec.put (now (a .entry)) i x ⌝ }
+    ensures { λ r. ⌜ now (a .exit) ≡ put (now (a .entry)) i x ⌝ }
 {
     if i < a.len() {
         a[i] = x;

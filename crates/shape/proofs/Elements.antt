@@ -27,7 +27,9 @@ use Rattle.walk.specs.declared.Numeral.{Numeral}
 use Rattle.walk.specs.declared.Numeral.the-variants.{NoNumber, Number}
 use Rattle.walk.proofs.Lists.{none-read, past-node}
 use Rattle.meaning.specs.Judge.{shapeOf}
-use Rattle.shape.specs.Shape.{put, ShapeRead}
+use Rattle.walk.specs.Put.{put}
+use Rattle.walk.proofs.Puts.{length-put}
+use Rattle.shape.specs.Shape.{ShapeRead}
 use Rattle.shape.specs.declared.Shaped.the-variants.{No, Yes}
 
 abbrev numbers : ℕ → List (Node Ends) → Check (List ℕ)
@@ -66,13 +68,6 @@ number-here : (d : ℕ) (s : List ℕ) (v : Numeral) → NumberIs s v → (x : N
 unfolding item
 number-here zero s v h x r e = absurd (never-beyond s x r e)
 number-here (suc d) s v h x r e = h d x r e
-
-length-put : (l : List ℕ) (i x : ℕ) → length (put l i x) ≡ length l
-length-put l i x = go (ltb i (length l))
-  where
-    go : (b : Bool) → length (cond b (set l i x) l) ≡ length l
-    go true = length-set l i x
-    go false = refl
 
 joined-next : (found : List ℕ) (n : ℕ) (c : Check (List ℕ)) → joined found (c >>= λ more. pass (n ∷ more)) ≡ joined (found ++ n ∷ []) c
 joined-next found n (pass more) = ap bounded (sym (append-assoc found (n ∷ []) more))

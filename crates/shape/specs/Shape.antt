@@ -13,9 +13,6 @@ use Rattle.walk.specs.Reading.{Ends, Reads}
 use Rattle.shape.specs.declared.Shaped.{Shaped}
 use Rattle.shape.specs.declared.Shaped.the-variants.{No, Yes}
 
-abbrev pub put : List ℕ → ℕ → ℕ → List ℕ
-put l i x = cond (ltb i (length l)) (set l i x) l
-
 abbrev pub ShapeIs : List ℕ → Shaped → Check (List ℕ) → Type 0
 ShapeIs dims (No n) c = c ≡ fault n
 ShapeIs dims (Yes rank) c = (c ≡ pass (take rank dims)) × (rank ≤ rankLimit)

@@ -4,6 +4,7 @@ use walk::Opening;
 ghost use mathlib.Core.Path.{_≡_};
 ghost use Prim.Native.Nat.{ℕ, _+_, _<_, _≤_};
 ghost use lib.ListN.{length};
+ghost use Rattle.walk.specs.Put.{put};
 ghost use Rattle.shape.specs.Shape as spec;
 
 // The refusal number, or how many dimensions there are.
@@ -14,7 +15,7 @@ pub enum Shaped {
 
 // Puts x at i, if there is room.
 fn put(a: &mut [u64], i: usize, x: u64)
-    ensures { λ r. ⌜ now (a .exit) ≡ spec.put (now (a .entry)) i x ⌝ }
+    ensures { λ r. ⌜ now (a .exit) ≡ put (now (a .entry)) i x ⌝ }
 {
     if i < a.len() {
         a[i] = x;

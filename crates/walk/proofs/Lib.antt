@@ -4,3 +4,4 @@ pub mod Chains
 pub mod Maps
 pub mod Lists
 pub mod Turns
+pub mod Puts
