@@ -1,5 +1,5 @@
 -- What `skip` answers holds of the tree that the meaning reads, whatever its annotations: the same outcome, the same length.
-use Prim.Native.Nat.{ℕ, _≤_}
+use Prim.Native.Nat.{ℕ}
 use mathlib.Core.List.{List}
 use mathlib.Core.Path.{_≡_, refl, ap, sym, _∙_}
 use lib.ListN.{length, drop}
@@ -7,7 +7,7 @@ use Rattle.meaning.specs.Tree.{Node, mapP, nothing}
 use Rattle.meaning.specs.Read.{Outcome, got, refused, item, noNote}
 use Rattle.meaning.proofs.ReadNatural.{mapOut, item-follows}
 use Rattle.meaning.proofs.ReadPrefix.{item-exact}
-use Rattle.cbor.specs.Ending.{took, fault, ending, itemEnd}
+use Rattle.cbor.specs.Ending.{took, ending, itemEnd}
 use Rattle.cbor.proofs.Passing.{Got, got-what}
 
 module _ {P : Type 0} (note : List ℕ → List ℕ → P) (d : ℕ) (s : List ℕ) where

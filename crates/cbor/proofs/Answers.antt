@@ -2,10 +2,9 @@
 use Prim.Native.Nat.{ℕ, zero, suc, _+_, _%_, _≤_, _<_}
 use native.Mathlib.Omega.{arith}
 use mathlib.Core.List.{List}
-use mathlib.Core.Path.{_≡_, refl, ap, sym, _∙_}
-use lib.Dec.{leb, ltb, eqb}
+use mathlib.Core.Path.{_≡_, refl, ap, sym}
 use borrow.Author.Tests.{le-leb, lt-leb, lt-ltb, le-ltb, eq-eqb, ne-eqb}
-use Rattle.cbor.specs.Ending.{took, fault, FAULT, code, shift, stringEnd, broken, doubled, rest, Counted, endless}
+use Rattle.cbor.specs.Ending.{FAULT, code, shift, stringEnd, broken, doubled, rest, Counted}
 use Rattle.cbor.proofs.Rest.{none-due}
 
 pub broken-count : (mode n at : ℕ) → mode ≡ 0 → FAULT + 6 ≡ code (shift at (broken mode n))

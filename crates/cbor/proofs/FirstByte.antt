@@ -8,7 +8,7 @@ use lib.Dec.{leb, ltb}
 use borrow.Author.Tests.{leb-true, ltb-true, le-leb, lt-ltb}
 use lib.ListN.{length, getD, drop}
 use Rattle.meaning.specs.Read.{toBreak, chunk}
-use Rattle.cbor.specs.Ending.{Ending, fault, FAULT, code, ending, shift, itemEnd, headOf, stringEnd, holds, HolderIs, held, doubled, Counted}
+use Rattle.cbor.specs.Ending.{fault, FAULT, code, ending, shift, itemEnd, headOf, stringEnd, holds, HolderIs, held, doubled, Counted}
 use Rattle.cbor.specs.declared.Holding.{Holding}
 use Rattle.cbor.proofs.Majors as majors
 use Rattle.cbor.proofs.Majors.{Scalar, low, high}

@@ -1,20 +1,19 @@
 -- Items by the major type of their first byte: how each ends, from its head and from what follows it.
-use Prim.Native.Nat.{ℕ, zero, suc, _+_, _-_, _*_, _/_, _%_, _≤_, _<_}
+use Prim.Native.Nat.{ℕ, zero, suc, _+_, _-_, _/_, _%_, _≤_, _<_}
 use native.Mathlib.Omega.{arith}
 use mathlib.Core.List.{List, [], _∷_}
-use mathlib.Core.Bool.{Bool, true, false, cond, _&&_}
+use mathlib.Core.Bool.{Bool, true, false, cond}
 use mathlib.Core.Logic.{⊎-elim}
 use mathlib.Core.Path.{_≡_, refl, ap, sym, _∙_}
-use lib.ListN.{length, getD, drop, take, length-drop}
-use lib.Seq.{drop-drop}
-use lib.Dec.{eqb, leb, ltb}
-use borrow.Author.Tests.{eq-eqb, ne-eqb, le-leb, lt-leb, leb-true, leb-false, ltb-true, ltb-false}
+use lib.ListN.{length, getD, drop, length-drop}
+use lib.Dec.{ltb}
+use borrow.Author.Tests.{eq-eqb, ne-eqb, le-leb, lt-leb, ltb-false}
 use Rattle.meaning.specs.Tree as tree
-use Rattle.meaning.specs.Tree.{Node, Pair}
+use Rattle.meaning.specs.Tree.{Node}
 use Rattle.meaning.specs.Read as read
-use Rattle.meaning.specs.Read.{Outcome, got, refused, Reader, after, _>>=_, pure, Argument, known, indefinite, argument, infoOf, majorOf, content, item, noNote, times, toBreak, chunk, pair, run}
-use Rattle.meaning.proofs.ReadPrefix.{still, Exact, toBreak-exact, chunk-exact, chunk-hungry, times-exact, pair-exact, pair-hungry, item-exact, item-hungry}
-use Rattle.endian.proofs.Which.{eq-or, lt-or}
+use Rattle.meaning.specs.Read.{got, refused, Reader, after, _>>=_, Argument, known, indefinite, argument, infoOf, majorOf, content, item, noNote, times, toBreak, chunk, pair, run}
+use Rattle.meaning.proofs.ReadPrefix.{still, Exact, toBreak-exact, chunk-exact, chunk-hungry, times-exact, pair-exact, item-exact, item-hungry}
+use Rattle.endian.proofs.Which.{lt-or}
 use Rattle.cbor.specs.Ending.{Ending, took, fault, FAULT, code, ending, shift, itemEnd, headed, headOf, argued, endless, stringEnd, holds, rest, HolderIs, held, doubled}
 use Rattle.cbor.proofs.Heads.{Look, sized, loose, wrong, look, Refuses}
 use Rattle.cbor.proofs.Passing.{ending-map, further}

@@ -1,8 +1,8 @@
 // Heads of CBOR items, and passing over one item of any kind (document 01, "CBOR carried"). Every slice begins with the item and may go on after it.
 // An answer is the number of bytes that were passed, or 2^63 and a refusal number, which is above the length of every slice.
 ghost use mathlib.Core.Path.{_≡_};
-ghost use Prim.Native.Nat.{ℕ, _+_, _-_, _*_, _/_, _%_, _<_, _≤_};
-ghost use lib.ListN.{length, drop, getD};
+ghost use Prim.Native.Nat.{_+_, _-_, _*_, _/_, _%_, _<_, _≤_};
+ghost use lib.ListN.{length, getD};
 ghost use Rattle.meaning.specs.Read as read;
 ghost use Rattle.cbor.specs.Ending as spec;
 use endian::be2;

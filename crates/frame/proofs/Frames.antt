@@ -1,17 +1,15 @@
 -- The frame's checks, one after the other.
-use Prim.Native.Nat.{ℕ, _+_, _-_, _≤_, _<_}
-use native.Mathlib.Omega.{arith}
+use Prim.Native.Nat.{ℕ, _-_, _≤_, _<_}
 use mathlib.Core.List.{List}
-use mathlib.Core.Bool.{Bool, true, false, _&&_}
-use mathlib.Core.Path.{_≡_, refl, ap, sym, _∙_}
+use mathlib.Core.Bool.{true, false}
+use mathlib.Core.Path.{_≡_, refl}
 use lib.ListN.{length, take, drop}
-use lib.Dec.{leb}
 use borrow.Author.Tests.{le-leb, lt-leb}
-use Rattle.meaning.specs.Check.{Check, pass, fault, _>>=_, _>>_, _unless_}
+use Rattle.meaning.specs.Check.{pass, fault, _>>=_, _>>_}
 use Rattle.meaning.specs.Text.{same}
 use Rattle.meaning.specs.Refusal.{SHORT, HEADER, FOOTER, BIG, FIT}
 use Rattle.meaning.specs.Limit.{manifestLimit}
-use Rattle.meaning.specs.Frame.{Frame, frame, magic, little}
+use Rattle.meaning.specs.Frame.{frame, magic, little}
 
 module _ (file : List ℕ) where
   pub too-short : length file < 24 → frame file ≡ fault SHORT

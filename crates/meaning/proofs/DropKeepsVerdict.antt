@@ -1,23 +1,23 @@
 -- Unknown fields and the minor version change no verdict.
-use Prim.Native.Nat.{ℕ, zero, suc}
+use Prim.Native.Nat.{ℕ, suc}
 use mathlib.Core.List.{List, [], _∷_, map}
 use mathlib.Core.Bool.{Bool, true, false, cond, _&&_, not}
 use mathlib.Core.Option.{Option, none, some}
 use mathlib.Core.Path.{_≡_, refl, ap, ap₂, sym, _∙_, subst}
 use lib.Dec.{eqb, leb, T, eqb→eq}
-use lib.ListN.{length, length-map}
-use Rattle.meaning.specs.Tree.{Node, Nodes, Pairs, meaning, nothing, uint, nint, bytes, text, chunkedBytes, chunkedText, array, dict, tag, simple, float, Pair, mapP, nodeList, pairList, pairList-pairs}
-use Rattle.meaning.specs.Check.{Check, pass, refuse, _>>=_, _>>_, _unless_, fault, inObject, inComponent, required, optional, each}
-use Rattle.meaning.specs.Text.{all, filter, same, oneOf, distinct, ascii, utf8}
+use lib.ListN.{length-map}
+use Rattle.meaning.specs.Tree.{Node, meaning, nothing, uint, nint, bytes, text, chunkedBytes, chunkedText, array, dict, tag, simple, float, Pair, pairList, pairList-pairs}
+use Rattle.meaning.specs.Check.{Check, pass, _>>=_, _>>_, inObject, inComponent, each}
+use Rattle.meaning.specs.Text.{all, filter, same, oneOf, ascii}
 use Rattle.meaning.specs.Version.{versionShape, majorOne}
-use Rattle.meaning.specs.Model.{Word, Named, RootFields, ObjectFields, ComponentFields, Component, Object, Model}
-use Rattle.meaning.specs.Kind.{Kind, number, words, list, table, null, another, kind, asNumber, asWord, asList, asTable, presentKind, present, aNumber, aWord, aList, aTable, aText}
-use Rattle.meaning.specs.Field.{rootNames, objectNames, componentNames, isSome, isKey, keyKind, keyOf, named, count, get, fields, rootFields, objectFields, componentFields, nameKind, nameOf, names}
+use Rattle.meaning.specs.Model.{Word, Named, RootFields, ObjectFields}
+use Rattle.meaning.specs.Kind.{Kind, number, words, list, table, null, another, kind, asWord, asTable, aWord, aTable}
+use Rattle.meaning.specs.Field.{rootNames, objectNames, componentNames, isSome, isKey, keyOf, named, count, get, fields, rootFields, objectFields, componentFields, nameKind, nameOf, names}
 use Rattle.meaning.specs.Judge.{component, componentsOf, object, aVersion, objectsOf, judge}
-use Rattle.meaning.specs.Notes.{mapCheck, mapOption, mapModel, bare}
+use Rattle.meaning.specs.Notes.{mapCheck, mapOption, bare}
 use Rattle.meaning.specs.Computed.{computed}
 use Rattle.meaning.specs.Drop.{isUnknown, plainVersion, known, inMap, inText, onValue, onField, dropComponent, dropObject, dropRoot}
-use Rattle.meaning.proofs.JudgeNatural.{map-bind, bind-map, map-then, then-map, required-map, all-map, map-map, each-map, judge-map, Bind}
+use Rattle.meaning.proofs.JudgeNatural.{all-map, map-map, each-map, judge-map, Bind}
 
 same→≡ : (x y : List ℕ) → same x y ≡ true → x ≡ y
 same→≡ [] [] h = refl

@@ -1,18 +1,17 @@
 -- The judgement does not look at annotations: to judge a tree with other annotations is to judge it and change the annotations of the verdict.
-use Prim.Native.Nat.{ℕ, zero, suc}
+use Prim.Native.Nat.{ℕ, suc}
 use mathlib.Core.List.{List, [], _∷_, map}
 use mathlib.Core.Bool.{Bool, true, false, cond, _&&_}
 use mathlib.Core.Option.{Option, none, some}
-use mathlib.Core.Path.{_≡_, refl, ap, ap₂, sym, _∙_}
+use mathlib.Core.Path.{_≡_, refl, ap, sym}
 use lib.Dec.{eqb, leb}
-use lib.ListN.{length, length-map}
+use lib.ListN.{length-map}
 use Rattle.meaning.specs.Tree.{Node, Nodes, Pairs, uint, nint, bytes, text, chunkedBytes, chunkedText, array, dict, tag, simple, float, ε, _▸_, ∅, _⇒_▸_, Pair, mapP, mapNodes, mapPairs, nodeList, pairList}
-use Rattle.meaning.specs.Check.{Check, pass, refuse, _>>=_, _>>_, _unless_, fault, inObject, inComponent, required, optional, each}
-use Rattle.meaning.specs.Text.{all, distinct, utf8}
-use Rattle.meaning.specs.Version.{versionShape, majorOne}
-use Rattle.meaning.specs.Model.{Word, Named, RootFields, ObjectFields, ComponentFields, Component, Object, Model}
+use Rattle.meaning.specs.Check.{Check, pass, refuse, _>>=_, _>>_, inObject, inComponent, required, optional, each}
+use Rattle.meaning.specs.Text.{all}
+use Rattle.meaning.specs.Model.{Word, Named, Component}
 use Rattle.meaning.specs.Kind.{Kind, number, words, list, table, null, another, kind, asNumber, asWord, asList, asTable, presentKind, present, aNumber, aWord, aList, aTable, aText}
-use Rattle.meaning.specs.Field.{isSome, isKey, keyKind, keyOf, named, count, get, fields, rootFields, objectFields, componentFields, nameKind, nameOf, names}
+use Rattle.meaning.specs.Field.{isSome, keyKind, keyOf, named, count, get, fields, rootFields, objectFields, componentFields, nameKind, nameOf, names}
 use Rattle.meaning.specs.Judge.{aDtype, aType, raw, component, part, lettersOf, attributesOf, shapeOf, componentsOf, object, aVersion, objectsOf, judge}
 use Rattle.meaning.specs.Notes.{mapCheck, mapOption, mapWord, mapPair, mapNamed, mapKind, mapRoot, mapObjectFields, mapComponentFields, mapComponent, mapObject, mapModel}
 

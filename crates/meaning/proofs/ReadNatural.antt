@@ -1,13 +1,13 @@
 -- The annotations do not steer the reading.
-use Prim.Native.Nat.{ℕ, zero, suc, _+_, _-_, _/_, _^_}
+use Prim.Native.Nat.{ℕ, zero, suc, _-_}
 use mathlib.Core.List.{List, [], _∷_, map}
 use mathlib.Core.Bool.{Bool, true, false, cond}
-use mathlib.Core.Path.{_≡_, refl, ap, ap₂, sym, _∙_}
-use lib.Dec.{eqb, leb}
+use mathlib.Core.Path.{_≡_, refl, ap, _∙_}
+use lib.Dec.{leb}
 use lib.ListN.{length}
-use Rattle.meaning.specs.Tree.{Node, Nodes, Pairs, _▸_, _⇒_▸_, Pair, mapP, mapNodes, mapPairs, nodes, pairs, simple, float, array, dict, tag, uint, nint, bytes, text, chunkedBytes, chunkedText}
+use Rattle.meaning.specs.Tree.{Node, Nodes, Pairs, _▸_, _⇒_▸_, Pair, mapP, mapNodes, mapPairs, nodes, pairs, simple, float, array, dict}
 use Rattle.meaning.specs.Notes.{mapPair}
-use Rattle.meaning.specs.Read.{Outcome, got, refused, Reader, after, _>>=_, pure, malformed, here, byte, run, stop, times, untilBreak, toBreak}
+use Rattle.meaning.specs.Read.{Outcome, got, refused, Reader, after, _>>=_, pure, here, byte, run, stop, times, untilBreak, toBreak}
 use Rattle.meaning.specs.Read.{Argument, known, indefinite, argument, majorOf, infoOf, chunk, close, pair, content, beyond, item}
 use Rattle.meaning.specs.Read.{Major, unsigned, negative, byteString, textString, arrayOf, mapOf, tagged, special}
 

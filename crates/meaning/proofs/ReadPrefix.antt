@@ -1,17 +1,17 @@
 -- What a reader took is a prefix of the bytes, and the same prefix is taken alike before any other bytes; an item takes a byte at least.
 -- A reader is given with the bytes `o` at which its item began: a refusal names them, and what is got does not depend on them.
-use Prim.Native.Nat.{ℕ, zero, suc, _+_, _-_, _≤_, _<_, _/_, _%_, _*_}
+use Prim.Native.Nat.{ℕ, zero, suc, _+_, _-_, _≤_, _<_, _/_, _*_}
 use native.Mathlib.Omega.{arith}
 use mathlib.Core.List.{List, [], _∷_, _++_, append-assoc}
 use mathlib.Core.Bool.{Bool, true, false, cond}
-use mathlib.Core.Path.{_≡_, refl, ap, ap₂, sym, _∙_, subst, fun-ext}
+use mathlib.Core.Path.{_≡_, refl, ap, sym, _∙_, subst}
 use lib.Dec.{eqb, leb, ltb, T, leb→le, le→leb}
 use lib.ListN.{length, take, drop, getD, length-append, take-append-drop, length-take}
 use lib.Seq.{take-at, drop-at}
 use Rattle.meaning.specs.Refusal.{CBOR}
-use Rattle.meaning.specs.Tree.{Node, Pair}
-use Rattle.meaning.specs.Read.{Outcome, got, refused, Reader, after, _>>=_, pure, malformed, endedEarly, here, byte, run, number, stop, times, untilBreak, toBreak}
-use Rattle.meaning.specs.Read.{Argument, known, indefinite, wide, longArguments, argument, majorOf, infoOf, definite, chunk, joined, close, pair, content, beyond, item, noNote}
+use Rattle.meaning.specs.Tree.{Node}
+use Rattle.meaning.specs.Read.{Outcome, got, refused, Reader, after, _>>=_, pure, malformed, here, byte, run, number, stop, times, untilBreak, toBreak}
+use Rattle.meaning.specs.Read.{Argument, known, indefinite, wide, longArguments, argument, majorOf, infoOf, definite, chunk, close, pair, content, beyond, item, noNote}
 use Rattle.meaning.specs.Read.{Major, unsigned, negative, byteString, textString, arrayOf, mapOf, tagged, special}
 
 -- a reader that does not ask where its item began

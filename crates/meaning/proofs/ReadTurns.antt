@@ -2,12 +2,12 @@
 use Prim.Native.Nat.{ℕ, zero, suc, _≤_, _<_}
 use native.Mathlib.Omega.{arith}
 use mathlib.Core.List.{List, [], _∷_}
-use mathlib.Core.Bool.{Bool, true, false, cond}
+use mathlib.Core.Bool.{Bool, true, false}
 use mathlib.Core.Path.{_≡_, refl, ap, sym, _∙_}
 use lib.Dec.{eqb}
 use lib.ListN.{length}
 use Rattle.meaning.specs.Refusal.{CBOR}
-use Rattle.meaning.specs.Read.{Outcome, got, refused, Reader, after, _>>=_, pure, stop, times, untilBreak, toBreak}
+use Rattle.meaning.specs.Read.{Outcome, got, refused, Reader, after, _>>=_, pure, stop, untilBreak, toBreak}
 use Rattle.meaning.proofs.ReadPrefix.{still, Hungry}
 
 module _ {A : Type 0} (m : Reader A) where

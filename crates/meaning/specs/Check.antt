@@ -1,5 +1,5 @@
 -- Document 01, "Refusal numbers" and "Order": a run of checks. The first that fails gives the refusal: its number, the object's index and the component's in its object, 0 where there is none.
-use Prim.Native.Nat.{ℕ, zero, suc}
+use Prim.Native.Nat.{ℕ, suc}
 use mathlib.Core.List.{List, [], _∷_}
 use mathlib.Core.Bool.{Bool, true, false}
 use mathlib.Core.Option.{Option, none, some}

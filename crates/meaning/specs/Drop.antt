@@ -1,7 +1,7 @@
 -- Demand 3: what an old reader passes over: unknown fields in the three kinds of map that stand in their place, and which well-shaped 1.x version it is.
 use Prim.Native.Nat.{ℕ}
-use mathlib.Core.List.{List, [], _∷_, map}
-use mathlib.Core.Bool.{Bool, true, false, cond, _&&_, not}
+use mathlib.Core.List.{List, map}
+use mathlib.Core.Bool.{Bool, false, cond, _&&_, not}
 use mathlib.Core.Option.{Option, none, some}
 use Rattle.meaning.specs.Tree.{Node, Pair, uint, nint, bytes, text, chunkedBytes, chunkedText, array, dict, tag, simple, float, pairs, pairList}
 use Rattle.meaning.specs.Text.{filter, oneOf, ascii}

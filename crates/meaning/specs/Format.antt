@@ -5,7 +5,7 @@ use mathlib.Core.Bool.{Bool, true, false, cond, _&&_}
 use mathlib.Core.Option.{Option, none, some}
 use lib.ListN.{length, getD}
 use lib.Dec.{eqb}
-use Rattle.meaning.specs.Check.{Check, pass, refuse, _>>=_, _>>_, _unless_, fault, inComponent}
+use Rattle.meaning.specs.Check.{Check, pass, _>>=_, _>>_, _unless_, fault, inComponent}
 use Rattle.meaning.specs.Text.{ascii, same}
 use Rattle.meaning.specs.Refusal.{RANK, ROLE, LENGTH}
 use Rattle.meaning.specs.Types.{widthOf, u64, typeRatio, product}

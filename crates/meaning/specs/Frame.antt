@@ -4,7 +4,7 @@ use mathlib.Core.List.{List, [], _∷_}
 use mathlib.Core.Bool.{_&&_}
 use lib.ListN.{length, take, drop}
 use lib.Dec.{leb}
-use Rattle.meaning.specs.Check.{Check, pass, refuse, _>>=_, _>>_, _unless_, fault}
+use Rattle.meaning.specs.Check.{Check, pass, _>>=_, _>>_, _unless_, fault}
 use Rattle.meaning.specs.Text.{ascii, same}
 use Rattle.meaning.specs.Refusal.{SHORT, HEADER, FOOTER, BIG, FIT}
 use Rattle.meaning.specs.Limit.{manifestLimit}

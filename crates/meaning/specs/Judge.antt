@@ -6,7 +6,7 @@ use mathlib.Core.Option.{Option, none, some}
 use lib.ListN.{length}
 use lib.Dec.{eqb, leb}
 use Rattle.meaning.specs.Tree.{Node}
-use Rattle.meaning.specs.Check.{Check, pass, refuse, _>>=_, _>>_, _unless_, fault, inObject, inComponent, required, optional, each}
+use Rattle.meaning.specs.Check.{Check, pass, _>>=_, _>>_, _unless_, fault, inObject, inComponent, required, optional, each}
 use Rattle.meaning.specs.Text.{ascii, same}
 use Rattle.meaning.specs.Version.{versionShape, majorOne}
 use Rattle.meaning.specs.Refusal.{VERSION, MAJOR, COUNT, DTYPE, ENCODING, TYPE, ALIGN, BOUNDS}

@@ -1,7 +1,7 @@
 -- Document 01, "Manifest fields": what an item is in a known place. Chunked text, negative numbers, tagged items and the like are of no kind that is asked for.
 use Prim.Native.Nat.{ℕ}
 use mathlib.Core.List.{List}
-use mathlib.Core.Bool.{Bool, true, false, cond}
+use mathlib.Core.Bool.{cond}
 use mathlib.Core.Option.{Option, none, some}
 use lib.Dec.{eqb}
 use Rattle.meaning.specs.Tree.{Node, uint, nint, bytes, text, chunkedBytes, chunkedText, array, dict, tag, simple, float, Pair, nodeList, pairList}

@@ -1,14 +1,13 @@
 -- Document 01, "The box's job": the listing's exact text, and what the small program prints of a file. Every line ends with a newline.
 use Prim.Native.Nat.{ℕ, zero, suc, _+_, _/_, _%_}
 use mathlib.Core.List.{List, [], _∷_, _++_}
-use mathlib.Core.Bool.{Bool, true, false, cond, _&&_, not}
+use mathlib.Core.Bool.{cond, _&&_, not}
 use lib.ListN.{length, getD}
 use lib.Dec.{eqb, leb, ltb}
 use Rattle.meaning.specs.Check.{Check, pass, refuse}
 use Rattle.meaning.specs.Text.{ascii, within}
 use Rattle.meaning.specs.Limit.{programFile, programTable}
-use Rattle.meaning.specs.Read.{Span}
-use Rattle.meaning.specs.Model.{Word, Component, Object, Model}
+use Rattle.meaning.specs.Model.{Component, Object, Model}
 use Rattle.meaning.specs.Types.{storageOf}
 use Rattle.meaning.specs.Frame.{Reading}
 use Rattle.meaning.specs.Rows.{componentCount, readInto}

@@ -1,8 +1,7 @@
 -- Changing the annotations of a verdict.
-use Prim.Native.Nat.{ℕ}
-use mathlib.Core.List.{List, [], _∷_, map}
+use mathlib.Core.List.{map}
 use mathlib.Core.Option.{Option, none, some}
-use Rattle.meaning.specs.Tree.{Node, Pair, mapP, nothing}
+use Rattle.meaning.specs.Tree.{Pair, mapP, nothing}
 use Rattle.meaning.specs.Check.{Check, pass, refuse}
 use Rattle.meaning.specs.Model.{Word, Named, RootFields, ObjectFields, ComponentFields, Component, Object, Model}
 use Rattle.meaning.specs.Kind.{Kind, number, words, list, table, null, another}

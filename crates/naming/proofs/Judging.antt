@@ -1,20 +1,17 @@
 -- The names of a map judged: what the tally says of each of meaning's checks, in their order.
-use Prim.Native.Nat.{ℕ, zero, suc, _+_, _-_, _≤_, _<_, min}
+use Prim.Native.Nat.{ℕ, suc, _-_, _≤_, _<_, min}
 use native.Mathlib.Omega.{arith}
-use mathlib.Core.List.{List, [], _∷_, _++_, map}
-use mathlib.Core.Bool.{Bool, true, false, cond, _&&_, not}
-use mathlib.Core.Option.{Option, none, some}
-use mathlib.Core.Path.{_≡_, refl, ap, sym, _∙_, subst}
-use lib.ListN.{length, take, length-map}
+use mathlib.Core.List.{List, [], _∷_, map}
+use mathlib.Core.Bool.{Bool, true, false, cond, not}
+use mathlib.Core.Path.{_≡_, refl, ap, sym, _∙_}
+use lib.ListN.{length, length-map}
 use lib.Seq.{take-all}
 use lib.Dec.{leb}
-use borrow.Author.Tests.{le-leb, lt-leb, not-true, not-false}
+use borrow.Author.Tests.{le-leb, lt-leb}
 use Rattle.meaning.specs.Tree.{Node, Pair, noteOf}
-use Rattle.meaning.specs.Check.{Check, pass, refuse, _>>=_, _>>_, _unless_, fault, each}
+use Rattle.meaning.specs.Check.{pass, _>>=_, _>>_, _unless_, fault, each}
 use Rattle.meaning.specs.Text.{all, utf8, distinct}
 use Rattle.meaning.specs.Refusal.{KEY, TEXT, COUNT, TWICE}
-use Rattle.meaning.specs.Model as model
-use Rattle.meaning.specs.Model.{Word}
 use Rattle.meaning.specs.Kind as kinds
 use Rattle.meaning.specs.Kind.{Kind, kind}
 use Rattle.meaning.specs.Field.{isSome, keyOf, keyKind, nameKind, nameOf, names}
@@ -22,7 +19,6 @@ use Rattle.meaning.proofs.JudgeNatural.{all-map, map-map}
 use Rattle.names.specs.Names.{name, listed}
 use Rattle.walk.specs.Reading.{Ends}
 use Rattle.naming.specs.declared.Tally.{Tally}
-use Rattle.naming.specs.declared.Named.{Named}
 use Rattle.naming.specs.declared.Named.the-variants.{No, Yes}
 use Rattle.naming.specs.Naming.{lettersOr, lettersOf, Tallied, wordOr, namedAnyway, told}
 

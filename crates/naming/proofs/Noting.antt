@@ -2,25 +2,23 @@
 use Prim.Native.Nat.{ℕ, zero, suc, _+_, _-_, _≤_, _<_, min}
 use native.Mathlib.Omega.{arith}
 use mathlib.Core.List.{List, [], _∷_, _++_, map}
-use mathlib.Core.Bool.{Bool, true, false, cond, _&&_, not}
+use mathlib.Core.Bool.{Bool, true, false, _&&_, not}
 use mathlib.Core.Logic.{⊎-elim}
-use mathlib.Core.Option.{Option, none, some}
+use mathlib.Core.Option.{none, some}
 use mathlib.Core.Path.{_≡_, refl, ap, ap₂, sym, _∙_, subst}
-use lib.ListN.{length, getD, take, drop, set, length-append, length-map, length-set, length-drop}
+use lib.ListN.{length, take, drop, length-append, length-map, length-drop}
 use lib.Seq.{getD-set-same, getD-set-other, drop-drop, take-all, take-append-le}
-use lib.Dec.{ltb}
 use borrow.Author.Tests.{lt-ltb, le-ltb}
-use Rattle.meaning.specs.Tree.{Node, Pair}
-use Rattle.meaning.specs.Check.{Check, pass, refuse, fault}
+use Rattle.meaning.specs.Tree.{Pair}
+use Rattle.meaning.specs.Check.{pass, fault}
 use Rattle.meaning.specs.Text.{all, utf8, following}
 use Rattle.meaning.specs.Refusal.{KIND}
 use Rattle.meaning.specs.Model.{Word}
 use Rattle.meaning.specs.Kind as kinds
 use Rattle.meaning.specs.Kind.{Kind, kind}
-use Rattle.meaning.specs.Field as field
 use Rattle.meaning.specs.Field.{isSome, keyOf, keyKind}
 use Rattle.names.specs.Names.{name, listed}
-use Rattle.endian.proofs.Which.{eq-or, lt-or}
+use Rattle.endian.proofs.Which.{lt-or}
 use Rattle.walk.specs.Reading.{Ends, ends, Reads}
 use Rattle.walk.specs.declared.Letters.{Letters}
 use Rattle.walk.specs.declared.Letters.the-variants.{NoText, Text}

@@ -2,8 +2,7 @@
 // A name is noted by the bytes left at its first letter and by its length; a key that is no name by 0 and 0.
 use walk::Letters;
 ghost use mathlib.Core.Path.{_≡_};
-ghost use mathlib.Core.List.{List, _∷_, [], _++_};
-ghost use Prim.Native.Nat.{ℕ, _+_, _<_, _≤_};
+ghost use Prim.Native.Nat.{_+_, _<_, _≤_};
 ghost use lib.ListN.{length};
 ghost use Rattle.walk.specs.Put.{put};
 ghost use Rattle.naming.specs.Naming as spec;

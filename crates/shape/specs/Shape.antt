@@ -1,10 +1,8 @@
 -- What is answered of an object's shape.
 use Prim.Native.Nat.{ℕ, suc, _≤_}
 use mathlib.Core.List.{List}
-use mathlib.Core.Bool.{cond}
 use mathlib.Core.Path.{_≡_}
-use lib.ListN.{length, take, set}
-use lib.Dec.{ltb}
+use lib.ListN.{length, take}
 use Rattle.meaning.specs.Tree.{Node}
 use Rattle.meaning.specs.Check.{Check, pass, fault}
 use Rattle.meaning.specs.Limit.{rankLimit}

@@ -2,7 +2,7 @@
 use walk::Numeral;
 use walk::Opening;
 ghost use mathlib.Core.Path.{_≡_};
-ghost use Prim.Native.Nat.{ℕ, _+_, _<_, _≤_};
+ghost use Prim.Native.Nat.{_+_, _<_};
 ghost use lib.ListN.{length};
 ghost use Rattle.walk.specs.Put.{put};
 ghost use Rattle.shape.specs.Shape as spec;

@@ -2,19 +2,19 @@
 use Prim.Native.Nat.{ℕ, zero, suc, _+_, _-_, _≤_, _<_}
 use native.Mathlib.Omega.{arith}
 use mathlib.Core.List.{List, [], _∷_}
-use mathlib.Core.Bool.{Bool, true, false, cond}
+use mathlib.Core.Bool.{Bool, true, false}
 use mathlib.Core.Path.{_≡_, refl, ap, sym, _∙_, subst}
-use lib.ListN.{length, getD, drop, length-drop}
+use lib.ListN.{length, drop, length-drop}
 use lib.Dec.{eqb}
 use borrow.Author.Tests.{eqb-true}
 use Rattle.meaning.specs.Tree.{Node, Pair}
-use Rattle.meaning.specs.Read.{Outcome, got, refused, Reader, after, _>>=_, pure, stop, times, untilBreak, toBreak, pair, item, noNote}
+use Rattle.meaning.specs.Read.{got, Reader, after, _>>=_, pure, stop, times, untilBreak, toBreak, pair, item, noNote}
 use Rattle.meaning.proofs.ReadPrefix.{never-got, alike, Alike, item-exact, item-hungry}
-use Rattle.cbor.specs.Ending.{Ending, took, fault, ending, itemEnd}
+use Rattle.cbor.specs.Ending.{took, ending, itemEnd}
 use Rattle.cbor.proofs.Passing.{Got, got-what}
 use Rattle.cbor.proofs.Agree.{annotations-change-no-ending, rest-follows}
 use Rattle.walk.specs.Reading.{Ends, ends, Reads, Row, Chain}
-use Rattle.walk.proofs.ReadSays.{Bound, bound}
+use Rattle.walk.proofs.ReadSays.{bound}
 
 -- what an item that was read takes
 pub record Ate (d : ℕ) (s r : List ℕ) : Type 0 where

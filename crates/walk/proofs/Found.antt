@@ -1,5 +1,5 @@
 -- What the first bytes of an item say of it in a known place: a text, a number, null.
-use Prim.Native.Nat.{ℕ, zero, suc, _+_, _-_, _*_, _/_, _%_, _≤_, _<_}
+use Prim.Native.Nat.{ℕ, zero, suc, _+_, _-_, _/_, _%_, _≤_, _<_}
 use native.Mathlib.Omega.{arith}
 use mathlib.Core.List.{List, [], _∷_}
 use mathlib.Core.Bool.{Bool, true, false, cond, _&&_}
@@ -8,10 +8,9 @@ use mathlib.Core.Path.{_≡_, refl, ap, sym, _∙_, subst}
 use lib.ListN.{length, getD, take, drop, length-drop}
 use lib.Seq.{drop-drop}
 use lib.Dec.{eqb, leb}
-use borrow.Author.Tests.{eq-eqb, ne-eqb, le-leb, lt-leb, leb-true, leb-false}
-use Rattle.meaning.specs.Tree as tree
+use borrow.Author.Tests.{eq-eqb, ne-eqb, le-leb, lt-leb, leb-true}
 use Rattle.meaning.specs.Tree.{Node, Pair}
-use Rattle.meaning.specs.Check.{Check, pass, fault}
+use Rattle.meaning.specs.Check.{pass, fault}
 use Rattle.meaning.specs.Refusal.{KIND}
 use Rattle.meaning.specs.Model.{Word}
 use Rattle.meaning.specs.Kind as kinds
@@ -20,7 +19,7 @@ use Rattle.meaning.specs.Read as read
 use Rattle.meaning.specs.Read.{got, refused, known, indefinite, majorOf, run, Major, Argument}
 use Rattle.meaning.specs.Read.{unsigned, negative, byteString, textString, arrayOf, mapOf, tagged, special}
 use Rattle.meaning.proofs.ReadPrefix.{never-got, alike}
-use Rattle.cbor.specs.Ending.{headOf, argued, endless}
+use Rattle.cbor.specs.Ending.{headOf, argued}
 use Rattle.cbor.proofs.Majors.{majors-late}
 use Rattle.walk.specs.Reading.{Ends, ends, Reads}
 use Rattle.cbor.proofs.Heads as heads

@@ -1,28 +1,25 @@
 -- The map that begins some bytes: its pairs, counted or up to a break, for every tree that is read there.
-use Prim.Native.Nat.{ℕ, zero, suc, _+_, _-_, _*_, _/_, _%_, _≤_, _<_}
+use Prim.Native.Nat.{ℕ, suc, _+_, _-_, _/_, _%_, _≤_, _<_}
 use native.Mathlib.Omega.{arith}
 use mathlib.Core.List.{List, [], _∷_}
 use mathlib.Core.Bool.{Bool, true, false, cond}
-use mathlib.Core.Logic.{_⊎_, inl, inr, ⊎-elim}
+use mathlib.Core.Logic.{_⊎_, ⊎-elim}
 use mathlib.Core.Path.{_≡_, refl, ap, sym, _∙_, subst}
 use lib.ListN.{length, getD, drop, length-drop}
 use lib.Dec.{ltb}
 use borrow.Author.Tests.{lt-ltb}
-use Rattle.meaning.specs.Tree as tree
-use Rattle.meaning.specs.Tree.{Node, Pair, pairs, pairList-pairs}
-use Rattle.meaning.specs.Check.{Check, pass, fault}
+use Rattle.meaning.specs.Tree.{pairs, pairList-pairs}
+use Rattle.meaning.specs.Check.{fault}
 use Rattle.meaning.specs.Refusal.{KIND}
 use Rattle.meaning.specs.Kind as kinds
 use Rattle.meaning.specs.Kind.{Kind, kind}
-use Rattle.meaning.specs.Read as read
 use Rattle.meaning.specs.Read.{known, indefinite, majorOf, Major, Argument, pair, item}
 use Rattle.meaning.specs.Read.{mapOf}
-use Rattle.cbor.specs.Ending.{headOf, argued, endless, FAULT, held, doubled, holds, HolderIs}
+use Rattle.cbor.specs.Ending.{headOf, argued, endless, FAULT, doubled}
 use Rattle.cbor.proofs.Heads as heads
 use Rattle.cbor.proofs.FirstByte as first
 use Rattle.cbor.proofs.Loops.{holds-others}
-use Rattle.endian.proofs.Which.{eq-or, lt-or}
-use Rattle.walk.specs.Reading.{Ends, ends, Reads, Due}
+use Rattle.walk.specs.Reading.{Ends, ends}
 use Rattle.walk.specs.Places.{Whatever, Mapped, OpenMap}
 use Rattle.walk.proofs.ReadSays.{Says, KindSays, kind-says, Stood, sized, loose, stood, nothing-read}
 use Rattle.walk.proofs.Found.{major-is, major-tells, by-kind}

@@ -1,19 +1,19 @@
 -- What the head of an item says of the tree that is read there: its kind, and its annotation.
-use Prim.Native.Nat.{ℕ, zero, suc, _+_, _-_, _*_, _/_, _%_, _≤_, _<_}
+use Prim.Native.Nat.{ℕ, zero, suc, _+_, _-_, _%_, _≤_, _<_}
 use native.Mathlib.Omega.{arith}
 use mathlib.Core.List.{List, [], _∷_}
-use mathlib.Core.Bool.{Bool, true, false, cond, _&&_}
-use mathlib.Core.Path.{_≡_, refl, ap, sym, _∙_, subst}
-use lib.ListN.{length, getD, take, drop}
+use mathlib.Core.Bool.{Bool, true, false, cond}
+use mathlib.Core.Path.{_≡_, refl, ap, sym, _∙_}
+use lib.ListN.{length, drop}
 use lib.Dec.{eqb, leb}
 use Rattle.meaning.specs.Tree as tree
-use Rattle.meaning.specs.Tree.{Node, Pair, noteOf, nodes, pairs, nodeList, pairList, nodeList-nodes, pairList-pairs}
+use Rattle.meaning.specs.Tree.{Node, Pair, noteOf, nodes, pairs, nodeList-nodes, pairList-pairs}
 use Rattle.meaning.specs.Kind as kinds
 use Rattle.meaning.specs.Kind.{Kind, kind}
 use Rattle.meaning.specs.Read as read
 use Rattle.meaning.specs.Read.{Outcome, got, refused, Reader, after, Argument, known, indefinite, argument, majorOf, content, item, times, toBreak, pair, run}
 use Rattle.meaning.specs.Read.{Major, unsigned, negative, byteString, textString, arrayOf, mapOf, tagged, special}
-use Rattle.meaning.proofs.ReadPrefix.{never-got, alike, Alike, never-beyond}
+use Rattle.meaning.proofs.ReadPrefix.{never-got, alike, never-beyond}
 use Rattle.cbor.specs.Ending.{headOf, argued, endless}
 use Rattle.cbor.proofs.Heads as heads
 use Rattle.cbor.proofs.Majors as heading

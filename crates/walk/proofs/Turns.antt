@@ -6,19 +6,16 @@ use mathlib.Core.Logic.{_⊎_, inl, inr, ⊎-elim}
 use mathlib.Core.Path.{_≡_, refl, ap, sym, _∙_, subst}
 use lib.ListN.{length, getD, drop, length-drop}
 use lib.Seq.{drop-drop}
-use Rattle.meaning.specs.Tree.{Node, Pair, noteOf}
-use Rattle.cbor.specs.Ending.{Ending, took, fault, FAULT, code, shift, itemEnd, rest, broken, endless}
+use Rattle.meaning.specs.Tree.{Node, Pair}
+use Rattle.cbor.specs.Ending.{took, fault, FAULT, code, shift, itemEnd, rest, broken, endless}
 use Rattle.meaning.specs.Read.{item, noNote}
 use Rattle.cbor.proofs.Rest as due
-use Rattle.cbor.proofs.Passing.{Fine, Faulty, fine-ending, shift-shift, shift-zero, is-took, is-fault}
-use Rattle.cbor.proofs.Loops as loops
-use Rattle.walk.specs.Reading.{Ends, ends, Reads, Chain, Due, foldl}
+use Rattle.cbor.proofs.Passing.{Faulty, fine-ending, shift-shift, shift-zero, is-took, is-fault}
+use Rattle.walk.specs.Reading.{Ends, Reads, Chain, Due, foldl}
 use Rattle.walk.specs.Places.{EntryIs}
-use Rattle.walk.specs.declared.Entry.{Entry}
 use Rattle.walk.specs.declared.Entry.the-variants.{End, Value}
 use Rattle.endian.proofs.Which.{eq-or}
-use Rattle.walk.proofs.Chains.{Ate, ate}
-use Rattle.walk.proofs.ReadSays.{note-of}
+use Rattle.walk.proofs.Chains.{ate}
 
 -- where no key is read, no pair stands
 no-key : (d c : ℕ) (s : List ℕ) (ps : List (Pair Ends)) (r : List ℕ) → itemEnd d s ≡ fault c → Chain d s ps r → ps ≡ []

@@ -5,7 +5,7 @@ use mathlib.Core.Bool.{Bool, true, false}
 use mathlib.Core.Path.{_≡_}
 use lib.ListN.{length, getD, take, drop}
 use Rattle.meaning.specs.Tree.{Node, Pair}
-use Rattle.meaning.specs.Check.{Check, pass, refuse, fault}
+use Rattle.meaning.specs.Check.{Check, pass, fault}
 use Rattle.meaning.specs.Refusal.{KIND}
 use Rattle.meaning.specs.Model.{Word}
 use Rattle.meaning.specs.Kind as kinds

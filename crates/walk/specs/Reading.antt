@@ -1,5 +1,5 @@
 -- A tree as it was read: every item is annotated with the bytes left where it begins and where it ends, so that a part of the bytes stands for a node of the tree.
-use Prim.Native.Nat.{ℕ, zero, suc, _+_, _≤_}
+use Prim.Native.Nat.{ℕ, _+_, _≤_}
 use mathlib.Core.List.{List, [], _∷_}
 use mathlib.Core.Option.{Option, none, some}
 use mathlib.Core.Path.{_≡_}

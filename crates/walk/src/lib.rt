@@ -1,8 +1,6 @@
 // What stands at a place of the manifest, for the tree that is read there. Every slice begins with the item and runs to the manifest's end; a place is kept as the
 // number of bytes left there, and 0 is absence.
-ghost use mathlib.Core.Path.{_≡_};
-ghost use Prim.Native.Nat.{ℕ, _+_, _-_, _<_, _≤_};
-ghost use lib.ListN.{length};
+ghost use Prim.Native.Nat.{_-_, _<_, _≤_};
 ghost use Rattle.walk.specs.Places as places;
 
 // Whole text: where its letters begin, and how many there are.

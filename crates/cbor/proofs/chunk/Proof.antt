@@ -3,17 +3,11 @@ use Rattle.cbor.proofs.Majors as majors
 use Rattle.cbor.proofs.FirstByte as first
 use Rattle.cbor.specs.Ending.{headOf, stringEnd}
 use borrow.Rule.Slice.PartAt.{part-to-end}
-use mathlib.Core.Path.{ap, sym, _∙_}
+use mathlib.Core.Path.{ap, _∙_}
 use native.Mathlib.Omega.{arith}
 use borrow.Author.Needs.{needs}
 use Rattle.cbor.proofs.chunk.Statement.{statement}
 use Rattle.cbor.proofs.chunk.Tie as tie
-use Rattle.cbor.proofs.chunk.Reads as reads
-use Rattle.cbor.proofs.chunk.Lts as lts
-use Rattle.cbor.proofs.head.Reads as head-reads
-use Rattle.cbor.proofs.low_of.Reads as low-of-reads
-use Rattle.cbor.proofs.major_of.Reads as major-of-reads
-use Rattle.cbor.proofs.string_end.Reads as string-end-reads
 
 pub chunk-spec : {M : Type 1} → statement M
 chunk-spec =

@@ -14,9 +14,6 @@ use Rattle.cbor.specs.Ending.{ending, shift}
 use borrow.Author.Needs.{needs}
 use Rattle.cbor.proofs.chunks.Statement.{statement}
 use Rattle.cbor.proofs.chunks.Tie as tie
-use Rattle.cbor.proofs.chunks.Reads as reads
-use Rattle.cbor.proofs.chunks.Lts as lts
-use Rattle.cbor.proofs.chunk.Reads as chunk-reads
 
 abbrev Inv-loop : tie.InvT-loop
 Inv-loop s major at₀ at = (at ≤ length s) × (ending s (toBreak (chunk major) s) ≡ shift at (ending (drop at s) (toBreak (chunk major) (drop at s))))

@@ -1,14 +1,9 @@
 use Rattle.cbor.proofs.Heads as heads
-use mathlib.Core.Path.{_∙_, ap}
+use mathlib.Core.Path.{_∙_}
 use native.Mathlib.Omega.{arith}
 use borrow.Author.Needs.{needs}
 use Rattle.cbor.proofs.head.Statement.{statement}
 use Rattle.cbor.proofs.head.Tie as tie
-use Rattle.cbor.proofs.head.Reads as reads
-use Rattle.cbor.proofs.head.Lts as lts
-use Rattle.cbor.proofs.argument.Reads as argument-reads
-use Rattle.cbor.proofs.long_head.Reads as long-head-reads
-use Rattle.cbor.proofs.low_of.Reads as low-of-reads
 
 pub head-spec : {M : Type 1} → statement M
 head-spec =

@@ -9,11 +9,6 @@ use native.Mathlib.Omega.{arith}
 use borrow.Author.Needs.{needs}
 use Rattle.cbor.proofs.holder.Statement.{statement}
 use Rattle.cbor.proofs.holder.Tie as tie
-use Rattle.cbor.proofs.holder.Reads as reads
-use Rattle.cbor.proofs.holder.Lts as lts
-use Rattle.cbor.proofs.doubled.Reads as doubled-reads
-use Rattle.cbor.proofs.head.Reads as head-reads
-use Rattle.cbor.proofs.held.Reads as held-reads
 
 pub holder-spec : {M : Type 1} → statement M
 holder-spec =

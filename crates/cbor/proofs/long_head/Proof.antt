@@ -8,12 +8,6 @@ use native.Mathlib.Omega.{arith}
 use borrow.Author.Needs.{needs}
 use Rattle.cbor.proofs.long_head.Statement.{statement}
 use Rattle.cbor.proofs.long_head.Tie as tie
-use Rattle.cbor.proofs.long_head.Reads as reads
-use Rattle.cbor.proofs.long_head.Lts as lts
-use Rattle.cbor.proofs.argument.Reads as argument-reads
-use Rattle.endian.proofs.be2.Reads as be2-reads
-use Rattle.endian.proofs.be4.Reads as be4-reads
-use Rattle.endian.proofs.wide.Reads as wide-reads
 
 pub long-head-spec : {M : Type 1} → statement M
 long-head-spec =

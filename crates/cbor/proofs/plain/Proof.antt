@@ -7,15 +7,10 @@ use lib.ListN.{getD}
 use mathlib.Core.Path.{ap, sym, _∙_}
 use mathlib.Core.Logic.{⊎-elim}
 use native.Mathlib.Omega.{arith}
-use Prim.Native.Nat.{suc, _+_, _/_}
+use Prim.Native.Nat.{suc}
 use borrow.Author.Needs.{needs}
 use Rattle.cbor.proofs.plain.Statement.{statement}
 use Rattle.cbor.proofs.plain.Tie as tie
-use Rattle.cbor.proofs.plain.Reads as reads
-use Rattle.cbor.proofs.plain.Lts as lts
-use Rattle.cbor.proofs.head.Reads as head-reads
-use Rattle.cbor.proofs.low_of.Reads as low-of-reads
-use Rattle.cbor.proofs.string.Reads as string-reads
 
 pub plain-spec : {M : Type 1} → statement M
 plain-spec =

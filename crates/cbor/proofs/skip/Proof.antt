@@ -6,9 +6,6 @@ use mathlib.Core.Path.{ap, _∙_}
 use borrow.Author.Needs.{needs}
 use Rattle.cbor.proofs.skip.Statement.{statement}
 use Rattle.cbor.proofs.skip.Tie as tie
-use Rattle.cbor.proofs.skip.Reads as reads
-use Rattle.cbor.proofs.skip.Lts as lts
-use Rattle.cbor.proofs.items.Reads as items-reads
 
 pub skip-spec : {M : Type 1} → statement M
 skip-spec = tie.close (tie.spec (λ c. search needs) (λ c. search needs) (λ c. search needs) (λ c κs. λ h. absurd (omega arith)) (λ c. let s = (c .before .before .before .args .s .now) in (c .items .ensures) ∙ ap (λ x. code (rest 0 1 ((c .before .before .before .args .left)) x)) (part-to-end s 0) ∙ ap code (due.one-due ((c .before .before .before .args .left)) s)))

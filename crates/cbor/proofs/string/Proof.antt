@@ -12,13 +12,6 @@ use Prim.Native.Nat.{suc, _+_, _/_}
 use borrow.Author.Needs.{needs}
 use Rattle.cbor.proofs.string.Statement.{statement}
 use Rattle.cbor.proofs.string.Tie as tie
-use Rattle.cbor.proofs.string.Reads as reads
-use Rattle.cbor.proofs.string.Lts as lts
-use Rattle.cbor.proofs.chunks.Reads as chunks-reads
-use Rattle.cbor.proofs.head.Reads as head-reads
-use Rattle.cbor.proofs.low_of.Reads as low-of-reads
-use Rattle.cbor.proofs.major_of.Reads as major-of-reads
-use Rattle.cbor.proofs.string_end.Reads as string-end-reads
 
 pub string-spec : {M : Type 1} → statement M
 string-spec =

@@ -3,8 +3,6 @@ use native.Mathlib.Omega.{arith}
 use borrow.Author.Needs.{needs}
 use Rattle.cbor.proofs.string_end.Statement.{statement}
 use Rattle.cbor.proofs.string_end.Tie as tie
-use Rattle.cbor.proofs.string_end.Reads as reads
-use Rattle.cbor.proofs.string_end.Lts as lts
 
 pub string-end-spec : {M : Type 1} → statement M
 string-end-spec = tie.close (tie.spec (λ c. answers.string-short ((c .before .args .len)) ((c .before .args .size)) ((c .before .args .value)) (omega arith)) (λ c. answers.string-short ((c .before .before .args .len)) ((c .before .before .args .size)) ((c .before .before .args .value)) (omega arith)) (λ c. search needs) (λ c. answers.string-fits ((c .before .before .args .len)) ((c .before .before .args .size)) ((c .before .before .args .value)) (omega arith)))

@@ -7,9 +7,6 @@ use native.Mathlib.Omega.{arith}
 use borrow.Author.Needs.{needs}
 use Rattle.cbor.proofs.too_deep.Statement.{statement}
 use Rattle.cbor.proofs.too_deep.Tie as tie
-use Rattle.cbor.proofs.too_deep.Reads as reads
-use Rattle.cbor.proofs.too_deep.Lts as lts
-use Rattle.cbor.proofs.broken.Reads as broken-reads
 
 pub too-deep-spec : {M : Type 1} → statement M
 too-deep-spec =

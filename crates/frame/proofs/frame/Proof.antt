@@ -5,15 +5,11 @@ use borrow.Rule.Slice.PartAt.{part-to-end}
 use borrow.Author.Tests.{not-true, not-false}
 use lib.ListN.{length, take, drop}
 use Prim.Native.Nat.{_-_, _≤_}
-use mathlib.Core.Path.{_≡_, refl, ap, sym, _∙_}
+use mathlib.Core.Path.{_≡_, ap, sym, _∙_}
 use native.Mathlib.Omega.{arith}
 use borrow.Author.Needs.{needs}
 use Rattle.frame.proofs.frame.Statement.{statement}
 use Rattle.frame.proofs.frame.Tie as tie
-use Rattle.frame.proofs.frame.Reads as reads
-use Rattle.frame.proofs.frame.Lts as lts
-use Rattle.text.proofs.is_magic.Reads as is-magic-reads
-use Rattle.text.proofs.little.Reads as little-reads
 
 pub frame-spec : {M : Type 1} → statement M
 frame-spec =

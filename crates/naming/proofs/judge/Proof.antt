@@ -4,15 +4,12 @@ use Rattle.naming.specs.declared.Named.the-variants.{No, Yes}
 use Rattle.names.proofs.NamedParts.{from-wholes}
 use Rattle.names.specs.Names.{listed}
 use Rattle.meaning.specs.Text.{distinct}
-use mathlib.Core.Path.{_≡_, refl, ap, sym, _∙_}
-use mathlib.Core.Bool.{true, false, cond}
+use mathlib.Core.Path.{ap, _∙_}
+use mathlib.Core.Bool.{cond}
 use native.Mathlib.Omega.{arith}
 use borrow.Author.Needs.{needs}
 use Rattle.naming.proofs.judge.Statement.{statement}
 use Rattle.naming.proofs.judge.Tie as tie
-use Rattle.naming.proofs.judge.Reads as reads
-use Rattle.naming.proofs.judge.Lts as lts
-use Rattle.names.proofs.no_twice.Reads as no-twice-reads
 
 pub judge-spec : {M : Type 1} → statement M
 judge-spec =

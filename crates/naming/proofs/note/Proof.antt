@@ -1,18 +1,9 @@
 use Rattle.naming.proofs.Noting as noting
-use Rattle.walk.specs.Places.{Inside}
-use borrow.Rule.Slice.PartAt.{part-to-end}
-use lib.ListN.{length, take, drop}
-use mathlib.Core.Path.{_≡_, refl, ap, sym, _∙_, subst}
+use mathlib.Core.Path.{sym, _∙_}
 use native.Mathlib.Omega.{arith}
 use borrow.Author.Needs.{needs}
 use Rattle.naming.proofs.note.Statement.{statement}
 use Rattle.naming.proofs.note.Tie as tie
-use Rattle.naming.proofs.note.Reads as reads
-use Rattle.naming.proofs.note.Lts as lts
-use Rattle.naming.proofs.put.Reads as put-reads
-use Rattle.naming.proofs.told.Reads as told-reads
-use Rattle.text.proofs.utf8.Reads as utf8-reads
-use Rattle.walk.proofs.text.Reads as text-reads
 
 pub note-spec : {M : Type 1} → statement M
 note-spec =

@@ -1,5 +1,4 @@
 -- `vectors::answer_all` is safe and ends: each turn passes over at least three bytes. Assumes nothing.
-use native.Mathlib.Omega.{arith}
 use Prim.Native.Nat.{_-_}
 use lib.ListN.{length}
 use borrow.Author.Needs.{needs}

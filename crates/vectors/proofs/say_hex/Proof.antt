@@ -1,5 +1,4 @@
 -- `vectors::say_hex` is safe and ends: each turn leaves a byte less. Assumes nothing.
-use native.Mathlib.Omega.{arith}
 use Prim.Native.Nat.{_-_}
 use lib.ListN.{length}
 use borrow.Author.Needs.{needs}

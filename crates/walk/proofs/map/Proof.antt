@@ -7,10 +7,6 @@ use native.Mathlib.Omega.{arith}
 use borrow.Author.Needs.{needs}
 use Rattle.walk.proofs.map.Statement.{statement}
 use Rattle.walk.proofs.map.Tie as tie
-use Rattle.walk.proofs.map.Reads as reads
-use Rattle.walk.proofs.map.Lts as lts
-use Rattle.cbor.proofs.doubled.Reads as doubled-reads
-use Rattle.cbor.proofs.head.Reads as head-reads
 
 pub map-spec : {M : Type 1} → statement M
 map-spec =

@@ -1,14 +1,8 @@
 use Rattle.walk.proofs.Found as found
-use Rattle.cbor.specs.Ending.{headOf}
-use borrow.Rule.Slice.PartAt.{part-to-end}
-use mathlib.Core.Path.{_≡_, ap, sym, _∙_, subst}
-use mathlib.Core.Logic.{inl, inr}
 use native.Mathlib.Omega.{arith}
 use borrow.Author.Needs.{needs}
 use Rattle.walk.proofs.null.Statement.{statement}
 use Rattle.walk.proofs.null.Tie as tie
-use Rattle.walk.proofs.null.Reads as reads
-use Rattle.walk.proofs.null.Lts as lts
 
 pub null-spec : {M : Type 1} → statement M
 null-spec =

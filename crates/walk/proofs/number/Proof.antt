@@ -2,15 +2,12 @@ use Rattle.meaning.specs.Check.{pass}
 use Rattle.walk.proofs.Found as found
 use Rattle.cbor.specs.Ending.{headOf}
 use borrow.Rule.Slice.PartAt.{part-to-end}
-use mathlib.Core.Path.{_≡_, ap, sym, _∙_, subst}
+use mathlib.Core.Path.{ap, sym, _∙_}
 use mathlib.Core.Logic.{inl, inr}
 use native.Mathlib.Omega.{arith}
 use borrow.Author.Needs.{needs}
 use Rattle.walk.proofs.number.Statement.{statement}
 use Rattle.walk.proofs.number.Tie as tie
-use Rattle.walk.proofs.number.Reads as reads
-use Rattle.walk.proofs.number.Lts as lts
-use Rattle.cbor.proofs.head.Reads as head-reads
 
 pub number-spec : {M : Type 1} → statement M
 number-spec =

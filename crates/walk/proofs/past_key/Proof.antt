@@ -1,15 +1,11 @@
 use Rattle.walk.proofs.Turns as turns
 use Rattle.cbor.specs.Ending.{code, itemEnd}
 use borrow.Rule.Slice.PartAt.{part-to-end}
-use mathlib.Core.Path.{_≡_, ap, sym, _∙_}
+use mathlib.Core.Path.{ap, _∙_}
 use native.Mathlib.Omega.{arith}
 use borrow.Author.Needs.{needs}
 use Rattle.walk.proofs.past_key.Statement.{statement}
 use Rattle.walk.proofs.past_key.Tie as tie
-use Rattle.walk.proofs.past_key.Reads as reads
-use Rattle.walk.proofs.past_key.Lts as lts
-use Rattle.cbor.proofs.broken.Reads as broken-reads
-use Rattle.cbor.proofs.skip.Reads as skip-reads
 
 pub past-key-spec : {M : Type 1} → statement M
 past-key-spec =

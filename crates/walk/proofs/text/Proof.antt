@@ -4,15 +4,11 @@ use lib.ListN.{take, drop}
 use Rattle.walk.proofs.Found as found
 use Rattle.cbor.specs.Ending.{headOf}
 use borrow.Rule.Slice.PartAt.{part-to-end}
-use mathlib.Core.Path.{_≡_, ap, sym, _∙_, subst}
-use mathlib.Core.Logic.{inl, inr}
+use mathlib.Core.Path.{_≡_, ap, sym, _∙_}
 use native.Mathlib.Omega.{arith}
 use borrow.Author.Needs.{needs}
 use Rattle.walk.proofs.text.Statement.{statement}
 use Rattle.walk.proofs.text.Tie as tie
-use Rattle.walk.proofs.text.Reads as reads
-use Rattle.walk.proofs.text.Lts as lts
-use Rattle.cbor.proofs.head.Reads as head-reads
 
 pub text-spec : {M : Type 1} → statement M
 text-spec =

@@ -6,7 +6,6 @@ use lib.ListN.{length}
 use borrow.Author.Needs.{needs}
 use Rattle.text.proofs.DigestSteps as steps
 use Rattle.endian.proofs.Laws as numbers
-use Rattle.text.proofs.WordsDecide as words
 use Rattle.text.specs.Digest.{mixedIn, ofBytes}
 use Rattle.text.proofs.digests.mix_bytes.Statement.{statement}
 use Rattle.text.proofs.digests.mix_bytes.Tie as tie
