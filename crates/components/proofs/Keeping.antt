@@ -1,0 +1,84 @@
+-- The first fault is kept: one more entry, sound or not; and what the whole map comes to.
+use Prim.Native.Nat.{ℕ, suc, _+_, _*_, _≤_, _<_}
+use native.Mathlib.Omega.{arith}
+use mathlib.Core.List.{List, [], _∷_, _++_, map, append-nil}
+use mathlib.Core.Path.{_≡_, refl, ap, sym, _∙_}
+use lib.ListN.{length, take, length-append}
+use Rattle.meaning.specs.Tree.{Node, Pair}
+use Rattle.meaning.specs.Check.{Check, pass, refuse, _>>=_, fault, inComponent, each}
+use Rattle.meaning.specs.Limit.{componentLimit}
+use Rattle.meaning.specs.Model.{Component}
+use Rattle.meaning.specs.Field.{names}
+use Rattle.meaning.specs.Judge.{component, componentsOf, part}
+use Rattle.walk.specs.Reading.{Ends}
+use Rattle.meaning.specs.Format as formats
+use Rattle.formats.specs.Parts.{partRow, partRows}
+use Rattle.formats.proofs.Rows.{rows-more}
+use Rattle.naming.specs.Naming.{namedAnyway, told}
+use Rattle.naming.specs.declared.Named.the-variants.{No as NoNames, Yes as Names}
+use Rattle.naming.proofs.Noting.{map-snoc}
+use Rattle.naming.proofs.Entries.{each-snoc, each-of-map}
+use Rattle.components.specs.declared.First.the-variants.{Fine, Fault}
+use Rattle.components.specs.declared.Found.the-variants.{No, Yes}
+use Rattle.components.specs.Firsts.{entry, entries, FirstIs, FoundIs}
+
+rows-of-one : (d : formats.Part) → partRows (d ∷ []) ≡ partRow d
+unfolding partRows
+rows-of-one d = append-nil (partRow d)
+
+-- as many components as entries
+entries-length : (start : ℕ) (i : ℕ) (l : List (Pair Ends)) (cs : List (Component Ends)) → each (λ j p. entry start j (namedAnyway p)) i l ≡ pass cs → length cs ≡ length l
+entries-length start i [] cs e = let z : [] ≡ cs = cc in ap length (sym z)
+entries-length start i (p ∷ l) cs e = go (entry start i (namedAnyway p)) (each (λ j p. entry start j (namedAnyway p)) (suc i) l) refl e (λ ds h. entries-length start (suc i) l ds h)
+  where
+    go : (c : Check (Component Ends)) (d : Check (List (Component Ends))) → each (λ j p. entry start j (namedAnyway p)) (suc i) l ≡ d → (c >>= λ b. d >>= λ bs. pass (b ∷ bs)) ≡ pass cs
+        → ((ds : List (Component Ends)) → each (λ j p. entry start j (namedAnyway p)) (suc i) l ≡ pass ds → length ds ≡ length l) → length cs ≡ suc (length l)
+    go (refuse n o c) d h e ih = absurd (let z : _≡_ {A = ℕ} 0 1 = cc in omega arith)
+    go (pass b) (refuse n o c) h e ih = absurd (let z : _≡_ {A = ℕ} 0 1 = cc in omega arith)
+    go (pass b) (pass bs) h e ih = let z : b ∷ bs ≡ cs = cc in ap length (sym z) ∙ ap suc (ih bs h)
+
+module _ (start : ℕ) (done : List (Pair Ends)) (p : Pair Ends) where
+  one-more : entries start (done ++ p ∷ []) ≡ (entries start done >>= λ cs. entry start (length done) (namedAnyway p) >>= λ c. pass (cs ++ c ∷ []))
+  unfolding entries
+  one-more = let z : 0 + length done ≡ length done = omega arith in each-snoc (λ j p. entry start j (namedAnyway p)) 0 done p ∙ (rw z refl)
+
+  pub fault-stays : (n c : ℕ) (rows rows′ : List ℕ) → FirstIs start done (Fault n c) rows → FirstIs start (done ++ p ∷ []) (Fault n c) rows′
+  fault-stays n c rows rows′ (o, h) = (o, one-more ∙ (rw h refl))
+
+  pub first-fault : (n o c : ℕ) (rows rows′ : List ℕ) → FirstIs start done Fine rows → component start (namedAnyway p) ≡ refuse n o c → FirstIs start (done ++ p ∷ []) (Fault n (length done)) rows′
+  unfolding entry
+  first-fault n o c rows rows′ (cs, h, r) e = (o, one-more ∙ (rw (h, e) refl))
+
+  pub still-fine : (c : Component Ends) (rows rows′ : List ℕ) → FirstIs start done Fine rows → component start (namedAnyway p) ≡ pass c
+      → (length done < componentLimit → take (4 * suc (length done)) rows′ ≡ take (4 * length done) rows ++ partRow (part c)) → FirstIs start (done ++ p ∷ []) Fine rows′
+  unfolding entry entries
+  still-fine c rows rows′ (cs, h, r) e put =
+      let l : length cs ≡ length done = entries-length start 0 done cs h in
+      let s : length (cs ++ c ∷ []) ≡ suc (length done) = length-append cs (c ∷ []) ∙ (omega arith) in (
+        cs ++ c ∷ [],
+        one-more ∙ (rw (h, e) refl),
+        record {
+          are = λ m. rw (s, map-snoc part cs c, rows-more (map part cs) (part c ∷ []))
+              (put (omega arith) ∙ ap (λ x. x ++ partRow (part c)) (ap (λ i. take (4 * i) rows) (sym l) ∙ r .are (omega arith)) ∙ ap (λ x. partRows (map part cs) ++ x) (sym (rows-of-one (part c))));
+        },
+      )
+
+-- the whole map: its names, and then its entries
+module _ (start : ℕ) (done : List (Pair Ends)) (x : Node Ends) where
+  pub names-fault : (n : ℕ) (rows : List ℕ) → names componentLimit x ≡ told done (NoNames n) → FoundIs (componentsOf start x) (No n 0) rows
+  unfolding componentsOf
+  names-fault n rows h = (0, rw h refl)
+
+  named : names componentLimit x ≡ told done Names → componentsOf start x ≡ entries start done
+  unfolding componentsOf entries entry
+  named h = rw h (each-of-map (λ j c. inComponent j (component start c)) namedAnyway 0 done)
+
+  pub entry-fault : (n c : ℕ) (rows : List ℕ) → names componentLimit x ≡ told done Names → FirstIs start done (Fault n c) rows → FoundIs (componentsOf start x) (No n c) rows
+  entry-fault n c rows h (o, e) = (o, named h ∙ e)
+
+  pub all-fine : (m : ℕ) (rows : List ℕ) → names componentLimit x ≡ told done Names → FirstIs start done Fine rows → m ≡ length done → m ≤ componentLimit → FoundIs (componentsOf start x) (Yes m) rows
+  unfolding entries
+  all-fine m rows h (cs, e, r) is few =
+      let l : length cs ≡ length done = entries-length start 0 done cs e in
+      let z : m ≡ length cs = is ∙ sym l in
+      (cs, named h ∙ e, z, few, ap (λ i. take (4 * i) rows) z ∙ r .are (omega arith))

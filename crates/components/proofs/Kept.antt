@@ -1,0 +1,99 @@
+-- One more entry, a branch of `keep` each.
+use Prim.Native.Nat.{ℕ, suc, _+_, _*_, _<_}
+use native.Mathlib.Omega.{arith}
+use mathlib.Core.List.{List, [], _∷_, _++_}
+use mathlib.Core.Bool.{_&&_}
+use mathlib.Core.Path.{_≡_, refl, ap, sym, _∙_, subst}
+use lib.ListN.{length, take}
+use lib.Dec.{eqb}
+use Rattle.meaning.specs.Check.{Check, pass, refuse}
+use Rattle.meaning.specs.Limit.{componentLimit}
+use Rattle.meaning.specs.Model.{Word, Component}
+use Rattle.meaning.specs.Tree.{Pair}
+use Rattle.meaning.specs.Format.{plain}
+use Rattle.meaning.specs.Judge.{component, part, lettersOf}
+use borrow.Author.Tests.{ne-eqb}
+use borrow.Rule.Slice.PartAt.{part-to-end}
+use Rattle.fields.proofs.Texts.{Here}
+use Rattle.cbor.specs.Ending.{FAULT}
+use Rattle.types.specs.Known.{position, roleNames}
+use Rattle.formats.specs.Parts.{flag, partRow}
+use Rattle.formats.proofs.Rows.{plain-bare, plain-typed}
+use Rattle.walk.specs.Reading.{Ends, Reads}
+use Rattle.naming.specs.Naming.{namedAnyway}
+use Rattle.component.specs.Value.{leftWord}
+use Rattle.component.specs.Verdict.{judged}
+use Rattle.component.specs.declared.Judged.{Judged}
+use Rattle.component.specs.declared.Judged.the-variants.{No, Yes}
+use Rattle.components.specs.declared.First.{First}
+use Rattle.components.specs.declared.First.the-variants.{Fine, Fault}
+use Rattle.components.specs.Firsts.{FirstIs, Keeps}
+use Rattle.components.specs.Typed.{TypeAt, bare, lettered, UnitIs}
+use Rattle.components.specs.Row.{putRow, RoleIs}
+use Rattle.components.proofs.Keeping.{fault-stays, first-fault, still-fine}
+use Rattle.components.proofs.Lettered.{type-at, named-so}
+use Rattle.components.proofs.Rows.{row-length, row-after}
+
+plain-is : (c : List ℕ) (k : Component Ends) → TypeAt c k → flag (eqb (leftWord (k .type)) 0 && eqb (k .dtype) 8) ≡ flag (plain (part k))
+unfolding part lettersOf
+plain-is c k (bare b) = ap (λ o. flag (eqb (leftWord o) 0 && eqb (k .dtype) 8)) b ∙ ap flag (sym (plain-bare (part k) (ap lettersOf b)))
+plain-is c k (lettered w b d t x a) =
+    ap (λ o. flag (eqb (leftWord o) 0 && eqb (k .dtype) 8)) b ∙ go (length (w .note .start)) (x .0) ∙ sym (ap flag (plain-typed (part k) (w .letters) (ap lettersOf b)))
+  where
+    go : (n : ℕ) → 0 < n → flag (eqb n 0 && eqb (k .dtype) 8) ≡ 0
+    go n h = rw (ne-eqb n 0 (λ e. omega arith)) refl
+
+module _ (s c : List ℕ) (v : Judged) (j : ℕ) (first : First) (rows : List ℕ) where
+  pub stays : (n i : ℕ) → first ≡ Fault n i → Keeps s c v j first rows (Fault n i) rows
+  stays n i e start done p d q r x y h is f = fault-stays start done p n i rows rows (subst (λ f. FirstIs start done f rows) e f)
+
+  pub begins : first ≡ Fine → (n : ℕ) → v ≡ No n → Keeps s c v j first rows (Fault n j) rows
+  begins e n a start done p d q r x y h is f = go (component start (namedAnyway p)) refl (sym a ∙ h (p .value) r y (namedAnyway p .name))
+    where
+      go : (k : Check (Component Ends)) → component start (namedAnyway p) ≡ k → No n ≡ judged k → FirstIs start (done ++ p ∷ []) (Fault n j) rows
+      go (pass k) z b = absurd (let w : _≡_ {A = ℕ} 0 1 = cc in omega arith)
+      go (refuse m o i) z b =
+          let w : m ≡ n = cc in
+          subst (λ j. FirstIs start (done ++ p ∷ []) (Fault n j) rows) (sym is)
+          (subst (λ m. FirstIs start (done ++ p ∷ []) (Fault m (length done)) rows) w (first-fault start done p m o i rows rows (subst (λ f. FirstIs start done f rows) e f) z))
+
+  module _ (room : length c < FAULT) (slots : length rows ≡ 64) (e : first ≡ Fine) (code left o size g : ℕ) (a : v ≡ Yes code left o size g)
+      (u : ℕ) (is-u : UnitIs c code left u) (called : ℕ) (is-called : RoleIs s called) (b : ℕ) (is-b : b ≡ flag (eqb left 0 && eqb code 8)) where
+    module _ (start : ℕ) (done : List (Pair Ends)) (p : Pair Ends) (d : ℕ) (q r : List ℕ) (x : Reads (suc d) s (p .key) q) (y : Reads 28 c (p .value) r) (is : j ≡ length done)
+        (k : Component Ends) (z : component start (namedAnyway p) ≡ pass k) (w : Yes code left o size g ≡ judged (pass k)) where
+      typed : TypeAt c k
+      typed = type-at c room (p .value) r y start (namedAnyway p .name) k z
+
+      row : called ∷ u ∷ b ∷ size ∷ [] ≡ partRow (part k)
+      unfolding partRow part
+      row =
+          let i : k .dtype ≡ code = cc in
+          let l : leftWord (k .type) ≡ left = cc in
+          let m : size ≡ k .length = cc in
+          let t : called ≡ position roleNames (k .name .letters) = is-called d (p .key) q x ∙ ap (λ (w : Word Ends). position roleNames (w .letters)) (named-so c room (p .value) r y start (namedAnyway p .name) k z) in
+          let n = is-u k typed i l in
+          let v : b ≡ flag (plain (part k)) = is-b ∙ ap (λ l. flag (eqb l 0 && eqb code 8)) (sym l) ∙ ap (λ i. flag (eqb (leftWord (k .type)) 0 && eqb i 8)) (sym i) ∙ plain-is c k typed in
+          rw (t, n, v, m) refl
+
+      put-so : length done < componentLimit → take (4 * suc (length done)) (putRow rows j called u b size) ≡ take (4 * length done) rows ++ partRow (part k)
+      put-so few =
+          subst (λ i. take (4 * suc i) (putRow rows j called u b size) ≡ take (4 * i) rows ++ partRow (part k)) is
+          (row-after rows slots j called u b size (omega arith) ∙ ap (λ l. take (4 * j) rows ++ l) row)
+
+    pub row-put : Keeps s c v j first rows Fine (putRow rows j called u b size)
+    row-put start done p d q r x y h is f = go (component start (namedAnyway p)) refl (sym a ∙ h (p .value) r y (namedAnyway p .name))
+      where
+        go : (k : Check (Component Ends)) → component start (namedAnyway p) ≡ k → Yes code left o size g ≡ judged k → FirstIs start (done ++ p ∷ []) Fine (putRow rows j called u b size)
+        go (pass k) z w = still-fine start done p k rows (putRow rows j called u b size) (subst (λ f. FirstIs start done f rows) e f) z (put-so start done p d q r x y is k z w)
+        go (refuse m o i) z w = absurd (let w : _≡_ {A = ℕ} 0 1 = cc in omega arith)
+
+    pub row-kept : (rows′ : List ℕ) → rows′ ≡ putRow rows j called u b size → (length rows′ ≡ 64) × Keeps s c v j first rows Fine rows′
+    row-kept rows′ z = (ap length z ∙ row-length rows slots j called u b size, subst (Keeps s c v j first rows Fine) (sym z) row-put)
+
+-- the whole of some bytes, as it is lent
+module _ (s : List ℕ) where
+  pub whole-unit : (code left u : ℕ) → UnitIs (Here s 0) code left u → UnitIs s code left u
+  whole-unit code left u = subst (λ s. UnitIs s code left u) (part-to-end s 0)
+
+  pub whole-role : (r : ℕ) → RoleIs (Here s 0) r → RoleIs s r
+  whole-role r = subst (λ s. RoleIs s r) (part-to-end s 0)

@@ -1,0 +1,24 @@
+use native.Mathlib.Omega.{arith}
+use Rattle.fields.proofs.Texts.{letters-in}
+use Rattle.components.proofs.Rows as rows
+use borrow.Author.Needs.{needs}
+use Rattle.components.proofs.row.role.Statement.{statement}
+use Rattle.components.proofs.row.role.Tie as tie
+
+pub role-spec : {M : Type 1} → statement M
+role-spec =
+    tie.close
+    (tie.spec
+    (λ c. search needs)
+    (λ c. search needs)
+    (λ c. search needs)
+    (λ c κs. search needs)
+    (λ c. search needs)
+    (λ c. search needs)
+    (λ c. omega (arith, letters-in ((c .before .before .before .before .before .before .args .s .now)) _ ((c .before .before .before .text .ensures .0)) _ _ ((c .before .at .given .1))))
+    (λ c. search needs)
+    (λ c. search needs)
+    (λ c. omega (arith, letters-in ((c .before .before .before .before .before .before .args .s .now)) _ ((c .before .before .before .text .ensures .0)) _ _ ((c .before .at .given .1))))
+    (λ c κs. search needs)
+    (λ c. rows.role-odd ((c .before .before .before .before .before .args .s .now)) _ ((c .before .before .text .ensures .1)) ((c .enum-told .given .1)))
+    (λ c. rows.role-named ((c .before .before .before .before .before .before .before .before .args .s .now)) _ ((c .before .before .before .before .before .text .ensures .1)) _ _ ((c .before .before .before .at .given .1)) _ ((c .role-code .ensures))))

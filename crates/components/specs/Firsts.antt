@@ -1,0 +1,45 @@
+-- The entries of a `components` map, as they are judged one by one, and the whole map's judgement.
+use Prim.Native.Nat.{ℕ, suc, _*_, _≤_}
+use mathlib.Core.List.{List, [], _∷_, _++_, map}
+use mathlib.Core.Path.{_≡_}
+use lib.ListN.{length, take}
+use Rattle.meaning.specs.Tree.{Pair}
+use Rattle.meaning.specs.Check.{Check, pass, refuse, inComponent, each}
+use Rattle.meaning.specs.Limit.{componentLimit}
+use Rattle.meaning.specs.Model.{Named, Component}
+use Rattle.meaning.specs.Judge.{component, part}
+use Rattle.walk.specs.Reading.{Ends, Reads}
+use Rattle.component.specs.Verdict.{ComponentIs}
+use Rattle.component.specs.declared.Judged.{Judged}
+use Rattle.formats.specs.Parts.{partRows}
+use Rattle.naming.specs.Naming.{namedAnyway}
+use Rattle.components.specs.declared.First.{First}
+use Rattle.components.specs.declared.First.the-variants.{Fine, Fault}
+use Rattle.components.specs.declared.Found.{Found}
+use Rattle.components.specs.declared.Found.the-variants.{No, Yes}
+
+-- an entry, with its index
+unfoldable pub entry : ℕ → ℕ → Named Ends → Check (Component Ends)
+entry start j n = inComponent j (component start n)
+
+-- the entries of the pairs so far
+unfoldable pub entries : ℕ → List (Pair Ends) → Check (List (Component Ends))
+entries start done = each (λ j p. entry start j (namedAnyway p)) 0 done
+
+-- components as the rows that the format's rules read
+pub record Rowed (cs : List (Component Ends)) (rows : List ℕ) : Type 0 where
+  pub are : length cs ≤ componentLimit → take (4 * length cs) rows ≡ partRows (map part cs)
+
+abbrev pub FirstIs : ℕ → List (Pair Ends) → First → List ℕ → Type 0
+FirstIs start done Fine rows = (cs : List (Component Ends)) × (entries start done ≡ pass cs) × Rowed cs rows
+FirstIs start done (Fault n c) rows = (o : ℕ) × (entries start done ≡ refuse n o c)
+
+-- one more entry, number j, whose key begins s and whose value, judged as v, begins c
+abbrev pub Keeps : List ℕ → List ℕ → Judged → ℕ → First → List ℕ → First → List ℕ → Type 0
+Keeps s c v j first rows first′ rows′ =
+    (start : ℕ) (done : List (Pair Ends)) (p : Pair Ends) (d : ℕ) (q r : List ℕ) → Reads (suc d) s (p .key) q → Reads 28 c (p .value) r → ComponentIs c start v → j ≡ length done
+    → FirstIs start done first rows → FirstIs start (done ++ p ∷ []) first′ rows′
+
+abbrev pub FoundIs : Check (List (Component Ends)) → Found → List ℕ → Type 0
+FoundIs k (No n c) rows = (o : ℕ) × (k ≡ refuse n o c)
+FoundIs k (Yes m) rows = (cs : List (Component Ends)) × (k ≡ pass cs) × (m ≡ length cs) × (m ≤ componentLimit) × (take (4 * m) rows ≡ partRows (map part cs))
