@@ -4,7 +4,7 @@ use Prim.Native.Nat.{ℕ, _+_, _-_, _≤_, _<_}
 use native.Mathlib.Omega.{arith}
 use mathlib.Core.List.{List, [], _∷_}
 use mathlib.Core.Path.{_≡_, refl, sym, ap, _∙_}
-use lib.ListN.{length, drop, length-drop}
+use lib.ListN.{length, length-drop}
 use Rattle.meaning.specs.Tree.{Node, mapP}
 use Rattle.meaning.specs.Check.{Check, pass, refuse, fault, _>>=_}
 use Rattle.meaning.specs.Refusal.{CBOR}
@@ -18,7 +18,7 @@ use Rattle.meaning.proofs.JudgeNatural.{judge-map}
 use Rattle.cbor.specs.Ending.{took, FAULT, code, ending, itemEnd}
 use Rattle.cbor.proofs.Passing.{is-took, fine-ending}
 use Rattle.cbor.proofs.Agree.{annotations-change-no-ending, rest-follows}
-use Rattle.walk.specs.Reading.{Ends, ends, Reads}
+use Rattle.walk.specs.Reading.{Ends, ends}
 use Rattle.root.specs.declared.Judged.{Judged}
 use Rattle.root.specs.declared.Judged.the-variants.{No, Yes}
 use Rattle.root.specs.Verdict.{judged, RootIs}
