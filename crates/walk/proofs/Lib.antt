@@ -4,4 +4,6 @@ pub mod Chains
 pub mod Maps
 pub mod Lists
 pub mod Turns
+pub mod Passed
+pub mod Opens
 pub mod Puts
