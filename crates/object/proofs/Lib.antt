@@ -1,0 +1,4 @@
+pub mod Values
+pub mod Pieces
+pub mod Sound
+pub mod Verdicts

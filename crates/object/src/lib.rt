@@ -1,0 +1,11 @@
+// An object's value: one walk passes over its map, notes where its fields stand and judges its components; then the fields are judged from these places.
+// Every slice runs to the manifest's end, and a place is the number of bytes left there, 0 for none.
+mod judge;
+mod place;
+mod value;
+
+// A refusal number and the component, or how many components there are.
+pub enum Judged {
+    No(u64, usize),
+    Yes(usize),
+}
