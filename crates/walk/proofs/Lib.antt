@@ -4,4 +4,5 @@ pub mod Chains
 pub mod Maps
 pub mod Lists
 pub mod Turns
+pub mod Passed
 pub mod Puts

@@ -176,7 +176,7 @@ module _ {S : Type 0} (f : S → Pair Ends → S) (d mode count : ℕ) (s : List
     pub value : Reads d (drop (at + k) s) (p .value) (drop (at + k + e) s)
 
   module _ (l : e ≤ length s - (at + k)) where
-    value-ends : itemEnd d (drop (at + k) s) ≡ took e
+    pub value-ends : itemEnd d (drop (at + k) s) ≡ took e
     value-ends = is-took (drop (at + k) s) short-value e (itemEnd d (drop (at + k) s)) (fine-ending (drop (at + k) s) (item noNote d (drop (at + k) s))) is (omega (arith, length-drop (at + k) s))
 
     pub further-on : at < at + k + e
