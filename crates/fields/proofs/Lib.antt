@@ -3,3 +3,4 @@ pub mod Marks
 pub mod Standing
 pub mod Texts
 pub mod Places
+pub mod Snoc
