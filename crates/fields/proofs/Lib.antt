@@ -4,3 +4,4 @@ pub mod Standing
 pub mod Texts
 pub mod Places
 pub mod Snoc
+pub mod AttributesAt

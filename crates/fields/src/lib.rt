@@ -1,9 +1,11 @@
 // Where the known fields of a map stand, noted in a lent array of slots while the map is passed over. A place is the number of bytes left there, 0 for none:
 // slots 0 to N - 1 for the N known fields, N for an unknown name, N + 1 for a key that isn't whole text, N + 2 for a known field again.
+use walk::Opening;
 ghost use mathlib.Core.Path.{_≡_};
 ghost use Prim.Native.Nat.{_+_, _-_, _≤_};
 ghost use lib.ListN.{length};
 ghost use Rattle.fields.specs.Slots.{marked};
+ghost use Rattle.fields.specs.Attributes.{AttributesAt};
 
 // Notes at slot k that a value has `left` bytes left. The first value of a known field stays.
 pub fn mark(p: &mut [usize], known: usize, k: usize, left: usize)
@@ -27,4 +29,18 @@ pub fn place_of(len: usize, left: usize) -> usize
     ensures { λ r. ⌜ r ≡ len - left ⌝ }
 {
     if left <= len { len - left } else { 0 }
+}
+
+// Are the attributes a map, where `left` bytes of s are left, or absent?
+pub fn attributes(s: &[u8], left: usize) -> bool
+    ensures { λ r. ⌜ AttributesAt (now (s .entry)) left r ⌝ }
+{
+    if left == 0 {
+        return true;
+    }
+    let at = place_of(s.len(), left);
+    match walk::map(&s[at..]) {
+        Opening::NotOpen => false,
+        Opening::Opened(_, _, _) => true,
+    }
 }
