@@ -1,17 +1,15 @@
 -- The attributes at a place, a branch each: absent, or what `walk::map` answered at the part from `at` on.
-use mathlib.Core.Path.{_≡_, refl, sym, ap, _∙_, subst}
+use mathlib.Core.Path.{_≡_, refl, _∙_}
 use mathlib.Core.List.{List}
 use mathlib.Core.Bool.{true, false}
 use mathlib.Core.Option.{none, some}
-use Prim.Native.Nat.{ℕ, suc, _-_}
+use Prim.Native.Nat.{ℕ, _-_}
 use native.Mathlib.Omega.{arith}
 use lib.ListN.{length}
-use Rattle.meaning.specs.Tree.{Node}
 use Rattle.meaning.specs.Check.{pass, fault}
-use Rattle.meaning.specs.Kind.{kind, table, aTable, asTable}
+use Rattle.meaning.specs.Kind.{aTable, asTable}
 use Rattle.meaning.specs.Refusal.{KIND}
 use Rattle.meaning.specs.Judge.{attributesOf}
-use Rattle.walk.specs.Reading.{Ends}
 use Rattle.walk.specs.Places.{Whatever, MapIs}
 use Rattle.walk.specs.declared.Opening.{Opening}
 use Rattle.walk.specs.declared.Opening.the-variants.{NotOpen, Opened}

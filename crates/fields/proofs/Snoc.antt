@@ -3,7 +3,7 @@ use mathlib.Core.Path.{_≡_, refl, sym, ap, _∙_}
 use mathlib.Core.List.{List, [], _∷_, _++_}
 use mathlib.Core.Bool.{Bool, true, false, cond}
 use mathlib.Core.Option.{Option, none, some}
-use Prim.Native.Nat.{ℕ, suc, _+_, _≤_, _<_}
+use Prim.Native.Nat.{ℕ, _+_, _≤_, _<_}
 use native.Mathlib.Omega.{arith}
 use lib.ListN.{length, getD, replicate}
 use Rattle.meaning.specs.Tree.{Node, Pair}
@@ -12,7 +12,7 @@ use Rattle.meaning.specs.Field.{keyOf, get}
 use Rattle.text.proofs.SameIsEqual.{same-eq}
 use Rattle.types.specs.Known.{position}
 use Rattle.walk.specs.Reading.{Ends, Chain, foldl}
-use Rattle.fields.specs.Slots.{slotOf, marks, Holds}
+use Rattle.fields.specs.Slots.{slotOf, marks}
 use Rattle.fields.proofs.Standing.{hold-none, Item, hold-some, field-stands}
 
 pub foldl-snoc : {A S : Type 0} (f : S → A → S) (z : S) (xs : List A) (x : A) → foldl f z (xs ++ x ∷ []) ≡ f (foldl f z xs) x
