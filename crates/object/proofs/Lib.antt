@@ -1,4 +1,4 @@
-pub mod Values
+pub mod Places
 pub mod Pieces
 pub mod Sound
 pub mod Verdicts

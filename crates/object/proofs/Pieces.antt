@@ -1,18 +1,19 @@
 -- The pieces of an object's judgement, a branch each. Slices are lent whole.
 use mathlib.Core.Path.{_≡_, refl, sym, ap, _∙_, subst}
 use mathlib.Core.List.{List}
+use mathlib.Core.Bool.{Bool, true, false}
 use Prim.Native.Nat.{ℕ, suc, _-_, _*_, _<_}
 use native.Mathlib.Omega.{arith}
 use lib.ListN.{length, take, drop}
 use borrow.Rule.Slice.PartAt.{part-to-end}
-use Rattle.meaning.specs.Tree.{Node, nothing}
-use Rattle.meaning.specs.Check.{pass, optional}
+use Rattle.meaning.specs.Tree.{Node}
+use Rattle.meaning.specs.Check.{pass}
 use Rattle.meaning.specs.Kind.{aText}
 use Rattle.meaning.specs.Format.{Part, formatRules}
-use Rattle.meaning.specs.Judge.{attributesOf}
 use Rattle.types.specs.Known.{position, formatNames}
 use Rattle.walk.specs.Reading.{Ends}
 use Rattle.fields.specs.Slots.{Stands}
+use Rattle.fields.specs.Attributes.{AttributesAt}
 use Rattle.fields.proofs.Texts.{Here}
 use Rattle.formats.specs.Parts.{partRows, told}
 use Rattle.formats.specs.declared.Ruled.{Ruled}
@@ -20,11 +21,9 @@ use Rattle.formats.specs.declared.Ruled.the-variants.{Right, Wrong}
 use Rattle.component.proofs.Pieces.{refused-so, Passed, passed-so}
 use Rattle.object.specs.declared.Judged.{Judged}
 use Rattle.object.specs.declared.Judged.the-variants.{No, Yes}
-use Rattle.object.specs.declared.value.Coded.{Coded}
-use Rattle.object.specs.declared.value.Coded.the-variants.{No as NoCode, Yes as Code}
-use Rattle.object.specs.declared.value.Fine.{Fine}
-use Rattle.object.specs.declared.value.Fine.the-variants.{No as Bad, Yes as Good}
-use Rattle.object.specs.Value.{formatCode, FormatAt, AttributesAt}
+use Rattle.object.specs.declared.place.Coded.{Coded}
+use Rattle.object.specs.declared.place.Coded.the-variants.{No as NoCode, Yes as Code}
+use Rattle.object.specs.Place.{formatCode, FormatAt}
 use Rattle.object.specs.Verdict.{described, DescribedAt, RuledIs}
 
 -- ---------------------------------------------------------------- format and attributes
@@ -37,22 +36,20 @@ module _ (s : List ℕ) (a b : ℕ) (r₁ : Coded) (h₁ : FormatAt (Here s 0) a
   unfolding described
   no-format n e d x y hx hy = rw (refused-so formatCode (aText x) n (format-is (NoCode n) e d x hx)) refl
 
-  module _ (code : ℕ) (e₁ : r₁ ≡ Code code) (r₂ : Fine) (h₂ : AttributesAt (Here s 0) b r₂) where
-    attributes-are : (q : Fine) → r₂ ≡ q → AttributesAt s b q
+  module _ (code : ℕ) (e₁ : r₁ ≡ Code code) (r₂ : Bool) (h₂ : AttributesAt (Here s 0) b r₂) where
+    attributes-are : (q : Bool) → r₂ ≡ q → AttributesAt s b q
     attributes-are q e = subst (λ u. AttributesAt u b q) (part-to-end s 0) (rw e at h₂)
 
     has-format : (d : ℕ) (x : Node Ends) → Stands (suc d) s a x → Passed formatCode (aText x) code
     has-format d x hx = passed-so formatCode (aText x) code (format-is (Code code) e₁ d x hx)
 
-    pub no-attributes : (n : ℕ) → r₂ ≡ Bad n → DescribedAt s a b (NoCode n)
+    pub no-attributes : r₂ ≡ false → DescribedAt s a b (NoCode 8)
     unfolding described
-    no-attributes n e d x y hx hy = rw (has-format d x hx .is) (rw (refused-so nothing (optional attributesOf y) n (attributes-are (Bad n) e d y hy)) refl)
+    no-attributes e d x y hx hy = rw (has-format d x hx .is) (rw (attributes-are false e d y hy) refl)
 
-    pub both-there : r₂ ≡ Good → DescribedAt s a b (Code code)
+    pub both-there : r₂ ≡ true → DescribedAt s a b (Code code)
     unfolding described
-    both-there e d x y hx hy =
-        let z = has-format d x hx in
-        rw (z .is) (rw (passed-so nothing (optional attributesOf y) tt (attributes-are Good e d y hy) .is) (ap (λ (i : ℕ). pass i) (z .shown)))
+    both-there e d x y hx hy = let z = has-format d x hx in rw (z .is) (rw (attributes-are true e d y hy) (ap (λ (i : ℕ). pass i) (z .shown)))
 
 -- ---------------------------------------------------------------- the format's rules
 

@@ -21,9 +21,9 @@ use Rattle.components.specs.declared.Found.the-variants.{No as Refused, Yes as 
 use Rattle.component.proofs.Pieces.{refused-so, Passed, passed-so}
 use Rattle.object.specs.declared.Judged.{Judged}
 use Rattle.object.specs.declared.Judged.the-variants.{No, Yes}
-use Rattle.object.specs.declared.value.Coded.{Coded}
-use Rattle.object.specs.declared.value.Coded.the-variants.{No as NoCode, Yes as Code}
-use Rattle.object.specs.Value.{coded, ShapeAt}
+use Rattle.object.specs.declared.place.Coded.{Coded}
+use Rattle.object.specs.declared.place.Coded.the-variants.{No as NoCode, Yes as Code}
+use Rattle.object.specs.Place.{coded, ShapeAt}
 use Rattle.object.specs.Verdict.{described, codeOf, DescribedAt, ruled, RuledIs, judged, Fields, Standing, sound, SoundIs}
 
 judged-ruled : (k : Check (Unit {0})) (o : Object Ends) (m : ℕ) → m ≡ length (o .components) → ruled k m ≡ judged (k >> pass o)

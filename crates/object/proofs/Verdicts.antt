@@ -26,8 +26,8 @@ use Rattle.fields.proofs.Texts.{Here}
 use Rattle.components.specs.declared.Found.{Found}
 use Rattle.object.specs.declared.Judged.{Judged}
 use Rattle.object.specs.declared.Judged.the-variants.{No}
-use Rattle.object.specs.declared.value.Fine.{Fine}
-use Rattle.object.specs.declared.value.Fine.the-variants.{No as Bad, Yes as Good}
+use Rattle.object.specs.declared.judge.Fine.{Fine}
+use Rattle.object.specs.declared.judge.Fine.the-variants.{No as Bad, Yes as Good}
 use Rattle.object.specs.Verdict.{known, Description, described, judged, Fields, Standing, sound, SoundIs, VerdictIs}
 
 -- ---------------------------------------------------------------- what the slots say, a branch each
@@ -200,11 +200,11 @@ module _ (s p : List ℕ) (found-there : Found) (rows : List ℕ) where
     slots-say = is ∙ ap known (part-to-end p 0)
 
     pub refused : (m : ℕ) → f ≡ Bad m → VerdictIs s p found-there rows (No m 0)
-    refused m e start ps q chain is held t kt n = subst (Told start ps q chain is t kt n) (sym slots-say ∙ e) (told start ps q chain is t kt n)
+    refused m e start ps q chain noted t kt n = subst (Told start ps q chain (noted .0) t kt n) (sym slots-say ∙ e) (told start ps q chain (noted .0) t kt n)
 
     pub as-sound : f ≡ Good → (r : Judged) → SoundIs (Here s 0) (Here p 0) found-there (Here rows 0) r → VerdictIs s p found-there rows r
-    as-sound e r h start ps q chain is held t kt n =
-        let x : Ready start ps q chain is t kt n = subst (Told start ps q chain is t kt n) (sym slots-say ∙ e) (told start ps q chain is t kt n) in
+    as-sound e r h start ps q chain noted t kt n =
+        let x : Ready start ps q chain (noted .0) t kt n = subst (Told start ps q chain (noted .0) t kt n) (sym slots-say ∙ e) (told start ps q chain (noted .0) t kt n) in
         let y : SoundIs s p found-there rows r =
         subst (λ u. SoundIs s p found-there u r) (part-to-end rows 0) (subst (λ u. SoundIs s u found-there (Here rows 0) r) (part-to-end p 0) (subst (λ u. SoundIs u (Here p 0) found-there (Here rows 0) r) (part-to-end s 0) h)) in
-        y start (x .fields) (x .standing) (held (x .fields .components) (x .components-are)) n ∙ ap judged (sym (x .judged-so))
+        y start (x .fields) (x .standing) (noted .1 (x .fields .components) (x .components-are)) n ∙ ap judged (sym (x .judged-so))

@@ -1,2 +1,2 @@
-pub mod Value
+pub mod Place
 pub mod Verdict

@@ -25,10 +25,10 @@ use Rattle.components.specs.declared.Found.{Found}
 use Rattle.components.specs.Firsts.{FoundIs}
 use Rattle.object.specs.declared.Judged.{Judged}
 use Rattle.object.specs.declared.Judged.the-variants.{No, Yes}
-use Rattle.object.specs.declared.value.Coded.{Coded}
-use Rattle.object.specs.declared.value.Fine.{Fine}
-use Rattle.object.specs.declared.value.Fine.the-variants.{No as Bad, Yes as Good}
-use Rattle.object.specs.Value.{coded, formatCode}
+use Rattle.object.specs.declared.place.Coded.{Coded}
+use Rattle.object.specs.declared.judge.Fine.{Fine}
+use Rattle.object.specs.declared.judge.Fine.the-variants.{No as Bad, Yes as Good}
+use Rattle.object.specs.Place.{coded, formatCode}
 
 -- keys, repeats, missing fields: what the slots say
 unfoldable pub known : List ℕ → Fine
@@ -103,11 +103,15 @@ SoundIs s p found rows r = (start : ℕ) (f : Fields) → Standing s p f → Fou
 abbrev pub Held : ℕ → List (Pair Ends) → Found → List ℕ → Type 0
 Held start ps found rows = (x : Node Ends) → get (ascii "components") ps ≡ some x → FoundIs (componentsOf start x) found rows
 
--- for every map of the pairs that are read from s on, where p holds their slots
+-- what is noted of pairs: their slots, and what was found in their components
+abbrev pub Noted : ℕ → List ℕ → Found → List ℕ → List (Pair Ends) → Type 0
+Noted start p found rows ps = (p ≡ foldl (marks objectNames) (replicate 7 0) ps) × Held start ps found rows
+
+-- for every map of the pairs that are read from s on, where this is noted of them
 abbrev pub VerdictIs : List ℕ → List ℕ → Found → List ℕ → Judged → Type 0
 VerdictIs s p found rows r =
-    (start : ℕ) (ps : List (Pair Ends)) (q : List ℕ) → Chain 29 s ps q → p ≡ foldl (marks objectNames) (replicate 7 0) ps → Held start ps found rows
-    → (t : Node Ends) → kind t ≡ table ps → (n : Word Ends) → r ≡ judged (object start (record { name = n; value = t }))
+    (start : ℕ) (ps : List (Pair Ends)) (q : List ℕ) → Chain 29 s ps q → Noted start p found rows ps → (t : Node Ends) → kind t ≡ table ps → (n : Word Ends)
+    → r ≡ judged (object start (record { name = n; value = t }))
 
 abbrev pub ObjectIs : List ℕ → ℕ → Judged → Type 0
 ObjectIs s start r = (t : Node Ends) (q : List ℕ) → Reads 30 s t q → (n : Word Ends) → r ≡ judged (object start (record { name = n; value = t }))

@@ -1,16 +1,20 @@
 // The judgement of an object in pieces, from the places of its fields in s, what was found in its components, and their rows.
 use crate::Judged;
-use crate::place::attributes_at;
+use crate::place::Coded;
 use crate::place::format_at;
 use crate::place::shape_at;
-use crate::value::Coded;
-use crate::value::Fine;
 use components::Found;
 use formats::Ruled;
 use shape::Shaped;
 ghost use mathlib.Core.Path.{_≡_};
 ghost use lib.ListN.{length};
 ghost use Rattle.object.specs.Verdict as is;
+
+// Sound, or a refusal.
+pub enum Fine {
+    No(u64),
+    Yes,
+}
 
 // Keys, repeats, missing fields.
 fn known(p: &[usize]) -> Fine
@@ -41,10 +45,12 @@ fn described(s: &[u8], a: usize, b: usize) -> Coded
 {
     match format_at(&s[0..], a) {
         Coded::No(n) => Coded::No(n),
-        Coded::Yes(code) => match attributes_at(&s[0..], b) {
-            Fine::No(n) => Coded::No(n),
-            Fine::Yes => Coded::Yes(code),
-        },
+        Coded::Yes(code) => {
+            if fields::attributes(&s[0..], b) {
+                return Coded::Yes(code);
+            }
+            Coded::No(8)
+        }
     }
 }
 

@@ -2,7 +2,6 @@
 // Every slice runs to the manifest's end, and a place is the number of bytes left there, 0 for none.
 mod judge;
 mod place;
-mod value;
 
 // A refusal number and the component, or how many components there are.
 pub enum Judged {

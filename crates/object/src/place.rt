@@ -1,15 +1,18 @@
-// The fields of an object at their places in s; `left` is 0 for one that is absent.
-use crate::value::Coded;
-use crate::value::Fine;
-use crate::value::attributes_of;
-use crate::value::format_of;
+// The shape and the format of an object, which aren't absent, at their places in s.
 use fields::place_of;
 use shape::Shaped;
+use walk::Letters;
 ghost use mathlib.Core.Path.{_≡_};
 ghost use lib.ListN.{length};
-ghost use Rattle.object.specs.Value as is;
+ghost use Rattle.object.specs.Place as is;
 
-// The shape, which isn't absent: its dimensions are put into dims.
+// The format's code (types::format_code), or a refusal.
+pub enum Coded {
+    No(u64),
+    Yes(u64),
+}
+
+// The shape, where `left` bytes are left: its dimensions are put into dims.
 pub fn shape_at(s: &[u8], left: usize, dims: &mut [u64]) -> Shaped
     requires { ⌜ length (now dims) ≡ 8 ⌝ }
     ensures { λ r. ⌜ is.ShapeAt (now (s .entry)) left (now (dims .exit)) r ⌝ }
@@ -18,21 +21,26 @@ pub fn shape_at(s: &[u8], left: usize, dims: &mut [u64]) -> Shaped
     shape::shape(&s[at..], 28, dims)
 }
 
-// The format, which isn't absent.
+// The format that begins s.
+fn format_of(s: &[u8]) -> Coded
+    ensures { λ r. ⌜ is.FormatIs (now (s .entry)) r ⌝ }
+{
+    match walk::text(&s[0..]) {
+        Letters::NoText => Coded::No(8),
+        Letters::Text(at, n) => {
+            let e = at + n;
+            if text::utf8(&s[at..e]) {
+                return Coded::Yes(types::format_code(&s[at..e]));
+            }
+            Coded::No(10)
+        }
+    }
+}
+
+// The format, where `left` bytes are left.
 pub fn format_at(s: &[u8], left: usize) -> Coded
     ensures { λ r. ⌜ is.FormatAt (now (s .entry)) left r ⌝ }
 {
     let at = place_of(s.len(), left);
     format_of(&s[at..])
-}
-
-// The attributes, which null doesn't make absent.
-pub fn attributes_at(s: &[u8], left: usize) -> Fine
-    ensures { λ r. ⌜ is.AttributesAt (now (s .entry)) left r ⌝ }
-{
-    if left == 0 {
-        return Fine::Yes;
-    }
-    let at = place_of(s.len(), left);
-    attributes_of(&s[at..])
 }

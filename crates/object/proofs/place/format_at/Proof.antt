@@ -1,6 +1,6 @@
 -- `object::place::format_at` meets its contract: a law for each branch.
 use Rattle.fields.proofs.Places as places
-use Rattle.object.specs.Value.{coded, formatCode}
+use Rattle.object.specs.Place.{coded, formatCode}
 use Rattle.meaning.specs.Notes.{mapCheck}
 use Rattle.meaning.specs.Kind.{aText}
 use mathlib.Core.Path.{_≡_}

@@ -1,5 +1,5 @@
 -- `object::place::shape_at` meets its contract: a law for each branch.
-use Rattle.object.proofs.Values as values
+use Rattle.object.proofs.Places as places
 use borrow.Author.Needs.{needs}
 use Rattle.object.proofs.place.shape_at.Statement.{statement}
 use Rattle.object.proofs.place.shape_at.Tie as tie
@@ -14,4 +14,4 @@ shape-at-spec =
     (λ c. search needs)
     (λ c κs. search needs)
     (λ c. search needs)
-    (λ c. values.shape-there (c .before .before .before .before .before .before .before .before .args .s .now) (c .before .before .before .before .before .before .before .before .args .left) _ (c .before .before .before .before .before .place-of .ensures) _ _ (c .before .before .shape .ensures)))
+    (λ c. places.shape-there (c .before .before .before .before .before .before .before .before .args .s .now) (c .before .before .before .before .before .before .before .before .args .left) _ (c .before .before .before .before .before .place-of .ensures) _ _ (c .before .before .shape .ensures)))
