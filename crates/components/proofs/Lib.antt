@@ -4,3 +4,6 @@ pub mod Lettered
 pub mod Units
 pub mod Rows
 pub mod Kept
+pub mod Looping
+pub mod Concluding
+pub mod Walks

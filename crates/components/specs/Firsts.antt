@@ -3,16 +3,18 @@ use Prim.Native.Nat.{ℕ, suc, _*_, _≤_}
 use mathlib.Core.List.{List, [], _∷_, _++_, map}
 use mathlib.Core.Path.{_≡_}
 use lib.ListN.{length, take}
-use Rattle.meaning.specs.Tree.{Pair}
+use Rattle.meaning.specs.Tree.{Node, Pair}
 use Rattle.meaning.specs.Check.{Check, pass, refuse, inComponent, each}
 use Rattle.meaning.specs.Limit.{componentLimit}
 use Rattle.meaning.specs.Model.{Named, Component}
-use Rattle.meaning.specs.Judge.{component, part}
-use Rattle.walk.specs.Reading.{Ends, Reads}
+use Rattle.meaning.specs.Judge.{component, componentsOf, part}
+use Rattle.meaning.specs.Kind.{kind, table}
+use Rattle.walk.specs.Reading.{Ends, Reads, Due}
 use Rattle.component.specs.Verdict.{ComponentIs}
 use Rattle.component.specs.declared.Judged.{Judged}
 use Rattle.formats.specs.Parts.{partRows}
-use Rattle.naming.specs.Naming.{namedAnyway}
+use Rattle.naming.specs.Naming.{namedAnyway, Tallied}
+use Rattle.naming.specs.declared.Tally.{Tally}
 use Rattle.components.specs.declared.First.{First}
 use Rattle.components.specs.declared.First.the-variants.{Fine, Fault}
 use Rattle.components.specs.declared.Found.{Found}
@@ -43,3 +45,15 @@ Keeps s c v j first rows first′ rows′ =
 abbrev pub FoundIs : Check (List (Component Ends)) → Found → List ℕ → Type 0
 FoundIs k (No n c) rows = (o : ℕ) × (k ≡ refuse n o c)
 FoundIs k (Yes m) rows = (cs : List (Component Ends)) × (k ≡ pass cs) × (m ≡ length cs) × (m ≤ componentLimit) × (take (4 * m) rows ≡ partRows (map part cs))
+
+-- what was noted of all entries that are due at s
+abbrev pub Walked : ℕ → ℕ → ℕ → List ℕ → Tally → List ℕ → List ℕ → First → List ℕ → Type 0
+Walked start mode count s names left size first rows = (ps : List (Pair Ends)) (r : List ℕ) → Due 28 mode count s ps r → Tallied s ps names left size × FirstIs start ps first rows
+
+-- for every map of these pairs
+abbrev pub Concluded : List ℕ → Tally → First → List ℕ → List ℕ → Found → Type 0
+Concluded m names first left size found =
+    (start : ℕ) (rows : List ℕ) (ps : List (Pair Ends)) → Tallied m ps names left size → FirstIs start ps first rows → (t : Node Ends) → kind t ≡ table ps → FoundIs (componentsOf start t) found rows
+
+abbrev pub ComponentsAre : List ℕ → ℕ → Found → List ℕ → Type 0
+ComponentsAre s start found rows = (t : Node Ends) (q : List ℕ) → Reads 29 s t q → FoundIs (componentsOf start t) found rows

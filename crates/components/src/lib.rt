@@ -2,13 +2,20 @@
 mod row;
 
 use component::Judged;
+use naming::Named;
+use naming::Tally;
 use row::plain;
 use row::put_row;
 use row::role;
 use row::unit;
+use walk::Entry;
+use walk::Opening;
 ghost use mathlib.Core.Path.{_≡_};
 ghost use lib.ListN.{length};
-ghost use Rattle.components.specs.Firsts.{Keeps};
+ghost use Rattle.cbor.specs.Ending.{code, itemEnd, rest};
+ghost use Rattle.walk.proofs.Turns.{Modes};
+ghost use Rattle.components.specs.Firsts.{Keeps, Walked, Concluded, ComponentsAre};
+
 // The first fault among the entries so far: its number and the component.
 pub enum First {
     Fine,
@@ -19,6 +26,19 @@ pub enum First {
 pub enum Found {
     No(u64, usize),
     Yes(usize),
+}
+
+// Where the entries end, the tally of their names, and the first fault.
+struct Run {
+    end: usize,
+    names: Tally,
+    first: First,
+}
+
+// Where a value ends, as `cbor::skip` answers it, and what it says if it is well-formed.
+pub struct Whole {
+    pub end: usize,
+    pub found: Found,
 }
 
 // The first fault after one more component, number j, whose key begins s and whose value begins c. Its row is put where it has none.
@@ -37,5 +57,109 @@ fn keep(s: &[u8], c: &[u8], v: Judged, j: usize, first: First, rows: &mut [u64])
                 First::Fine
             }
         },
+    }
+}
+
+// Entries that begin s, counted as `walk::map` says. Their names are noted in left and size, their rows are put.
+fn entries(
+    s: &[u8],
+    start: u64,
+    mode: u64,
+    count: u64,
+    left: &mut [usize],
+    size: &mut [usize],
+    rows: &mut [u64],
+) -> Run
+    requires { ⌜ (length (now left) ≡ 16) × (length (now size) ≡ 16) × (length (now rows) ≡ 64) × Modes mode count ⌝ }
+    ensures { λ r. ⌜ (r .end ≡ code (rest mode count 28 (now (s .entry)))) × (length (now (left .exit)) ≡ 16) × (length (now (rows .exit)) ≡ 64) × Walked start mode count (now (s .entry)) (r .names) (now (left .exit)) (now (size .exit)) (r .first) (now (rows .exit)) ⌝ }
+{
+    let mut at = 0;
+    let mut due = count;
+    let mut names = Tally {
+        count: 0,
+        odd: false,
+        bad: false,
+    };
+    let mut first = First::Fine;
+    loop {
+        match walk::past_key(&s[at..], mode, due, 28) {
+            Entry::End(e) => {
+                if s.len() - at < e {
+                    return Run {
+                        end: e,
+                        names: names,
+                        first: first,
+                    };
+                }
+                return Run {
+                    end: at + e,
+                    names: names,
+                    first: first,
+                };
+            }
+            Entry::Value(k) => {
+                let v = at + k;
+                let w = component::component(&s[v..], start);
+                if s.len() - v < w.end {
+                    return Run {
+                        end: w.end,
+                        names: names,
+                        first: first,
+                    };
+                }
+                let judged = w.verdict;
+                first = keep(&s[at..], &s[v..], judged, names.count, first, rows);
+                names = naming::note(&s[at..], names, left, size);
+                at = v + w.end;
+                due -= 2;
+            }
+        }
+    }
+}
+
+// What the names and the first fault come to.
+fn verdict(m: &[u8], names: Tally, first: First, left: &[usize], size: &[usize]) -> Found
+    requires { ⌜ length (now left) ≡ 16 ⌝ }
+    ensures { λ r. ⌜ Concluded (now (m .entry)) names first (now (left .entry)) (now (size .entry)) r ⌝ }
+{
+    let mut ix = [0u16; 16];
+    let count = names.count;
+    match naming::judge(&m[0..], names, &left[0..], &size[0..], &mut ix) {
+        Named::No(n) => Found::No(n, 0),
+        Named::Yes => match first {
+            First::Fault(n, c) => Found::No(n, c),
+            First::Fine => Found::Yes(count),
+        },
+    }
+}
+
+// The components that begin c, at depth 4, of a file whose manifest begins at `start`. Their rows are put, four numbers each.
+pub fn components(c: &[u8], start: u64, rows: &mut [u64]) -> Whole
+    requires { ⌜ length (now rows) ≡ 64 ⌝ }
+    ensures { λ r. ⌜ (r .end ≡ code (itemEnd 29 (now (c .entry)))) × (length (now (rows .exit)) ≡ 64) × ComponentsAre (now (c .entry)) start (r .found) (now (rows .exit)) ⌝ }
+{
+    let mut left = [0usize; 16];
+    let mut size = [0usize; 16];
+    match walk::map(&c[0..]) {
+        Opening::NotOpen => Whole {
+            end: cbor::skip(&c[0..], 29),
+            found: Found::No(8, 0),
+        },
+        Opening::Opened(mode, count, from) => {
+            let w = entries(&c[from..], start, mode, count, &mut left, &mut size, rows);
+            let names = w.names;
+            let first = w.first;
+            let f = verdict(&c[from..], names, first, &left, &size);
+            if c.len() - from < w.end {
+                return Whole {
+                    end: w.end,
+                    found: f,
+                };
+            }
+            Whole {
+                end: from + w.end,
+                found: f,
+            }
+        }
     }
 }

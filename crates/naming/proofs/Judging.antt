@@ -3,17 +3,18 @@ use Prim.Native.Nat.{ℕ, suc, _-_, _≤_, _<_, min}
 use native.Mathlib.Omega.{arith}
 use mathlib.Core.List.{List, [], _∷_, map}
 use mathlib.Core.Bool.{Bool, true, false, cond, not}
-use mathlib.Core.Path.{_≡_, refl, ap, sym, _∙_}
+use mathlib.Core.Path.{_≡_, refl, ap, sym, _∙_, subst}
 use lib.ListN.{length, length-map}
 use lib.Seq.{take-all}
 use lib.Dec.{leb}
-use borrow.Author.Tests.{le-leb, lt-leb}
+use borrow.Author.Tests.{le-leb, lt-leb, leb-true}
 use Rattle.meaning.specs.Tree.{Node, Pair, noteOf}
-use Rattle.meaning.specs.Check.{pass, _>>=_, _>>_, _unless_, fault, each}
+use Rattle.meaning.specs.Check.{Check, pass, refuse, _>>=_, _>>_, _unless_, fault, each}
+use Rattle.meaning.specs.Model.{Named}
 use Rattle.meaning.specs.Text.{all, utf8, distinct}
 use Rattle.meaning.specs.Refusal.{KEY, TEXT, COUNT, TWICE}
 use Rattle.meaning.specs.Kind as kinds
-use Rattle.meaning.specs.Kind.{Kind, kind}
+use Rattle.meaning.specs.Kind.{Kind, kind, aTable}
 use Rattle.meaning.specs.Field.{isSome, keyOf, keyKind, nameKind, nameOf, names}
 use Rattle.meaning.proofs.JudgeNatural.{all-map, map-map}
 use Rattle.names.specs.Names.{name, listed}
@@ -112,3 +113,25 @@ module _ (m : List ℕ) (t : Tally) (left size : List ℕ) (done : List (Pair En
             two : (b : Bool) → (TWICE unless b >> pass (map namedAnyway done)) ≡ told done (cond b Yes (No 11))
             two true = refl
             two false = refl
+
+-- names that pass are within the limit
+pub few-names : (limit : ℕ) (x : Node Ends) (ns : List (Named Ends)) → names limit x ≡ pass ns → length ns ≤ limit
+unfolding names
+few-names limit x ns e = mapped (aTable x) e
+  where
+    judged : (ms : List (Named Ends)) (a b c : Bool) → leb (length ms) limit ≡ b → ((TEXT unless a) >> ((COUNT unless b) >> ((TWICE unless c) >> pass ms))) ≡ pass ns → length ns ≤ limit
+    judged ms false b c l h = absurd (let z : _≡_ {A = ℕ} 0 1 = cc in omega arith)
+    judged ms true false c l h = absurd (let z : _≡_ {A = ℕ} 0 1 = cc in omega arith)
+    judged ms true true false l h = absurd (let z : _≡_ {A = ℕ} 0 1 = cc in omega arith)
+    judged ms true true true l h = let z : ms ≡ ns = cc in subst (λ u. length u ≤ limit) z (leb-true (length ms) limit l)
+
+    named : (c : Check (List (Named Ends)))
+        → (c >>= λ ms. (TEXT unless all (λ n. utf8 (n .name .letters)) ms) >> ((COUNT unless leb (length ms) limit) >> ((TWICE unless distinct (map (λ n. n .name .letters) ms)) >> pass ms))) ≡ pass ns → length ns ≤ limit
+    named (refuse n o c) h = absurd (let z : _≡_ {A = ℕ} 0 1 = cc in omega arith)
+    named (pass ms) h = judged ms (all (λ n. utf8 (n .name .letters)) ms) (leb (length ms) limit) (distinct (map (λ n. n .name .letters) ms)) refl h
+
+    mapped : (c : Check (List (Pair Ends)))
+        → (c >>= λ ps. each (λ i. nameOf) 0 ps >>= λ ms. (TEXT unless all (λ n. utf8 (n .name .letters)) ms) >> ((COUNT unless leb (length ms) limit) >> ((TWICE unless distinct (map (λ n. n .name .letters) ms)) >> pass ms))) ≡ pass ns
+        → length ns ≤ limit
+    mapped (refuse n o c) h = absurd (let z : _≡_ {A = ℕ} 0 1 = cc in omega arith)
+    mapped (pass ps) h = named (each (λ i. nameOf) 0 ps) h

@@ -175,6 +175,14 @@ module _ (m : List ℕ) (done : List (Pair Ends)) (t : Tally) (left size : List 
         (rw (e, and-true (all (λ p. isSome (keyOf p)) done)) (h .oddly))
         (rw (e, g, and-false (all (λ p. utf8 (lettersOf p)) done)) refl)
 
+pub none-noted : (m left size : List ℕ) → length size ≡ length left → Tallied m [] (tally 0 false false) left size
+unfolding listed
+none-noted m left size e = record { counted = refl; oddly = refl; badly = refl; same-room = e; listed-are = (let z : min 0 (length left) ≡ 0 = omega arith in rw z refl) ∙ sym (take-none (length left)) }
+  where
+    take-none : (n : ℕ) → take {A = List ℕ} n [] ≡ []
+    take-none zero = refl
+    take-none (suc n) = refl
+
 -- ---------------------------------------------------------------- as the code notes it
 
 abbrev Here : List ℕ → List ℕ

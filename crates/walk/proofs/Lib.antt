@@ -5,4 +5,5 @@ pub mod Maps
 pub mod Lists
 pub mod Turns
 pub mod Passed
+pub mod Opens
 pub mod Puts
