@@ -2,3 +2,5 @@ pub mod Places
 pub mod Pieces
 pub mod Sound
 pub mod Verdicts
+pub mod Looping
+pub mod Walks
