@@ -5,3 +5,4 @@ pub mod Texts
 pub mod Places
 pub mod Snoc
 pub mod AttributesAt
+pub mod Keeping

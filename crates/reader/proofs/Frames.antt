@@ -1,0 +1,68 @@
+-- From the frame to the manifest: what `frame::frame` answered for the file, lent whole.
+use Prim.Native.Nat.{ℕ, _+_, _-_, _≤_}
+use native.Mathlib.Omega.{arith}
+use mathlib.Core.List.{List}
+use mathlib.Core.Bool.{Bool, true, false, _&&_}
+use mathlib.Core.Path.{_≡_, refl, sym, ap, _∙_}
+use lib.ListN.{length, take, drop}
+use lib.Dec.{leb}
+use borrow.Author.Tests.{leb-true}
+use borrow.Rule.Slice.PartAt.{part-to-end}
+use Rattle.meaning.specs.Check.{pass, _>>=_, _>>_, _unless_}
+use Rattle.meaning.specs.Text.{same}
+use Rattle.meaning.specs.Refusal.{SHORT, HEADER, FOOTER, BIG, FIT}
+use Rattle.meaning.specs.Limit.{manifestLimit}
+use Rattle.meaning.specs.Frame.{Frame, frame, magic, little, reading}
+use Rattle.frame.specs.Told.{told}
+use Rattle.frame.specs.declared.Framed.{Framed}
+use Rattle.frame.specs.declared.Framed.the-variants.{No, At}
+use Rattle.fields.proofs.Texts.{Here}
+use Rattle.reader.specs.declared.Verdict.{Verdict}
+use Rattle.reader.specs.Verdict.{refusal, verdict, manifestReading}
+
+-- a manifest lies inside its file
+module _ (file : List ℕ) where
+  abbrev n : ℕ
+  n = length file
+
+  abbrev size : ℕ
+  size = little (take 8 (drop (n - 16) file))
+
+  framed-inside : (f : Frame) → frame file ≡ pass f → f .start + f .size ≤ n
+  unfolding frame
+  framed-inside f e = go (leb 24 n) refl (same magic (take 8 file)) (same magic (drop (n - 8) file)) (leb size manifestLimit) (leb 1 size) (leb size (n - 24)) refl e
+    where
+      go : (x₁ : Bool) → leb 24 n ≡ x₁ → (x₂ x₃ x₄ x₅ x₆ : Bool) → leb size (n - 24) ≡ x₆
+          → ((SHORT unless x₁) >> ((HEADER unless x₂) >> ((FOOTER unless x₃) >> ((BIG unless x₄) >> ((FIT unless (x₅ && x₆)) >> pass (record { start = n - 16 - size; size = size })))))) ≡ pass f
+          → f .start + f .size ≤ n
+      go false a x₂ x₃ x₄ x₅ x₆ b e = absurd (let z : _≡_ {A = ℕ} 0 1 = cc in omega arith)
+      go true a false x₃ x₄ x₅ x₆ b e = absurd (let z : _≡_ {A = ℕ} 0 1 = cc in omega arith)
+      go true a true false x₄ x₅ x₆ b e = absurd (let z : _≡_ {A = ℕ} 0 1 = cc in omega arith)
+      go true a true true false x₅ x₆ b e = absurd (let z : _≡_ {A = ℕ} 0 1 = cc in omega arith)
+      go true a true true true false x₆ b e = absurd (let z : _≡_ {A = ℕ} 0 1 = cc in omega arith)
+      go true a true true true true false b e = absurd (let z : _≡_ {A = ℕ} 0 1 = cc in omega arith)
+      go true a true true true true true b e =
+          let x : 24 ≤ n = leb-true _ _ a in
+          let y : size ≤ n - 24 = leb-true _ _ b in
+          let u : n - 16 - size ≡ f .start = cc in
+          let v : size ≡ f .size = cc in
+          omega arith
+
+  module _ (r : Framed) (asked : frame (Here file 0) ≡ told r) where
+    framed : (q : Framed) → r ≡ q → frame file ≡ told q
+    framed q e = ap frame (sym (part-to-end file 0)) ∙ asked ∙ ap told e
+
+    pub no-frame : (number : ℕ) → r ≡ No number → refusal number 0 0 ≡ verdict (reading file)
+    unfolding reading
+    no-frame number e = rw (framed (No number) e) refl
+
+    module _ (start sized : ℕ) (e : r ≡ At start sized) where
+      pub inside : start + sized ≤ n
+      inside = framed-inside (record { start = start; size = sized }) (framed (At start sized) e)
+
+      -- whatever the manifest is said to end at
+      pub as-read : (v : Verdict) → ((end : ℕ) → v ≡ verdict (manifestReading end start (take (start + sized - start) (drop start file)))) → v ≡ verdict (reading file)
+      unfolding reading
+      as-read v h =
+          let z : start + sized - start ≡ sized = omega arith in
+          h (start + sized) ∙ ap (λ (i : ℕ). verdict (manifestReading (start + sized) start (take i (drop start file)))) z ∙ (rw (framed (At start sized) e) refl)

@@ -1,0 +1,2 @@
+pub mod Manifests
+pub mod Frames

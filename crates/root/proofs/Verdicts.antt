@@ -1,0 +1,208 @@
+-- A root's judgement from the slots of its pairs: keys, repeats, version, attributes, and then what was found among the objects.
+use mathlib.Core.Path.{_≡_, refl, sym, ap, _∙_, subst}
+use mathlib.Core.List.{List}
+use mathlib.Core.Bool.{Bool, true, false, cond, not}
+use mathlib.Core.Option.{Option, none, some}
+use Prim.Native.Nat.{ℕ, suc, _<_}
+use native.Mathlib.Omega.{arith}
+use lib.ListN.{getD, replicate}
+use lib.Dec.{eqb, leb}
+use borrow.Author.Tests.{eq-eqb, ne-eqb, eqb-true, eqb-false}
+use borrow.Rule.Slice.PartAt.{part-to-end}
+use Rattle.meaning.specs.Tree.{Node, Pair}
+use Rattle.meaning.specs.Check.{Check, pass, refuse, fault, optional}
+use Rattle.meaning.specs.Text.{ascii, all}
+use Rattle.meaning.specs.Refusal.{KIND}
+use Rattle.meaning.specs.Model.{Object}
+use Rattle.meaning.specs.Kind.{kind, table, aTable, asTable}
+use Rattle.meaning.specs.Field as field
+use Rattle.meaning.specs.Field.{rootNames, get}
+use Rattle.meaning.specs.Judge.{attributesOf, aVersion, objectsOf, judge}
+use Rattle.types.specs.Known.{position}
+use Rattle.walk.specs.Reading.{Ends, Chain, leftAt, foldl}
+use Rattle.fields.specs.Slots.{marks, Holds}
+use Rattle.fields.specs.Attributes.{AttributesAt}
+use Rattle.fields.proofs.Standing.{hold-none, Item, hold-some, keys-are-text, none-twice, field-stands}
+use Rattle.fields.proofs.Texts.{Here}
+use Rattle.objects.specs.declared.Found.{Found}
+use Rattle.objects.specs.Found as objects
+use Rattle.root.specs.declared.Judged.{Judged}
+use Rattle.root.specs.declared.Judged.the-variants.{No}
+use Rattle.root.specs.declared.judge.Fine.{Fine}
+use Rattle.root.specs.declared.judge.Fine.the-variants.{No as Bad, Yes as Good}
+use Rattle.root.specs.Verdict.{fine, known, VersionAt, counted, told, judged, Met, VerdictIs}
+
+-- ---------------------------------------------------------------- what the slots say, a branch each
+
+module _ (p : List ℕ) where
+  pub odd-key : (getD p 4 0 ≡ 0 → ⊥) → Bad 9 ≡ known p
+  unfolding known
+  odd-key e = rw (ne-eqb _ _ e)
+
+  module _ (a : getD p 4 0 ≡ 0) where
+    pub repeated : (getD p 5 0 ≡ 0 → ⊥) → Bad 11 ≡ known p
+    unfolding known
+    repeated e = rw (eq-eqb _ _ a, ne-eqb _ _ e)
+
+    module _ (b : getD p 5 0 ≡ 0) where
+      pub no-version : getD p 0 0 ≡ 0 → Bad 12 ≡ known p
+      unfolding known
+      no-version e = rw (eq-eqb _ _ a, eq-eqb _ _ b, eq-eqb _ _ e)
+
+      pub all-known : (getD p 0 0 ≡ 0 → ⊥) → Good ≡ known p
+      unfolding known
+      all-known e = rw (eq-eqb _ _ a, eq-eqb _ _ b, ne-eqb _ _ e)
+
+-- ---------------------------------------------------------------- attributes, objects missing, objects
+
+module _ (left at : ℕ) (found : Found) where
+  pub no-map : (map : Bool) → not map ≡ true → No 8 0 0 ≡ told map left at found
+  no-map false e = refl
+  no-map true e = absurd (let z : _≡_ {A = ℕ} 0 1 = cc in omega arith)
+
+  pub no-objects : (map : Bool) → not map ≡ false → at ≡ 0 → No 12 0 0 ≡ told map left at found
+  no-objects false e z = absurd (let z : _≡_ {A = ℕ} 0 1 = cc in omega arith)
+  no-objects true e z = rw (eq-eqb _ _ z) refl
+
+  pub objects-found : (map : Bool) → not map ≡ false → (at ≡ 0 → ⊥) → (f : Found) → found ≡ f → counted left f ≡ told map left at found
+  objects-found false e z f is = absurd (let z : _≡_ {A = ℕ} 0 1 = cc in omega arith)
+  objects-found true e z f is = rw (ne-eqb _ _ z) (ap (counted left) (sym is))
+
+-- ---------------------------------------------------------------- the judgement of a map of these pairs
+
+module _ (start : ℕ) (t : Node Ends) (ps : List (Pair Ends)) (kt : kind t ≡ table ps) where
+  judged-odd : all (λ q. field.isSome (field.keyOf q)) ps ≡ false → No 9 0 0 ≡ judged (judge start t)
+  unfolding judge field.rootFields field.fields aTable asTable
+  judged-odd e = rw kt (rw e refl)
+
+  module _ (a : all (λ q. field.isSome (field.keyOf q)) ps ≡ true) where
+    judged-twice : all (λ m. leb (field.count m ps) 1) rootNames ≡ false → No 11 0 0 ≡ judged (judge start t)
+    unfolding judge field.rootFields field.fields aTable asTable
+    judged-twice e = rw kt (rw (a, e) refl)
+
+    module _ (b : all (λ m. leb (field.count m ps) 1) rootNames ≡ true) where
+      judged-no-version : get (ascii "version") ps ≡ none → No 12 0 0 ≡ judged (judge start t)
+      unfolding judge field.rootFields field.fields aTable asTable
+      judged-no-version e = rw kt (rw (a, b) (rw e refl))
+
+      module _ (version : Node Ends) (g : get (ascii "version") ps ≡ some version) where
+        judged-version : (n : ℕ) → aVersion version ≡ fault n → No n 0 0 ≡ judged (judge start t)
+        unfolding judge field.rootFields field.fields aTable asTable
+        judged-version n e = rw kt (rw (a, b) (rw g (rw e refl)))
+
+        module _ (v : aVersion version ≡ pass tt) where
+          judged-attributes : optional attributesOf (get (ascii "attributes") ps) ≡ fault KIND → No 8 0 0 ≡ judged (judge start t)
+          unfolding judge field.rootFields field.fields aTable asTable
+          judged-attributes e = rw kt (rw (a, b) (rw g (rw v (rw e refl))))
+
+          module _ (w : optional attributesOf (get (ascii "attributes") ps) ≡ pass (get (ascii "attributes") ps)) where
+            judged-no-objects : get (ascii "objects") ps ≡ none → No 12 0 0 ≡ judged (judge start t)
+            unfolding judge field.rootFields field.fields aTable asTable
+            judged-no-objects e = rw kt (rw (a, b) (rw g (rw v (rw w (rw e refl)))))
+
+            module _ (o : Node Ends) (x : get (ascii "objects") ps ≡ some o) where
+              judged-objects : (left : ℕ) → left ≡ leftAt (get (ascii "attributes") ps) → (k : Check (List (Object Ends))) → objectsOf start o ≡ k → counted left (objects.judged k) ≡ judged (judge start t)
+              unfolding judge field.rootFields field.fields aTable asTable
+              judged-objects left l (pass os) e = rw kt (rw (a, b) (rw g (rw v (rw w (rw x (rw e (rw l refl)))))))
+              judged-objects left l (refuse n i j) e = rw kt (rw (a, b) (rw g (rw v (rw w (rw x (rw e refl))))))
+
+-- ---------------------------------------------------------------- from the slots
+
+-- the place of what may be none is the number of bytes left there
+left-of : (d : ℕ) (s : List ℕ) (l : ℕ) (o : Option (Node Ends)) → Holds d s l o → l ≡ leftAt o
+left-of d s l none h = h
+left-of d s l (some t) h = h .1 .left-is
+
+module _ (s p : List ℕ) (found : Found) where
+  module _ (start d : ℕ) (ps : List (Pair Ends)) (q : List ℕ) (chain : Chain (suc d) s ps q) (is : p ≡ foldl (marks rootNames) (replicate 6 0) ps) (met : Met start ps found)
+      (t : Node Ends) (kt : kind t ≡ table ps) where
+    keys : eqb (getD p 4 0) 0 ≡ all (λ q. field.isSome (field.keyOf q)) ps
+    unfolding rootNames
+    keys = keys-are-text rootNames (suc d) s ps q chain p is
+
+    twice : eqb (getD p 5 0) 0 ≡ all (λ m. leb (field.count m ps) 1) rootNames
+    unfolding rootNames
+    twice = none-twice rootNames (suc d) s ps q chain p is
+
+    at-name : (m : List ℕ) (i : ℕ) → position rootNames m ≡ i → i < 3 → Holds (suc d) s (getD p i 0) (get m ps)
+    unfolding rootNames
+    at-name m i e l = subst (λ (i : ℕ). Holds (suc d) s (getD p i 0) (get m ps)) e (field-stands rootNames (suc d) s ps q chain p is m (let z : position rootNames m < 3 = omega arith in z))
+
+    at-version : Holds (suc d) s (getD p 0 0) (get (ascii "version") ps)
+    unfolding rootNames position
+    at-version = at-name (ascii "version") 0 refl (omega arith)
+
+    at-attributes : Holds (suc d) s (getD p 1 0) (get (ascii "attributes") ps)
+    unfolding rootNames position
+    at-attributes = at-name (ascii "attributes") 1 refl (omega arith)
+
+    at-objects : Holds (suc d) s (getD p 2 0) (get (ascii "objects") ps)
+    unfolding rootNames position
+    at-objects = at-name (ascii "objects") 2 refl (omega arith)
+
+    -- a version stands there, and keys and repeats are right
+    record Ready : Type 0 where
+      pub text-keys : all (λ q. field.isSome (field.keyOf q)) ps ≡ true
+      pub no-repeats : all (λ m. leb (field.count m ps) 1) rootNames ≡ true
+      pub version : Item (suc d) s (getD p 0 0) (get (ascii "version") ps)
+
+    abbrev Told : Fine → Type 0
+    Told (Bad m) = No m 0 0 ≡ judged (judge start t)
+    Told Good = Ready
+
+    slots-told : Told (known p)
+    unfolding known
+    slots-told = go (eqb (getD p 4 0) 0) refl (eqb (getD p 5 0) 0) refl (eqb (getD p 0 0) 0) refl
+      where
+        go : (x₁ : Bool) → eqb (getD p 4 0) 0 ≡ x₁ → (x₂ : Bool) → eqb (getD p 5 0) 0 ≡ x₂ → (x₃ : Bool) → eqb (getD p 0 0) 0 ≡ x₃ → Told (cond x₁ (cond x₂ (cond x₃ (Bad 12) Good) (Bad 11)) (Bad 9))
+        go false a x₂ b x₃ c = judged-odd start t ps kt (sym keys ∙ a)
+        go true a false b x₃ c = judged-twice start t ps kt (sym keys ∙ a) (sym twice ∙ b)
+        go true a true b true c = judged-no-version start t ps kt (sym keys ∙ a) (sym twice ∙ b) (hold-none (suc d) s (getD p 0 0) (get (ascii "version") ps) at-version (eqb-true (getD p 0 0) 0 c))
+        go true a true b false c = record {
+          text-keys = sym keys ∙ a;
+          no-repeats = sym twice ∙ b;
+          version = hold-some (suc d) s (getD p 0 0) (get (ascii "version") ps) at-version (eqb-false (getD p 0 0) 0 c);
+        }
+
+    module _ (r : Ready) where
+      version-told : (m : ℕ) → aVersion (r .version .item) ≡ fault m → No m 0 0 ≡ judged (judge start t)
+      version-told m e = judged-version start t ps kt (r .text-keys) (r .no-repeats) (r .version .item) (r .version .is) m e
+
+      all-told : aVersion (r .version .item) ≡ pass tt → (map : Bool) → optional attributesOf (get (ascii "attributes") ps) ≡ cond map (pass (get (ascii "attributes") ps)) (fault KIND)
+          → told map (getD p 1 0) (getD p 2 0) found ≡ judged (judge start t)
+      all-told v false w = judged-attributes start t ps kt (r .text-keys) (r .no-repeats) (r .version .item) (r .version .is) v w
+      all-told v true w = go (eqb (getD p 2 0) 0) refl
+        where
+          go : (x : Bool) → eqb (getD p 2 0) 0 ≡ x → cond x (No 12 0 0) (counted (getD p 1 0) found) ≡ judged (judge start t)
+          go true e = judged-no-objects start t ps kt (r .text-keys) (r .no-repeats) (r .version .item) (r .version .is) v w (hold-none (suc d) s (getD p 2 0) (get (ascii "objects") ps) at-objects (eqb-true (getD p 2 0) 0 e))
+          go false e =
+              let o = hold-some (suc d) s (getD p 2 0) (get (ascii "objects") ps) at-objects (eqb-false (getD p 2 0) 0 e) in
+              ap (counted (getD p 1 0)) (met (o .item) (o .is))
+              ∙ judged-objects start t ps kt (r .text-keys) (r .no-repeats) (r .version .item) (r .version .is) v w (o .item) (o .is)
+              (getD p 1 0) (left-of (suc d) s (getD p 1 0) (get (ascii "attributes") ps) at-attributes) (objectsOf start (o .item)) refl
+
+  module _ (f : Fine) (asked : f ≡ known (Here p 0)) where
+    slots-say : f ≡ known p
+    slots-say = asked ∙ ap known (part-to-end p 0)
+
+    pub refused : (m : ℕ) → f ≡ Bad m → VerdictIs s p found (No m 0 0)
+    refused m e start d ps q chain is met t kt = subst (Told start d ps q chain is met t kt) (sym slots-say ∙ e) (slots-told start d ps q chain is met t kt)
+
+    module _ (e : f ≡ Good) (v : Fine) (versioned : VersionAt (Here s 0) (getD p 0 0) v) where
+      module _ (start d : ℕ) (ps : List (Pair Ends)) (q : List ℕ) (chain : Chain (suc d) s ps q) (is : p ≡ foldl (marks rootNames) (replicate 6 0) ps) (met : Met start ps found)
+          (t : Node Ends) (kt : kind t ≡ table ps) where
+        ready : Ready start d ps q chain is met t kt
+        ready = subst (Told start d ps q chain is met t kt) (sym slots-say ∙ e) (slots-told start d ps q chain is met t kt)
+
+        version-is : (u : Fine) → v ≡ u → aVersion (ready .version .item) ≡ fine u
+        version-is u z = subst (λ x. VersionAt x (getD p 0 0) u) (part-to-end s 0) (rw z at versioned) d (ready .version .item) (ready .version .stands)
+
+      pub version-refused : (m : ℕ) → v ≡ Bad m → VerdictIs s p found (No m 0 0)
+      version-refused m z start d ps q chain is met t kt =
+          version-told start d ps q chain is met t kt (ready start d ps q chain is met t kt) m (version-is start d ps q chain is met t kt (Bad m) z)
+
+      pub as-told : v ≡ Good → (map : Bool) → AttributesAt (Here s 0) (getD p 1 0) map → (r : Judged) → r ≡ told map (getD p 1 0) (getD p 2 0) found → VerdictIs s p found r
+      as-told z map w r h start d ps q chain is met t kt =
+          let a : AttributesAt s (getD p 1 0) map = subst (λ x. AttributesAt x (getD p 1 0) map) (part-to-end s 0) w in
+          h ∙ all-told start d ps q chain is met t kt (ready start d ps q chain is met t kt) (version-is start d ps q chain is met t kt Good z) map
+          (a d (get (ascii "attributes") ps) (at-attributes start d ps q chain is met t kt))

@@ -1,0 +1,17 @@
+-- `root::judge::known` meets its contract: a law for each branch.
+use Rattle.root.proofs.Verdicts as verdicts
+use borrow.Author.Needs.{needs}
+use Rattle.root.proofs.judge.known.Statement.{statement}
+use Rattle.root.proofs.judge.known.Tie as tie
+
+pub known-spec : {M : Type 1} → statement M
+known-spec =
+    tie.close
+    (tie.spec
+    (λ c. search needs)
+    (λ c. verdicts.odd-key _ (c .if1 .taken))
+    (λ c. search needs)
+    (λ c. verdicts.repeated _ (c .before .before .if1 .left) (c .if2 .taken))
+    (λ c. search needs)
+    (λ c. verdicts.no-version _ (c .before .before .before .before .if1 .left) (c .before .before .if2 .left) (c .if3 .taken))
+    (λ c. verdicts.all-known _ (c .before .before .before .before .if1 .left) (c .before .before .if2 .left) (c .if3 .left)))

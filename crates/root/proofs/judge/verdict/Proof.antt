@@ -1,0 +1,34 @@
+-- `root::judge::verdict` meets its contract: a law for each branch.
+use Rattle.root.proofs.Verdicts as verdicts
+use borrow.Author.Needs.{needs}
+use Rattle.root.proofs.judge.verdict.Statement.{statement}
+use Rattle.root.proofs.judge.verdict.Tie as tie
+
+pub verdict-spec : {M : Type 1} → statement M
+verdict-spec =
+    tie.close
+    (tie.spec
+    (λ c. search needs)
+    (λ c. search needs)
+    (λ c. search needs)
+    (λ c κs. search needs)
+    (λ c. search needs)
+    (λ c. search needs)
+    (λ c. search needs)
+    (λ c. search needs)
+    (λ c. search needs)
+    (λ c. search needs)
+    (λ c κs. search needs)
+    (λ c. search needs)
+    (λ c. search needs)
+    (λ c. search needs)
+    (λ c. search needs)
+    (λ c. search needs)
+    (λ c. search needs)
+    (λ c κs. search needs)
+    (λ c. search needs)
+    (λ c. search needs)
+    (λ c κs. search needs)
+    (λ c. verdicts.refused (c .before .before .before .before .before .before .before .args .s .now) (c .before .before .before .before .before .before .before .args .p .now) (c .before .before .before .before .before .before .before .args .found) _ (c .before .before .before .known .ensures) _ (c .before .n .given .1))
+    (λ c. verdicts.version-refused (c .before .before .before .before .before .before .before .before .before .before .before .before .args .s .now) (c .before .before .before .before .before .before .before .before .before .before .before .before .args .p .now) (c .before .before .before .before .before .before .before .before .before .before .before .before .args .found) _ (c .before .before .before .before .before .before .before .before .known .ensures) (c .before .before .before .before .before .before .enum-told .given .1) _ (c .before .before .before .version-at .ensures) _ (c .before .n2 .given .1))
+    (λ c. verdicts.as-told (c .before .before .before .before .before .before .before .before .before .before .before .before .before .before .before .before .before .args .s .now) (c .before .before .before .before .before .before .before .before .before .before .before .before .before .before .before .before .before .args .p .now) (c .before .before .before .before .before .before .before .before .before .before .before .before .before .before .before .before .before .args .found) _ (c .before .before .before .before .before .before .before .before .before .before .before .before .before .known .ensures) (c .before .before .before .before .before .before .before .before .before .before .before .enum-told .given .1) _ (c .before .before .before .before .before .before .before .before .version-at .ensures) (c .before .before .before .before .before .before .enum-told2 .given .1) (c .before .before .before .attributes .result) (c .before .before .before .attributes .ensures) _ (c .told .ensures)))

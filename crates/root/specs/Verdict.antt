@@ -1,0 +1,68 @@
+-- A root's judgement in pieces, one for each function, and what the whole walk answers.
+use Prim.Native.Nat.{ℕ, suc}
+use mathlib.Core.List.{List}
+use mathlib.Core.Bool.{Bool, cond}
+use mathlib.Core.Option.{some}
+use mathlib.Core.Path.{_≡_}
+use lib.ListN.{length, getD, replicate}
+use lib.Dec.{eqb}
+use Rattle.meaning.specs.Tree.{Node, Pair}
+use Rattle.meaning.specs.Check.{Check, pass, refuse, fault}
+use Rattle.meaning.specs.Text.{ascii}
+use Rattle.meaning.specs.Refusal.{KIND, KEY, TWICE, MISSING}
+use Rattle.meaning.specs.Model.{Model}
+use Rattle.meaning.specs.Kind.{kind, table}
+use Rattle.meaning.specs.Field.{rootNames, get}
+use Rattle.meaning.specs.Judge.{aVersion, objectsOf, judge}
+use Rattle.meaning.specs.Rows.{componentCount}
+use Rattle.walk.specs.Reading.{Ends, Reads, Chain, leftAt, foldl}
+use Rattle.walk.specs.Places.{Whatever}
+use Rattle.fields.specs.Slots.{marks, ItemAt}
+use Rattle.objects.specs.declared.Found.{Found}
+use Rattle.objects.specs.declared.Found.the-variants.{No as NoObjects, Yes as Objects}
+use Rattle.objects.specs.Found as objects
+use Rattle.root.specs.declared.Judged.{Judged}
+use Rattle.root.specs.declared.Judged.the-variants.{No, Yes}
+use Rattle.root.specs.declared.judge.Fine.{Fine}
+use Rattle.root.specs.declared.judge.Fine.the-variants.{No as Bad, Yes as Good}
+
+-- the outcome that an answer stands for
+abbrev pub fine : Fine → Check (Unit {0})
+fine (Bad n) = fault n
+fine Good = pass tt
+
+-- keys, repeats, version missing: what the slots say
+unfoldable pub known : List ℕ → Fine
+known p = cond (eqb (getD p 4 0) 0) (cond (eqb (getD p 5 0) 0) (cond (eqb (getD p 0 0) 0) (Bad MISSING) Good) (Bad TWICE)) (Bad KEY)
+
+abbrev pub VersionIs : List ℕ → Fine → Type 0
+VersionIs s r = Whatever s λ d t q. aVersion t ≡ fine r
+
+abbrev pub VersionAt : List ℕ → ℕ → Fine → Type 0
+VersionAt s left r = ItemAt s left λ t. aVersion t ≡ fine r
+
+-- attributes, objects missing, and then the objects
+abbrev pub counted : ℕ → Found → Judged
+counted left (NoObjects n o c) = No n o c
+counted left (Objects os cs) = Yes os cs left
+
+abbrev pub told : Bool → ℕ → ℕ → Found → Judged
+told map left objects found = cond map (cond (eqb objects 0) (No MISSING 0 0) (counted left found)) (No KIND 0 0)
+
+-- ---------------------------------------------------------------- the whole
+
+abbrev pub judged : Check (Model Ends) → Judged
+judged (pass m) = Yes (length (m .objects)) (componentCount (m .objects)) (leftAt (m .attributes))
+judged (refuse n o c) = No n o c
+
+-- `found` is what the first field named `objects` says, if there is one
+abbrev pub Met : ℕ → List (Pair Ends) → Found → Type 0
+Met start ps found = (x : Node Ends) → get (ascii "objects") ps ≡ some x → found ≡ objects.judged (objectsOf start x)
+
+-- for every map of the pairs that are read from s on, where p holds their slots
+abbrev pub VerdictIs : List ℕ → List ℕ → Found → Judged → Type 0
+VerdictIs s p found r = (start d : ℕ) (ps : List (Pair Ends)) (q : List ℕ) → Chain (suc d) s ps q → p ≡ foldl (marks rootNames) (replicate 6 0) ps → Met start ps found
+    → (t : Node Ends) → kind t ≡ table ps → r ≡ judged (judge start t)
+
+abbrev pub RootIs : List ℕ → ℕ → Judged → Type 0
+RootIs s start r = (t : Node Ends) (q : List ℕ) → Reads 32 s t q → r ≡ judged (judge start t)
