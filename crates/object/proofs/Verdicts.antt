@@ -28,7 +28,7 @@ use Rattle.object.specs.declared.Judged.{Judged}
 use Rattle.object.specs.declared.Judged.the-variants.{No}
 use Rattle.object.specs.declared.judge.Fine.{Fine}
 use Rattle.object.specs.declared.judge.Fine.the-variants.{No as Bad, Yes as Good}
-use Rattle.object.specs.Verdict.{known, Description, described, judged, Fields, Standing, sound, SoundIs, VerdictIs}
+use Rattle.object.specs.Verdict.{known, Description, described, judged, Fields, Standing, sound, SoundIs, Noted, VerdictIs}
 
 -- ---------------------------------------------------------------- what the slots say, a branch each
 
@@ -199,12 +199,16 @@ module _ (s p : List ℕ) (found-there : Found) (rows : List ℕ) where
     slots-say : f ≡ known p
     slots-say = is ∙ ap known (part-to-end p 0)
 
+    slots-are : (start : ℕ) (ps : List (Pair Ends)) → Noted start p found-there rows ps → p ≡ foldl (marks objectNames) (replicate 7 0) ps
+    unfolding objectNames
+    slots-are start ps noted = noted .0
+
     pub refused : (m : ℕ) → f ≡ Bad m → VerdictIs s p found-there rows (No m 0)
-    refused m e start ps q chain noted t kt n = subst (Told start ps q chain (noted .0) t kt n) (sym slots-say ∙ e) (told start ps q chain (noted .0) t kt n)
+    refused m e start ps q chain noted t kt n = subst (Told start ps q chain (slots-are start ps noted) t kt n) (sym slots-say ∙ e) (told start ps q chain (slots-are start ps noted) t kt n)
 
     pub as-sound : f ≡ Good → (r : Judged) → SoundIs (Here s 0) (Here p 0) found-there (Here rows 0) r → VerdictIs s p found-there rows r
     as-sound e r h start ps q chain noted t kt n =
-        let x : Ready start ps q chain (noted .0) t kt n = subst (Told start ps q chain (noted .0) t kt n) (sym slots-say ∙ e) (told start ps q chain (noted .0) t kt n) in
+        let x : Ready start ps q chain (slots-are start ps noted) t kt n = subst (Told start ps q chain (slots-are start ps noted) t kt n) (sym slots-say ∙ e) (told start ps q chain (slots-are start ps noted) t kt n) in
         let y : SoundIs s p found-there rows r =
         subst (λ u. SoundIs s p found-there u r) (part-to-end rows 0) (subst (λ u. SoundIs s u found-there (Here rows 0) r) (part-to-end p 0) (subst (λ u. SoundIs u (Here p 0) found-there (Here rows 0) r) (part-to-end s 0) h)) in
         y start (x .fields) (x .standing) (noted .1 (x .fields .components) (x .components-are)) n ∙ ap judged (sym (x .judged-so))

@@ -13,8 +13,7 @@ use Rattle.walk.proofs.Opens as opens
 use Rattle.components.specs.declared.Found.{Found}
 use Rattle.object.specs.declared.Judged.{Judged}
 use Rattle.object.specs.declared.Judged.the-variants.{No}
-use Rattle.object.specs.Verdict.{VerdictIs, ObjectIs}
-use Rattle.object.specs.Walk.{Walked}
+use Rattle.object.specs.Verdict.{VerdictIs, ObjectIs, Walked}
 
 module _ (c : List ℕ) (start : ℕ) (x : Opening) (h : MapIs (Here c 0) x) where
   pub no-map : x ≡ NotOpen → ObjectIs c start (No 8 0)

@@ -2,9 +2,9 @@
 use Prim.Native.Nat.{ℕ, suc, _*_, _≤_}
 use mathlib.Core.List.{List, map}
 use mathlib.Core.Bool.{cond}
-use mathlib.Core.Option.{Option, some}
+use mathlib.Core.Option.{Option}
 use mathlib.Core.Path.{_≡_}
-use lib.ListN.{length, getD, take, replicate}
+use lib.ListN.{length, getD, take}
 use lib.Dec.{eqb}
 use Rattle.meaning.specs.Tree.{Node, Pair}
 use Rattle.meaning.specs.Check.{Check, pass, refuse, _>>=_, _>>_, optional}
@@ -14,12 +14,13 @@ use Rattle.meaning.specs.Refusal.{KEY, TWICE, MISSING}
 use Rattle.meaning.specs.Limit.{componentLimit}
 use Rattle.meaning.specs.Model.{Word, Object}
 use Rattle.meaning.specs.Kind.{kind, table, aText}
-use Rattle.meaning.specs.Field.{objectNames, get}
+use Rattle.meaning.specs.Field.{objectNames}
 use Rattle.meaning.specs.Format.{Part, formatRules}
 use Rattle.meaning.specs.Judge.{attributesOf, shapeOf, componentsOf, part, object}
 use Rattle.types.specs.Known.{position, formatNames}
-use Rattle.walk.specs.Reading.{Ends, Reads, Chain, foldl}
-use Rattle.fields.specs.Slots.{marks, Stands, Holds}
+use Rattle.walk.specs.Reading.{Ends, Reads, Chain}
+use Rattle.fields.specs.Slots.{Stands, Holds}
+use Rattle.fields.specs.Keeping as keeping
 use Rattle.formats.specs.Parts.{partRows}
 use Rattle.components.specs.declared.Found.{Found}
 use Rattle.components.specs.Firsts.{FoundIs}
@@ -99,13 +100,13 @@ sound start n f = do
 abbrev pub SoundIs : List ℕ → List ℕ → Found → List ℕ → Judged → Type 0
 SoundIs s p found rows r = (start : ℕ) (f : Fields) → Standing s p f → FoundIs (componentsOf start (f .components)) found rows → (n : Word Ends) → r ≡ judged (sound start n f)
 
--- what was found in the components that these pairs have, if any
-abbrev pub Held : ℕ → List (Pair Ends) → Found → List ℕ → Type 0
-Held start ps found rows = (x : Node Ends) → get (ascii "components") ps ≡ some x → FoundIs (componentsOf start x) found rows
+-- what was found in the components x, and the rows that were put
+abbrev pub Says : ℕ → Node Ends → Found × List ℕ → Type 0
+Says start x (found, rows) = FoundIs (componentsOf start x) found rows
 
 -- what is noted of pairs: their slots, and what was found in their components
 abbrev pub Noted : ℕ → List ℕ → Found → List ℕ → List (Pair Ends) → Type 0
-Noted start p found rows ps = (p ≡ foldl (marks objectNames) (replicate 7 0) ps) × Held start ps found rows
+Noted start p found rows = keeping.Noted objectNames (ascii "components") (Says start) p (found, rows)
 
 -- for every map of the pairs that are read from s on, where this is noted of them
 abbrev pub VerdictIs : List ℕ → List ℕ → Found → List ℕ → Judged → Type 0
@@ -115,3 +116,11 @@ VerdictIs s p found rows r =
 
 abbrev pub ObjectIs : List ℕ → ℕ → Judged → Type 0
 ObjectIs s start r = (t : Node Ends) (q : List ℕ) → Reads 30 s t q → (n : Word Ends) → r ≡ judged (object start (record { name = n; value = t }))
+
+-- of all pairs that are due at s
+abbrev pub Walked : ℕ → ℕ → ℕ → List ℕ → List ℕ → Found → List ℕ → Type 0
+Walked start mode count s p found rows = keeping.Walked objectNames (ascii "components") (Says start) 29 mode count s p (found, rows)
+
+-- the value that begins c, whose key has slot k, where the slot of `components` holds `seen`: the first components are judged, any other value changes nothing
+abbrev pub ValueIs : ℕ → ℕ → ℕ → List ℕ → Found → List ℕ → Found → List ℕ → Type 0
+ValueIs start k seen c found rows found′ rows′ = keeping.ValueIs objectNames (ascii "components") (Says start) 29 k seen c (found, rows) (found′, rows′)

@@ -10,7 +10,7 @@ ghost use Rattle.meaning.specs.Field.{objectNames};
 ghost use Rattle.cbor.specs.Ending.{code, itemEnd, rest};
 ghost use Rattle.walk.proofs.Turns.{Modes};
 ghost use Rattle.fields.specs.Slots.{SlotIs};
-ghost use Rattle.object.specs.Walk.{Walked, ValueIs};
+ghost use Rattle.object.specs.Verdict.{Walked, ValueIs};
 
 // The slot of the key that begins s.
 fn slot(s: &[u8]) -> usize

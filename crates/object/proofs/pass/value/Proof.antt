@@ -1,3 +1,8 @@
+use Rattle.object.proofs.Looping as looping
+use Rattle.cbor.specs.Ending.{code, itemEnd}
+use borrow.Rule.Slice.PartAt.{part-to-end}
+use mathlib.Core.Logic.{⊎-elim}
+use mathlib.Core.Path.{ap, _∙_}
 use borrow.Author.Needs.{needs}
 use Rattle.object.proofs.pass.value.Statement.{statement}
 use Rattle.object.proofs.pass.value.Tie as tie
@@ -28,7 +33,7 @@ same-length c = search needs
 
 -- src/pass.rt:36:13
 returns : tie.Need-returns
-returns c = search needs
+returns c = (((c .before .before .components .ensures .0)) ∙ ap (λ s. code (itemEnd 29 s)) (part-to-end ((c .before .before .before .before .before .before .before .before .before .args .c .now)) 0), ((c .before .before .components .ensures .1)), looping.first-judged _ _ _ ((c .before .before .before .before .before .before .before .before .before .args .c .now)) _ _ ((c .before .before .before .before .before .before .if1 .taken)) ((c .before .before .before .before .before .if2 .taken)) _ _ ((c .before .before .components .ensures .2)))
 
 -- src/pass.rt:40:25
 sub-skip : tie.Need-sub-skip
@@ -48,7 +53,7 @@ skip-requires c κs = search needs
 
 -- src/pass.rt:30:1
 returns-2 : tie.Need-returns-2
-returns-2 c = search needs
+returns-2 c = (((c .skip .ensures)) ∙ ap (λ s. code (itemEnd 29 s)) (part-to-end ((c .before .before .before .before .before .args .c .now)) 0), ((c .before .before .before .before .before .pre)), looping.as-found _ _ _ _ _ _ (⊎-elim (λ x. λ a b. x .1 .left b) (λ y. λ a b. y .left a) ((c .before .before .if1 .came))))
 
 pub value-spec : {M : Type 1} → statement M
 value-spec =
