@@ -57,10 +57,10 @@ module _ (start mode count : ℕ) (s : List ℕ) (modes : Modes mode count) wher
     module _ (x : Entry) (h : EntryIs 29 mode n (Here s at) x) where
       module _ (e : ℕ) (is : x ≡ End e) where
         pub ends-inside : e ≤ length s - at → (at + e ≡ code (rest mode count 29 s)) × Walked start mode count s p found rows
-        ends-inside = keeping.ends-inside objectNames (ascii "components") known (Says start) 28 mode count s modes room at n p (found, rows) (w .keeps) x h e is
+        ends-inside l = let y = keeping.ends-inside objectNames (ascii "components") known (Says start) 28 mode count s modes room at n p (found, rows) (w .keeps) x h e is l in (y .0, record { notes = y .1 })
 
         pub ends-faulty : length s - at < e → (e ≡ code (rest mode count 29 s)) × Walked start mode count s p found rows
-        ends-faulty = keeping.ends-faulty objectNames (ascii "components") known (Says start) 28 mode count s modes room at n p (found, rows) (w .keeps) x h e is
+        ends-faulty l = let y = keeping.ends-faulty objectNames (ascii "components") known (Says start) 28 mode count s modes room at n p (found, rows) (w .keeps) x h e is l in (y .0, record { notes = y .1 })
 
       module _ (k : ℕ) (is : x ≡ Value k) where
         pub value-inside : at + k ≤ length s
@@ -71,8 +71,9 @@ module _ (start mode count : ℕ) (s : List ℕ) (modes : Modes mode count) wher
           two-due = keeping.two-due objectNames (ascii "components") known (Says start) 28 mode count s modes room at n p (found, rows) (w .keeps) x h k is e ended
 
           -- then nothing is read, and whatever was found may be answered
-          pub value-faulty : length s - (at + k) < e → (j : ℕ) (found′ : Found) (rows′ : List ℕ) → ValueIs start j (getD p 3 0) (Here s (at + k)) found rows found′ rows′ → (e ≡ code (rest mode count 29 s)) × Walked start mode count s p found′ rows′
-          value-faulty l j found′ rows′ valued = keeping.value-faulty objectNames (ascii "components") known (Says start) 28 mode count s modes room at n p (found, rows) (w .keeps) x h k is e ended l (found′, rows′)
+          pub value-faulty : length s - (at + k) < e → (found′ : Found) (rows′ : List ℕ) → (e ≡ code (rest mode count 29 s)) × Walked start mode count s p found′ rows′
+          value-faulty l found′ rows′ =
+              let y = keeping.value-faulty objectNames (ascii "components") known (Says start) 28 mode count s modes room at n p (found, rows) (w .keeps) x h k is e ended l (found′, rows′) in (y .0, record { notes = y .1 })
 
           module _ (l : e ≤ length s - (at + k)) where
             pub goes-on : at < at + k + e

@@ -24,5 +24,5 @@ module _ (c : List ℕ) (start : ℕ) (x : Opening) (h : MapIs (Here c 0) x) whe
       → (v : Judged) → VerdictIs (Here c size) p found rows v → ObjectIs c start v
   entries-judged mode count size is p found rows walked v judged t q r n =
       let m = opens.opened c x h mode count size is .trees 29 t q r in
-      let w = subst (λ u. Walked start mode count u p found rows) (part-to-end c size) walked (m .pairs) (m .last) (m .due) in
+      let w = subst (λ u. Walked start mode count u p found rows) (part-to-end c size) walked .notes (m .pairs) (m .last) (m .due) in
       subst (λ u. VerdictIs u p found rows v) (part-to-end c size) judged start (m .pairs) (m .last) (m .due .chain) w t (m .kind-is) n

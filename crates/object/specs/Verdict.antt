@@ -117,9 +117,9 @@ VerdictIs s p found rows r =
 abbrev pub ObjectIs : List ℕ → ℕ → Judged → Type 0
 ObjectIs s start r = (t : Node Ends) (q : List ℕ) → Reads 30 s t q → (n : Word Ends) → r ≡ judged (object start (record { name = n; value = t }))
 
--- of all pairs that are due at s
-abbrev pub Walked : ℕ → ℕ → ℕ → List ℕ → List ℕ → Found → List ℕ → Type 0
-Walked start mode count s p found rows = keeping.Walked objectNames (ascii "components") (Says start) 29 mode count s p (found, rows)
+-- what is noted of all pairs that are due at s
+pub record Walked (start mode count : ℕ) (s p : List ℕ) (found : Found) (rows : List ℕ) : Type 0 where
+  pub notes : keeping.Walked objectNames (ascii "components") (Says start) 29 mode count s p (found, rows)
 
 -- the value that begins c, whose key has slot k, where the slot of `components` holds `seen`: the first components are judged, any other value changes nothing
 abbrev pub ValueIs : ℕ → ℕ → ℕ → List ℕ → Found → List ℕ → Found → List ℕ → Type 0
