@@ -4,6 +4,8 @@
 #![forbid(unsafe_code)]
 
 pub mod antt;
+pub mod appendix;
+pub mod cases;
 pub mod cbor;
 pub mod compose;
 pub mod encode;

@@ -3,7 +3,7 @@
 
 use second::antt;
 use second::generate::Generator;
-use second::judge::judge_file;
+use second::judge::verdict;
 use second::listing::program_text;
 use second::vectors;
 use std::fs;
@@ -65,15 +65,9 @@ fn for_each(paths: &[&str], answer: impl Fn(&[u8]) -> Vec<u8>) -> io::Result<()>
     Ok(())
 }
 
-/// Number, object and component; three zeros for an accepted file.
 fn judgement(file: &[u8]) -> String {
-    match judge_file(file) {
-        Ok(_) => "0 0 0".to_string(),
-        Err(refusal) => format!(
-            "{} {} {}",
-            refusal.number, refusal.object, refusal.component
-        ),
-    }
+    let (number, object, component) = verdict(file);
+    format!("{number} {object} {component}")
 }
 
 fn generate(seed: u64, count: u64, directory: &Path) -> io::Result<()> {
