@@ -36,7 +36,7 @@ fn case(of: u8, what: impl Display, file: Vec<u8>, number: u8) -> Case {
 pub fn all() -> Vec<Case> {
     let mut all = vec![
         case(1, "no objects", NO_OBJECTS.to_vec(), 0),
-        case(2, "one dense object", dense_f32(&[2], 64, 8), 0),
+        case(2, "one dense object", one_dense_object(), 0),
     ];
     all.extend(frames());
     all.extend(lengths());
@@ -46,6 +46,11 @@ pub fn all() -> Vec<Case> {
     all.extend(depths());
     all.extend(ends());
     all
+}
+
+/// Case 2, whole.
+pub fn one_dense_object() -> Vec<u8> {
+    dense_f32(&[2], 64, 8)
 }
 
 /// The manifest of a dense object "w" whose component is `data`.
@@ -67,7 +72,7 @@ fn dense_f32(shape: &[u64], offset: u64, length: u64) -> Vec<u8> {
 fn frames() -> Vec<Case> {
     let sized = |size: u64| {
         let mut file = NO_OBJECTS.to_vec();
-        file[32..40].copy_from_slice(&size.to_le_bytes());
+        frame::set_size(&mut file, size);
         file
     };
     let mut cases = vec![

@@ -1,5 +1,6 @@
 //! A seeded generator of files, single CBOR items and writer's rows, sound and damaged.
 
+mod damage;
 mod file;
 mod items;
 mod plan;
@@ -31,10 +32,20 @@ impl Generator {
         }
     }
 
+    /// The generator for one of many things made with one seed, each for itself.
+    pub fn nth(seed: u64, index: u64) -> Generator {
+        Generator::new(Rng::new(seed ^ index.rotate_left(32)).number())
+    }
+
     /// A file: sound, with one fault for any of refusals 1 to 23, with two, at a limit or one past
     /// it, cut short or with bytes changed. Most are under 1 KiB; a few are as large as limits.
     pub fn next_file(&mut self) -> Vec<u8> {
         file::file(&mut self.rng)
+    }
+
+    /// A file that was sound before its tree, its manifest's bytes or its frame were changed anywhere.
+    pub fn next_damaged_file(&mut self) -> Vec<u8> {
+        damage::file(&mut self.rng)
     }
 
     /// One CBOR item, sound or damaged, sometimes with bytes after it.

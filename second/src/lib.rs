@@ -16,6 +16,7 @@ pub mod listing;
 pub mod probes;
 pub mod refusal;
 pub mod rows;
+pub mod sweep;
 pub mod types;
 pub mod utf8;
 pub mod vectors;

@@ -122,7 +122,7 @@ fn framed(rng: &mut Rng, plan: &Plan, faults: &[u8]) -> Vec<u8> {
 }
 
 /// The plan's manifest and its start, which is at or shortly after the last end of a blob.
-fn tree(rng: &mut Rng, plan: &Plan) -> (Item, u64) {
+pub fn tree(rng: &mut Rng, plan: &Plan) -> (Item, u64) {
     let map = |rng: &mut Rng, mut pairs: Pairs, level| {
         if !plan.bare {
             add_unknown(rng, &mut pairs, level);
@@ -435,7 +435,7 @@ fn odd_value(rng: &mut Rng) -> Item {
 
 /// A value of another kind than most, or the old one behind a tag. Null is the likeliest, as it
 /// means something else in each place.
-fn any_kind(rng: &mut Rng, old: Item) -> Item {
+pub fn any_kind(rng: &mut Rng, old: Item) -> Item {
     match rng.index(15) {
         0 => Item::null().tagged(0),
         1 => Item::Simple(23),
@@ -503,5 +503,5 @@ fn spoil_frame(rng: &mut Rng, file: &mut Vec<u8>, number: u8) {
         FOOTER => return file[length - 1 - rng.index(8)] ^= 1 << rng.index(8),
         _ => return,
     };
-    file[length - 16..length - 8].copy_from_slice(&size.to_le_bytes());
+    frame::set_size(file, size);
 }

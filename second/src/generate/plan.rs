@@ -50,13 +50,13 @@ impl Plan {
         plan
     }
 
-    /// As many objects as the limit allows, or one more, each as small as can be.
+    /// As many objects as the limit allows, one fewer or one more, each as small as can be.
     pub fn many_objects(rng: &mut Rng) -> Plan {
         let object = |index: usize| ObjectPlan {
             name: index.to_string().into_bytes(),
             ..free_object(Vec::new())
         };
-        let count = OBJECT_LIMIT + rng.index(2);
+        let count = OBJECT_LIMIT - 1 + rng.index(3);
         Plan {
             bare: true,
             attributes: None,
@@ -68,7 +68,7 @@ impl Plan {
     /// there is no object.
     pub fn spoil(&mut self, rng: &mut Rng, number: u8) {
         if number == TWICE && rng.one_in(2) {
-            repeat(rng, &mut self.objects);
+            rng.repeat(&mut self.objects);
             return;
         }
         let Some(object) = rng.pick_mut(&mut self.objects) else {
@@ -76,7 +76,7 @@ impl Plan {
         };
         match number {
             TEXT => not_utf8(rng, object),
-            TWICE => repeat(rng, &mut object.components),
+            TWICE => rng.repeat(&mut object.components),
             COUNT => pass_limit(rng, object),
             TYPE => wrong_type(rng, object),
             RANK => {
@@ -283,13 +283,6 @@ fn not_utf8(rng: &mut Rng, object: &mut ObjectPlan) {
     }
 }
 
-/// Puts one of the list into it a second time.
-fn repeat<T: Clone>(rng: &mut Rng, list: &mut Vec<T>) {
-    if let Some(copy) = rng.pick_mut(list).cloned() {
-        list.insert(rng.index(list.len() + 1), copy);
-    }
-}
-
 fn pass_limit(rng: &mut Rng, object: &mut ObjectPlan) {
     match rng.one_in(2) {
         true => add_components(rng, object, COMPONENT_LIMIT + 1),
@@ -313,8 +306,8 @@ fn wrong_role(rng: &mut Rng, object: &mut ObjectPlan) {
             2 => component.dtype = rng.index(DTYPES.len()),
             _ => component.logical = Some(b"u64".to_vec()),
         }
-    } else if !object.components.is_empty() {
-        object.components.remove(rng.index(object.components.len()));
+    } else {
+        rng.remove(&mut object.components);
     }
 }
 
