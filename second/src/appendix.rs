@@ -15,6 +15,11 @@ pub fn examples() -> Vec<Example> {
     table.lines().skip(1).map(example).collect()
 }
 
+/// Files for each example: in all three kinds of map, as attributes, and as a manifest.
+pub fn files() -> Vec<Case> {
+    examples().iter().flat_map(Example::files).collect()
+}
+
 fn example(line: &'static str) -> Example {
     let (hex, rest) = line.split_once('\t').expect("three columns");
     let (diagnostic, _) = rest.rsplit_once('\t').expect("three columns");
@@ -31,7 +36,7 @@ impl Example {
     }
 
     /// As an unknown value in each of the three kinds of map, as both kinds of attributes, and as a whole manifest.
-    pub fn files(&self) -> Vec<Case> {
+    fn files(&self) -> Vec<Case> {
         let held = |what: &str, file, number| Case {
             what: format!("{} as {what}", self.diagnostic),
             file,

@@ -1,10 +1,13 @@
-//! `second list PATH…`, `second judge PATH…`, `second generate SEED COUNT DIR`, `second table SEED EACH`,
-//! `second vectors CRATE`.
+//! `second list PATH…`, `second judge PATH…`, `second generate SEED COUNT DIR`, `second cases DIR`,
+//! `second table SEED EACH`, `second vectors CRATE`.
 
 use second::antt;
+use second::appendix;
+use second::cases;
 use second::generate::Generator;
 use second::judge::verdict;
 use second::listing::program_text;
+use second::probes;
 use second::vectors;
 use std::fs;
 use std::io::{self, Write};
@@ -14,6 +17,7 @@ use std::process::ExitCode;
 const USAGE: &str = "usage: second list PATH…
        second judge PATH…
        second generate SEED COUNT DIR
+       second cases DIR
        second table SEED EACH
        second vectors CRATE";
 
@@ -36,7 +40,14 @@ fn run(arguments: &[&str]) -> io::Result<()> {
             for_each(paths, |file| format!("{}\n", judgement(file)).into_bytes())
         }
         ["generate", seed, count, directory] => {
-            generate(number(seed)?, number(count)?, Path::new(directory))
+            let mut generator = Generator::new(number(seed)?);
+            let files = (0..number(count)?).map(|_| generator.next_file());
+            write_files(Path::new(directory), files)
+        }
+        ["cases", directory] => {
+            let cases = cases::all().into_iter().chain(appendix::files());
+            let files = cases.map(|case| case.file).chain(probes::files());
+            write_files(Path::new(directory), files)
         }
         ["table", seed, each] => {
             let each = usize::try_from(number(each)?).map_err(io::Error::other)?;
@@ -70,12 +81,11 @@ fn judgement(file: &[u8]) -> String {
     format!("{number} {object} {component}")
 }
 
-fn generate(seed: u64, count: u64, directory: &Path) -> io::Result<()> {
+/// Writes the files, and what this program answers for each.
+fn write_files(directory: &Path, files: impl Iterator<Item = Vec<u8>>) -> io::Result<()> {
     fs::create_dir_all(directory)?;
-    let mut generator = Generator::new(seed);
     let mut answers = String::new();
-    for index in 0..count {
-        let file = generator.next_file();
+    for (index, file) in files.enumerate() {
         let name = format!("{index:06}.zt");
         answers += &format!("{name} {}\n", judgement(&file));
         fs::write(directory.join(name), file)?;

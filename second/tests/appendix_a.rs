@@ -1,6 +1,6 @@
 //! The 82 items of RFC 7049's Appendix A: decoded, as unknown values, as attributes, as a manifest.
 
-use second::appendix::{examples, Example};
+use second::appendix::{self, examples, Example};
 use second::cases::Case;
 use second::cbor::{self, Kind, Node};
 use second::judge::verdict;
@@ -12,7 +12,7 @@ fn there_are_82() {
 
 #[test]
 fn in_every_place_it_is_answered_as_01_says() {
-    for Case { what, file, number } in examples().iter().flat_map(Example::files) {
+    for Case { what, file, number } in appendix::files() {
         assert_eq!(verdict(&file), (number, 0, 0), "{what}");
     }
 }

@@ -5,7 +5,7 @@
 
 use against::tally::{hex, seed, Tally};
 use against::Verdict;
-use second::appendix::{examples, Example};
+use second::appendix;
 use second::cases::{self, Case};
 use second::generate::Generator;
 use second::judge::verdict;
@@ -70,8 +70,7 @@ fn cases_of_01() {
 
 #[test]
 fn appendix_a() {
-    let files = examples().iter().flat_map(Example::files).collect();
-    compare_cases("Appendix A", files, 4);
+    compare_cases("Appendix A", appendix::files(), 4);
 }
 
 fn compare_files(of: &'static str, files: Vec<Vec<u8>>, answers: usize) {
