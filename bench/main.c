@@ -2,7 +2,7 @@
 #include <stdio.h>
 
 int main(void) {
-    puts("best of up to 25 rounds; the last column is our time over the peer's, and what is asked of it");
+    puts("processor time, best of up to 400 rounds in turns; the last column is our time over the peer's, and what is asked of it");
     leaves();
     acceptance();
 }

@@ -1,6 +1,6 @@
-/* TinyCBOR (Debian's libtinycbor-dev, where it has it). */
+/* TinyCBOR (Debian's libtinycbor-dev where it has it, or its sources). */
 #include "peers.h"
-#include <tinycbor/cbor.h>
+#include <cbor.h>
 
 static CborError tokens(CborValue *v) {
     while (!cbor_value_at_end(v)) {

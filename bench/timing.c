@@ -3,12 +3,14 @@
 #include <stdlib.h>
 #include <time.h>
 
-enum { ROUNDS = 25 };
-static const double ROUND = 5e-3, PATIENCE = 1.5; /* seconds of a round of short calls, and for all rounds of long ones */
+/* Many short rounds: on a machine that others use too, some of them are undisturbed. */
+enum { FEWEST = 5, ROUNDS = 400 };
+static const double ROUND = 1e-3, PATIENCE = 1.5; /* seconds of a round of short calls, and for all rounds */
 
+/* The processor's time, as others may have the processor in between. */
 static double now(void) {
     struct timespec t;
-    clock_gettime(CLOCK_MONOTONIC, &t);
+    clock_gettime(CLOCK_THREAD_CPUTIME_ID, &t);
     return (double)t.tv_sec + 1e-9 * (double)t.tv_nsec;
 }
 
@@ -43,7 +45,7 @@ static void round_of(contender *c) {
 
 static void in_turns(contender *a, contender *b) {
     double start = now();
-    for (int i = 0; i < ROUNDS && (i < 5 || now() - start < PATIENCE); i++) {
+    for (int i = 0; i < ROUNDS && (i < FEWEST || now() - start < PATIENCE); i++) {
         round_of(a);
         round_of(b);
     }
