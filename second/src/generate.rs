@@ -25,16 +25,20 @@ pub struct RowSet {
     pub buffer: Vec<u8>,
 }
 
+/// One of the files of a seed, made for itself: every second one is for a chosen refusal, the others are damaged anywhere.
+pub fn nth_file(seed: u64, index: u64) -> Vec<u8> {
+    let mut rng = Rng::new(Rng::new(seed ^ index.rotate_left(32)).number());
+    match index % 2 {
+        0 => file::file(&mut rng),
+        _ => damage::file(&mut rng),
+    }
+}
+
 impl Generator {
     pub fn new(seed: u64) -> Generator {
         Generator {
             rng: Rng::new(seed),
         }
-    }
-
-    /// The generator for one of many things made with one seed, each for itself.
-    pub fn nth(seed: u64, index: u64) -> Generator {
-        Generator::new(Rng::new(seed ^ index.rotate_left(32)).number())
     }
 
     /// A file: sound, with one fault for any of refusals 1 to 23, with two, at a limit or one past

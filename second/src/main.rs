@@ -4,7 +4,7 @@
 use second::antt;
 use second::appendix;
 use second::cases;
-use second::generate::Generator;
+use second::generate::nth_file;
 use second::judge::verdict;
 use second::listing::program_text;
 use second::probes;
@@ -40,8 +40,8 @@ fn run(arguments: &[&str]) -> io::Result<()> {
             for_each(paths, |file| format!("{}\n", judgement(file)).into_bytes())
         }
         ["generate", seed, count, directory] => {
-            let mut generator = Generator::new(number(seed)?);
-            let files = (0..number(count)?).map(|_| generator.next_file());
+            let seed = number(seed)?;
+            let files = (0..number(count)?).map(|index| nth_file(seed, index));
             write_files(Path::new(directory), files)
         }
         ["cases", directory] => {

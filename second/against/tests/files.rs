@@ -7,7 +7,7 @@ use against::tally::{hex, seed, Tally};
 use against::Verdict;
 use second::appendix;
 use second::cases::{self, Case};
-use second::generate::Generator;
+use second::generate::nth_file;
 use second::judge::verdict;
 use second::probes;
 use second::sweep;
@@ -96,13 +96,9 @@ fn every_node_changed() {
     compare_files("every node of a manifest", sweep::nodes(), 20);
 }
 
-/// Every second file is one for a chosen refusal, the others are damaged anywhere.
-fn generated(index: u64) -> Vec<u8> {
-    let mut generator = Generator::nth(seed(), index);
-    match index % 2 {
-        0 => generator.next_file(),
-        _ => generator.next_damaged_file(),
-    }
+#[test]
+fn every_role_changed() {
+    compare_files("every role of a format", sweep::roles(), 4);
 }
 
 #[test]
@@ -110,7 +106,9 @@ fn generated_and_damaged() {
     let part = |first: u64| {
         let mut tally = Tally::of("files");
         for index in (first..FILES).step_by(THREADS as usize) {
-            compare(&mut tally, &generated(index), || format!("file {index}"));
+            compare(&mut tally, &nth_file(seed(), index), || {
+                format!("file {index}")
+            });
         }
         tally
     };

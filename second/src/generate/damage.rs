@@ -7,12 +7,20 @@ use super::rng::Rng;
 use crate::encode::Item;
 use crate::frame;
 use crate::judge::{COMPONENT_LIMIT, RANK_LIMIT};
+use crate::refusal::{LENGTH, RANK, ROLE, TYPE};
 
 pub fn file(rng: &mut Rng) -> Vec<u8> {
-    let plan = match rng.one_in(2_000) {
-        true => Plan::many_objects(rng),
+    let mut plan = match rng.one_in(1_000) {
+        true => Plan::alike_names(rng),
         false => Plan::sound(rng),
     };
+    if rng.one_in(4) {
+        // Several faults that only their order tells apart.
+        for _ in 0..2 + rng.index(2) {
+            let number = *rng.pick(&[TYPE, RANK, ROLE, ROLE, LENGTH]);
+            plan.spoil(rng, number);
+        }
+    }
     let (mut root, manifest_start) = file::tree(rng, &plan);
     for _ in 0..*rng.pick(&[0, 1, 1, 1, 2, 4]) {
         let (node, depth) = any_node(rng, &mut root, 1);

@@ -64,6 +64,25 @@ impl Plan {
         }
     }
 
+    /// Few or many objects whose names differ in six digits only, wherever those stand; mostly two are the same.
+    pub fn alike_names(rng: &mut Rng) -> Plan {
+        let mut plan = Plan::many_objects(rng);
+        let few = 2 + rng.index(60);
+        let most = *rng.pick(&[few, plan.objects.len()]);
+        plan.objects.truncate(most);
+        let (before, after) = (rng.index(40), rng.index(40));
+        for (index, object) in plan.objects.iter_mut().enumerate() {
+            let name = format!("{:n<before$}{index:06}{:n<after$}", "", "");
+            object.name = name.into_bytes();
+        }
+        rng.shuffle(&mut plan.objects);
+        let twin = rng.pick(&plan.objects).name.clone();
+        if let Some(object) = rng.pick_mut(&mut plan.objects).filter(|_| rng.one_in(2)) {
+            object.name = twin;
+        }
+        plan
+    }
+
     /// Spoils the plan for one refusal. Nothing is done for a refusal that plans don't get, or if
     /// there is no object.
     pub fn spoil(&mut self, rng: &mut Rng, number: u8) {
