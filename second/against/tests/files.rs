@@ -102,6 +102,16 @@ fn every_role_changed() {
 }
 
 #[test]
+fn every_two_faults() {
+    compare_files("every two faults", sweep::two_faults(), 17);
+}
+
+#[test]
+fn many_names() {
+    compare_files("names at their limits", sweep::many_names(), 6);
+}
+
+#[test]
 fn generated_and_damaged() {
     let part = |first: u64| {
         let mut tally = Tally::of("files");

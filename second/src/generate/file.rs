@@ -4,6 +4,7 @@ use super::items;
 use super::plan::{ComponentPlan, ObjectPlan, Plan};
 use super::rng::Rng;
 use crate::cbor::DEPTH;
+use crate::compose::{field, is_text, pairs, set, Pairs};
 use crate::encode::{Head, Item};
 use crate::frame::{self, SIZE_LIMIT};
 use crate::refusal::{
@@ -11,8 +12,6 @@ use crate::refusal::{
     MISSING, SHORT, TWICE, VERSION,
 };
 use crate::types::DTYPES;
-
-type Pairs = Vec<(Item, Item)>;
 
 /// The known fields of the maps at each level; `objects` and `components` hold names.
 const FIELDS: [&[&str]; 5] = [
@@ -245,33 +244,6 @@ fn descend<'t>(rng: &mut Rng, root: &'t mut Item, level: usize) -> Option<&'t mu
         };
     }
     Some(at)
-}
-
-fn pairs(item: &mut Item) -> Option<&mut Pairs> {
-    match item {
-        Item::Map(pairs) => Some(pairs),
-        _ => None,
-    }
-}
-
-fn field<'t>(map: &'t mut Item, name: &str) -> Option<&'t mut Item> {
-    pairs(map)?
-        .iter_mut()
-        .find(|(key, _)| is_text(key, name))
-        .map(|(_, value)| value)
-}
-
-fn is_text(key: &Item, name: &str) -> bool {
-    matches!(key, Item::Text(text) if text == name.as_bytes())
-}
-
-/// Gives a field another value, or adds it.
-fn set(map: &mut Item, name: &str, value: Item) {
-    if let Some(old) = field(map, name) {
-        *old = value;
-    } else if let Some(pairs) = pairs(map) {
-        pairs.push((Item::text(name), value));
-    }
 }
 
 /// Spoils the tree for one refusal; nothing if the place for it isn't there.
