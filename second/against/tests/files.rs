@@ -31,7 +31,8 @@ fn compare(tally: &mut Tally, file: &[u8], what: impl FnOnce() -> String) {
     };
     let proved = (against::box_accept(file), against::accept(file));
     tally.compare(label(number), proved, (number, second), || {
-        format!("{}, {}", what(), kept(file))
+        let what = what();
+        format!("{what}, {}", kept(&what, file))
     });
 }
 
@@ -43,9 +44,11 @@ fn label(number: u64) -> String {
 }
 
 /// Keeps a file on which answers differ, and says where.
-fn kept(file: &[u8]) -> String {
+fn kept(what: &str, file: &[u8]) -> String {
     let here = std::env::var("CARGO_MANIFEST_DIR").expect("cargo names the folder");
-    let path = Path::new(&here).join("../../target/differing-file.hex");
+    let plain = |c: char| if c.is_ascii_alphanumeric() { c } else { '-' };
+    let name: String = what.chars().map(plain).collect();
+    let path = Path::new(&here).join(format!("../../target/differs-{name}.hex"));
     match fs::write(&path, hex(file)) {
         Ok(()) => format!("in hex in {}", path.display()),
         Err(error) => format!("{error}: {}", hex(file)),
@@ -76,7 +79,7 @@ fn appendix_a() {
 fn compare_files(of: &'static str, files: Vec<Vec<u8>>, answers: usize) {
     let mut tally = Tally::of(of);
     for (at, file) in files.iter().enumerate() {
-        compare(&mut tally, file, || format!("file {at}"));
+        compare(&mut tally, file, || format!("{of}, file {at}"));
     }
     tally.report(answers);
 }
@@ -117,7 +120,7 @@ fn generated_and_damaged() {
         let mut tally = Tally::of("files");
         for index in (first..FILES).step_by(THREADS as usize) {
             compare(&mut tally, &nth_file(seed(), index), || {
-                format!("file {index}")
+                format!("seed {}, file {index}", seed())
             });
         }
         tally
