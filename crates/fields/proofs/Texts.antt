@@ -16,13 +16,10 @@ use Rattle.types.specs.Known.{position}
 use Rattle.types.proofs.Codes.{position-most}
 use Rattle.walk.specs.Reading.{Ends, ends}
 use Rattle.walk.specs.Places.{Whatever, textAt, TextIs, Inside}
+pub use Rattle.walk.proofs.Passed.{Here}
 use Rattle.walk.specs.declared.Letters.{Letters}
 use Rattle.walk.specs.declared.Letters.the-variants.{NoText, Text}
 use Rattle.fields.specs.Slots.{slotOf, SlotIs}
-
--- the part of s from `at` on, as it is lent
-abbrev pub Here : List ℕ → ℕ → List ℕ
-Here s at = take (length s - at) (drop at s)
 
 no-key : (k : Kind Ends) → kinds.asWord k ≡ fault KIND → keyKind k ≡ none
 unfolding kinds.asWord keyKind

@@ -27,6 +27,7 @@ use Rattle.naming.specs.declared.Tally.{Tally}
 use borrow.Rule.Slice.PartAt.{part-to-end}
 use Rattle.walk.specs.Put.{put}
 use Rattle.walk.proofs.Puts.{length-put}
+use Rattle.walk.proofs.Passed.{Here}
 use Rattle.naming.specs.Naming.{tally, lettersOf, Tallied, Noted}
 
 -- ---------------------------------------------------------------- lists with one more at the end
@@ -185,14 +186,11 @@ none-noted m left size e = record { counted = refl; oddly = refl; badly = refl; 
 
 -- ---------------------------------------------------------------- as the code notes it
 
-abbrev Here : List ℕ → List ℕ
-Here s = take (length s - 0) (drop 0 s)
-
 pub noted-as : (s : List ℕ) (t : Tally) (left size : List ℕ) {t₁ t₂ : Tally} {left₁ left₂ size₁ size₂ : List ℕ} → t₂ ≡ t₁ → left₂ ≡ left₁ → size₂ ≡ size₁
     → Noted s t left size t₁ left₁ size₁ → Noted s t left size t₂ left₂ size₂
 noted-as s t left size a b c h = rw (a, b, c) h
 
-module _ (s : List ℕ) (t : Tally) (left size : List ℕ) (v : Letters) (h : TextIs (Here s) v) where
+module _ (s : List ℕ) (t : Tally) (left size : List ℕ) (v : Letters) (h : TextIs (Here s 0) v) where
   pub noted-odd : v ≡ NoText → Noted s t left size (tally (t .count + 1) true (t .bad)) (put left (t .count) 0) (put size (t .count) 0)
   noted-odd e =
       let k : TextIs s NoText = rw (part-to-end s 0, e) at h in
@@ -224,5 +222,5 @@ module _ (s : List ℕ) (t : Tally) (left size : List ℕ) (v : Letters) (h : Te
           (note-bad m done t left size y p at a n within (subst (λ u. a + n ≤ length u) is fits) (key-is m at is d p r x) (sym (g ∙ ap utf8 letters ∙ ap (λ u. utf8 (take n (drop a u))) is))),
     )
 
-pub inside : (s : List ℕ) (v : Letters) (a n : ℕ) → Inside (Here s) v → v ≡ Text a n → a + n ≤ length s
-inside s v a n h e = let z : a + n ≤ length (Here s) = rw e at h in let y : length (Here s) ≡ length s = ap length (part-to-end s 0) in omega arith
+pub inside : (s : List ℕ) (v : Letters) (a n : ℕ) → Inside (Here s 0) v → v ≡ Text a n → a + n ≤ length s
+inside s v a n h e = let z : a + n ≤ length (Here s 0) = rw e at h in let y : length (Here s 0) ≡ length s = ap length (part-to-end s 0) in omega arith
