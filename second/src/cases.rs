@@ -1,6 +1,6 @@
 //! Document 01's thirteen cases with their neighbours: files, and the answer that 01 gives each.
 
-use crate::compose::{component, named, object, root, with};
+use crate::compose::{component, data, dense, named, object, root, with};
 use crate::encode::Item;
 use crate::frame::{self, SIZE_LIMIT};
 use crate::refusal::{
@@ -54,7 +54,7 @@ pub fn one_dense_object() -> Vec<u8> {
 }
 
 /// The manifest of a dense object "w" whose component is `data`.
-pub fn dense(shape: &[u64], data: Item) -> Vec<u8> {
+pub fn dense_manifest(shape: &[u64], data: Item) -> Vec<u8> {
     let object = object(shape, "dense", named([("data", data)]));
     root(named([("w", object)])).shortest()
 }
@@ -64,7 +64,7 @@ fn starting_at(start: usize, manifest: &[u8]) -> Vec<u8> {
 }
 
 fn dense_f32(shape: &[u64], offset: u64, length: u64) -> Vec<u8> {
-    let manifest = dense(shape, component("f32", offset, length));
+    let manifest = dense_manifest(shape, component("f32", offset, length));
     starting_at(AFTER_BLOB, &manifest)
 }
 
@@ -175,9 +175,8 @@ fn versions() -> Vec<Case> {
 
 fn repeats() -> Vec<Case> {
     let twice = |what, key: &str, added: &[Item], number| {
-        let sound = object(&[2], "dense", named([("data", component("f32", 64, 8))]));
         let add = |map, value: &Item| with(map, key, value.clone());
-        let object = added.iter().fold(sound, add);
+        let object = added.iter().fold(dense(data()), add);
         let manifest = root(named([("w", object)])).shortest();
         case(11, what, starting_at(AFTER_BLOB, &manifest), number)
     };
@@ -229,22 +228,21 @@ impl Place {
             true => with(map, key, value.clone()),
             false => map,
         };
-        let data = add(component("f32", 64, 8), Place::Component);
-        let object = object(&[2], "dense", named([("data", data)]));
+        let object = dense(add(data(), Place::Component));
         let objects = named([("w", add(object, Place::Object))]);
         starting_at(AFTER_BLOB, &add(root(objects), Place::Root).shortest())
     }
 }
 
 fn ends() -> Vec<Case> {
-    let manifest = dense(&[2], component("f32", 64, 8));
+    let manifest = root(named([("w", dense(data()))])).shortest();
     let mut cases: Vec<Case> = [(71, BOUNDS), (72, 0), (73, 0)]
         .map(|(start, number)| {
             let what = format!("manifest start {start}");
             case(13, what, starting_at(start, &manifest), number)
         })
         .into();
-    let wrapping = dense(&[0], component("u8", 64, u64::MAX - 63));
+    let wrapping = dense_manifest(&[0], component("u8", 64, u64::MAX - 63));
     let file = starting_at(AFTER_BLOB, &wrapping);
     cases.push(case(13, "an end past 2^64", file, BOUNDS));
     cases

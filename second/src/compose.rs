@@ -29,6 +29,16 @@ pub fn component(dtype: &str, offset: u64, length: u64) -> Item {
     ])
 }
 
+/// A component that is right for a dense object of shape [2]; its blob lies from 64 to 72.
+pub fn data() -> Item {
+    component("f32", 64, 8)
+}
+
+/// A dense object of shape [2].
+pub fn dense(data: Item) -> Item {
+    object(&[2], "dense", named([("data", data)]))
+}
+
 /// The map with one more pair at its end.
 pub fn with(mut map: Item, key: &str, value: Item) -> Item {
     if let Item::Map(pairs) = &mut map {

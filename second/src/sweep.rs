@@ -8,7 +8,7 @@ pub use faults::{many_names, two_faults};
 pub use roles::roles;
 
 use crate::cases;
-use crate::compose::{component, named, object, root, with};
+use crate::compose::{component, data, dense, named, object, root, with};
 use crate::encode::{Item, Style};
 use crate::frame;
 
@@ -85,8 +85,10 @@ fn manifest() -> Item {
         ),
     ]);
     let sparse = unknown(attributes(object(&[2, 5], "sparse_csr", roles)));
-    let dense = object(&[2], "dense", named([("data", component("f32", 64, 8))]));
-    unknown(attributes(root(named([("w", dense), ("ü", sparse)]))))
+    unknown(attributes(root(named([
+        ("w", dense(data())),
+        ("ü", sparse),
+    ]))))
 }
 
 /// The node of this index, in reading order, and its depth.

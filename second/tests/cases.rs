@@ -1,6 +1,6 @@
 //! The thirteen sound files of document 01 and their neighbours.
 
-use second::cases::{self, dense, Case, NO_OBJECTS as CASE_1};
+use second::cases::{self, dense_manifest, Case, NO_OBJECTS as CASE_1};
 use second::compose::{component, named, root};
 use second::frame;
 use second::judge::verdict;
@@ -49,7 +49,10 @@ fn case_2_one_dense_object() {
     assert_eq!(&out[64..72], b"12345678");
     assert_eq!(&out[72..165], CASE_2_MANIFEST);
     assert_eq!(&out[165..], b"\x5D\0\0\0\0\0\0\0ZTEN1000");
-    assert_eq!(dense(&[2], component("f32", 64, 8)), CASE_2_MANIFEST);
+    assert_eq!(
+        dense_manifest(&[2], component("f32", 64, 8)),
+        CASE_2_MANIFEST
+    );
 
     let mut table = [9; 30];
     let accepted = Answer {
