@@ -30,15 +30,15 @@ module _ (m : List ℕ) (t : Tally) (first : First) (left size : List ℕ) (room
       ap (λ i. names i u) (sym room) ∙ a done tl u ku
 
   pub names-conclude : (n : ℕ) → x ≡ NoNames n → Concluded m t first left size (No n 0)
-  names-conclude n e start rows ps tl is u ku = names-fault start ps u n rows (judged (NoNames n) e ps tl u ku)
+  names-conclude n e start rows ps kept u ku = names-fault start ps u n rows (judged (NoNames n) e ps (kept .named) u ku)
 
   module _ (e : x ≡ Names) where
     pub fault-concludes : (n c : ℕ) → first ≡ Fault n c → Concluded m t first left size (No n c)
-    fault-concludes n c f start rows ps tl is u ku = entry-fault start ps u n c rows (judged Names e ps tl u ku) (rw f at is)
+    fault-concludes n c f start rows ps kept u ku = entry-fault start ps u n c rows (judged Names e ps (kept .named) u ku) (rw f at (kept .judged))
 
     pub fine-concludes : first ≡ Fine → Concluded m t first left size (Yes (t .count))
-    fine-concludes f start rows ps tl is u ku =
-        let j = judged Names e ps tl u ku in
+    fine-concludes f start rows ps kept u ku =
+        let j = judged Names e ps (kept .named) u ku in
         let few : length (map namedAnyway ps) ≤ componentLimit = few-names componentLimit u (map namedAnyway ps) j in
-        let c = tl .counted in
-        all-fine start ps u (t .count) rows j (rw f at is) c (omega (arith, length-map ps {f = namedAnyway}))
+        let c = kept .named .counted in
+        all-fine start ps u (t .count) rows j (rw f at (kept .judged)) c (omega (arith, length-map ps namedAnyway))

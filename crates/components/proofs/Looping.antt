@@ -18,22 +18,21 @@ use Rattle.naming.proofs.Noting.{none-noted}
 use Rattle.formats.specs.Parts.{partRows}
 use Rattle.components.specs.declared.First.{First}
 use Rattle.components.specs.declared.First.the-variants.{Fine}
-use Rattle.components.specs.Firsts.{entries, FirstIs, Keeps}
-
--- what is kept of the pairs `done` of a map in s
-abbrev pub Kept : ℕ → List ℕ → Tally → List ℕ → List ℕ → First → List ℕ → List (Pair Ends) → Type 0
-Kept start s names left size first rows done = Tallied s done names left size × FirstIs start done first rows
+use Rattle.components.specs.Firsts.{entries, Keeps, Kept}
 
 pub none-kept : (start : ℕ) (s left size rows : List ℕ) → length size ≡ length left → Kept start s (tally 0 false false) left size Fine rows []
 unfolding entries partRows
-none-kept start s left size rows e = (none-noted s left size e, ([], refl, record { are = λ l. refl }))
+none-kept start s left size rows e = record { named = none-noted s left size e; judged = ([], refl, record { are = λ l. refl }) }
 
 module _ (start : ℕ) (s : List ℕ) (at k : ℕ) (inside : at + k ≤ length s) (names names′ : Tally) (left left′ size size′ : List ℕ) (first first′ : First) (rows rows′ : List ℕ) (v : Judged)
     (judged : ComponentIs (Here s (at + k)) start v) (keeps : Keeps (Here s at) (Here s (at + k)) v (names .count) first rows first′ rows′)
     (noted : Noted (Here s at) names left size names′ left′ size′) where
   pub one-more-kept : (done : List (Pair Ends)) (p : Pair Ends) (q r : List ℕ) → Reads 28 (drop at s) (p .key) q → Reads 28 (drop (at + k) s) (p .value) r
       → Kept start s names left size first rows done → Kept start s names′ left′ size′ first′ rows′ (done ++ p ∷ [])
-  one-more-kept done p q r key value (told, is) =
+  one-more-kept done p q r key value kept =
       let a : Reads 28 (Here s at) (p .key) q = subst (λ u. Reads 28 u (p .key) q) (sym (part-to-end s at)) key in
       let b : Reads 28 (Here s (at + k)) (p .value) r = subst (λ u. Reads 28 u (p .value) r) (sym (part-to-end s (at + k))) value in
-      (noted .1 s at (omega arith) (part-to-end s at) done 27 p q a told, keeps start done p 27 q r a b judged (told .counted) is)
+      record {
+        named = noted .1 s at (omega arith) (part-to-end s at) done 27 p q a (kept .named);
+        judged = keeps start done p 27 q r a b judged (kept .named .counted) (kept .judged);
+      }

@@ -27,4 +27,4 @@ module _ (c : List ℕ) (start : ℕ) (x : Opening) (h : MapIs (Here c 0) x) whe
   entries-judged mode count size is n left spans first rows walked found concluded t q r =
       let m = opens.opened c x h mode count size is .trees 28 t q r in
       let w = subst (λ u. Walked start mode count u n left spans first rows) (part-to-end c size) walked (m .pairs) (m .last) (m .due) in
-      subst (λ u. Concluded u n first left spans found) (part-to-end c size) concluded start rows (m .pairs) (w .0) (w .1) t (m .kind-is)
+      subst (λ u. Concluded u n first left spans found) (part-to-end c size) concluded start rows (m .pairs) w t (m .kind-is)

@@ -46,14 +46,19 @@ abbrev pub FoundIs : Check (List (Component Ends)) → Found → List ℕ → Ty
 FoundIs k (No n c) rows = (o : ℕ) × (k ≡ refuse n o c)
 FoundIs k (Yes m) rows = (cs : List (Component Ends)) × (k ≡ pass cs) × (m ≡ length cs) × (m ≤ componentLimit) × (take (4 * m) rows ≡ partRows (map part cs))
 
--- what was noted of all entries that are due at s
+-- what is kept of the pairs `done` of a map in s
+pub record Kept (start : ℕ) (s : List ℕ) (names : Tally) (left size : List ℕ) (first : First) (rows : List ℕ) (done : List (Pair Ends)) : Type 0 where
+  pub named : Tallied s done names left size
+  pub judged : FirstIs start done first rows
+
+-- of all entries that are due at s
 abbrev pub Walked : ℕ → ℕ → ℕ → List ℕ → Tally → List ℕ → List ℕ → First → List ℕ → Type 0
-Walked start mode count s names left size first rows = (ps : List (Pair Ends)) (r : List ℕ) → Due 28 mode count s ps r → Tallied s ps names left size × FirstIs start ps first rows
+Walked start mode count s names left size first rows = (ps : List (Pair Ends)) (r : List ℕ) → Due 28 mode count s ps r → Kept start s names left size first rows ps
 
 -- for every map of these pairs
 abbrev pub Concluded : List ℕ → Tally → First → List ℕ → List ℕ → Found → Type 0
 Concluded m names first left size found =
-    (start : ℕ) (rows : List ℕ) (ps : List (Pair Ends)) → Tallied m ps names left size → FirstIs start ps first rows → (t : Node Ends) → kind t ≡ table ps → FoundIs (componentsOf start t) found rows
+    (start : ℕ) (rows : List ℕ) (ps : List (Pair Ends)) → Kept start m names left size first rows ps → (t : Node Ends) → kind t ≡ table ps → FoundIs (componentsOf start t) found rows
 
 abbrev pub ComponentsAre : List ℕ → ℕ → Found → List ℕ → Type 0
 ComponentsAre s start found rows = (t : Node Ends) (q : List ℕ) → Reads 29 s t q → FoundIs (componentsOf start t) found rows
