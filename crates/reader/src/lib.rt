@@ -45,7 +45,7 @@ fn manifest(m: &[u8], start: u64) -> Verdict
     }
 }
 
-// Is the file accepted?
+// The verdict on a file, which is lent whole.
 pub fn accept(file: &[u8]) -> Verdict
     ensures { λ r. ⌜ r ≡ is.verdict (reading (now (file .entry))) ⌝ }
 {

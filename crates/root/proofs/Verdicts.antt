@@ -7,7 +7,7 @@ use Prim.Native.Nat.{ℕ, suc, _<_}
 use native.Mathlib.Omega.{arith}
 use lib.ListN.{getD}
 use lib.Dec.{eqb, leb}
-use borrow.Author.Tests.{eq-eqb, ne-eqb, eqb-true, eqb-false}
+use borrow.Author.Tests.{eq-eqb, ne-eqb, eqb-true, eqb-false, not-true, not-false}
 use borrow.Rule.Slice.PartAt.{part-to-end}
 use Rattle.meaning.specs.Tree.{Node, Pair}
 use Rattle.meaning.specs.Check.{Check, pass, refuse, fault, optional}
@@ -56,18 +56,16 @@ module _ (p : List ℕ) where
 
 -- ---------------------------------------------------------------- attributes, objects missing, objects
 
-module _ (left at : ℕ) (found : Found) where
-  pub no-map : (map : Bool) → not map ≡ true → No 8 0 0 ≡ told map left at found
-  no-map false e = refl
-  no-map true e = absurd (let z : _≡_ {A = ℕ} 0 1 = cc in omega arith)
+module _ (map : Bool) (left at : ℕ) (found : Found) where
+  pub no-map : not map ≡ true → No 8 0 0 ≡ told map left at found
+  no-map e = rw (not-true map e) refl
 
-  pub no-objects : (map : Bool) → not map ≡ false → at ≡ 0 → No 12 0 0 ≡ told map left at found
-  no-objects false e z = absurd (let z : _≡_ {A = ℕ} 0 1 = cc in omega arith)
-  no-objects true e z = rw (eq-eqb _ _ z) refl
+  module _ (e : not map ≡ false) where
+    pub no-objects : at ≡ 0 → No 12 0 0 ≡ told map left at found
+    no-objects z = rw (not-false map e, eq-eqb _ _ z) refl
 
-  pub objects-found : (map : Bool) → not map ≡ false → (at ≡ 0 → ⊥) → (f : Found) → found ≡ f → counted left f ≡ told map left at found
-  objects-found false e z f is = absurd (let z : _≡_ {A = ℕ} 0 1 = cc in omega arith)
-  objects-found true e z f is = rw (ne-eqb _ _ z) (ap (counted left) (sym is))
+    pub objects-found : (at ≡ 0 → ⊥) → (f : Found) → found ≡ f → counted left f ≡ told map left at found
+    objects-found z f is = rw (not-false map e, ne-eqb _ _ z) (ap (counted left) (sym is))
 
 -- ---------------------------------------------------------------- the judgement of a map of these pairs
 
