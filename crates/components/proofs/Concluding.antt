@@ -2,39 +2,39 @@
 use Prim.Native.Nat.{ℕ, _≤_}
 use native.Mathlib.Omega.{arith}
 use mathlib.Core.List.{List, map}
-use mathlib.Core.Path.{_≡_, ap, sym, _∙_, subst}
+use mathlib.Core.Path.{_≡_, sym, subst}
 use lib.ListN.{length, length-map}
-use borrow.Rule.Slice.PartAt.{part-to-end}
 use Rattle.meaning.specs.Tree.{Node, Pair}
 use Rattle.meaning.specs.Check.{pass}
 use Rattle.meaning.specs.Limit.{componentLimit}
 use Rattle.meaning.specs.Kind.{kind, table}
 use Rattle.meaning.specs.Field.{names}
+use Rattle.meaning.specs.Judge.{componentsOf}
 use Rattle.walk.specs.Reading.{Ends}
 use Rattle.walk.proofs.Passed.{Here}
 use Rattle.naming.specs.Naming.{namedAnyway, told, Tallied, Judged}
 use Rattle.naming.specs.declared.Tally.{Tally}
 use Rattle.naming.specs.declared.Named.{Named}
 use Rattle.naming.specs.declared.Named.the-variants.{No as NoNames, Yes as Names}
-use Rattle.naming.proofs.Judging.{few-names}
+use Rattle.naming.proofs.Judging.{few-names, names-told}
 use Rattle.components.specs.declared.First.{First}
 use Rattle.components.specs.declared.First.the-variants.{Fine, Fault}
+use Rattle.components.specs.declared.Found.{Found}
 use Rattle.components.specs.declared.Found.the-variants.{No, Yes}
-use Rattle.components.specs.Firsts.{Concluded}
+use Rattle.components.specs.Firsts.{FoundIs, Concluded}
 use Rattle.components.proofs.Keeping.{names-fault, entry-fault, all-fine}
 
 module _ (m : List ℕ) (t : Tally) (first : First) (left size : List ℕ) (room : length left ≡ 16) (x : Named) (h : Judged (Here m 0) t (Here left 0) (Here size 0) x) where
   judged : (y : Named) → x ≡ y → (done : List (Pair Ends)) → Tallied m done t left size → (u : Node Ends) → kind u ≡ table done → names componentLimit u ≡ told done y
-  judged y e done tl u ku =
-      let a : Judged m t left size y = rw (part-to-end m 0, part-to-end left 0, part-to-end size 0) at (rw e at h) in
-      ap (λ i. names i u) (sym room) ∙ a done tl u ku
+  judged = names-told componentLimit m t left size room x h
 
   pub names-conclude : (n : ℕ) → x ≡ NoNames n → Concluded m t first left size (No n 0)
   names-conclude n e start rows ps kept u ku = names-fault start ps u n rows (judged (NoNames n) e ps (kept .named) u ku)
 
   module _ (e : x ≡ Names) where
-    pub fault-concludes : (n c : ℕ) → first ≡ Fault n c → Concluded m t first left size (No n c)
-    fault-concludes n c f start rows ps kept u ku = entry-fault start ps u n c rows (judged Names e ps (kept .named) u ku) (rw f at (kept .judged))
+    pub fault-concludes : (n c : ℕ) → first ≡ Fault n c → (found : Found) → found ≡ No n c → Concluded m t first left size found
+    fault-concludes n c f found is start rows ps kept u ku =
+        subst (λ x. FoundIs (componentsOf start u) x rows) (sym is) (entry-fault start ps u n c rows (judged Names e ps (kept .named) u ku) (rw f at (kept .judged)))
 
     pub fine-concludes : first ≡ Fine → Concluded m t first left size (Yes (t .count))
     fine-concludes f start rows ps kept u ku =

@@ -17,7 +17,7 @@ use Rattle.formats.proofs.Rows.{rows-more}
 use Rattle.naming.specs.Naming.{namedAnyway, told}
 use Rattle.naming.specs.declared.Named.the-variants.{No as NoNames, Yes as Names}
 use Rattle.naming.proofs.Noting.{map-snoc}
-use Rattle.naming.proofs.Entries.{each-snoc, each-of-map}
+use Rattle.naming.proofs.Entries as named-entries
 use Rattle.components.specs.declared.First.the-variants.{Fine, Fault}
 use Rattle.components.specs.declared.Found.the-variants.{No, Yes}
 use Rattle.components.specs.Firsts.{entry, entries, FirstIs, FoundIs}
@@ -26,21 +26,10 @@ rows-of-one : (d : formats.Part) → partRows (d ∷ []) ≡ partRow d
 unfolding partRows
 rows-of-one d = append-nil (partRow d)
 
--- as many components as entries
-entries-length : (start : ℕ) (i : ℕ) (l : List (Pair Ends)) (cs : List (Component Ends)) → each (λ j p. entry start j (namedAnyway p)) i l ≡ pass cs → length cs ≡ length l
-entries-length start i [] cs e = let z : [] ≡ cs = cc in ap length (sym z)
-entries-length start i (p ∷ l) cs e = go (entry start i (namedAnyway p)) (each (λ j p. entry start j (namedAnyway p)) (suc i) l) refl e (λ ds h. entries-length start (suc i) l ds h)
-  where
-    go : (c : Check (Component Ends)) (d : Check (List (Component Ends))) → each (λ j p. entry start j (namedAnyway p)) (suc i) l ≡ d → (c >>= λ b. d >>= λ bs. pass (b ∷ bs)) ≡ pass cs
-        → ((ds : List (Component Ends)) → each (λ j p. entry start j (namedAnyway p)) (suc i) l ≡ pass ds → length ds ≡ length l) → length cs ≡ suc (length l)
-    go (refuse n o c) d h e ih = absurd (let z : _≡_ {A = ℕ} 0 1 = cc in omega arith)
-    go (pass b) (refuse n o c) h e ih = absurd (let z : _≡_ {A = ℕ} 0 1 = cc in omega arith)
-    go (pass b) (pass bs) h e ih = let z : b ∷ bs ≡ cs = cc in ap length (sym z) ∙ ap suc (ih bs h)
-
 module _ (start : ℕ) (done : List (Pair Ends)) (p : Pair Ends) where
   one-more : entries start (done ++ p ∷ []) ≡ (entries start done >>= λ cs. entry start (length done) (namedAnyway p) >>= λ c. pass (cs ++ c ∷ []))
   unfolding entries
-  one-more = let z : 0 + length done ≡ length done = omega arith in each-snoc (λ j p. entry start j (namedAnyway p)) 0 done p ∙ (rw z refl)
+  one-more = named-entries.one-more (entry start) done p
 
   pub fault-stays : (n c : ℕ) (rows rows′ : List ℕ) → FirstIs start done (Fault n c) rows → FirstIs start (done ++ p ∷ []) (Fault n c) rows′
   fault-stays n c rows rows′ (o, h) = (o, one-more ∙ (rw h refl))
@@ -53,7 +42,7 @@ module _ (start : ℕ) (done : List (Pair Ends)) (p : Pair Ends) where
       → (length done < componentLimit → take (4 * suc (length done)) rows′ ≡ take (4 * length done) rows ++ partRow (part c)) → FirstIs start (done ++ p ∷ []) Fine rows′
   unfolding entry entries
   still-fine c rows rows′ (cs, h, r) e put =
-      let l : length cs ≡ length done = entries-length start 0 done cs h in
+      let l : length cs ≡ length done = named-entries.each-length (λ j p. entry start j (namedAnyway p)) 0 done cs h in
       let s : length (cs ++ c ∷ []) ≡ suc (length done) = length-append cs (c ∷ []) ∙ (omega arith) in (
         cs ++ c ∷ [],
         one-more ∙ (rw (h, e) refl),
@@ -71,7 +60,7 @@ module _ (start : ℕ) (done : List (Pair Ends)) (x : Node Ends) where
 
   named : names componentLimit x ≡ told done Names → componentsOf start x ≡ entries start done
   unfolding componentsOf entries entry
-  named h = rw h (each-of-map (λ j c. inComponent j (component start c)) namedAnyway 0 done)
+  named h = named-entries.names-pass (λ j c. inComponent j (component start c)) done componentLimit x h
 
   pub entry-fault : (n c : ℕ) (rows : List ℕ) → names componentLimit x ≡ told done Names → FirstIs start done (Fault n c) rows → FoundIs (componentsOf start x) (No n c) rows
   entry-fault n c rows h (o, e) = (o, named h ∙ e)
@@ -79,6 +68,6 @@ module _ (start : ℕ) (done : List (Pair Ends)) (x : Node Ends) where
   pub all-fine : (m : ℕ) (rows : List ℕ) → names componentLimit x ≡ told done Names → FirstIs start done Fine rows → m ≡ length done → m ≤ componentLimit → FoundIs (componentsOf start x) (Yes m) rows
   unfolding entries
   all-fine m rows h (cs, e, r) is few =
-      let l : length cs ≡ length done = entries-length start 0 done cs e in
+      let l : length cs ≡ length done = named-entries.each-length (λ j p. entry start j (namedAnyway p)) 0 done cs e in
       let z : m ≡ length cs = is ∙ sym l in
       (cs, named h ∙ e, z, few, ap (λ i. take (4 * i) rows) z ∙ r .are (omega arith))

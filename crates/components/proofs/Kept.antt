@@ -47,14 +47,14 @@ module _ (s c : List ℕ) (v : Judged) (j : ℕ) (first : First) (rows : List �
   pub stays : (n i : ℕ) → first ≡ Fault n i → Keeps s c v j first rows (Fault n i) rows
   stays n i e start done p d q r x y h is f = fault-stays start done p n i rows rows (subst (λ f. FirstIs start done f rows) e f)
 
-  pub begins : first ≡ Fine → (n : ℕ) → v ≡ No n → Keeps s c v j first rows (Fault n j) rows
-  begins e n a start done p d q r x y h is f = go (component start (namedAnyway p)) refl (sym a ∙ h (p .value) r y (namedAnyway p .name))
+  pub begins : first ≡ Fine → (n : ℕ) → v ≡ No n → (at : ℕ) → at ≡ j → Keeps s c v j first rows (Fault n at) rows
+  begins e n a at here start done p d q r x y h is f = go (component start (namedAnyway p)) refl (sym a ∙ h (p .value) r y (namedAnyway p .name))
     where
-      go : (k : Check (Component Ends)) → component start (namedAnyway p) ≡ k → No n ≡ judged k → FirstIs start (done ++ p ∷ []) (Fault n j) rows
+      go : (k : Check (Component Ends)) → component start (namedAnyway p) ≡ k → No n ≡ judged k → FirstIs start (done ++ p ∷ []) (Fault n at) rows
       go (pass k) z b = absurd (let w : _≡_ {A = ℕ} 0 1 = cc in omega arith)
       go (refuse m o i) z b =
           let w : m ≡ n = cc in
-          subst (λ j. FirstIs start (done ++ p ∷ []) (Fault n j) rows) (sym is)
+          subst (λ j. FirstIs start (done ++ p ∷ []) (Fault n j) rows) (sym (here ∙ is))
           (subst (λ m. FirstIs start (done ++ p ∷ []) (Fault m (length done)) rows) w (first-fault start done p m o i rows rows (subst (λ f. FirstIs start done f rows) e f) z))
 
   module _ (room : length c < FAULT) (slots : length rows ≡ 64) (e : first ≡ Fine) (code left o size g : ℕ) (a : v ≡ Yes code left o size g)

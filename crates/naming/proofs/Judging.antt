@@ -18,10 +18,13 @@ use Rattle.meaning.specs.Kind.{Kind, kind, aTable}
 use Rattle.meaning.specs.Field.{isSome, keyOf, keyKind, nameKind, nameOf, names}
 use Rattle.meaning.proofs.JudgeNatural.{all-map, map-map}
 use Rattle.names.specs.Names.{name, listed}
+use borrow.Rule.Slice.PartAt.{part-to-end}
 use Rattle.walk.specs.Reading.{Ends}
+use Rattle.walk.proofs.Passed.{Here}
 use Rattle.naming.specs.declared.Tally.{Tally}
+use Rattle.naming.specs.declared.Named.{Named as Answer}
 use Rattle.naming.specs.declared.Named.the-variants.{No, Yes}
-use Rattle.naming.specs.Naming.{lettersOr, lettersOf, Tallied, wordOr, namedAnyway, told}
+use Rattle.naming.specs.Naming.{lettersOr, lettersOf, Tallied, wordOr, namedAnyway, told, Judged}
 
 name-kind : (e : Ends) (v : Node Ends) (k : Kind Ends) (b : Bool) → isSome (keyKind k) ≡ b → nameKind v k ≡ cond b (pass (record { name = wordOr e k; value = v })) (fault KEY)
 unfolding nameKind keyKind isSome
@@ -135,3 +138,10 @@ few-names limit x ns e = mapped (aTable x) e
         → length ns ≤ limit
     mapped (refuse n o c) h = absurd (let z : _≡_ {A = ℕ} 0 1 = cc in omega arith)
     mapped (pass ps) h = named (each (λ i. nameOf) 0 ps) h
+
+-- what `judge` answered of a tally whose arrays were lent whole
+pub names-told : (limit : ℕ) (m : List ℕ) (t : Tally) (left size : List ℕ) → length left ≡ limit → (x : Answer) → Judged (Here m 0) t (Here left 0) (Here size 0) x → (y : Answer) → x ≡ y
+    → (done : List (Pair Ends)) → Tallied m done t left size → (u : Node Ends) → kind u ≡ kinds.table done → names limit u ≡ told done y
+names-told limit m t left size room x h y e done tl u ku =
+    let a : Judged m t left size y = rw (part-to-end m 0, part-to-end left 0, part-to-end size 0) at (rw e at h) in
+    ap (λ i. names i u) (sym room) ∙ a done tl u ku

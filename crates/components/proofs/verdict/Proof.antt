@@ -1,4 +1,5 @@
 -- `components::verdict` meets its contract: a law for each branch.
+use mathlib.Core.Path.{refl}
 use Rattle.components.proofs.Concluding as ends
 use borrow.Author.Needs.{needs}
 use Rattle.components.proofs.verdict.Statement.{statement}
@@ -27,5 +28,5 @@ verdict-spec =
     (λ c. search needs)
     (λ c. search needs)
     (λ c. ends.names-conclude ((c .before .before .before .before .before .before .before .before .before .before .before .before .args .m .now)) ((c .before .before .before .before .before .before .before .before .before .before .before .before .args .names)) ((c .before .before .before .before .before .before .before .before .before .before .before .before .args .first)) ((c .before .before .before .before .before .before .before .before .before .before .before .before .args .left .now)) ((c .before .before .before .before .before .before .before .before .before .before .before .before .args .size .now)) (c .before .before .before .before .before .before .before .before .before .before .before .before .pre) _ ((c .before .before .before .before .judge .ensures)) _ ((c .before .n .given .1)))
-    (λ c. ends.fault-concludes ((c .before .before .before .before .before .before .before .before .before .before .before .before .before .before .args .m .now)) ((c .before .before .before .before .before .before .before .before .before .before .before .before .before .before .args .names)) ((c .before .before .before .before .before .before .before .before .before .before .before .before .before .before .args .first)) ((c .before .before .before .before .before .before .before .before .before .before .before .before .before .before .args .left .now)) ((c .before .before .before .before .before .before .before .before .before .before .before .before .before .before .args .size .now)) (c .before .before .before .before .before .before .before .before .before .before .before .before .before .before .pre) _ ((c .before .before .before .before .before .before .judge .ensures)) ((c .before .before .before .enum-told .given .1)) _ _ ((c .before .first .given .1)))
+    (λ c. ends.fault-concludes ((c .before .before .before .before .before .before .before .before .before .before .before .before .before .before .args .m .now)) ((c .before .before .before .before .before .before .before .before .before .before .before .before .before .before .args .names)) ((c .before .before .before .before .before .before .before .before .before .before .before .before .before .before .args .first)) ((c .before .before .before .before .before .before .before .before .before .before .before .before .before .before .args .left .now)) ((c .before .before .before .before .before .before .before .before .before .before .before .before .before .before .args .size .now)) (c .before .before .before .before .before .before .before .before .before .before .before .before .before .before .pre) _ ((c .before .before .before .before .before .before .judge .ensures)) ((c .before .before .before .enum-told .given .1)) _ _ ((c .before .first .given .1)) _ refl)
     (λ c. ends.fine-concludes ((c .before .before .before .before .before .before .before .before .before .before .before .before .before .args .m .now)) ((c .before .before .before .before .before .before .before .before .before .before .before .before .before .args .names)) ((c .before .before .before .before .before .before .before .before .before .before .before .before .before .args .first)) ((c .before .before .before .before .before .before .before .before .before .before .before .before .before .args .left .now)) ((c .before .before .before .before .before .before .before .before .before .before .before .before .before .args .size .now)) (c .before .before .before .before .before .before .before .before .before .before .before .before .before .pre) _ ((c .before .before .before .before .before .judge .ensures)) ((c .before .before .enum-told .given .1)) ((c .enum-told2 .given .1))))

@@ -1,0 +1,6 @@
+pub mod Places
+pub mod Pieces
+pub mod Sound
+pub mod Verdicts
+pub mod Looping
+pub mod Walks

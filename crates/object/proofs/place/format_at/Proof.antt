@@ -1,0 +1,20 @@
+-- `object::place::format_at` meets its contract: a law for each branch.
+use Rattle.fields.proofs.Places as places
+use Rattle.object.specs.Place.{coded, formatCode}
+use Rattle.meaning.specs.Notes.{mapCheck}
+use Rattle.meaning.specs.Kind.{aText}
+use mathlib.Core.Path.{_≡_}
+use borrow.Author.Needs.{needs}
+use Rattle.object.proofs.place.format_at.Statement.{statement}
+use Rattle.object.proofs.place.format_at.Tie as tie
+
+pub format-at-spec : {M : Type 1} → statement M
+format-at-spec =
+    tie.close
+    (tie.spec
+    (λ c κs. search needs)
+    (λ c. search needs)
+    (λ c. search needs)
+    (λ c. search needs)
+    (λ c κs. search needs)
+    (λ c. places.there (c .before .before .before .before .args .s .now) (c .before .before .before .before .args .left) _ (c .before .before .place-of .ensures) (λ t. mapCheck formatCode (aText t) ≡ coded (c .format-of .result)) (c .format-of .ensures)))

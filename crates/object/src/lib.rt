@@ -1,0 +1,53 @@
+// An object's value: one walk passes over its map, notes where its fields stand and judges its components; then the fields are judged from these places.
+// Every slice runs to the manifest's end, and a place is the number of bytes left there, 0 for none.
+mod judge;
+mod pass;
+mod place;
+
+use judge::verdict;
+use pass::entries;
+use walk::Opening;
+ghost use mathlib.Core.Path.{_≡_};
+ghost use Rattle.cbor.specs.Ending.{code, itemEnd};
+ghost use Rattle.object.specs.Verdict.{ObjectIs};
+
+// A refusal number and the component, or how many components there are.
+pub enum Judged {
+    No(u64, usize),
+    Yes(usize),
+}
+
+// Where a value ends, as `cbor::skip` answers it, and what it says if it is well-formed.
+pub struct Whole {
+    pub end: usize,
+    pub verdict: Judged,
+}
+
+// The object that begins s, at depth 3, of a file whose manifest begins at `start`.
+pub fn object(s: &[u8], start: u64) -> Whole
+    ensures { λ r. ⌜ (r .end ≡ code (itemEnd 30 (now (s .entry)))) × ObjectIs (now (s .entry)) start (r .verdict) ⌝ }
+{
+    let mut p = [0usize; 7];
+    let mut rows = [0u64; 64];
+    match walk::map(&s[0..]) {
+        Opening::NotOpen => Whole {
+            end: cbor::skip(&s[0..], 30),
+            verdict: Judged::No(8, 0),
+        },
+        Opening::Opened(mode, count, size) => {
+            let w = entries(&s[size..], start, mode, count, &mut p, &mut rows);
+            let found = w.found;
+            let v = verdict(&s[size..], &p, found, &rows);
+            if s.len() - size < w.end {
+                return Whole {
+                    end: w.end,
+                    verdict: v,
+                };
+            }
+            Whole {
+                end: size + w.end,
+                verdict: v,
+            }
+        }
+    }
+}

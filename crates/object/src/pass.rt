@@ -1,0 +1,93 @@
+// Passing over the entries of an object's map.
+use components::Found;
+use components::Whole;
+use walk::Entry;
+use walk::Letters;
+ghost use mathlib.Core.Path.{_≡_};
+ghost use Prim.Native.Nat.{_≤_};
+ghost use lib.ListN.{length, replicate};
+ghost use Rattle.meaning.specs.Field.{objectNames};
+ghost use Rattle.cbor.specs.Ending.{code, itemEnd, rest};
+ghost use Rattle.walk.proofs.Turns.{Modes};
+ghost use Rattle.fields.specs.Slots.{SlotIs};
+ghost use Rattle.object.specs.Verdict.{Walked, ValueIs};
+
+// The slot of the key that begins s.
+fn slot(s: &[u8]) -> usize
+    ensures { λ r. ⌜ (r ≤ 5) × SlotIs objectNames (now (s .entry)) r ⌝ }
+{
+    match walk::text(&s[0..]) {
+        Letters::NoText => 5,
+        Letters::Text(at, n) => {
+            let e = at + n;
+            types::object_key(&s[at..e])
+        }
+    }
+}
+
+// The value that begins c, whose key has slot k. The first components (slot 3 still holds 0, which is `seen`) are judged and their rows put; with any other
+// value, what was found before stays.
+fn value(c: &[u8], start: u64, k: usize, seen: usize, found: Found, rows: &mut [u64]) -> Whole
+    requires { ⌜ length (now rows) ≡ 64 ⌝ }
+    ensures { λ r. ⌜ (r .end ≡ code (itemEnd 29 (now (c .entry)))) × (length (now (rows .exit)) ≡ 64) × ValueIs start k seen (now (c .entry)) found (now (rows .entry)) (r .found) (now (rows .exit)) ⌝ }
+{
+    if k == 3 {
+        if seen == 0 {
+            return components::components(&c[0..], start, rows);
+        }
+    }
+    Whole {
+        end: cbor::skip(&c[0..], 29),
+        found: found,
+    }
+}
+
+// Entries that begin s, counted as `walk::map` says: where they end, and what was found in the components. The places of the known fields are left in p, the
+// components' rows in rows.
+pub fn entries(
+    s: &[u8],
+    start: u64,
+    mode: u64,
+    count: u64,
+    p: &mut [usize],
+    rows: &mut [u64],
+) -> Whole
+    requires { ⌜ (now p ≡ replicate 7 0) × (length (now rows) ≡ 64) × Modes mode count ⌝ }
+    ensures { λ r. ⌜ (r .end ≡ code (rest mode count 29 (now (s .entry)))) × Walked start mode count (now (s .entry)) (now (p .exit)) (r .found) (now (rows .exit)) ⌝ }
+{
+    let mut at = 0;
+    let mut due = count;
+    let mut found = Found::Yes(0);
+    loop {
+        match walk::past_key(&s[at..], mode, due, 29) {
+            Entry::End(e) => {
+                if s.len() - at < e {
+                    return Whole {
+                        end: e,
+                        found: found,
+                    };
+                }
+                return Whole {
+                    end: at + e,
+                    found: found,
+                };
+            }
+            Entry::Value(k) => {
+                let v = at + k;
+                let j = slot(&s[at..]);
+                let w = value(&s[v..], start, j, p[3], found, rows);
+                let e = w.end;
+                found = w.found;
+                if s.len() - v < e {
+                    return Whole {
+                        end: e,
+                        found: found,
+                    };
+                }
+                fields::mark(p, 4, j, s.len() - v);
+                at = v + e;
+                due -= 2;
+            }
+        }
+    }
+}

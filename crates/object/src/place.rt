@@ -1,0 +1,46 @@
+// The shape and the format of an object, which aren't absent, at their places in s.
+use fields::place_of;
+use shape::Shaped;
+use walk::Letters;
+ghost use mathlib.Core.Path.{_≡_};
+ghost use lib.ListN.{length};
+ghost use Rattle.object.specs.Place as is;
+
+// The format's code (types::format_code), or a refusal.
+pub enum Coded {
+    No(u64),
+    Yes(u64),
+}
+
+// The shape, where `left` bytes are left: its dimensions are put into dims.
+pub fn shape_at(s: &[u8], left: usize, dims: &mut [u64]) -> Shaped
+    requires { ⌜ length (now dims) ≡ 8 ⌝ }
+    ensures { λ r. ⌜ is.ShapeAt (now (s .entry)) left (now (dims .exit)) r ⌝ }
+{
+    let at = place_of(s.len(), left);
+    shape::shape(&s[at..], 28, dims)
+}
+
+// The format that begins s.
+fn format_of(s: &[u8]) -> Coded
+    ensures { λ r. ⌜ is.FormatIs (now (s .entry)) r ⌝ }
+{
+    match walk::text(&s[0..]) {
+        Letters::NoText => Coded::No(8),
+        Letters::Text(at, n) => {
+            let e = at + n;
+            if text::utf8(&s[at..e]) {
+                return Coded::Yes(types::format_code(&s[at..e]));
+            }
+            Coded::No(10)
+        }
+    }
+}
+
+// The format, where `left` bytes are left.
+pub fn format_at(s: &[u8], left: usize) -> Coded
+    ensures { λ r. ⌜ is.FormatAt (now (s .entry)) left r ⌝ }
+{
+    let at = place_of(s.len(), left);
+    format_of(&s[at..])
+}
