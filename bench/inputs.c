@@ -3,7 +3,7 @@
 #include <stdlib.h>
 #include <string.h>
 
-enum { ROOM = 17 << 20 };
+enum { ROOM = 18 << 20 };
 
 static input empty(void) {
     input in = {malloc(ROOM), 0};
@@ -51,11 +51,27 @@ static void digest(input *in, size_t i) {
     word(in, s);
 }
 
-static uint64_t object(input *in, size_t i, uint64_t offset) {
+/* Up to three fields that no map knows. */
+static void unknown_fields(input *in, unsigned count) {
+    if (count > 0) field(in, "created", 1735689600);
+    if (count > 1) {
+        word(in, "note");
+        word(in, "made by the export of 2025");
+    }
+    if (count > 2) {
+        word(in, "tags");
+        head(in, 4, 2);
+        word(in, "frozen");
+        word(in, "v2");
+    }
+}
+
+static uint64_t object(input *in, size_t i, uint64_t offset, unsigned unknown) {
     unsigned rank = i % 9 < 7 ? 2 : 1;
     uint64_t length = i % 4 ? 2 : 4;
     word(in, name_of(i));
-    head(in, 5, 3);
+    head(in, 5, 3 + unknown);
+    unknown_fields(in, unknown);
     word(in, "shape");
     head(in, 4, rank);
     for (unsigned k = 0; k < rank; k++) {
@@ -68,26 +84,108 @@ static uint64_t object(input *in, size_t i, uint64_t offset) {
     word(in, "components");
     head(in, 5, 1);
     word(in, "data");
-    head(in, 5, 4);
+    head(in, 5, 4 + unknown);
     word(in, "dtype");
     word(in, i % 4 ? "f16" : "f32");
     field(in, "offset", offset);
     field(in, "length", length);
     word(in, "digest");
     digest(in, i);
+    unknown_fields(in, unknown);
     return (offset + length + 63) / 64 * 64;
 }
 
-input manifest(size_t objects) {
+/* The root of a manifest up to the first of its objects. */
+static input root_of(size_t objects, unsigned unknown) {
     input in = empty();
+    head(&in, 5, 2 + unknown);
+    word(&in, "version");
+    word(&in, "1.2.0");
+    unknown_fields(&in, unknown);
+    word(&in, "objects");
+    head(&in, 5, objects);
+    return in;
+}
+
+/* The file whose manifest starts at `start`. */
+static zt_file framed(input manifest, size_t start) {
+    static const char magic[] = "ZTEN1000";
+    zt_file z = {{0, manifest.length}, empty()};
+    uint8_t size[8];
+    for (int i = 0; i < 8; i++) size[i] = (uint8_t)((uint64_t)manifest.length >> 8 * i);
+    put(&z.file, magic, 8);
+    while (z.file.length < start) put(&z.file, "", 1);
+    z.manifest.bytes = z.file.bytes + start;
+    put(&z.file, manifest.bytes, manifest.length);
+    put(&z.file, size, 8);
+    put(&z.file, magic, 8);
+    free(manifest.bytes);
+    return z;
+}
+
+zt_file model(size_t objects, unsigned unknown) {
+    input in = root_of(objects, unknown);
     uint64_t offset = 64;
-    head(&in, 5, 2);
+    for (size_t i = 0; i < objects; i++) offset = object(&in, i, offset, unknown);
+    return framed(in, offset);
+}
+
+zt_file with_value(input value) {
+    input in = empty();
+    head(&in, 5, 3);
     word(&in, "version");
     word(&in, "1.2.0");
     word(&in, "objects");
-    head(&in, 5, objects);
-    for (size_t i = 0; i < objects; i++) offset = object(&in, i, offset);
-    return in;
+    head(&in, 5, 0);
+    word(&in, "x");
+    put(&in, value.bytes, value.length);
+    free(value.bytes);
+    return framed(in, 8);
+}
+
+/* The fields of an object without any rule, up to its first component. */
+static void free_object(input *in, size_t components) {
+    head(in, 5, 3);
+    word(in, "shape");
+    head(in, 4, 0);
+    word(in, "format");
+    word(in, "pack");
+    word(in, "components");
+    head(in, 5, components);
+}
+
+zt_file named(names n) {
+    input in = root_of(n.count, 0);
+    for (size_t i = 0; i < n.count; i++) {
+        head(&in, 3, n.size[i]);
+        put(&in, n.in.bytes + n.in.length - n.left[i], n.size[i]);
+        free_object(&in, 0);
+    }
+    free(n.in.bytes);
+    return framed(in, 8);
+}
+
+zt_file packed(size_t objects, size_t digest) {
+    input in = root_of(objects, 0);
+    for (size_t i = 0; i < objects; i++) {
+        char name[32];
+        snprintf(name, sizeof name, "block.%zu", i);
+        word(&in, name);
+        free_object(&in, 16);
+        for (size_t k = 0; k < 16; k++) {
+            snprintf(name, sizeof name, "part.%zu", k);
+            word(&in, name);
+            head(&in, 5, 4);
+            word(&in, "dtype");
+            word(&in, "u8");
+            field(&in, "offset", 64);
+            field(&in, "length", 1);
+            word(&in, "digest");
+            head(&in, 3, digest);
+            for (size_t d = 0; d < digest; d++) put(&in, "0123456789abcdef" + (d + i + k) % 16, 1);
+        }
+    }
+    return framed(in, 128);
 }
 
 input flat(size_t length) {
@@ -97,12 +195,13 @@ input flat(size_t length) {
     return in;
 }
 
-input nested(size_t length) {
+input nested(size_t length, int depth) {
     static const uint8_t one = 0x81, none = 0x80;
+    size_t each = (size_t)(32 - depth);
     input in = empty();
-    head(&in, 4, length / 31);
-    for (size_t i = 0; i < length / 31; i++) {
-        for (int depth = 2; depth < 32; depth++) put(&in, &one, 1);
+    head(&in, 4, length / each);
+    for (size_t i = 0; i < length / each; i++) {
+        for (size_t k = 1; k < each; k++) put(&in, &one, 1);
         put(&in, &none, 1);
     }
     return in;
@@ -141,14 +240,15 @@ names model_names(size_t count) {
     return finish(n);
 }
 
-names long_names(size_t count, size_t length) {
+names long_names(size_t count, size_t length, size_t at) {
     names n = no_names(count);
-    char tail[7];
+    char digits[7];
     for (size_t i = 0; i < count; i++) {
         size_t start = n.in.length;
-        snprintf(tail, sizeof tail, "%06zu", i % 1000000);
-        while (n.in.length - start < length - 6) put(&n.in, "n", 1);
-        put(&n.in, tail, 6);
+        snprintf(digits, sizeof digits, "%06zu", i % 1000000);
+        while (n.in.length - start < at) put(&n.in, "n", 1);
+        put(&n.in, digits, 6);
+        while (n.in.length - start < length) put(&n.in, "n", 1);
         add(&n, start);
     }
     return finish(n);

@@ -15,10 +15,20 @@ typedef struct {
     size_t *left, *size, count;
 } names;
 
-input manifest(size_t objects);   /* of a model of dense objects, as it stands in a .zt file */
-input flat(size_t length);        /* an array of integers of one byte */
-input nested(size_t length);      /* an array of arrays, one in the other down to depth 32 */
+/* A whole file, and its manifest where it stands in it: first, so that a job over an item takes a file's manifest too. */
+typedef struct {
+    input manifest, file;
+} zt_file;
+
+input flat(size_t length);                    /* an array of integers of one byte */
+input nested(size_t length, int depth);       /* an array at this depth, of arrays, one in the other down to depth 32 */
 input text(size_t length, const char *piece); /* whole pieces only */
 names model_names(size_t count);
-names long_names(size_t count, size_t length); /* that differ only at their end */
+names long_names(size_t count, size_t length, size_t at); /* that differ only in six bytes at `at` */
+
+/* Files that are accepted. */
+zt_file model(size_t objects, unsigned unknown);     /* of dense objects, with 0 to 3 unknown fields in every map */
+zt_file with_value(input value);                     /* that has this item in an unknown field */
+zt_file named(names n);                              /* of objects without components, by these names */
+zt_file packed(size_t objects, size_t digest);       /* of objects with 16 components, each with a digest so long */
 #endif

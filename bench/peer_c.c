@@ -1,73 +1,15 @@
 /* Hand-written C with no promise kept. */
+#include "head.h"
 #include "peers.h"
 #include <stdlib.h>
-#include <string.h>
 
-/* The argument of a head whose initial byte stands before p; 0 on a fault. */
-static inline const uint8_t *argument(const uint8_t *p, const uint8_t *e, unsigned low, uint64_t *v) {
-    if (low < 24) { *v = low; return p; }
-    size_t left = (size_t)(e - p);
-    switch (low) {
-    case 24: if (left < 1) return 0; *v = p[0]; return p + 1;
-    case 25: { uint16_t x; if (left < 2) return 0; memcpy(&x, p, 2); *v = __builtin_bswap16(x); return p + 2; }
-    case 26: { uint32_t x; if (left < 4) return 0; memcpy(&x, p, 4); *v = __builtin_bswap32(x); return p + 4; }
-    case 27: { uint64_t x; if (left < 8) return 0; memcpy(&x, p, 8); *v = __builtin_bswap64(x); return p + 8; }
-    }
-    return 0;
-}
-
-/* One function, since split in three it is slower. */
-static const uint8_t *item(const uint8_t *p, const uint8_t *e, int depth) {
-    uint64_t v;
-    if (p == e || depth == 0) return 0;
-    unsigned b = *p++, major = b >> 5;
-    if ((b & 31) == 31) {
-        if (major == 2 || major == 3) {
-            for (;;) {
-                if (p == e) return 0;
-                b = *p++;
-                if (b == 0xFF) return p;
-                if (b >> 5 != major) return 0;
-                p = argument(p, e, b & 31, &v);
-                if (!p || v > (uint64_t)(e - p)) return 0;
-                p += v;
-            }
-        }
-        if (major == 4 || major == 5) {
-            for (;;) {
-                if (p == e) return 0;
-                if (*p == 0xFF) return p + 1;
-                if (!(p = item(p, e, depth - 1))) return 0;
-                if (major == 5 && !(p = item(p, e, depth - 1))) return 0;
-            }
-        }
-        return 0;
-    }
-    p = argument(p, e, b & 31, &v);
-    if (!p) return 0;
-    switch (major) {
-    case 2: case 3: return v > (uint64_t)(e - p) ? 0 : p + v;
-    case 5: if (v > (uint64_t)(e - p)) return 0; v *= 2; /* fallthrough */
-    case 4:
-        if (v > 2 * (uint64_t)(e - p)) return 0;
-        for (; v; v--) if (!(p = item(p, e, depth - 1))) return 0;
-        return p;
-    case 6: return item(p, e, depth - 1);
-    default: return p;
-    }
-}
-
-size_t strict_item(const uint8_t *p, size_t n) {
-    const uint8_t *q = item(p, p + n, 32);
-    return q ? (size_t)(q - p) : 0;
-}
-
-int strict_utf8(const uint8_t *p, size_t n) {
+bool strict_utf8(const uint8_t *p, size_t n) {
     size_t i = 0;
     while (i < n) {
         uint64_t w;
         while (n - i >= 8 && (memcpy(&w, p + i, 8), !(w & 0x8080808080808080u))) i += 8;
         if (i == n) break;
+        if (n >= 8 && n - i < 8 && (memcpy(&w, p + n - 8, 8), !(w & 0x8080808080808080u))) return true;
         uint8_t c = p[i];
         if (c < 0x80) { i++; continue; }
         size_t k = c >= 0xF0 ? 3 : c >= 0xE0 ? 2 : 1;
@@ -80,6 +22,33 @@ int strict_utf8(const uint8_t *p, size_t n) {
     return 1;
 }
 
+#define ITEM strict_item
+#define TEXT(p, n) 1
+#include "strict_item.h"
+#undef ITEM
+#undef TEXT
+
+#define ITEM strict_utf8_item
+#define TEXT(p, n) strict_utf8(p, n)
+#include "strict_item.h"
+
+const uint8_t *c_skip(const uint8_t *p, const uint8_t *e, int depth) { return strict_item(p, e, depth); }
+
+bool c_item(const void *x) {
+    const input *in = x;
+    return strict_item(in->bytes, in->bytes + in->length, 32) == in->bytes + in->length;
+}
+
+bool c_item_utf8(const void *x) {
+    const input *in = x;
+    return strict_utf8_item(in->bytes, in->bytes + in->length, 32) == in->bytes + in->length;
+}
+
+bool c_utf8(const void *x) {
+    const input *in = x;
+    return strict_utf8(in->bytes, in->length);
+}
+
 /* qsort hands no context on. */
 static const names *sorted;
 
@@ -90,7 +59,8 @@ static int by_name(const void *a, const void *b) {
     return memcmp(end - sorted->left[i], end - sorted->left[j], sorted->size[i]);
 }
 
-int sorted_no_twice(const names *n) {
+bool c_names(const void *input) {
+    const names *n = input;
     static uint32_t ix[65536];
     for (uint32_t i = 0; i < n->count; i++) ix[i] = i;
     sorted = n;

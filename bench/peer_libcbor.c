@@ -2,20 +2,22 @@
 #include "peers.h"
 #include <cbor.h>
 
-size_t libcbor_tokens(const uint8_t *p, size_t n) {
+bool libcbor_tokens(const void *x) {
+    const input *in = x;
     size_t at = 0;
-    while (at < n) {
-        struct cbor_decoder_result r = cbor_stream_decode(p + at, n - at, &cbor_empty_callbacks, 0);
-        if (r.status != CBOR_DECODER_FINISHED) return 0;
+    while (at < in->length) {
+        struct cbor_decoder_result r = cbor_stream_decode(in->bytes + at, in->length - at, &cbor_empty_callbacks, 0);
+        if (r.status != CBOR_DECODER_FINISHED) return false;
         at += r.read;
     }
-    return at;
+    return true;
 }
 
-size_t libcbor_tree(const uint8_t *p, size_t n) {
+bool libcbor_tree(const void *x) {
+    const input *in = x;
     struct cbor_load_result r;
-    cbor_item_t *item = cbor_load(p, n, &r);
-    if (!item) return 0;
+    cbor_item_t *item = cbor_load(in->bytes, in->length, &r);
+    if (!item) return false;
     cbor_decref(&item);
-    return r.read;
+    return r.read == in->length;
 }

@@ -1,12 +1,21 @@
-/* The programs beside which the proved leaves stand. Each answers how many bytes the item at p takes, or 0. */
+/* The programs beside which the proved ones stand. Each job answers whether it took its input. */
 #ifndef PEERS_H
 #define PEERS_H
 #include "inputs.h"
+#include <stdbool.h>
 
-size_t strict_item(const uint8_t *p, size_t n);      /* RFC 7049, depth at most 32 */
-int strict_utf8(const uint8_t *p, size_t n);
-int sorted_no_twice(const names *n);
+/* Jobs over an item that fills its input. */
+bool c_item(const void *input);          /* RFC 7049, depth at most 32 */
+bool c_item_utf8(const void *input);     /* that, and UTF-8 of every text, as its strict mode has it */
+bool c_floor(const void *input);         /* a manifest's fields extracted, its texts UTF-8, its names sorted and none twice */
+bool libcbor_tokens(const void *input);  /* doesn't look at how items nest */
+bool libcbor_tree(const void *input);
+bool tinycbor_tokens(const void *input); /* goes into every container */
 
-size_t libcbor_tokens(const uint8_t *p, size_t n);   /* doesn't look at how items nest */
-size_t libcbor_tree(const uint8_t *p, size_t n);
+bool c_utf8(const void *input);  /* a job over a text */
+bool c_names(const void *input); /* a job over names: sorted, none twice */
+
+/* For the floor: the end of the item at p, 0 on a fault; and whether n bytes at p are UTF-8. */
+const uint8_t *c_skip(const uint8_t *p, const uint8_t *e, int depth);
+bool strict_utf8(const uint8_t *p, size_t n);
 #endif

@@ -29,6 +29,12 @@ pub fn manifest_range(file: &[u8]) -> Result<Range<usize>, u8> {
     Ok(end - size..end)
 }
 
+/// Says another manifest size in a file of at least 24 bytes.
+pub fn set_size(file: &mut [u8], size: u64) {
+    let end = file.len() - 8;
+    file[end - 8..end].copy_from_slice(&size.to_le_bytes());
+}
+
 /// A file: header, the blobs' part with its gaps (from byte 8 on), manifest, its size, footer.
 pub fn assemble(blobs: &[u8], manifest: &[u8]) -> Vec<u8> {
     let size = (manifest.len() as u64).to_le_bytes();

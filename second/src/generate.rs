@@ -1,5 +1,6 @@
 //! A seeded generator of files, single CBOR items and writer's rows, sound and damaged.
 
+mod damage;
 mod file;
 mod items;
 mod plan;
@@ -24,6 +25,15 @@ pub struct RowSet {
     pub buffer: Vec<u8>,
 }
 
+/// One of the files of a seed, made for itself: every second one is for a chosen refusal, the others are damaged anywhere.
+pub fn nth_file(seed: u64, index: u64) -> Vec<u8> {
+    let mut rng = Rng::new(Rng::new(seed ^ index.rotate_left(32)).number());
+    match index % 2 {
+        0 => file::file(&mut rng),
+        _ => damage::file(&mut rng),
+    }
+}
+
 impl Generator {
     pub fn new(seed: u64) -> Generator {
         Generator {
@@ -35,6 +45,11 @@ impl Generator {
     /// it, cut short or with bytes changed. Most are under 1 KiB; a few are as large as limits.
     pub fn next_file(&mut self) -> Vec<u8> {
         file::file(&mut self.rng)
+    }
+
+    /// A file that was sound before its tree, its manifest's bytes or its frame were changed anywhere.
+    pub fn next_damaged_file(&mut self) -> Vec<u8> {
+        damage::file(&mut self.rng)
     }
 
     /// One CBOR item, sound or damaged, sometimes with bytes after it.

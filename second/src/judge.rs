@@ -53,6 +53,14 @@ pub fn judge_file(file: &[u8]) -> Result<(u64, Manifest), Refusal> {
     Ok((start, judge(&file[range], start)?))
 }
 
+/// Number, object and component; three zeros for an accepted file.
+pub fn verdict(file: &[u8]) -> (u8, u64, u64) {
+    match judge_file(file) {
+        Ok(_) => (0, 0, 0),
+        Err(refusal) => (refusal.number, refusal.object, refusal.component),
+    }
+}
+
 /// Judges a manifest that begins at `manifest_start` of its file.
 pub fn judge(manifest: &[u8], manifest_start: u64) -> Result<Manifest, Refusal> {
     let root = cbor::decode(manifest).map_err(|fault| Refusal::whole(fault.number))?;

@@ -4,6 +4,8 @@
 #![forbid(unsafe_code)]
 
 pub mod antt;
+pub mod appendix;
+pub mod cases;
 pub mod cbor;
 pub mod compose;
 pub mod encode;
@@ -14,6 +16,7 @@ pub mod listing;
 pub mod probes;
 pub mod refusal;
 pub mod rows;
+pub mod sweep;
 pub mod types;
 pub mod utf8;
 pub mod vectors;

@@ -1,10 +1,13 @@
-//! `second list PATH…`, `second judge PATH…`, `second generate SEED COUNT DIR`, `second table SEED EACH`,
-//! `second vectors CRATE`.
+//! `second list PATH…`, `second judge PATH…`, `second generate SEED COUNT DIR`, `second cases DIR`,
+//! `second table SEED EACH`, `second vectors CRATE`.
 
 use second::antt;
-use second::generate::Generator;
-use second::judge::judge_file;
+use second::appendix;
+use second::cases;
+use second::generate::nth_file;
+use second::judge::verdict;
 use second::listing::program_text;
+use second::probes;
 use second::vectors;
 use std::fs;
 use std::io::{self, Write};
@@ -14,6 +17,7 @@ use std::process::ExitCode;
 const USAGE: &str = "usage: second list PATH…
        second judge PATH…
        second generate SEED COUNT DIR
+       second cases DIR
        second table SEED EACH
        second vectors CRATE";
 
@@ -36,7 +40,14 @@ fn run(arguments: &[&str]) -> io::Result<()> {
             for_each(paths, |file| format!("{}\n", judgement(file)).into_bytes())
         }
         ["generate", seed, count, directory] => {
-            generate(number(seed)?, number(count)?, Path::new(directory))
+            let seed = number(seed)?;
+            let files = (0..number(count)?).map(|index| nth_file(seed, index));
+            write_files(Path::new(directory), files)
+        }
+        ["cases", directory] => {
+            let cases = cases::all().into_iter().chain(appendix::files());
+            let files = cases.map(|case| case.file).chain(probes::files());
+            write_files(Path::new(directory), files)
         }
         ["table", seed, each] => {
             let each = usize::try_from(number(each)?).map_err(io::Error::other)?;
@@ -65,23 +76,16 @@ fn for_each(paths: &[&str], answer: impl Fn(&[u8]) -> Vec<u8>) -> io::Result<()>
     Ok(())
 }
 
-/// Number, object and component; three zeros for an accepted file.
 fn judgement(file: &[u8]) -> String {
-    match judge_file(file) {
-        Ok(_) => "0 0 0".to_string(),
-        Err(refusal) => format!(
-            "{} {} {}",
-            refusal.number, refusal.object, refusal.component
-        ),
-    }
+    let (number, object, component) = verdict(file);
+    format!("{number} {object} {component}")
 }
 
-fn generate(seed: u64, count: u64, directory: &Path) -> io::Result<()> {
+/// Writes the files, and what this program answers for each.
+fn write_files(directory: &Path, files: impl Iterator<Item = Vec<u8>>) -> io::Result<()> {
     fs::create_dir_all(directory)?;
-    let mut generator = Generator::new(seed);
     let mut answers = String::new();
-    for index in 0..count {
-        let file = generator.next_file();
+    for (index, file) in files.enumerate() {
         let name = format!("{index:06}.zt");
         answers += &format!("{name} {}\n", judgement(&file));
         fs::write(directory.join(name), file)?;

@@ -135,7 +135,6 @@ fn file(manifest: &Item) -> Vec<u8> {
 /// A file without objects whose manifest size is said to be this.
 fn sized(size: u64) -> Vec<u8> {
     let mut file = file(&root(named([])));
-    let at = file.len() - 16;
-    file[at..at + 8].copy_from_slice(&size.to_le_bytes());
+    frame::set_size(&mut file, size);
     file
 }

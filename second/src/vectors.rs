@@ -1,6 +1,7 @@
 //! Vectors for the proved leaves: Appendix A's items, their malformed neighbours, depth 32 and 33,
 //! UTF-8 and versions, each with this program's answer.
 
+use crate::appendix::examples;
 use crate::cbor::{skip_item, DEPTH};
 use crate::judge::major;
 use crate::utf8::is_utf8;
@@ -67,18 +68,10 @@ fn cut_and_longer(item: Vec<u8>) -> Vec<Vec<u8>> {
 }
 
 fn appendix_a() -> Vec<Vec<u8>> {
-    let table = include_str!("../data/appendix_a.tsv");
-    let hex = |line: &'static str| line.split('\t').next().expect("a line has a column");
-    table
-        .lines()
-        .skip(1)
-        .map(|line| bytes_of(hex(line)))
+    examples()
+        .into_iter()
+        .map(|example| example.bytes)
         .collect()
-}
-
-fn bytes_of(hex: &str) -> Vec<u8> {
-    let byte = |at| u8::from_str_radix(&hex[at..at + 2], 16).expect("two digits make a byte");
-    (0..hex.len()).step_by(2).map(byte).collect()
 }
 
 /// Every major type with arguments of every width: 1, and the largest.

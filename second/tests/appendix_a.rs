@@ -1,51 +1,9 @@
 //! The 82 items of RFC 7049's Appendix A: decoded, as unknown values, as attributes, as a manifest.
 
-mod common;
-
-use common::{component, judged, named, object, root, with};
+use second::appendix::{self, examples, Example};
+use second::cases::Case;
 use second::cbor::{self, Kind, Node};
-use second::encode::Item;
-
-struct Example {
-    bytes: Vec<u8>,
-    diagnostic: String,
-}
-
-fn examples() -> Vec<Example> {
-    let table = include_str!("../data/appendix_a.tsv");
-    table.lines().skip(1).map(example).collect()
-}
-
-fn example(line: &str) -> Example {
-    let (hex, rest) = line.split_once('\t').unwrap();
-    let (diagnostic, _) = rest.rsplit_once('\t').unwrap();
-    let digits: Vec<char> = hex.chars().collect();
-    let byte = |pair: &[char]| u8::from_str_radix(&String::from_iter(pair), 16).unwrap();
-    Example {
-        bytes: digits.chunks(2).map(byte).collect(),
-        diagnostic: diagnostic.to_string(),
-    }
-}
-
-impl Example {
-    fn is_map(&self) -> bool {
-        self.bytes[0] >> 5 == 5
-    }
-
-    fn item(&self) -> Item {
-        Item::Raw(self.bytes.clone())
-    }
-}
-
-/// One dense object, to which a value may be added in each of the three maps.
-fn manifest(in_root: Option<(&str, Item)>, in_object: Option<(&str, Item)>) -> Vec<u8> {
-    let object = object(&[2], "dense", named([("data", component("f32", 64, 8))]));
-    let add = |map: Item, pair: Option<(&str, Item)>| match pair {
-        Some((key, value)) => with(map, key, value),
-        None => map,
-    };
-    add(root(named([("w", add(object, in_object))])), in_root).shortest()
-}
+use second::judge::verdict;
 
 #[test]
 fn there_are_82() {
@@ -53,54 +11,9 @@ fn there_are_82() {
 }
 
 #[test]
-fn as_an_unknown_fields_value() {
-    for example in examples() {
-        let item = || example.item();
-        assert_eq!(judged(&manifest(Some(("x", item())), None), 72), (0, 0, 0));
-        assert_eq!(judged(&manifest(None, Some(("x", item()))), 72), (0, 0, 0));
-        let data = with(component("f32", 64, 8), "x", item());
-        let object = object(&[2], "dense", named([("data", data)]));
-        let manifest = root(named([("w", object)])).shortest();
-        assert_eq!(judged(&manifest, 72), (0, 0, 0), "{}", example.diagnostic);
-    }
-}
-
-#[test]
-fn as_attributes() {
-    for example in examples() {
-        let number = if example.is_map() { 0 } else { 8 };
-        let in_root = manifest(Some(("attributes", example.item())), None);
-        assert_eq!(
-            judged(&in_root, 72),
-            (number, 0, 0),
-            "{}",
-            example.diagnostic
-        );
-        let in_object = manifest(None, Some(("attributes", example.item())));
-        assert_eq!(
-            judged(&in_object, 72),
-            (number, 0, 0),
-            "{}",
-            example.diagnostic
-        );
-    }
-}
-
-#[test]
-fn as_a_whole_manifest() {
-    for example in examples() {
-        // Maps are without version (12), unless a key isn't text (9).
-        let number = match example.diagnostic.as_str() {
-            "{1: 2, 3: 4}" => 9,
-            _ if example.is_map() => 12,
-            _ => 8,
-        };
-        assert_eq!(
-            judged(&example.bytes, 8),
-            (number, 0, 0),
-            "{}",
-            example.diagnostic
-        );
+fn in_every_place_it_is_answered_as_01_says() {
+    for Case { what, file, number } in appendix::files() {
+        assert_eq!(verdict(&file), (number, 0, 0), "{what}");
     }
 }
 

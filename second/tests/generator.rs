@@ -28,6 +28,7 @@ fn same_seed_same_files() {
     let mut two = Generator::new(7);
     for _ in 0..1000 {
         assert_eq!(one.next_file(), two.next_file());
+        assert_eq!(one.next_damaged_file(), two.next_damaged_file());
         assert_eq!(one.next_item(), two.next_item());
         assert_eq!(one.next_rows(), two.next_rows());
     }

@@ -1,4 +1,21 @@
 // The `objects` map: its names, and each object judged, in one walk.
+use naming::Named;
+use naming::Tally;
+use object::Judged;
+use walk::Entry;
+use walk::Opening;
+ghost use mathlib.Core.Path.{_≡_};
+ghost use lib.ListN.{length};
+ghost use Rattle.cbor.specs.Ending.{code, itemEnd, rest};
+ghost use Rattle.walk.proofs.Turns.{Modes};
+ghost use Rattle.objects.specs.Found.{ObjectsIs};
+ghost use Rattle.objects.specs.Firsts.{plus, Keeps, Walked, Concluded};
+
+// The first fault among the entries so far: its number, object and component; or how many components there are.
+pub enum First {
+    Fine(usize),
+    Fault(u64, usize, usize),
+}
 
 // The first fault: number, object, component; or how many objects and components there are.
 pub enum Found {
@@ -6,8 +23,142 @@ pub enum Found {
     Yes(usize, usize),
 }
 
+// Where the entries end, the tally of their names, and the first fault.
+struct Run {
+    end: usize,
+    names: Tally,
+    first: First,
+}
+
 // Where the value ends, as `cbor::skip` answers it, and what it says if it is well-formed.
 pub struct Whole {
     pub end: usize,
     pub found: Found,
+}
+
+// Components so far and m more; as they are where there are too many to count, which COUNT refuses.
+fn plus(total: usize, m: usize) -> usize
+    ensures { λ r. ⌜ r ≡ plus total m ⌝ }
+{
+    if m <= 16 {
+        if total <= 16368 {
+            return total + m;
+        }
+    }
+    total
+}
+
+// The first fault after one more object, number j.
+fn keep(v: Judged, j: usize, first: First) -> First
+    ensures { λ r. ⌜ Keeps v j first r ⌝ }
+{
+    match first {
+        First::Fault(n, o, c) => First::Fault(n, o, c),
+        First::Fine(total) => match v {
+            Judged::No(n, c) => First::Fault(n, j, c),
+            Judged::Yes(m) => First::Fine(plus(total, m)),
+        },
+    }
+}
+
+// Entries that begin s, counted as `walk::map` says. Their names are noted in left and size.
+fn entries(
+    s: &[u8],
+    start: u64,
+    mode: u64,
+    count: u64,
+    left: &mut [usize],
+    size: &mut [usize],
+) -> Run
+    requires { ⌜ (length (now left) ≡ 1024) × (length (now size) ≡ 1024) × Modes mode count ⌝ }
+    ensures { λ r. ⌜ (r .end ≡ code (rest mode count 30 (now (s .entry)))) × (length (now (left .exit)) ≡ 1024) × Walked start mode count (now (s .entry)) (r .names) (now (left .exit)) (now (size .exit)) (r .first) ⌝ }
+{
+    let mut at = 0;
+    let mut due = count;
+    let mut names = Tally {
+        count: 0,
+        odd: false,
+        bad: false,
+    };
+    let mut first = First::Fine(0);
+    loop {
+        match walk::past_key(&s[at..], mode, due, 30) {
+            Entry::End(e) => {
+                if s.len() - at < e {
+                    return Run {
+                        end: e,
+                        names: names,
+                        first: first,
+                    };
+                }
+                return Run {
+                    end: at + e,
+                    names: names,
+                    first: first,
+                };
+            }
+            Entry::Value(k) => {
+                let v = at + k;
+                let w = object::object(&s[v..], start);
+                if s.len() - v < w.end {
+                    return Run {
+                        end: w.end,
+                        names: names,
+                        first: first,
+                    };
+                }
+                let judged = w.verdict;
+                first = keep(judged, names.count, first);
+                names = naming::note(&s[at..], names, left, size);
+                at = v + w.end;
+                due -= 2;
+            }
+        }
+    }
+}
+
+// What the names and the first fault come to.
+fn verdict(m: &[u8], names: Tally, first: First, left: &[usize], size: &[usize]) -> Found
+    requires { ⌜ length (now left) ≡ 1024 ⌝ }
+    ensures { λ r. ⌜ Concluded (now (m .entry)) names first (now (left .entry)) (now (size .entry)) r ⌝ }
+{
+    let mut ix = [0u16; 1024];
+    let count = names.count;
+    match naming::judge(&m[0..], names, &left[0..], &size[0..], &mut ix) {
+        Named::No(n) => Found::No(n, 0, 0),
+        Named::Yes => match first {
+            First::Fault(n, o, c) => Found::No(n, o, c),
+            First::Fine(total) => Found::Yes(count, total),
+        },
+    }
+}
+
+// The objects that begin c, at depth 2, of a file whose manifest begins at `start`.
+pub fn objects(c: &[u8], start: u64) -> Whole
+    ensures { λ r. ⌜ (r .end ≡ code (itemEnd 31 (now (c .entry)))) × ObjectsIs (now (c .entry)) start (r .found) ⌝ }
+{
+    let mut left = [0usize; 1024];
+    let mut size = [0usize; 1024];
+    match walk::map(&c[0..]) {
+        Opening::NotOpen => Whole {
+            end: cbor::skip(&c[0..], 31),
+            found: Found::No(8, 0, 0),
+        },
+        Opening::Opened(mode, count, from) => {
+            let w = entries(&c[from..], start, mode, count, &mut left, &mut size);
+            let names = w.names;
+            let first = w.first;
+            let f = verdict(&c[from..], names, first, &left, &size);
+            if c.len() - from < w.end {
+                return Whole {
+                    end: w.end,
+                    found: f,
+                };
+            }
+            Whole {
+                end: from + w.end,
+                found: f,
+            }
+        }
+    }
 }

@@ -1,4 +1,4 @@
-//! The proved leaves of `crates/exported`, as safe functions.
+//! The proved leaves of `crates/exported` and the acceptance check of `crates/zt`, as safe functions.
 
 pub mod tally;
 
@@ -32,6 +32,7 @@ mod exported {
             parts_length: usize,
         ) -> super::Ruling;
         pub fn leaf_frame(file: *const u8, length: usize) -> super::Place;
+        pub fn leaf_accept(file: *const u8, length: usize) -> super::Verdict;
     }
 }
 
@@ -52,7 +53,16 @@ pub struct Place {
     pub size: usize,
 }
 
-/// Leaves of one text, as safe functions.
+/// A refusal's number, its object and its component; three zeros for an accepted file.
+#[repr(C)]
+#[derive(Debug, PartialEq, Eq)]
+pub struct Verdict {
+    pub number: u64,
+    pub object: u64,
+    pub component: u64,
+}
+
+/// Leaves of one text, and what the box calls on a file, as safe functions.
 macro_rules! of_text {
     ($($name:ident: $leaf:ident -> $answer:ty;)*) => {$(
         pub fn $name(text: &[u8]) -> $answer {
@@ -66,6 +76,7 @@ macro_rules! of_text {
 }
 
 of_text! {
+    box_accept: zt_accept -> u64;
     utf8: leaf_utf8 -> bool;
     version_shape: leaf_version_shape -> bool;
     major_one: leaf_major_one -> bool;
@@ -131,6 +142,11 @@ pub fn judge(format: u64, shape: &[u64], parts: &[[u64; 4]]) -> Ruling {
 pub fn frame(file: &[u8]) -> Place {
     // SAFETY: the pointer and the length are a slice's.
     unsafe { exported::leaf_frame(file.as_ptr(), file.len()) }
+}
+
+pub fn accept(file: &[u8]) -> Verdict {
+    // SAFETY: the pointer and the length are a slice's.
+    unsafe { exported::leaf_accept(file.as_ptr(), file.len()) }
 }
 
 /// How many bytes the item at the front takes, or 6 or 7.

@@ -2,12 +2,20 @@
 
 use std::collections::BTreeMap;
 use std::fmt::{Debug, Display};
+use std::sync::LazyLock;
+use std::time::{SystemTime, UNIX_EPOCH};
 
+/// What `SEED` says, one by the clock for `SEED=random`, 1 if it is not set.
 pub fn seed() -> u64 {
-    match std::env::var("SEED") {
-        Ok(seed) => seed.parse().expect("SEED is a number"),
+    static SEED: LazyLock<u64> = LazyLock::new(|| match std::env::var("SEED").as_deref() {
+        Ok("random") => {
+            let now = SystemTime::now().duration_since(UNIX_EPOCH);
+            now.expect("the clock is set").as_nanos() as u64
+        }
+        Ok(seed) => seed.parse().expect("SEED is a number or `random`"),
         Err(_) => 1,
-    }
+    });
+    *SEED
 }
 
 /// How often each answer occurred.
@@ -33,10 +41,24 @@ impl Tally {
         shown: impl FnOnce() -> String,
     ) {
         if proved != second {
-            let (what, shown) = (self.what, shown());
-            panic!("{what}: {proved:?}, the second program: {second:?}, for {shown}");
+            let (what, seed, shown) = (self.what, seed(), shown());
+            panic!("{what}, seed {seed}: {proved:?}, the second program: {second:?}, for {shown}");
         }
         *self.answers.entry(label.to_string()).or_default() += 1;
+    }
+
+    /// Adds what another thread counted.
+    pub fn add(&mut self, other: Tally) {
+        for (answer, count) in other.answers {
+            *self.answers.entry(answer).or_default() += count;
+        }
+    }
+
+    /// The part of all answers that are this one.
+    pub fn part(&self, answer: &str) -> f64 {
+        let total: u64 = self.answers.values().sum();
+        let count = self.answers.get(answer).copied().unwrap_or(0);
+        count as f64 / total as f64
     }
 
     /// Prints the counts; every answer that can be given must have been, or the inputs show too little.

@@ -5,7 +5,7 @@
 
 use against::tally::{hex, seed, yes_or_no, Tally};
 use against::{Place, Ruling};
-use second::frame::{assemble, manifest_range, SIZE_LIMIT};
+use second::frame::{assemble, manifest_range, set_size, SIZE_LIMIT};
 use second::generate::rng::Rng;
 use second::generate::Generator;
 use second::judge::{Component, Judge, Object, RANK_LIMIT};
@@ -511,12 +511,6 @@ fn compare_frame(tally: &mut Tally, file: &[u8]) {
     });
 }
 
-/// Puts another size in a file's frame.
-fn resize(file: &mut [u8], size: u64) {
-    let at = file.len() - 16;
-    file[at..at + 8].copy_from_slice(&size.to_le_bytes());
-}
-
 #[test]
 fn frame() {
     let mut tally = Tally::of("frame");
@@ -529,8 +523,8 @@ fn frame() {
         let close = [most, SIZE_LIMIT, 1, most | 1 << 32];
         let close = *rng.pick(&close);
         match rng.index(4) {
-            0 => resize(&mut file, near(&mut rng, close)),
-            1 => resize(&mut file, any),
+            0 => set_size(&mut file, near(&mut rng, close)),
+            1 => set_size(&mut file, any),
             2 => generator.damage(&mut file),
             _ => {}
         }
@@ -540,7 +534,7 @@ fn frame() {
     for length in [SIZE_LIMIT - 1, SIZE_LIMIT, SIZE_LIMIT + 1] {
         let mut file = assemble(&[], &vec![0; length as usize]);
         for size in [SIZE_LIMIT - 1, SIZE_LIMIT, SIZE_LIMIT + 1] {
-            resize(&mut file, size);
+            set_size(&mut file, size);
             compare_frame(&mut tally, &file);
         }
     }

@@ -4,6 +4,7 @@ use super::items;
 use super::plan::{ComponentPlan, ObjectPlan, Plan};
 use super::rng::Rng;
 use crate::cbor::DEPTH;
+use crate::compose::{field, is_text, pairs, set, Pairs};
 use crate::encode::{Head, Item};
 use crate::frame::{self, SIZE_LIMIT};
 use crate::refusal::{
@@ -11,8 +12,6 @@ use crate::refusal::{
     MISSING, SHORT, TWICE, VERSION,
 };
 use crate::types::DTYPES;
-
-type Pairs = Vec<(Item, Item)>;
 
 /// The known fields of the maps at each level; `objects` and `components` hold names.
 const FIELDS: [&[&str]; 5] = [
@@ -122,7 +121,7 @@ fn framed(rng: &mut Rng, plan: &Plan, faults: &[u8]) -> Vec<u8> {
 }
 
 /// The plan's manifest and its start, which is at or shortly after the last end of a blob.
-fn tree(rng: &mut Rng, plan: &Plan) -> (Item, u64) {
+pub fn tree(rng: &mut Rng, plan: &Plan) -> (Item, u64) {
     let map = |rng: &mut Rng, mut pairs: Pairs, level| {
         if !plan.bare {
             add_unknown(rng, &mut pairs, level);
@@ -245,33 +244,6 @@ fn descend<'t>(rng: &mut Rng, root: &'t mut Item, level: usize) -> Option<&'t mu
         };
     }
     Some(at)
-}
-
-fn pairs(item: &mut Item) -> Option<&mut Pairs> {
-    match item {
-        Item::Map(pairs) => Some(pairs),
-        _ => None,
-    }
-}
-
-fn field<'t>(map: &'t mut Item, name: &str) -> Option<&'t mut Item> {
-    pairs(map)?
-        .iter_mut()
-        .find(|(key, _)| is_text(key, name))
-        .map(|(_, value)| value)
-}
-
-fn is_text(key: &Item, name: &str) -> bool {
-    matches!(key, Item::Text(text) if text == name.as_bytes())
-}
-
-/// Gives a field another value, or adds it.
-fn set(map: &mut Item, name: &str, value: Item) {
-    if let Some(old) = field(map, name) {
-        *old = value;
-    } else if let Some(pairs) = pairs(map) {
-        pairs.push((Item::text(name), value));
-    }
 }
 
 /// Spoils the tree for one refusal; nothing if the place for it isn't there.
@@ -435,7 +407,7 @@ fn odd_value(rng: &mut Rng) -> Item {
 
 /// A value of another kind than most, or the old one behind a tag. Null is the likeliest, as it
 /// means something else in each place.
-fn any_kind(rng: &mut Rng, old: Item) -> Item {
+pub fn any_kind(rng: &mut Rng, old: Item) -> Item {
     match rng.index(15) {
         0 => Item::null().tagged(0),
         1 => Item::Simple(23),
@@ -503,5 +475,5 @@ fn spoil_frame(rng: &mut Rng, file: &mut Vec<u8>, number: u8) {
         FOOTER => return file[length - 1 - rng.index(8)] ^= 1 << rng.index(8),
         _ => return,
     };
-    file[length - 16..length - 8].copy_from_slice(&size.to_le_bytes());
+    frame::set_size(file, size);
 }

@@ -50,13 +50,13 @@ impl Plan {
         plan
     }
 
-    /// As many objects as the limit allows, or one more, each as small as can be.
+    /// As many objects as the limit allows, one fewer or one more, each as small as can be.
     pub fn many_objects(rng: &mut Rng) -> Plan {
         let object = |index: usize| ObjectPlan {
             name: index.to_string().into_bytes(),
             ..free_object(Vec::new())
         };
-        let count = OBJECT_LIMIT + rng.index(2);
+        let count = OBJECT_LIMIT - 1 + rng.index(3);
         Plan {
             bare: true,
             attributes: None,
@@ -64,11 +64,30 @@ impl Plan {
         }
     }
 
+    /// Few or many objects whose names differ in six digits only, wherever those stand; mostly two are the same.
+    pub fn alike_names(rng: &mut Rng) -> Plan {
+        let mut plan = Plan::many_objects(rng);
+        let few = 2 + rng.index(60);
+        let most = *rng.pick(&[few, plan.objects.len()]);
+        plan.objects.truncate(most);
+        let (before, after) = (rng.index(40), rng.index(40));
+        for (index, object) in plan.objects.iter_mut().enumerate() {
+            let name = format!("{:n<before$}{index:06}{:n<after$}", "", "");
+            object.name = name.into_bytes();
+        }
+        rng.shuffle(&mut plan.objects);
+        let twin = rng.pick(&plan.objects).name.clone();
+        if let Some(object) = rng.pick_mut(&mut plan.objects).filter(|_| rng.one_in(2)) {
+            object.name = twin;
+        }
+        plan
+    }
+
     /// Spoils the plan for one refusal. Nothing is done for a refusal that plans don't get, or if
     /// there is no object.
     pub fn spoil(&mut self, rng: &mut Rng, number: u8) {
         if number == TWICE && rng.one_in(2) {
-            repeat(rng, &mut self.objects);
+            rng.repeat(&mut self.objects);
             return;
         }
         let Some(object) = rng.pick_mut(&mut self.objects) else {
@@ -76,7 +95,7 @@ impl Plan {
         };
         match number {
             TEXT => not_utf8(rng, object),
-            TWICE => repeat(rng, &mut object.components),
+            TWICE => rng.repeat(&mut object.components),
             COUNT => pass_limit(rng, object),
             TYPE => wrong_type(rng, object),
             RANK => {
@@ -283,13 +302,6 @@ fn not_utf8(rng: &mut Rng, object: &mut ObjectPlan) {
     }
 }
 
-/// Puts one of the list into it a second time.
-fn repeat<T: Clone>(rng: &mut Rng, list: &mut Vec<T>) {
-    if let Some(copy) = rng.pick_mut(list).cloned() {
-        list.insert(rng.index(list.len() + 1), copy);
-    }
-}
-
 fn pass_limit(rng: &mut Rng, object: &mut ObjectPlan) {
     match rng.one_in(2) {
         true => add_components(rng, object, COMPONENT_LIMIT + 1),
@@ -313,8 +325,8 @@ fn wrong_role(rng: &mut Rng, object: &mut ObjectPlan) {
             2 => component.dtype = rng.index(DTYPES.len()),
             _ => component.logical = Some(b"u64".to_vec()),
         }
-    } else if !object.components.is_empty() {
-        object.components.remove(rng.index(object.components.len()));
+    } else {
+        rng.remove(&mut object.components);
     }
 }
 

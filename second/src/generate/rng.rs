@@ -44,6 +44,20 @@ impl Rng {
         }
     }
 
+    /// Puts one of the list into it a second time, if there is any.
+    pub fn repeat<T: Clone>(&mut self, list: &mut Vec<T>) {
+        if let Some(copy) = self.pick_mut(list).cloned() {
+            list.insert(self.index(list.len() + 1), copy);
+        }
+    }
+
+    /// Takes one out of the list, if there is any.
+    pub fn remove<T>(&mut self, list: &mut Vec<T>) {
+        if !list.is_empty() {
+            list.remove(self.index(list.len()));
+        }
+    }
+
     /// Up to `most` bytes of any value.
     pub fn bytes(&mut self, most: usize) -> Vec<u8> {
         let length = self.index(most + 1);

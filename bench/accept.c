@@ -1,0 +1,63 @@
+/* The acceptance check beside its peers, and how its cost grows. */
+#include "bench.h"
+#include "peers.h"
+#include "timing.h"
+#include "zt.h"
+#include <stdio.h>
+#include <stdlib.h>
+
+enum { OBJECTS = 1000, LARGE = 1 << 24, SMALL = 1 << 20, LONG = 16384 };
+
+static bool accepted(const void *x) {
+    const zt_file *z = x;
+    return zt_accept(z->file.bytes, z->file.length) == ZT_ACCEPTED;
+}
+
+static const program ours = {"zt_accept", accepted}, extract = {"C floor", c_floor}, strict = {"C strict, UTF-8", c_item_utf8};
+
+static void beside(const char *what, zt_file z) {
+    compare(what, ours, extract, &z, OBJECTS, z.manifest.length, 1.3);
+    compare("", ours, strict, &z, OBJECTS, z.manifest.length, 0);
+#ifdef WITH_LIBCBOR
+    compare("", ours, (program){"libcbor, tokens", libcbor_tokens}, &z, OBJECTS, z.manifest.length, 1);
+#endif
+#ifdef WITH_TINYCBOR
+    compare("", ours, (program){"TinyCBOR, tokens", tinycbor_tokens}, &z, OBJECTS, z.manifest.length, 1);
+#endif
+    free(z.file.bytes);
+}
+
+/* Manifests of so many bytes or a little fewer. */
+static zt_file one_byte_items(size_t size) { return with_value(flat(size - 64)); }
+static zt_file nesting(size_t size) { return with_value(nested(size - 64, 2)); }
+static zt_file by_names(size_t size, size_t at) { return named(long_names(size / (LONG + 64), LONG, at)); }
+static zt_file starts(size_t size) { return by_names(size, 0); }
+static zt_file middles(size_t size) { return by_names(size, LONG / 2); }
+static zt_file ends(size_t size) { return by_names(size, LONG - 6); }
+static zt_file components(size_t size) { return packed(size / LONG, LONG / 16 - 64); }
+
+/* A large file, and how much longer it takes than a small one of its kind. */
+static void grown(const char *what, zt_file make(size_t size)) {
+    zt_file large = make(LARGE), small = make(SMALL);
+    double bytes = (double)large.manifest.length, more = bytes / (double)small.manifest.length;
+    compare(what, ours, strict, &large, bytes, large.manifest.length, 4);
+    compare("", ours, extract, &large, bytes, large.manifest.length, 0);
+    double longer = growth(ours, &large, &small);
+    printf("    %.2f times the bytes of the same in 1 MiB, %.2f times the time: %.2f for each byte\n", more, longer, longer / more);
+    free(large.file.bytes);
+    free(small.file.bytes);
+}
+
+void acceptance(void) {
+    heading("acceptance of 1000 objects", "per object");
+    beside("a model", model(OBJECTS, 0));
+    beside("with three unknown fields in every map", model(OBJECTS, 3));
+
+    heading("acceptance of 16 MiB", "per byte");
+    grown("items of one byte", one_byte_items);
+    grown("nesting down to depth 32", nesting);
+    grown("names of 16 KB", starts);
+    grown("names of 16 KB that differ in the middle", middles);
+    grown("names of 16 KB that differ at the end", ends);
+    grown("1,024 objects of 16 components", components);
+}

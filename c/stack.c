@@ -1,0 +1,62 @@
+/*
+ * How much stack zt_accept takes on the files named: each is judged in a thread whose stack was painted before, and what is no longer paint was
+ * used. Prints the deepest use; it must stay within what zt.h says.
+ */
+#include "read_file.h"
+#include "zt.h"
+#include <pthread.h>
+#include <stdio.h>
+#include <stdlib.h>
+#include <string.h>
+#include <sys/mman.h>
+
+enum { STACK = 1 << 20 };
+
+typedef struct {
+    bytes file;
+    const uint8_t *top; /* where the call begins */
+} task;
+
+static void *judge(void *given) {
+    task *t = given;
+    t->top = __builtin_frame_address(0);
+    zt_accept(t->file.at, t->file.length);
+    return NULL;
+}
+
+static size_t used(bytes file, uint8_t *stack, int paint) {
+    task t = {file, NULL};
+    pthread_attr_t attributes;
+    pthread_t thread;
+    memset(stack, paint, STACK);
+    if (pthread_attr_init(&attributes) || pthread_attr_setstack(&attributes, stack, STACK) || pthread_create(&thread, &attributes, judge, &t) ||
+        pthread_join(thread, NULL)) {
+        fputs("no thread\n", stderr);
+        exit(2);
+    }
+    pthread_attr_destroy(&attributes);
+    const uint8_t *deepest = stack;
+    while (*deepest == paint) deepest++;
+    return (size_t)(t.top - deepest);
+}
+
+int main(int count, char **paths) {
+    uint8_t *stack = mmap(NULL, STACK, PROT_READ | PROT_WRITE, MAP_PRIVATE | MAP_ANONYMOUS, -1, 0);
+    size_t most = 0;
+    const char *which = "";
+    if (stack == MAP_FAILED) return 2;
+    for (int i = 1; i < count; i++) {
+        bytes file = read_file(paths[i]);
+        /* Two paints, since a byte that was written may be the paint of one. */
+        for (int paint = 0x5A; paint <= 0xA5; paint += 0xA5 - 0x5A) {
+            size_t n = used(file, stack, paint);
+            if (n > most) {
+                most = n;
+                which = paths[i];
+            }
+        }
+        free(file.at);
+    }
+    printf("deepest stack use %zu bytes, on %s; zt.h says %d\n", most, which, ZT_ACCEPT_STACK);
+    return most == 0 || most > ZT_ACCEPT_STACK;
+}

@@ -1,0 +1,5 @@
+pub mod Few
+pub mod Keeping
+pub mod Looping
+pub mod Concluding
+pub mod Walks

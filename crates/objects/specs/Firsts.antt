@@ -1,0 +1,65 @@
+-- The entries of the `objects` map, as they are judged one by one, and the whole map's judgement.
+use Prim.Native.Nat.{ℕ, _+_, _*_, _≤_}
+use mathlib.Core.List.{List, [], _∷_, _++_}
+use mathlib.Core.Bool.{cond}
+use mathlib.Core.Path.{_≡_}
+use lib.ListN.{length}
+use lib.Dec.{leb}
+use Rattle.meaning.specs.Tree.{Node, Pair}
+use Rattle.meaning.specs.Check.{Check, pass, refuse, inObject, each}
+use Rattle.meaning.specs.Limit.{objectLimit, componentLimit}
+use Rattle.meaning.specs.Model.{Named, Object}
+use Rattle.meaning.specs.Kind.{kind, table}
+use Rattle.meaning.specs.Judge.{object, objectsOf}
+use Rattle.meaning.specs.Rows.{componentCount}
+use Rattle.walk.specs.Reading.{Ends, Reads, Due}
+use Rattle.naming.specs.Naming.{namedAnyway, Tallied}
+use Rattle.naming.specs.declared.Tally.{Tally}
+use Rattle.object.specs.Verdict.{ObjectIs}
+use Rattle.object.specs.declared.Judged.{Judged}
+use Rattle.objects.specs.declared.First.{First}
+use Rattle.objects.specs.declared.First.the-variants.{Fine, Fault}
+use Rattle.objects.specs.declared.Found.{Found}
+use Rattle.objects.specs.Found.{judged}
+
+-- components so far and m more; a total beyond all limits isn't counted
+abbrev pub plus : ℕ → ℕ → ℕ
+plus total m = cond (leb m 16) (cond (leb total 16368) (total + m) total) total
+
+-- an entry, with its index
+unfoldable pub entry : ℕ → ℕ → Named Ends → Check (Object Ends)
+entry start i n = inObject i (object start n)
+
+-- the entries of the pairs so far
+unfoldable pub entries : ℕ → List (Pair Ends) → Check (List (Object Ends))
+entries start done = each (λ i p. entry start i (namedAnyway p)) 0 done
+
+-- objects that passed, and the total of their components while there are not too many of them
+pub record Totalled (start : ℕ) (done : List (Pair Ends)) (total : ℕ) : Type 0 where
+  pub found : List (Object Ends)
+  pub passed : entries start done ≡ pass found
+  pub few : componentCount found ≤ componentLimit * length found
+  pub totals : length found ≤ objectLimit → total ≡ componentCount found
+
+abbrev pub FirstIs : ℕ → List (Pair Ends) → First → Type 0
+FirstIs start done (Fine total) = Totalled start done total
+FirstIs start done (Fault n o c) = entries start done ≡ refuse n o c
+
+-- one more entry, number j, whose value is judged as v
+abbrev pub Keeps : Judged → ℕ → First → First → Type 0
+Keeps v j first first′ =
+    (start : ℕ) (done : List (Pair Ends)) (p : Pair Ends) (c r : List ℕ) → Reads 30 c (p .value) r → ObjectIs c start v → j ≡ length done → FirstIs start done first → FirstIs start (done ++ p ∷ []) first′
+
+-- what is kept of the pairs `done` of a map in s
+pub record Kept (start : ℕ) (s : List ℕ) (names : Tally) (left size : List ℕ) (first : First) (done : List (Pair Ends)) : Type 0 where
+  pub named : Tallied s done names left size
+  pub judged : FirstIs start done first
+
+-- of all entries that are due at s
+abbrev pub Walked : ℕ → ℕ → ℕ → List ℕ → Tally → List ℕ → List ℕ → First → Type 0
+Walked start mode count s names left size first = (ps : List (Pair Ends)) (r : List ℕ) → Due 30 mode count s ps r → Kept start s names left size first ps
+
+-- for every map of these pairs
+abbrev pub Concluded : List ℕ → Tally → First → List ℕ → List ℕ → Found → Type 0
+Concluded m names first left size found =
+    (start : ℕ) (ps : List (Pair Ends)) → Kept start m names left size first ps → (t : Node Ends) → kind t ≡ table ps → found ≡ judged (objectsOf start t)

@@ -1,0 +1,76 @@
+/*
+ * Radenvyth's acceptance check of .zt files (zTensor 1.2.0), for C99 and C++. Link libzt.a.
+ *
+ *     #include "zt.h"
+ *     #include <stdio.h>
+ *
+ *     static uint8_t file[65536];
+ *
+ *     int main(void) {
+ *         size_t length = fread(file, 1, sizeof file, stdin);
+ *         uint64_t refusal = zt_accept(file, length);
+ *         if (refusal == ZT_ACCEPTED) puts("accepted");
+ *         else printf("refused %d\n", (int)refusal);
+ *     }
+ */
+#ifndef ZT_H
+#define ZT_H
+
+#include <stddef.h>
+#include <stdint.h>
+
+#ifdef __cplusplus
+extern "C" {
+#endif
+
+/* Document 01's refusal numbers, with its words. A file has the first fault in 01's order. */
+enum zt_refusal {
+    ZT_ACCEPTED = 0,  /* no fault */
+    ZT_SHORT = 1,     /* file under 24 bytes */
+    ZT_HEADER = 2,    /* first 8 wrong */
+    ZT_FOOTER = 3,    /* last 8 wrong */
+    ZT_BIG = 4,       /* manifest size over the limit, 16,777,216 */
+    ZT_FIT = 5,       /* manifest size 0 or over file length - 24 */
+    ZT_CBOR = 6,      /* malformed, ended early, or bytes left over */
+    ZT_DEEP = 7,      /* an item at depth 33 begins */
+    ZT_KIND = 8,      /* known value of another kind; chunked text in a known place */
+    ZT_KEY = 9,       /* key of a root, object or component map, or a name, isn't whole text */
+    ZT_TEXT = 10,     /* name, format, type or digest isn't UTF-8 (RFC 3629) */
+    ZT_TWICE = 11,    /* a known field or a name repeated */
+    ZT_MISSING = 12,  /* required field absent */
+    ZT_VERSION = 13,  /* text not two or three runs of 1 to 9 digits joined by dots */
+    ZT_MAJOR = 14,    /* major isn't 1 */
+    ZT_COUNT = 15,    /* a limit passed: 1,024 objects, 16 components an object, rank 8 */
+    ZT_DTYPE = 16,    /* not one of the 13 */
+    ZT_ENCODING = 17, /* present and not "raw" */
+    ZT_TYPE = 18,     /* listed type over another dtype */
+    ZT_ALIGN = 19,    /* offset not a multiple of 64 */
+    ZT_BOUNDS = 20,   /* offset under 64, or offset + length over the manifest start */
+    ZT_RANK = 21,     /* sparse_csr not of rank 2 */
+    ZT_ROLE = 22,     /* needed role absent, or index role not plain u64 */
+    ZT_LENGTH = 23,   /* length rule broken */
+    ZT_ROOM = 24,     /* lent table or output too short */
+    ZT_ROW = 25,      /* writer's rows unsound */
+    ZT_INDEX = 26     /* row outside count or table, or range not inside the file */
+};
+
+/*
+ * Bytes of stack to have free for a call of zt_accept. Measured, not proved: the deepest use seen on files at every limit lies below it, and the
+ * tests measure it anew (c/stack.c).
+ */
+#define ZT_ACCEPT_STACK 32768
+
+/*
+ * Whether these bytes are a sound .zt file: ZT_ACCEPTED, or the first refusal, ZT_SHORT to ZT_LENGTH. Never ZT_ROOM, since nothing is written.
+ *
+ * Every call ends and answers, whatever the bytes are and however many. Only file[0] to file[length - 1] are read; they need no alignment. `file`
+ * may be null where length is 0: an empty file is ZT_SHORT. No memory is allocated, nothing is kept from one call to the next, and calls may run
+ * at the same time, also on the same bytes.
+ */
+uint64_t zt_accept(const uint8_t *file, size_t length);
+
+#ifdef __cplusplus
+}
+#endif
+
+#endif
