@@ -3,8 +3,9 @@
 use Prim.Native.Nat.{ℕ, _+_, _-_, _≤_, _<_}
 use native.Mathlib.Omega.{arith}
 use mathlib.Core.List.{List, [], _∷_}
-use mathlib.Core.Path.{_≡_, refl, sym, ap, _∙_}
+use mathlib.Core.Path.{_≡_, refl, sym, ap, _∙_, subst}
 use lib.ListN.{length, length-drop}
+use borrow.Rule.Slice.PartAt.{part-to-end}
 use Rattle.meaning.specs.Tree.{Node, mapP}
 use Rattle.meaning.specs.Check.{Check, pass, refuse, fault, _>>=_}
 use Rattle.meaning.specs.Refusal.{CBOR}
@@ -19,6 +20,7 @@ use Rattle.cbor.specs.Ending.{took, FAULT, code, ending, itemEnd}
 use Rattle.cbor.proofs.Passing.{is-took, fine-ending}
 use Rattle.cbor.proofs.Agree.{annotations-change-no-ending, rest-follows}
 use Rattle.walk.specs.Reading.{Ends, ends}
+use Rattle.fields.proofs.Texts.{Here}
 use Rattle.root.specs.declared.Judged.{Judged}
 use Rattle.root.specs.declared.Judged.the-variants.{No, Yes}
 use Rattle.root.specs.Verdict.{judged, RootIs}
@@ -64,10 +66,20 @@ module _ (end start : ℕ) where
     unfolding manifest
     read-so o e = ap closing (item-follows spanOf ends 32 s ∙ ap (mapOut (mapP spanOf)) e)
 
-    -- the walk ended at e
-    module _ (e : ℕ) (is : e ≡ code (itemEnd 32 s)) where
+    -- the walk over s, lent whole, ended at e
+    module _ (e : ℕ) (asked : e ≡ code (itemEnd 32 (Here s 0))) where
+      is : e ≡ code (itemEnd 32 s)
+      is = asked ∙ ap (λ u. code (itemEnd 32 u)) (part-to-end s 0)
+
       ended-so : (o : Outcome (Node Ends)) → item ends 32 s ≡ o → e ≡ code (ending s o)
       ended-so o h = is ∙ ap code (sym (annotations-change-no-ending ends 32 s) ∙ ap (ending s) h)
+
+      pub a-fault : length s < e → FAULT ≤ e
+      a-fault l = go (item ends 32 s) refl
+        where
+          go : (o : Outcome (Node Ends)) → item ends 32 s ≡ o → FAULT ≤ e
+          go (got t r) h = let z : e ≡ length s - length r = ended-so (got t r) h in absurd (omega arith)
+          go (refused n q) h = let z : e ≡ FAULT + n = ended-so (refused n q) h in omega arith
 
       -- malformed, ended early or too deep
       pub faulty : length s < e → refusal (e - FAULT) 0 0 ≡ verdict (manifestReading end start s)
@@ -91,9 +103,12 @@ module _ (end start : ℕ) where
             go (refused n q) h = let z : e ≡ FAULT + n = ended-so (refused n q) h in absurd (omega arith)
 
         -- the root fills the manifest exactly
-        pub filled : length s ≡ e → (v : Judged) → RootIs s start v → ruled v ≡ verdict (manifestReading end start s)
-        filled l v root = go (item ends 32 s) refl
+        pub filled : length s ≡ e → (u : Judged) → RootIs (Here s 0) start u → (v : Judged) → u ≡ v → ruled v ≡ verdict (manifestReading end start s)
+        filled l u told v same = go (item ends 32 s) refl
           where
+            root : RootIs s start v
+            root = subst (λ m. RootIs m start v) (part-to-end s 0) (subst (RootIs (Here s 0) start) same told)
+
             go : (o : Outcome (Node Ends)) → item ends 32 s ≡ o → ruled v ≡ verdict (manifestReading end start s)
             go (got t r) h =
                 let z : itemEnd 32 s ≡ took e = is-took s room e (itemEnd 32 s) (fine-ending s (item noNote 32 s)) is (omega arith) in

@@ -5,9 +5,9 @@ use mathlib.Core.Bool.{Bool, true, false, cond, not}
 use mathlib.Core.Option.{Option, none, some}
 use Prim.Native.Nat.{ℕ, suc, _<_}
 use native.Mathlib.Omega.{arith}
-use lib.ListN.{getD, replicate}
+use lib.ListN.{getD}
 use lib.Dec.{eqb, leb}
-use borrow.Author.Tests.{eq-eqb, ne-eqb, eqb-true, eqb-false}
+use borrow.Author.Tests.{eq-eqb, ne-eqb, eqb-true, eqb-false, not-true, not-false}
 use borrow.Rule.Slice.PartAt.{part-to-end}
 use Rattle.meaning.specs.Tree.{Node, Pair}
 use Rattle.meaning.specs.Check.{Check, pass, refuse, fault, optional}
@@ -19,8 +19,8 @@ use Rattle.meaning.specs.Field as field
 use Rattle.meaning.specs.Field.{rootNames, get}
 use Rattle.meaning.specs.Judge.{attributesOf, aVersion, objectsOf, judge}
 use Rattle.types.specs.Known.{position}
-use Rattle.walk.specs.Reading.{Ends, Chain, leftAt, foldl}
-use Rattle.fields.specs.Slots.{marks, Holds}
+use Rattle.walk.specs.Reading.{Ends, Chain, leftAt}
+use Rattle.fields.specs.Slots.{Holds}
 use Rattle.fields.specs.Attributes.{AttributesAt}
 use Rattle.fields.proofs.Standing.{hold-none, Item, hold-some, keys-are-text, none-twice, field-stands}
 use Rattle.fields.proofs.Texts.{Here}
@@ -30,7 +30,8 @@ use Rattle.root.specs.declared.Judged.{Judged}
 use Rattle.root.specs.declared.Judged.the-variants.{No}
 use Rattle.root.specs.declared.judge.Fine.{Fine}
 use Rattle.root.specs.declared.judge.Fine.the-variants.{No as Bad, Yes as Good}
-use Rattle.root.specs.Verdict.{fine, known, VersionAt, counted, told, judged, Met, VerdictIs}
+use Rattle.root.specs.Walk.{Noted}
+use Rattle.root.specs.Verdict.{fine, known, VersionAt, counted, told, judged, VerdictIs}
 
 -- ---------------------------------------------------------------- what the slots say, a branch each
 
@@ -55,18 +56,16 @@ module _ (p : List ℕ) where
 
 -- ---------------------------------------------------------------- attributes, objects missing, objects
 
-module _ (left at : ℕ) (found : Found) where
-  pub no-map : (map : Bool) → not map ≡ true → No 8 0 0 ≡ told map left at found
-  no-map false e = refl
-  no-map true e = absurd (let z : _≡_ {A = ℕ} 0 1 = cc in omega arith)
+module _ (map : Bool) (left at : ℕ) (found : Found) where
+  pub no-map : not map ≡ true → No 8 0 0 ≡ told map left at found
+  no-map e = rw (not-true map e) refl
 
-  pub no-objects : (map : Bool) → not map ≡ false → at ≡ 0 → No 12 0 0 ≡ told map left at found
-  no-objects false e z = absurd (let z : _≡_ {A = ℕ} 0 1 = cc in omega arith)
-  no-objects true e z = rw (eq-eqb _ _ z) refl
+  module _ (e : not map ≡ false) where
+    pub no-objects : at ≡ 0 → No 12 0 0 ≡ told map left at found
+    no-objects z = rw (not-false map e, eq-eqb _ _ z) refl
 
-  pub objects-found : (map : Bool) → not map ≡ false → (at ≡ 0 → ⊥) → (f : Found) → found ≡ f → counted left f ≡ told map left at found
-  objects-found false e z f is = absurd (let z : _≡_ {A = ℕ} 0 1 = cc in omega arith)
-  objects-found true e z f is = rw (ne-eqb _ _ z) (ap (counted left) (sym is))
+    pub objects-found : (at ≡ 0 → ⊥) → (f : Found) → found ≡ f → counted left f ≡ told map left at found
+    objects-found z f is = rw (not-false map e, ne-eqb _ _ z) (ap (counted left) (sym is))
 
 -- ---------------------------------------------------------------- the judgement of a map of these pairs
 
@@ -114,19 +113,19 @@ left-of d s l none h = h
 left-of d s l (some t) h = h .1 .left-is
 
 module _ (s p : List ℕ) (found : Found) where
-  module _ (start d : ℕ) (ps : List (Pair Ends)) (q : List ℕ) (chain : Chain (suc d) s ps q) (is : p ≡ foldl (marks rootNames) (replicate 6 0) ps) (met : Met start ps found)
+  module _ (start d : ℕ) (ps : List (Pair Ends)) (q : List ℕ) (chain : Chain (suc d) s ps q) (noted : Noted start p found ps)
       (t : Node Ends) (kt : kind t ≡ table ps) where
     keys : eqb (getD p 4 0) 0 ≡ all (λ q. field.isSome (field.keyOf q)) ps
     unfolding rootNames
-    keys = keys-are-text rootNames (suc d) s ps q chain p is
+    keys = keys-are-text rootNames (suc d) s ps q chain p (noted .0)
 
     twice : eqb (getD p 5 0) 0 ≡ all (λ m. leb (field.count m ps) 1) rootNames
     unfolding rootNames
-    twice = none-twice rootNames (suc d) s ps q chain p is
+    twice = none-twice rootNames (suc d) s ps q chain p (noted .0)
 
     at-name : (m : List ℕ) (i : ℕ) → position rootNames m ≡ i → i < 3 → Holds (suc d) s (getD p i 0) (get m ps)
     unfolding rootNames
-    at-name m i e l = subst (λ (i : ℕ). Holds (suc d) s (getD p i 0) (get m ps)) e (field-stands rootNames (suc d) s ps q chain p is m (let z : position rootNames m < 3 = omega arith in z))
+    at-name m i e l = subst (λ (i : ℕ). Holds (suc d) s (getD p i 0) (get m ps)) e (field-stands rootNames (suc d) s ps q chain p (noted .0) m (let z : position rootNames m < 3 = omega arith in z))
 
     at-version : Holds (suc d) s (getD p 0 0) (get (ascii "version") ps)
     unfolding rootNames position
@@ -177,7 +176,7 @@ module _ (s p : List ℕ) (found : Found) where
           go true e = judged-no-objects start t ps kt (r .text-keys) (r .no-repeats) (r .version .item) (r .version .is) v w (hold-none (suc d) s (getD p 2 0) (get (ascii "objects") ps) at-objects (eqb-true (getD p 2 0) 0 e))
           go false e =
               let o = hold-some (suc d) s (getD p 2 0) (get (ascii "objects") ps) at-objects (eqb-false (getD p 2 0) 0 e) in
-              ap (counted (getD p 1 0)) (met (o .item) (o .is))
+              ap (counted (getD p 1 0)) (noted .1 (o .item) (o .is))
               ∙ judged-objects start t ps kt (r .text-keys) (r .no-repeats) (r .version .item) (r .version .is) v w (o .item) (o .is)
               (getD p 1 0) (left-of (suc d) s (getD p 1 0) (get (ascii "attributes") ps) at-attributes) (objectsOf start (o .item)) refl
 
@@ -186,23 +185,23 @@ module _ (s p : List ℕ) (found : Found) where
     slots-say = asked ∙ ap known (part-to-end p 0)
 
     pub refused : (m : ℕ) → f ≡ Bad m → VerdictIs s p found (No m 0 0)
-    refused m e start d ps q chain is met t kt = subst (Told start d ps q chain is met t kt) (sym slots-say ∙ e) (slots-told start d ps q chain is met t kt)
+    refused m e start d ps q chain noted t kt = subst (Told start d ps q chain noted t kt) (sym slots-say ∙ e) (slots-told start d ps q chain noted t kt)
 
     module _ (e : f ≡ Good) (v : Fine) (versioned : VersionAt (Here s 0) (getD p 0 0) v) where
-      module _ (start d : ℕ) (ps : List (Pair Ends)) (q : List ℕ) (chain : Chain (suc d) s ps q) (is : p ≡ foldl (marks rootNames) (replicate 6 0) ps) (met : Met start ps found)
+      module _ (start d : ℕ) (ps : List (Pair Ends)) (q : List ℕ) (chain : Chain (suc d) s ps q) (noted : Noted start p found ps)
           (t : Node Ends) (kt : kind t ≡ table ps) where
-        ready : Ready start d ps q chain is met t kt
-        ready = subst (Told start d ps q chain is met t kt) (sym slots-say ∙ e) (slots-told start d ps q chain is met t kt)
+        ready : Ready start d ps q chain noted t kt
+        ready = subst (Told start d ps q chain noted t kt) (sym slots-say ∙ e) (slots-told start d ps q chain noted t kt)
 
         version-is : (u : Fine) → v ≡ u → aVersion (ready .version .item) ≡ fine u
         version-is u z = subst (λ x. VersionAt x (getD p 0 0) u) (part-to-end s 0) (rw z at versioned) d (ready .version .item) (ready .version .stands)
 
       pub version-refused : (m : ℕ) → v ≡ Bad m → VerdictIs s p found (No m 0 0)
-      version-refused m z start d ps q chain is met t kt =
-          version-told start d ps q chain is met t kt (ready start d ps q chain is met t kt) m (version-is start d ps q chain is met t kt (Bad m) z)
+      version-refused m z start d ps q chain noted t kt =
+          version-told start d ps q chain noted t kt (ready start d ps q chain noted t kt) m (version-is start d ps q chain noted t kt (Bad m) z)
 
       pub as-told : v ≡ Good → (map : Bool) → AttributesAt (Here s 0) (getD p 1 0) map → (r : Judged) → r ≡ told map (getD p 1 0) (getD p 2 0) found → VerdictIs s p found r
-      as-told z map w r h start d ps q chain is met t kt =
+      as-told z map w r h start d ps q chain noted t kt =
           let a : AttributesAt s (getD p 1 0) map = subst (λ x. AttributesAt x (getD p 1 0) map) (part-to-end s 0) w in
-          h ∙ all-told start d ps q chain is met t kt (ready start d ps q chain is met t kt) (version-is start d ps q chain is met t kt Good z) map
-          (a d (get (ascii "attributes") ps) (at-attributes start d ps q chain is met t kt))
+          h ∙ all-told start d ps q chain noted t kt (ready start d ps q chain noted t kt) (version-is start d ps q chain noted t kt Good z) map
+          (a d (get (ascii "attributes") ps) (at-attributes start d ps q chain noted t kt))

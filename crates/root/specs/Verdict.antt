@@ -2,25 +2,22 @@
 use Prim.Native.Nat.{ℕ, suc}
 use mathlib.Core.List.{List}
 use mathlib.Core.Bool.{Bool, cond}
-use mathlib.Core.Option.{some}
 use mathlib.Core.Path.{_≡_}
-use lib.ListN.{length, getD, replicate}
+use lib.ListN.{length, getD}
 use lib.Dec.{eqb}
 use Rattle.meaning.specs.Tree.{Node, Pair}
 use Rattle.meaning.specs.Check.{Check, pass, refuse, fault}
-use Rattle.meaning.specs.Text.{ascii}
 use Rattle.meaning.specs.Refusal.{KIND, KEY, TWICE, MISSING}
 use Rattle.meaning.specs.Model.{Model}
 use Rattle.meaning.specs.Kind.{kind, table}
-use Rattle.meaning.specs.Field.{rootNames, get}
-use Rattle.meaning.specs.Judge.{aVersion, objectsOf, judge}
+use Rattle.meaning.specs.Judge.{aVersion, judge}
 use Rattle.meaning.specs.Rows.{componentCount}
-use Rattle.walk.specs.Reading.{Ends, Reads, Chain, leftAt, foldl}
+use Rattle.walk.specs.Reading.{Ends, Reads, Chain, leftAt}
 use Rattle.walk.specs.Places.{Whatever}
-use Rattle.fields.specs.Slots.{marks, ItemAt}
+use Rattle.fields.specs.Slots.{ItemAt}
 use Rattle.objects.specs.declared.Found.{Found}
 use Rattle.objects.specs.declared.Found.the-variants.{No as NoObjects, Yes as Objects}
-use Rattle.objects.specs.Found as objects
+use Rattle.root.specs.Walk.{Noted}
 use Rattle.root.specs.declared.Judged.{Judged}
 use Rattle.root.specs.declared.Judged.the-variants.{No, Yes}
 use Rattle.root.specs.declared.judge.Fine.{Fine}
@@ -55,13 +52,9 @@ abbrev pub judged : Check (Model Ends) → Judged
 judged (pass m) = Yes (length (m .objects)) (componentCount (m .objects)) (leftAt (m .attributes))
 judged (refuse n o c) = No n o c
 
--- `found` is what the first field named `objects` says, if there is one
-abbrev pub Met : ℕ → List (Pair Ends) → Found → Type 0
-Met start ps found = (x : Node Ends) → get (ascii "objects") ps ≡ some x → found ≡ objects.judged (objectsOf start x)
-
--- for every map of the pairs that are read from s on, where p holds their slots
+-- for every map of the pairs that are read from s on, where p holds their slots, and `found` what the objects say
 abbrev pub VerdictIs : List ℕ → List ℕ → Found → Judged → Type 0
-VerdictIs s p found r = (start d : ℕ) (ps : List (Pair Ends)) (q : List ℕ) → Chain (suc d) s ps q → p ≡ foldl (marks rootNames) (replicate 6 0) ps → Met start ps found
+VerdictIs s p found r = (start d : ℕ) (ps : List (Pair Ends)) (q : List ℕ) → Chain (suc d) s ps q → Noted start p found ps
     → (t : Node Ends) → kind t ≡ table ps → r ≡ judged (judge start t)
 
 abbrev pub RootIs : List ℕ → ℕ → Judged → Type 0

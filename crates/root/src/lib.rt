@@ -1,6 +1,14 @@
 // The root of a manifest: one walk passes over its map, its objects among them, and notes where its fields stand; then the fields are judged from these places.
 // Every slice runs to the manifest's end, and a place is the number of bytes left there, 0 for none.
 mod judge;
+mod pass;
+
+use judge::verdict;
+use pass::entries;
+use walk::Opening;
+ghost use mathlib.Core.Path.{_≡_};
+ghost use Rattle.cbor.specs.Ending.{code, itemEnd};
+ghost use Rattle.root.specs.Verdict.{RootIs};
 
 // A refusal: number, object, component; or how many objects and components there are, and the place of the attributes, 0 for none.
 pub enum Judged {
@@ -12,4 +20,30 @@ pub enum Judged {
 pub struct Whole {
     pub end: usize,
     pub verdict: Judged,
+}
+
+// The root that begins s, of a file whose manifest begins at `start`.
+pub fn root(s: &[u8], start: u64) -> Whole
+    ensures { λ r. ⌜ (r .end ≡ code (itemEnd 32 (now (s .entry)))) × RootIs (now (s .entry)) start (r .verdict) ⌝ }
+{
+    let mut p = [0usize; 6];
+    match walk::map(&s[0..]) {
+        Opening::NotOpen => Whole {
+            end: cbor::skip(&s[0..], 32),
+            verdict: Judged::No(8, 0, 0),
+        },
+        Opening::Opened(mode, count, size) => {
+            let w = entries(&s[size..], start, mode, count, &mut p);
+            let e = w.end;
+            let found = w.found;
+            let v = verdict(&s[size..], &p, found);
+            if s.len() - size < e {
+                return Whole { end: e, verdict: v };
+            }
+            Whole {
+                end: size + e,
+                verdict: v,
+            }
+        }
+    }
 }

@@ -9,9 +9,9 @@ known-spec =
     tie.close
     (tie.spec
     (λ c. search needs)
-    (λ c. verdicts.odd-key _ (c .if1 .taken))
+    (λ c. verdicts.odd-key (c .before .before .args .p .now) (c .if1 .taken))
     (λ c. search needs)
-    (λ c. verdicts.repeated _ (c .before .before .if1 .left) (c .if2 .taken))
+    (λ c. verdicts.repeated (c .before .before .before .before .args .p .now) (c .before .before .if1 .left) (c .if2 .taken))
     (λ c. search needs)
-    (λ c. verdicts.no-version _ (c .before .before .before .before .if1 .left) (c .before .before .if2 .left) (c .if3 .taken))
-    (λ c. verdicts.all-known _ (c .before .before .before .before .if1 .left) (c .before .before .if2 .left) (c .if3 .left)))
+    (λ c. verdicts.no-version (c .before .before .before .before .before .before .args .p .now) (c .before .before .before .before .if1 .left) (c .before .before .if2 .left) (c .if3 .taken))
+    (λ c. verdicts.all-known (c .before .before .before .before .before .before .args .p .now) (c .before .before .before .before .if1 .left) (c .before .before .if2 .left) (c .if3 .left)))

@@ -1,0 +1,104 @@
+-- The walk over a root: one value of its map, a branch each; its loop, which is that of every walk that keeps one field; and the whole value, lent whole to
+-- `walk::map`, which answered x.
+use Prim.Native.Nat.{ℕ, _+_, _-_, _≤_, _<_}
+use native.Mathlib.Omega.{arith}
+use mathlib.Core.List.{List}
+use mathlib.Core.Path.{_≡_, refl, subst}
+use lib.ListN.{length, getD, replicate}
+use borrow.Rule.Slice.PartAt.{part-to-end}
+use Rattle.meaning.specs.Text.{ascii}
+use Rattle.meaning.specs.Field.{rootNames, rootFields, fields}
+use Rattle.meaning.specs.Judge.{judge}
+use Rattle.types.specs.Known.{position}
+use Rattle.cbor.specs.Ending.{FAULT, code, itemEnd, rest}
+use Rattle.walk.specs.Places.{MapIs, EntryIs}
+use Rattle.walk.specs.declared.Entry.{Entry}
+use Rattle.walk.specs.declared.Entry.the-variants.{End, Value}
+use Rattle.walk.specs.declared.Opening.{Opening}
+use Rattle.walk.specs.declared.Opening.the-variants.{NotOpen, Opened}
+use Rattle.walk.proofs.Turns.{Modes}
+use Rattle.walk.proofs.Opens as opens
+use Rattle.fields.specs.Slots.{marked, SlotIs}
+use Rattle.fields.proofs.Texts.{Here}
+use Rattle.fields.proofs.Keeping as keeping
+use Rattle.objects.specs.declared.Found.{Found}
+use Rattle.objects.specs.Found.{ObjectsIs}
+use Rattle.root.specs.declared.Judged.{Judged}
+use Rattle.root.specs.declared.Judged.the-variants.{No}
+use Rattle.root.specs.Walk.{Says, Walked, ValueIs}
+use Rattle.root.specs.Verdict.{VerdictIs, RootIs}
+
+-- ---------------------------------------------------------------- one value
+
+module _ (start k seen : ℕ) (c : List ℕ) (found : Found) where
+  pub first-objects : k ≡ 2 → seen ≡ 0 → (found′ : Found) → ObjectsIs (Here c 0) start found′ → ValueIs start k seen c found found′
+  unfolding rootNames position
+  first-objects a b found′ h = record { first = λ x y. subst (λ u. ObjectsIs u start found′) (part-to-end c 0) h; other = λ n. absurd (n a b) }
+
+  pub other-value : (k ≡ 2 → seen ≡ 0 → ⊥) → ValueIs start k seen c found found
+  unfolding rootNames position
+  other-value n = record { first = λ x y. absurd (n x y); other = λ n. refl }
+
+-- ---------------------------------------------------------------- the loop
+
+pub objects-known : position rootNames (ascii "objects") < length rootNames
+unfolding rootNames position
+objects-known = omega arith
+
+-- up to `at`, with n items due, the slots p and what was found
+abbrev pub Looping : ℕ → ℕ → ℕ → List ℕ → ℕ → ℕ → List ℕ → Found → Type 0
+Looping start = keeping.Looping rootNames (ascii "objects") objects-known (Says start) 30
+
+module _ (start mode count : ℕ) (s : List ℕ) (modes : Modes mode count) where
+  pub loop-starts : (p : List ℕ) (found : Found) → p ≡ replicate 6 0 → Looping start mode count s 0 count p found
+  unfolding rootNames
+  loop-starts p found e = keeping.loop-starts rootNames (ascii "objects") objects-known (Says start) 30 mode count s modes p found e
+
+  module _ (room : length s < FAULT) (at n : ℕ) (p : List ℕ) (found : Found) (w : Looping start mode count s at n p found) where
+    pub six-slots : length p ≡ 6
+    unfolding rootNames
+    six-slots = w .slots
+
+    pub still-due : 1 ≤ mode → 0 < n
+    still-due = keeping.still-due rootNames (ascii "objects") objects-known (Says start) 30 mode count s modes room at n p found w
+
+    module _ (x : Entry) (h : EntryIs 31 mode n (Here s at) x) where
+      pub ends-inside : (e : ℕ) → x ≡ End e → e ≤ length s - at → (at + e ≡ code (rest mode count 31 s)) × Walked start mode count s p found
+      ends-inside = keeping.ends-inside rootNames (ascii "objects") objects-known (Says start) 30 mode count s modes room at n p found w x h
+
+      pub ends-faulty : (e : ℕ) → x ≡ End e → length s - at < e → (e ≡ code (rest mode count 31 s)) × Walked start mode count s p found
+      ends-faulty = keeping.ends-faulty rootNames (ascii "objects") objects-known (Says start) 30 mode count s modes room at n p found w x h
+
+      module _ (k : ℕ) (is : x ≡ Value k) where
+        pub value-inside : at + k ≤ length s
+        value-inside = keeping.value-inside rootNames (ascii "objects") objects-known (Says start) 30 mode count s modes room at n p found w x h k is
+
+        module _ (e : ℕ) (ended : e ≡ code (itemEnd 31 (Here s (at + k)))) where
+          pub two-due : 2 ≤ n
+          two-due = keeping.two-due rootNames (ascii "objects") objects-known (Says start) 30 mode count s modes room at n p found w x h k is e ended
+
+          pub value-faulty : length s - (at + k) < e → (found′ : Found) → (e ≡ code (rest mode count 31 s)) × Walked start mode count s p found′
+          value-faulty = keeping.value-faulty rootNames (ascii "objects") objects-known (Says start) 30 mode count s modes room at n p found w x h k is e ended
+
+          module _ (l : e ≤ length s - (at + k)) where
+            pub goes-on : at < at + k + e
+            goes-on = keeping.goes-on rootNames (ascii "objects") objects-known (Says start) 30 mode count s modes room at n p found w x h k is e ended l
+
+            pub loops-on : (j : ℕ) → SlotIs rootNames (Here s at) j → (found′ : Found) → ValueIs start j (getD p 2 0) (Here s (at + k)) found found′
+                → (q : List ℕ) → q ≡ marked 3 p j (length s - (at + k)) → Looping start mode count s (at + k + e) (n - 2) q found′
+            unfolding rootNames position
+            loops-on j slot found′ valued q m = keeping.loops-on rootNames (ascii "objects") objects-known (Says start) 30 mode count s modes room at n p found w x h k is e ended l j slot found′ valued q m
+
+-- ---------------------------------------------------------------- the whole value
+
+module _ (c : List ℕ) (start : ℕ) (x : Opening) (h : MapIs (Here c 0) x) where
+  pub no-map : x ≡ NotOpen → RootIs c start (No 8 0 0)
+  unfolding judge rootFields fields
+  no-map e t q r = rw (opens.opening c x h NotOpen e 31 t q r) refl
+
+  pub entries-judged : (mode count size : ℕ) → x ≡ Opened mode count size → (p : List ℕ) (found : Found) → Walked start mode count (Here c size) p found
+      → (v : Judged) → VerdictIs (Here c size) p found v → RootIs c start v
+  entries-judged mode count size is p found walked v judged t q r =
+      let m = opens.opened c x h mode count size is .trees 31 t q r in
+      let w = subst (λ u. Walked start mode count u p found) (part-to-end c size) walked (m .pairs) (m .last) (m .due) in
+      subst (λ u. VerdictIs u p found v) (part-to-end c size) judged start 30 (m .pairs) (m .last) (m .due .chain) w t (m .kind-is)
