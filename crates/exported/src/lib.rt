@@ -1,4 +1,5 @@
-// The leaves under plain names, for programs in Rust or C that hold them against others. Each only calls what it is named after.
+// The leaves, and the acceptance check with its indices, under plain names, for programs in Rust or C that hold them against others. Each only calls what it is named after.
+use reader::Verdict;
 ghost use mathlib.Core.Path.{_≡_};
 ghost use mathlib.Core.List.{List};
 ghost use Prim.Native.Nat.{ℕ, _≤_, _+_, _*_, _/_, _%_};
@@ -17,6 +18,7 @@ ghost use Rattle.meaning.specs.Format as format;
 ghost use Rattle.types.specs.Known as known;
 ghost use Rattle.lengths.specs.Place.{placed, number};
 ghost use Rattle.formats.specs.Parts.{partRows};
+ghost use Rattle.reader.specs.Verdict.{verdict};
 ghost use Rattle.exported.specs.Told.{ruling, place};
 
 #[no_mangle]
@@ -254,4 +256,11 @@ pub extern "C" fn leaf_frame(file: &[u8]) -> Place
             size: size,
         },
     }
+}
+
+#[no_mangle]
+pub extern "C" fn leaf_accept(file: &[u8]) -> Verdict
+    ensures { λ r. ⌜ r ≡ verdict (frames.reading (now (file .entry))) ⌝ }
+{
+    reader::accept(file)
 }

@@ -10,6 +10,7 @@ ghost use Rattle.reader.specs.Verdict as is;
 const FAULT: usize = 0x8000_0000_0000_0000;
 
 // The first failing check of document 01's order: its number, object and component; 0, 0 and 0 for a file that is accepted.
+#[repr(C)]
 pub struct Verdict {
     pub number: u64,
     pub object: u64,
