@@ -1,14 +1,14 @@
 -- The laws of Majors, by the first byte of any list that has one.
-use Prim.Native.Nat.{ℕ, suc, _+_, _/_, _%_, _≤_, _<_}
+use Prim.Native.Nat.{ℕ, zero, suc, _+_, _/_, _%_, _≤_, _<_}
 use native.Mathlib.Omega.{arith}
 use mathlib.Core.List.{List, [], _∷_}
 use mathlib.Core.Bool.{Bool, true, false, _&&_}
 use mathlib.Core.Path.{_≡_, refl}
 use lib.Dec.{leb, ltb}
-use borrow.Author.Tests.{leb-true, ltb-true, le-leb, lt-ltb}
+use borrow.Author.Tests.{leb-true, ltb-true, le-leb, lt-leb, lt-ltb}
 use lib.ListN.{length, getD, drop}
 use Rattle.meaning.specs.Read.{toBreak, chunk}
-use Rattle.cbor.specs.Ending.{fault, FAULT, code, ending, shift, itemEnd, headOf, stringEnd, holds, HolderIs, held, doubled, Counted}
+use Rattle.cbor.specs.Ending.{fault, FAULT, code, ending, shift, itemEnd, headOf, stringEnd, holds, HolderIs, held, doubled, Counted, PlainIs}
 use Rattle.cbor.specs.declared.Holding.{Holding}
 use Rattle.cbor.proofs.Majors as majors
 use Rattle.cbor.proofs.Majors.{Scalar, low, high}
@@ -94,3 +94,8 @@ tag-holds (b ∷ t) l r x n = where-it-holds (b ∷ t) (held (headOf (b ∷ t) .
 pub open-tag-refused : (s : List ℕ) → 1 ≤ length s → length s < FAULT → 192 ≤ getD s 0 0 → getD s 0 0 < 224 → getD s 0 0 % 32 ≡ 31 → (d : ℕ) → itemEnd (suc d) s ≡ fault 6
 open-tag-refused [] l r x y n = absurd (omega arith)
 open-tag-refused (b ∷ t) l r x y n = majors.open-tag-refused b t r x y n
+
+-- an item that begins with a number or a string needs no more than `plain`
+pub scalar-skipped : (left : ℕ) (s : List ℕ) (r : ℕ) → 0 < left → getD s 0 0 < 128 → PlainIs s r → r ≡ code (itemEnd left s)
+scalar-skipped zero s r l b h = absurd (omega arith)
+scalar-skipped (suc d) s r l b h = h d (rw (lt-leb 128 (getD s 0 0) b) refl)
