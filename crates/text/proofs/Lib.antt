@@ -5,5 +5,6 @@ pub mod WordsDecide
 pub mod DigestSteps
 pub mod WithinRange
 pub mod Utf8Steps
+pub mod AsciiWords
 pub mod VersionSteps
 pub mod LittleEndian

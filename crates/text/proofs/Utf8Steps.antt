@@ -123,6 +123,11 @@ module _ {t : List ℕ} {i need low high b : ℕ} (h : Says t i need low high) (
   pub lead-some : {r : Lead} → Leads b r → need ≡ 0 → (r .need ≡ 4 → ⊥) → Says t (i + 1) (r .need) (r .low) (r .high)
   lead-some k z q = record { says = first-now z ∙ first-some b _ _ (k .some-can q) }
 
+  -- a byte below 128 asks nothing
+  pub lead-low : need ≡ 0 → b < 128 → Says t (i + 1) need low high
+  unfolding ranges
+  lead-low z m = record { says = rw z (first-now z ∙ first-some b _ _ (lead-0 m .some-can (λ q. omega arith))) }
+
   pub next-under : 0 < need → b < low → false ≡ utf8 t
   next-under z q = sym (next-now z ∙ next-out b _ _ _ (under low high b q))
 

@@ -1,8 +1,17 @@
-// UTF-8, byte by byte.
+// UTF-8: eight bytes at a time while all are below 128, and byte by byte from the first word on that has another.
+use endian::be4;
+use endian::be8;
 use endian::wide;
 ghost use mathlib.Core.Path.{_≡_};
+ghost use Prim.Native.Nat.{_≤_};
+ghost use lib.ListN.{length};
 ghost use Rattle.meaning.specs.Text as meant;
 ghost use Rattle.text.specs.Lead as leads;
+
+// The highest bit of each byte of a word: a byte below 128 hasn't it.
+const HIGH_OF_EIGHT: u64 = 0x8080_8080_8080_8080;
+
+const HIGH_OF_FOUR: u64 = 0x8080_8080;
 
 // What must follow a first byte: `need` more bytes, the first from `low` to `high`; 4 if no character begins so.
 pub struct Lead {
@@ -55,8 +64,8 @@ fn begins(b: u64) -> Lead
     lead_of(4, 128, 191)
 }
 
-// The text is UTF-8. The state is what `Lead` says of the bytes that must still come.
-pub fn utf8(t: &[u8]) -> bool
+// The text is UTF-8, byte by byte. The state is what `Lead` says of the bytes that must still come.
+fn utf8_by_bytes(t: &[u8]) -> bool
     ensures { λ r. ⌜ r ≡ meant.utf8 (now (t .entry)) ⌝ }
 {
     let mut i: usize = 0;
@@ -66,6 +75,11 @@ pub fn utf8(t: &[u8]) -> bool
     while i < t.len() {
         let b = wide(t[i]);
         if need == 0 {
+            // most bytes are such, and ask nothing
+            if b < 128 {
+                i += 1;
+                continue;
+            }
             let l = begins(b);
             if l.need == 4 {
                 return false;
@@ -88,4 +102,51 @@ pub fn utf8(t: &[u8]) -> bool
         i += 1;
     }
     need == 0
+}
+
+// The same of four to eight bytes: two words of four that overlap.
+fn utf8_by_halves(t: &[u8]) -> bool
+    requires { ⌜ (4 ≤ length (now t)) × (length (now t) ≤ 8) ⌝ }
+    ensures { λ r. ⌜ r ≡ meant.utf8 (now (t .entry)) ⌝ }
+{
+    let last = t.len() - 4;
+    if be4(&t[0..], 0) & HIGH_OF_FOUR != 0 {
+        return utf8_by_bytes(&t[0..]);
+    }
+    if be4(&t[last..], 0) & HIGH_OF_FOUR != 0 {
+        return utf8_by_bytes(&t[0..]);
+    }
+    true
+}
+
+// The same of eight bytes or more, by words; the last word overlaps.
+fn utf8_by_words(t: &[u8]) -> bool
+    requires { ⌜ 8 ≤ length (now t) ⌝ }
+    ensures { λ r. ⌜ r ≡ meant.utf8 (now (t .entry)) ⌝ }
+{
+    let last = t.len() - 8;
+    let mut i: usize = 0;
+    while i < last {
+        if be8(&t[i..], 0) & HIGH_OF_EIGHT != 0 {
+            return utf8_by_bytes(&t[i..]);
+        }
+        i += 8;
+    }
+    if be8(&t[last..], 0) & HIGH_OF_EIGHT != 0 {
+        return utf8_by_bytes(&t[i..]);
+    }
+    true
+}
+
+// The text is UTF-8.
+pub fn utf8(t: &[u8]) -> bool
+    ensures { λ r. ⌜ r ≡ meant.utf8 (now (t .entry)) ⌝ }
+{
+    if t.len() < 4 {
+        return utf8_by_bytes(&t[0..]);
+    }
+    if t.len() < 8 {
+        return utf8_by_halves(&t[0..]);
+    }
+    utf8_by_words(&t[0..])
 }

@@ -1,36 +1,27 @@
--- `text::utf::utf8` meets its contract. The loop's invariant: what is left to say from i on, given the three numbers. Assumes nothing.
-use Prim.Native.Nat.{_-_, _≤_}
-use native.Mathlib.Omega.{arith}
-use lib.ListN.{length}
+-- `text::utf::utf8` meets its contract: by bytes, by two words of four or by words of eight. Assumes nothing.
+use mathlib.Core.Path.{_∙_, ap}
 use borrow.Author.Needs.{needs}
-use Rattle.text.proofs.Utf8Steps as steps
+use Rattle.meaning.specs.Text as meant
+use Rattle.text.proofs.SameIsEqual.{whole}
 use Rattle.text.proofs.utf.utf8.Statement.{statement}
 use Rattle.text.proofs.utf.utf8.Tie as tie
-
-abbrev Inv-loop : tie.InvT-loop
-Inv-loop t i₀ need₀ low₀ high₀ i need low high = (i ≤ length t) × steps.Says t i need low high
-
-abbrev μ-loop : tie.MeasureT-loop
-μ-loop t i₀ need₀ low₀ high₀ i need low high = length t - i
 
 pub utf8-spec : {M : Type 1} → statement M
 utf8-spec =
     tie.close
     (tie.spec
-    Inv-loop
-    μ-loop
-    (λ c. (omega arith, steps.says-all _))
+    (λ c. search needs)
+    (λ c. search needs)
     (λ c. search needs)
     (λ c κs. search needs)
+    (λ c. (c .utf8-by-bytes .ensures) ∙ ap meant.utf8 (whole (c .before .before .before .before .args .t .now)))
+    (λ c. search needs)
+    (λ c. search needs)
+    (λ c. search needs)
     (λ c κs. search needs)
-    (λ c. steps.lead-none (c .before .before .before .before .before .before .before .loop .inv .1) (c .before .before .before .before .wide .ensures .0) (omega arith) (c .before .before .begins .ensures) (omega arith) (omega arith))
-    (λ c. search needs)
-    (λ c. search needs)
-    (λ c. (omega arith, steps.lead-some (c .before .before .before .before .before .before .before .loop .inv .1) (c .before .before .before .before .wide .ensures .0) (omega arith) (c .before .before .begins .ensures) (omega arith) (c .if2 .left)))
-    (λ c. steps.next-under (c .before .before .before .before .before .loop .inv .1) (c .before .before .wide .ensures .0) (omega arith) (omega arith) (omega arith))
-    (λ c. steps.next-over (c .before .before .before .before .before .before .loop .inv .1) (c .before .before .before .wide .ensures .0) (omega arith) (omega arith) (omega arith))
+    (λ c. (c .utf8-by-halves .ensures) ∙ ap meant.utf8 (whole (c .before .before .before .before .before .args .t .now)))
     (λ c. search needs)
     (λ c. search needs)
     (λ c. search needs)
-    (λ c. (omega arith, steps.next-right (c .before .before .before .before .before .before .loop .inv .1) (c .before .before .before .wide .ensures .0) (omega arith) (omega arith) (omega arith) (omega arith)))
-    (λ c. steps.says-end (c .before .loop .inv .1) (omega arith)))
+    (λ c κs. search needs)
+    (λ c. (c .utf8-by-words .ensures) ∙ ap meant.utf8 (whole (c .before .before .before .before .before .args .t .now))))
