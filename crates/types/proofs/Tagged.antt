@@ -1,56 +1,45 @@
 -- Texts of bytes as numbers: equal numbers are equal texts. Assumes nothing.
-use mathlib.Core.Path.{_≡_, refl, sym, ap, _∙_}
+use mathlib.Core.Path.{_≡_, refl, ap, _∙_}
 use mathlib.Core.List.{List, [], _∷_}
 use mathlib.Core.Bool.{Bool, true, false, _&&_}
-use Prim.Native.Nat.{ℕ, zero, suc, _+_, _-_, _*_, _^_, _≤_, _<_}
-use native.Mathlib.Numerals.{add-one}
+use Prim.Native.Nat.{ℕ, zero, suc, _+_, _-_, _*_, _≤_, _<_}
 use native.Mathlib.Omega.{arith}
-use native.Mathlib.Nat.{pow-le-pow-right}
-use lib.ListN.{length, getD, take, drop, drop-of-length-le}
-use lib.Seq.{drop-cons}
-use lib.Pow.{pow-add}
+use lib.ListN.{length, getD, take, drop}
 use lib.Dec.{ltb, eqb}
 use borrow.Author.Tests.{eq-eqb, ne-eqb, eqb-true, eqb-false, ltb-true, lt-ltb}
 use Rattle.meaning.specs.Text.{same}
 use Rattle.types.specs.Row.{tagged, bytes}
 use Rattle.types.proofs.Tell.{not-both}
 
--- ---------------------------------------------------------------- the number, byte by byte from the end
+-- ---------------------------------------------------------------- the number of a few bytes, and of four and the rest
 
-pub tagged-end : (k : List ℕ) (i : ℕ) → length k ≤ i → 1 ≡ tagged (drop i k)
+pub tagged-none : (k : List ℕ) → length k ≡ 0 → 1 ≡ tagged k
 unfolding tagged
-tagged-end k i l = rw (drop-of-length-le k l)
+tagged-none [] e = refl
+tagged-none (a ∷ k) e = absurd (omega arith)
 
-tagged-more : (k : List ℕ) (i t : ℕ) → i < length k → t ≡ tagged (drop (i + 1) k) → t * 256 + getD k i 0 ≡ tagged (drop i k)
+pub tagged-one : (k : List ℕ) → length k ≡ 1 → getD k 0 0 + 256 ≡ tagged k
 unfolding tagged
-tagged-more k i t l e = rw (drop-cons k i 0 l, e, add-one) (omega arith)
+tagged-one [] e = absurd (omega arith)
+tagged-one (a ∷ k) e = let z = tagged-none k (omega arith) in omega arith
 
-pub record Small (k : List ℕ) (i t : ℕ) : Type 0 where
-  pub in-k : i ≤ length k
-  pub is : t ≡ tagged (drop i k)
-  pub below : t < 2 * 256 ^ (length k - i)
+pub tagged-two : (k : List ℕ) → length k ≡ 2 → getD k 0 0 + getD k 1 0 * 256 + 65536 ≡ tagged k
+unfolding tagged
+tagged-two [] e = absurd (omega arith)
+tagged-two (a ∷ k) e = let z = tagged-one k (omega arith) in omega arith
 
-pub small-start : (k : List ℕ) → Small k (length k) 1
-small-start k = let z : length k - length k ≡ 0 = omega arith in record { in-k = omega arith; is = tagged-end k (length k) (omega arith); below = rw z (omega arith) }
+pub tagged-three : (k : List ℕ) → length k ≡ 3 → getD k 0 0 + getD k 1 0 * 256 + getD k 2 0 * 65536 + 16777216 ≡ tagged k
+unfolding tagged
+tagged-three [] e = absurd (omega arith)
+tagged-three (a ∷ k) e = let z = tagged-two k (omega arith) in omega arith
 
-module _ (k : List ℕ) (i t : ℕ) (h : Small k i t) (short : length k ≤ 7) (more : 0 < i) (b : ℕ) (byte : b < 256) where
-  pub small-fits : t * 256 + b < 2 ^ 64
-  small-fits =
-      let a = h .in-k in let c = h .below in
-      let d : length k - i ≤ 6 = omega arith in
-      let p : 256 ^ (length k - i) ≤ 256 ^ 6 = pow-le-pow-right (omega arith) d in
-      omega (arith, p)
-
-  pub small-next : b ≡ getD k (i - 1) 0 → Small k (i - 1) (t * 256 + b)
-  small-next e =
-      let a = h .in-k in let c = h .below in
-      let z : i - 1 + 1 ≡ i = omega arith in
-      let y : length k - (i - 1) ≡ length k - i + 1 = omega arith in
-      record {
-        in-k = omega arith;
-        is = ap (λ (u : ℕ). t * 256 + u) e ∙ tagged-more k (i - 1) t (omega arith) (h .is ∙ ap (λ (u : ℕ). tagged (drop u k)) (sym z));
-        below = rw (y, pow-add 256 (length k - i) 1) (omega arith);
-      }
+pub tagged-four : (k : List ℕ) → 4 ≤ length k → getD k 0 0 + getD k 1 0 * 256 + getD k 2 0 * 65536 + getD k 3 0 * 16777216 + tagged (drop 4 k) * 4294967296 ≡ tagged k
+unfolding tagged
+tagged-four [] l = absurd (omega arith)
+tagged-four (a ∷ []) l = absurd (omega arith)
+tagged-four (a ∷ b ∷ []) l = absurd (omega arith)
+tagged-four (a ∷ b ∷ c ∷ []) l = absurd (omega arith)
+tagged-four (a ∷ b ∷ c ∷ d ∷ k) l = omega arith
 
 -- ---------------------------------------------------------------- texts of bytes
 

@@ -1,4 +1,5 @@
 // Texts as three numbers of seven bytes each, by which known names are told apart: a table has such a row for each of its names.
+use endian::wide;
 ghost use mathlib.Core.Path.{_≡_};
 ghost use Prim.Native.Nat.{_+_, _≤_, _<_};
 ghost use lib.ListN.{length};
@@ -10,18 +11,41 @@ pub struct Words {
     pub c: u64,
 }
 
-// At most seven bytes as one number.
+// At most three bytes as one number.
+fn few(k: &[u8]) -> u64
+    requires { ⌜ length (now k) ≤ 3 ⌝ }
+    ensures { λ r. ⌜ (r ≡ taggedOf (now (k .entry))) × (r < 33554432) ⌝ }
+{
+    let n = k.len();
+    if n == 0 {
+        return 1;
+    }
+    let a = wide(k[0]);
+    if n == 1 {
+        return a + 256;
+    }
+    let b = wide(k[1]);
+    if n == 2 {
+        return a + b * 256 + 65536;
+    }
+    let c = wide(k[2]);
+    a + b * 256 + c * 65536 + 16777216
+}
+
+// At most seven bytes as one number: four at once, and what follows them.
 fn tagged(k: &[u8]) -> u64
     requires { ⌜ length (now k) ≤ 7 ⌝ }
     ensures { λ r. ⌜ r ≡ taggedOf (now (k .entry)) ⌝ }
 {
-    let mut t: u64 = 1;
-    let mut i = k.len();
-    while 0 < i {
-        i -= 1;
-        t = t * 256 + k[i] as u64;
+    if k.len() < 4 {
+        return few(&k[0..]);
     }
-    t
+    let a = wide(k[0]);
+    let b = wide(k[1]);
+    let c = wide(k[2]);
+    let d = wide(k[3]);
+    let more = few(&k[4..]);
+    a + b * 256 + c * 65536 + d * 16777216 + more * 4294967296
 }
 
 // The numbers of a text's first seven bytes, of the next seven and of the rest. No name that is known is longer than 21 bytes or has a 0 there.
