@@ -3,13 +3,14 @@ use Prim.Native.Nat.{ℕ, zero, suc, _+_, _/_, _%_, _≤_, _<_}
 use native.Mathlib.Omega.{arith}
 use mathlib.Core.List.{List, [], _∷_}
 use mathlib.Core.Bool.{Bool, true, false, _&&_}
-use mathlib.Core.Path.{_≡_, refl}
+use mathlib.Core.Path.{_≡_, refl, ap, _∙_}
 use lib.Dec.{leb, ltb}
-use borrow.Author.Tests.{leb-true, ltb-true, le-leb, lt-leb, lt-ltb}
+use borrow.Author.Tests.{leb-true, ltb-true, le-leb, lt-ltb}
 use lib.ListN.{length, getD, drop}
 use Rattle.meaning.specs.Read.{toBreak, chunk}
-use Rattle.cbor.specs.Ending.{fault, FAULT, code, ending, shift, itemEnd, headOf, stringEnd, holds, HolderIs, held, doubled, Counted, PlainIs}
+use Rattle.cbor.specs.Ending.{fault, FAULT, code, ending, shift, itemEnd, headOf, stringEnd, holds, HolderIs, held, doubled, Counted}
 use Rattle.cbor.specs.declared.Holding.{Holding}
+use Rattle.cbor.proofs.Heads.{head-small}
 use Rattle.cbor.proofs.Majors as majors
 use Rattle.cbor.proofs.Majors.{Scalar, low, high}
 use Rattle.endian.proofs.Which.{lt-or}
@@ -95,7 +96,8 @@ pub open-tag-refused : (s : List ℕ) → 1 ≤ length s → length s < FAULT �
 open-tag-refused [] l r x y n = absurd (omega arith)
 open-tag-refused (b ∷ t) l r x y n = majors.open-tag-refused b t r x y n
 
--- an item that begins with a number or a string needs no more than `plain`
-pub scalar-skipped : (left : ℕ) (s : List ℕ) (r : ℕ) → 0 < left → getD s 0 0 < 128 → PlainIs s r → r ≡ code (itemEnd left s)
-scalar-skipped zero s r l b h = absurd (omega arith)
-scalar-skipped (suc d) s r l b h = h d (rw (lt-leb 128 (getD s 0 0) b) refl)
+-- short text: its length stands in its first byte
+pub short-text : (left : ℕ) (s : List ℕ) → 0 < left → 1 ≤ length s → length s < FAULT → 96 ≤ getD s 0 0 → getD s 0 0 < 120 → (i : ℕ) → i ≡ getD s 0 0 % 32 → stringEnd (length s) 1 i ≡ code (itemEnd left s)
+short-text zero s l k room a b i e = absurd (omega arith)
+short-text (suc d) s l k room a b i e =
+    ap (λ h. stringEnd (length s) (h .size) (h .value)) (head-small s i k e (omega arith)) ∙ string-ends s d k (omega arith) (omega arith) room (λ z. omega arith)

@@ -317,14 +317,18 @@ fn items(s: &[u8], count: u64, mode: u64, left: u64) -> usize
     at
 }
 
-// The item that begins s, where `left` levels are left: how many bytes it takes, or the refusal. Numbers and strings, which most keys and values are, need no loop.
+// The item that begins s, where `left` levels are left: how many bytes it takes, or the refusal. Short text, which most keys are, needs no loop.
 pub fn skip(s: &[u8], left: u64) -> usize
     ensures { λ r. ⌜ r ≡ spec.code (spec.ending (now (s .entry)) (read.item read.noNote left (now (s .entry)))) ⌝ }
 {
-    if 0 < left {
-        if 0 < s.len() {
-            if s[0] < 128 {
-                return plain(&s[0..]);
+    if s.len() == 0 {
+        return MALFORMED;
+    }
+    let b = s[0];
+    if 96 <= b {
+        if b < 120 {
+            if 0 < left {
+                return string_end(s.len(), 1, low_of(b) as u64);
             }
         }
     }
