@@ -28,13 +28,13 @@ use Rattle.component.specs.declared.Judged.the-variants.{No, Yes}
 use Rattle.components.specs.declared.First.{First}
 use Rattle.components.specs.declared.First.the-variants.{Fine, Fault}
 use Rattle.components.specs.Firsts.{FirstIs, Keeps}
-use Rattle.components.specs.Typed.{TypeAt, bare, lettered, UnitIs}
+use Rattle.components.specs.Typed.{WordAt, bare, lettered, UnitIs}
 use Rattle.components.specs.Row.{putRow, RoleIs}
 use Rattle.components.proofs.Keeping.{fault-stays, first-fault, still-fine}
 use Rattle.components.proofs.Lettered.{type-at, named-so}
 use Rattle.components.proofs.Rows.{row-length, row-after}
 
-plain-is : (c : List ℕ) (k : Component Ends) → TypeAt c k → flag (eqb (leftWord (k .type)) 0 && eqb (k .dtype) 8) ≡ flag (plain (part k))
+plain-is : (c : List ℕ) (k : Component Ends) → WordAt c (k .type) → flag (eqb (leftWord (k .type)) 0 && eqb (k .dtype) 8) ≡ flag (plain (part k))
 unfolding part lettersOf
 plain-is c k (bare b) = ap (λ o. flag (eqb (leftWord o) 0 && eqb (k .dtype) 8)) b ∙ ap flag (sym (plain-bare (part k) (ap lettersOf b)))
 plain-is c k (lettered w b d t x a) =
@@ -61,7 +61,7 @@ module _ (s c : List ℕ) (v : Judged) (j : ℕ) (first : First) (rows : List �
       (u : ℕ) (is-u : UnitIs c code left u) (called : ℕ) (is-called : RoleIs s called) (b : ℕ) (is-b : b ≡ flag (eqb left 0 && eqb code 8)) where
     module _ (start : ℕ) (done : List (Pair Ends)) (p : Pair Ends) (d : ℕ) (q r : List ℕ) (x : Reads (suc d) s (p .key) q) (y : Reads 28 c (p .value) r) (is : j ≡ length done)
         (k : Component Ends) (z : component start (namedAnyway p) ≡ pass k) (w : Yes code left o size g ≡ judged (pass k)) where
-      typed : TypeAt c k
+      typed : WordAt c (k .type)
       typed = type-at c room (p .value) r y start (namedAnyway p .name) k z
 
       row : called ∷ u ∷ b ∷ size ∷ [] ≡ partRow (part k)

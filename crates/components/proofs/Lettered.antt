@@ -1,4 +1,4 @@
--- A component that passes: the letters of its type stand where its verdict says.
+-- A component that passes: the letters of its type and of its digest stand where its verdict says.
 use Prim.Native.Nat.{ℕ, suc, _+_, _-_, _≤_, _<_}
 use native.Mathlib.Omega.{arith}
 use mathlib.Core.List.{List}
@@ -11,7 +11,7 @@ use lib.ListN.{length, getD, drop, length-drop}
 use lib.Seq.{drop-drop}
 use Rattle.meaning.specs.Tree as tree
 use Rattle.meaning.specs.Tree.{Node, Pair, noteOf}
-use Rattle.meaning.specs.Check.{pass, fault, _>>=_, _>>_, _unless_, optional}
+use Rattle.meaning.specs.Check.{Check, pass, fault, _unless_, optional}
 use Rattle.meaning.specs.Text.{ascii, utf8}
 use Rattle.meaning.specs.Refusal.{KIND, TEXT, TYPE}
 use Rattle.meaning.specs.Model.{Word, Component}
@@ -28,8 +28,8 @@ use Rattle.walk.proofs.Maps as maps
 use Rattle.walk.proofs.ReadSays.{nothing-read}
 use Rattle.walk.proofs.Chains.{ate}
 use Rattle.fields.proofs.Standing.{get-stands}
-use Rattle.components.specs.Typed.{TypeAt, bare, lettered}
-use Rattle.components.proofs.Typed.{passed, passed-on, pass-same, TypeFrom, type-from}
+use Rattle.components.specs.Typed.{WordAt, bare, lettered}
+use Rattle.components.proofs.Typed.{passed, passed-on, pass-same, TextsFrom, texts-from}
 
 -- ---------------------------------------------------------------- the pairs of a map stand in its bytes
 
@@ -66,7 +66,7 @@ module _ (d : ℕ) (s : List ℕ) (room : length s < FAULT) (t : Node Ends) (r :
 
 -- ---------------------------------------------------------------- a word's own annotation
 
-word-note : (t : Node Ends) (w : Word Ends) → kinds.aWord t ≡ pass w → w .note ≡ noteOf t
+pub word-note : (t : Node Ends) (w : Word Ends) → kinds.aWord t ≡ pass w → w .note ≡ noteOf t
 unfolding kinds.aWord kinds.asWord kind
 word-note (tree.uint p n) w e = absurd (let z : _≡_ {A = ℕ} 0 1 = cc in omega arith)
 word-note (tree.nint p n) w e = absurd (let z : _≡_ {A = ℕ} 0 1 = cc in omega arith)
@@ -84,14 +84,19 @@ word-note (tree.simple p n) w e = go (eqb n 22) e
     go false e = absurd (let z : _≡_ {A = ℕ} 0 1 = cc in omega arith)
 word-note (tree.float p w b) v e = absurd (let z : _≡_ {A = ℕ} 0 1 = cc in omega arith)
 
+pub text-word : (t : Node Ends) (w : Word Ends) → kinds.aText t ≡ pass w → kinds.aWord t ≡ pass w
+unfolding kinds.aText
+text-word t w e =
+    let c = passed (kinds.aWord t) _ w e in
+    let g = passed-on (TEXT unless utf8 (c .value .letters)) (pass (c .value)) w (c .then) in
+    c .is ∙ g
+
 type-word : (d : ℕ) (t : Node Ends) (w : Word Ends) → aType d t ≡ pass w → kinds.aWord t ≡ pass w
-unfolding aType kinds.aText
+unfolding aType
 type-word d t w e =
     let a = passed (kinds.aText t) _ w e in
     let b = passed-on (TYPE unless fitsOver d (listed logicals (a .value .letters))) (pass (a .value)) w (a .then) in
-    let c = passed (kinds.aWord t) _ (a .value) (a .is) in
-    let g = passed-on (TEXT unless utf8 (c .value .letters)) (pass (c .value)) (a .value) (c .then) in
-    c .is ∙ g ∙ b
+    text-word t w (a .is ∙ b)
 
 present-kind : (u : Node Ends) (k : Kind Ends) (t : Node Ends) → presentKind u k ≡ some t → some u ≡ some t
 unfolding presentKind
@@ -107,20 +112,21 @@ unfolding present
 presence none t e = absurd (let z : _≡_ {A = ℕ} 0 1 = cc in omega arith)
 presence (some u) t e = present-kind u (kind u) t e
 
--- ---------------------------------------------------------------- the type of a component
+-- ---------------------------------------------------------------- the type and the digest of a component
 
 module _ (c : List ℕ) (room : length c < FAULT) (x : Node Ends) (q : List ℕ) (e : Reads 28 c x q) (start : ℕ) (n : Word Ends) (k : Component Ends)
     (is : component start (record { name = n; value = x }) ≡ pass k) where
-  from : TypeFrom (record { name = n; value = x }) k
-  from = type-from start (record { name = n; value = x }) k is
+  from : TextsFrom (record { name = n; value = x }) k
+  from = texts-from start (record { name = n; value = x }) k is
 
   pub named-so : n ≡ k .name
   named-so = from .named
 
-  some-type : (t : Node Ends) → get (ascii "type") (from .pairs) ≡ some t → (w : Word Ends) → kinds.aWord t ≡ pass w → k .type ≡ some w → TypeAt c k
-  some-type t g w word typed =
+  -- the value of a field that is a text stands in c
+  some-word : (name : List ℕ) (o : Option (Word Ends)) (t : Node Ends) → get name (from .pairs) ≡ some t → (w : Word Ends) → kinds.aWord t ≡ pass w → o ≡ some w → WordAt c o
+  some-word name o t g w word typed =
       let h = pairs-chained 27 c room x q e (from .pairs) (from .kind-is) in
-      let s = get-stands 27 (drop (h .at) c) (ascii "type") (from .pairs) 0 (omega arith) (h .last) (h .chain) t g in
+      let s = get-stands 27 (drop (h .at) c) name (from .pairs) 0 (omega arith) (h .last) (h .chain) t g in
       let i = h .within in let j = s .within in
       let note : noteOf t ≡ w .note = sym (word-note t w word) in
       let left : length (noteOf t .start) ≡ length (w .note .start) = ap (λ (p : Ends). length (p .start)) note in
@@ -130,11 +136,19 @@ module _ (c : List ℕ) (room : length c < FAULT) (x : Node Ends) (q : List ℕ)
       let a = ate 27 (drop (length c - length (w .note .start)) c) t (s .rest) r in
       lettered w typed 26 t (omega (arith, a .some, a .fits, length-drop (length c - length (w .note .start)) c), record { rest = s .rest; within = omega (arith, length-drop (h .at) c); left-is = sym left; reads = r }) word
 
-  pub type-at : TypeAt c k
-  type-at = go (present (get (ascii "type") (from .pairs))) refl (from .typed)
+  -- a check F of such a field, which passes only words
+  word-at : (name : List ℕ) (F : Node Ends → Check (Word Ends)) → ((t : Node Ends) (w : Word Ends) → F t ≡ pass w → kinds.aWord t ≡ pass w) → (o : Option (Word Ends))
+      → optional F (present (get name (from .pairs))) ≡ pass o → WordAt c o
+  word-at name F words o = go (present (get name (from .pairs))) refl
     where
-      go : (o : Option (Node Ends)) → present (get (ascii "type") (from .pairs)) ≡ o → optional (aType (k .dtype)) o ≡ pass (k .type) → TypeAt c k
+      go : (p : Option (Node Ends)) → present (get name (from .pairs)) ≡ p → optional F p ≡ pass o → WordAt c o
       go none h t = bare (sym (pass-same t))
       go (some u) h t =
-          let p = passed (aType (k .dtype) u) (λ b. pass (some b)) (k .type) t in
-          some-type u (presence (get (ascii "type") (from .pairs)) u h) (p .value) (type-word (k .dtype) u (p .value) (p .is)) (sym (pass-same (p .then)))
+          let p = passed (F u) (λ b. pass (some b)) o t in
+          some-word name o u (presence (get name (from .pairs)) u h) (p .value) (words u (p .value) (p .is)) (sym (pass-same (p .then)))
+
+  pub type-at : WordAt c (k .type)
+  type-at = word-at (ascii "type") (aType (k .dtype)) (type-word (k .dtype)) (k .type) (from .typed)
+
+  pub digest-at : WordAt c (k .digest)
+  digest-at = word-at (ascii "digest") kinds.aText text-word (k .digest) (from .digested)

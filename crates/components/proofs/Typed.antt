@@ -1,4 +1,4 @@
--- A component that passes: where its type comes from.
+-- A component that passes: where its type and its digest come from.
 use Prim.Native.Nat.{ℕ, _+_, _%_}
 use native.Mathlib.Omega.{arith}
 use mathlib.Core.List.{List}
@@ -47,6 +47,7 @@ pub record Fielded (t : Node Ends) (c : ComponentFields Ends) : Type 0 where
   pub pairs : List (Pair Ends)
   pub kind-is : kind t ≡ kinds.table pairs
   pub type-is : c .type ≡ get (ascii "type") pairs
+  pub digest-is : c .digest ≡ get (ascii "digest") pairs
 
 fielded : (t : Node Ends) (c : ComponentFields Ends) → componentFields t ≡ pass c → Fielded t c
 unfolding componentFields fields kinds.aTable
@@ -56,17 +57,18 @@ fielded t c e =
     let u = passed-on (KEY unless all (λ p. isSome (keyOf p)) (b .value)) (TWICE unless all (λ n. leb (count n (b .value)) 1) componentNames >> pass (b .value)) (a .value) (b .then) in
     let v : pass (b .value) ≡ pass (a .value) = passed-on (TWICE unless all (λ n. leb (count n (b .value)) 1) componentNames) (pass (b .value)) (a .value) u in
     let w : b .value ≡ a .value = cc in
-    record { pairs = a .value; kind-is = table-of (kind t) (a .value) (b .is ∙ ap pass w); type-is = let z = a .then in cc }
+    record { pairs = a .value; kind-is = table-of (kind t) (a .value) (b .is ∙ ap pass w); type-is = let z = a .then in cc; digest-is = let z = a .then in cc }
 
-pub record TypeFrom (n : Named Ends) (k : Component Ends) : Type 0 where
+pub record TextsFrom (n : Named Ends) (k : Component Ends) : Type 0 where
   pub named : n .name ≡ k .name
   pub pairs : List (Pair Ends)
   pub kind-is : kind (n .value) ≡ kinds.table pairs
   pub typed : optional (aType (k .dtype)) (present (get (ascii "type") pairs)) ≡ pass (k .type)
+  pub digested : optional kinds.aText (present (get (ascii "digest") pairs)) ≡ pass (k .digest)
 
-pub type-from : (start : ℕ) (n : Named Ends) (k : Component Ends) → component start n ≡ pass k → TypeFrom n k
+pub texts-from : (start : ℕ) (n : Named Ends) (k : Component Ends) → component start n ≡ pass k → TextsFrom n k
 unfolding component
-type-from start n k e =
+texts-from start n k e =
     let a = passed (componentFields (n .value)) _ k e in
     let f = fielded (n .value) (a .value) (a .is) in
     let b = passed (required (a .value .dtype)) _ k (a .then) in
@@ -84,4 +86,5 @@ type-from start n k e =
     let x = pass-same q in
     let y : g .value ≡ k .dtype = ap (λ (c : Component Ends). c .dtype) x in
     let z : h .value ≡ k .type = ap (λ (c : Component Ends). c .type) x in
-    record { named = ap (λ (c : Component Ends). c .name) x; pairs = f .pairs; kind-is = f .kind-is; typed = ap (λ d. optional (aType d) (present (get (ascii "type") (f .pairs)))) (sym y) ∙ ap (λ o. optional (aType (g .value)) (present o)) (sym (f .type-is)) ∙ h .is ∙ ap pass z }
+    let w : o .value ≡ k .digest = ap (λ (c : Component Ends). c .digest) x in
+    record { named = ap (λ (c : Component Ends). c .name) x; pairs = f .pairs; kind-is = f .kind-is; typed = ap (λ d. optional (aType d) (present (get (ascii "type") (f .pairs)))) (sym y) ∙ ap (λ o. optional (aType (g .value)) (present o)) (sym (f .type-is)) ∙ h .is ∙ ap pass z; digested = ap (λ o. optional kinds.aText (present o)) (sym (f .digest-is)) ∙ o .is ∙ ap pass w }

@@ -1,7 +1,7 @@
--- The logical type of a component that passes: none, or a text that stands in the component's bytes c.
+-- The logical type of a component that passes, and its digest: none, or a text that stands in the component's bytes c.
 use Prim.Native.Nat.{ℕ, suc, _*_}
 use mathlib.Core.List.{List}
-use mathlib.Core.Option.{none, some}
+use mathlib.Core.Option.{Option, none, some}
 use mathlib.Core.Path.{_≡_}
 use lib.ListN.{length}
 use Rattle.meaning.specs.Tree.{Node}
@@ -16,9 +16,9 @@ use Rattle.walk.specs.Places.{Whatever}
 use Rattle.fields.specs.Slots.{Holds}
 use Rattle.component.specs.Value.{leftWord}
 
-pub data TypeAt (c : List ℕ) (k : Component Ends) : Type 0 where
-  bare : k .type ≡ none → TypeAt c k
-  lettered : (w : Word Ends) → k .type ≡ some w → (d : ℕ) (t : Node Ends) → Holds (suc d) c (length (w .note .start)) (some t) → aWord t ≡ pass w → TypeAt c k
+pub data WordAt (c : List ℕ) (o : Option (Word Ends)) : Type 0 where
+  bare : o ≡ none → WordAt c o
+  lettered : (w : Word Ends) → o ≡ some w → (d : ℕ) (t : Node Ends) → Holds (suc d) c (length (w .note .start)) (some t) → aWord t ≡ pass w → WordAt c o
 
 -- bytes of one element, over the storage with this code, of the logical type that begins s
 abbrev pub SpeltUnit : List ℕ → ℕ → ℕ → Type 0
@@ -26,4 +26,4 @@ SpeltUnit s code r = Whatever s λ d t q. (w : Word Ends) → aWord t ≡ pass w
 
 -- the same of a component in c, whose type has `left` bytes left, 0 for none
 abbrev pub UnitIs : List ℕ → ℕ → ℕ → ℕ → Type 0
-UnitIs c code left r = (k : Component Ends) → TypeAt c k → k .dtype ≡ code → leftWord (k .type) ≡ left → r ≡ unit (part k)
+UnitIs c code left r = (k : Component Ends) → WordAt c (k .type) → k .dtype ≡ code → leftWord (k .type) ≡ left → r ≡ unit (part k)

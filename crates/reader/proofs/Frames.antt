@@ -8,7 +8,7 @@ use lib.ListN.{length, take, drop}
 use lib.Dec.{leb}
 use borrow.Author.Tests.{leb-true}
 use borrow.Rule.Slice.PartAt.{part-to-end}
-use Rattle.meaning.specs.Check.{pass, _>>=_, _>>_, _unless_}
+use Rattle.meaning.specs.Check.{pass, refuse, _>>=_, _>>_, _unless_}
 use Rattle.meaning.specs.Text.{same}
 use Rattle.meaning.specs.Refusal.{SHORT, HEADER, FOOTER, BIG, FIT}
 use Rattle.meaning.specs.Limit.{manifestLimit}
@@ -17,8 +17,7 @@ use Rattle.frame.specs.Told.{told}
 use Rattle.frame.specs.declared.Framed.{Framed}
 use Rattle.frame.specs.declared.Framed.the-variants.{No, At}
 use Rattle.fields.proofs.Texts.{Here}
-use Rattle.reader.specs.declared.Verdict.{Verdict}
-use Rattle.reader.specs.Verdict.{refusal, verdict, manifestReading}
+use Rattle.reader.specs.Verdict.{refusal, verdict, manifestReading, Accepted}
 
 -- a manifest lies inside its file
 module _ (file : List ℕ) where
@@ -60,9 +59,19 @@ module _ (file : List ℕ) where
       pub inside : start + sized ≤ n
       inside = framed-inside (record { start = start; size = sized }) (framed (At start sized) e)
 
-      -- whatever the manifest is said to end at
-      pub as-read : (v : Verdict) → ((end : ℕ) → v ≡ verdict (manifestReading end start (take (start + sized - start) (drop start file)))) → v ≡ verdict (reading file)
+      -- the file's reading is that of its manifest
+      pub manifest-read : reading file ≡ manifestReading (start + sized) start (take (start + sized - start) (drop start file))
       unfolding reading
-      as-read v h =
+      manifest-read =
           let z : start + sized - start ≡ sized = omega arith in
-          h (start + sized) ∙ ap (λ (i : ℕ). verdict (manifestReading (start + sized) start (take i (drop start file)))) z ∙ (rw (framed (At start sized) e) refl)
+          (rw (framed (At start sized) e) refl) ∙ ap (λ (i : ℕ). manifestReading (start + sized) start (take i (drop start file))) (sym z)
+
+      module _ (m : List ℕ) (is : m ≡ take (start + sized - start) (drop start file)) where
+        there : reading file ≡ manifestReading (start + sized) start m
+        there = manifest-read ∙ ap (manifestReading (start + sized) start) (sym is)
+
+        pub accept-refuses : (n o c : ℕ) → manifestReading (start + sized) start m ≡ refuse n o c → refusal n o c ≡ verdict (reading file)
+        accept-refuses n o c h = sym (ap verdict (there ∙ h))
+
+        pub accept-accepts : (objects components left at : ℕ) → Accepted (start + sized) start m objects components left at → refusal 0 0 0 ≡ verdict (reading file)
+        accept-accepts objects components left at h = sym (ap verdict (there ∙ h .is))

@@ -11,7 +11,7 @@ use Rattle.meaning.specs.Check.{Check, pass, refuse, fault, _>>=_}
 use Rattle.meaning.specs.Refusal.{CBOR}
 use Rattle.meaning.specs.Model.{Model}
 use Rattle.meaning.specs.Notes.{mapCheck, mapModel}
-use Rattle.meaning.specs.Read.{Outcome, got, refused, after, Span, spanTo, item, noNote, closed, manifest}
+use Rattle.meaning.specs.Read.{Outcome, got, refused, after, Span, item, noNote, closed, manifest}
 use Rattle.meaning.specs.Judge.{judge}
 use Rattle.meaning.specs.Frame.{Reading, checked}
 use Rattle.meaning.proofs.ReadNatural.{mapOut, item-follows}
@@ -19,22 +19,16 @@ use Rattle.meaning.proofs.JudgeNatural.{judge-map}
 use Rattle.cbor.specs.Ending.{took, FAULT, code, ending, itemEnd}
 use Rattle.cbor.proofs.Passing.{is-took, fine-ending}
 use Rattle.cbor.proofs.Agree.{annotations-change-no-ending, rest-follows}
-use Rattle.walk.specs.Reading.{Ends, ends}
+use Rattle.walk.specs.Reading.{Ends, ends, Reads}
 use Rattle.fields.proofs.Texts.{Here}
 use Rattle.root.specs.declared.Judged.{Judged}
 use Rattle.root.specs.declared.Judged.the-variants.{No, Yes}
-use Rattle.root.specs.Verdict.{judged, RootIs}
-use Rattle.reader.specs.declared.Verdict.{Verdict}
-use Rattle.reader.specs.Verdict.{refusal, verdict, manifestReading}
-
--- what the root's verdict says of the file
-abbrev pub ruled : Judged → Verdict
-ruled (No n o c) = refusal n o c
-ruled (Yes objects components left) = refusal 0 0 0
+use Rattle.root.specs.Verdict.{judged, RootIs, ObjectsAt}
+use Rattle.reader.specs.Verdict.{spanOf, manifestReading, Accepted}
 
 module _ (end start : ℕ) where
-  abbrev spanOf : Ends → Span
-  spanOf n = spanTo end (n .start) (n .rest)
+  abbrev spans : Ends → Span
+  spans = spanOf end
 
   -- the rest of a reading, once the manifest's item is read
   abbrev judging : Check (Node Span) → Check Reading
@@ -42,10 +36,6 @@ module _ (end start : ℕ) where
 
   abbrev closing : Outcome (Node Span) → Check Reading
   closing o = judging (checked (after o closed))
-
-  judged-so : (k : Check (Model Ends)) → ruled (judged k) ≡ verdict (mapCheck (mapModel spanOf) k >>= λ m. pass (record { start = start; model = m }))
-  judged-so (pass m) = refl
-  judged-so (refuse n o c) = refl
 
   closed-refuses : (t : Node Span) (r : List ℕ) → 0 < length r → closing (got t r) ≡ fault CBOR
   unfolding closed checked
@@ -62,9 +52,9 @@ module _ (end start : ℕ) where
   refused-so n q = refl
 
   module _ (s : List ℕ) where
-    read-so : (o : Outcome (Node Ends)) → item ends 32 s ≡ o → manifestReading end start s ≡ closing (mapOut (mapP spanOf) o)
+    read-so : (o : Outcome (Node Ends)) → item ends 32 s ≡ o → manifestReading end start s ≡ closing (mapOut (mapP spans) o)
     unfolding manifest
-    read-so o e = ap closing (item-follows spanOf ends 32 s ∙ ap (mapOut (mapP spanOf)) e)
+    read-so o e = ap closing (item-follows spans ends 32 s ∙ ap (mapOut (mapP spans)) e)
 
     -- the walk over s, lent whole, ended at e
     module _ (e : ℕ) (asked : e ≡ code (itemEnd 32 (Here s 0))) where
@@ -82,37 +72,79 @@ module _ (end start : ℕ) where
           go (refused n q) h = let z : e ≡ FAULT + n = ended-so (refused n q) h in omega arith
 
       -- malformed, ended early or too deep
-      pub faulty : length s < e → refusal (e - FAULT) 0 0 ≡ verdict (manifestReading end start s)
+      pub faulty : length s < e → manifestReading end start s ≡ refuse (e - FAULT) 0 0
       faulty l = go (item ends 32 s) refl
         where
-          go : (o : Outcome (Node Ends)) → item ends 32 s ≡ o → refusal (e - FAULT) 0 0 ≡ verdict (manifestReading end start s)
+          go : (o : Outcome (Node Ends)) → item ends 32 s ≡ o → manifestReading end start s ≡ refuse (e - FAULT) 0 0
           go (got t r) h = let z : e ≡ length s - length r = ended-so (got t r) h in absurd (omega arith)
           go (refused n q) h =
               let z : e ≡ FAULT + n = ended-so (refused n q) h in
               let y : e - FAULT ≡ n = omega arith in
-              ap (λ (i : ℕ). refusal i 0 0) y ∙ sym (ap verdict (read-so (refused n q) h ∙ refused-so n q))
+              read-so (refused n q) h ∙ refused-so n q ∙ ap (λ (i : ℕ). refuse i 0 0) (sym y)
 
       module _ (room : length s < FAULT) where
-        pub left-over : e < length s → refusal 6 0 0 ≡ verdict (manifestReading end start s)
+        pub left-over : e < length s → manifestReading end start s ≡ refuse 6 0 0
         left-over l = go (item ends 32 s) refl
           where
-            go : (o : Outcome (Node Ends)) → item ends 32 s ≡ o → refusal 6 0 0 ≡ verdict (manifestReading end start s)
+            go : (o : Outcome (Node Ends)) → item ends 32 s ≡ o → manifestReading end start s ≡ refuse 6 0 0
             go (got t r) h =
                 let z : e ≡ length s - length r = ended-so (got t r) h in
-                sym (ap verdict (read-so (got t r) h ∙ closed-refuses (mapP spanOf t) r (omega arith)))
+                read-so (got t r) h ∙ closed-refuses (mapP spans t) r (omega arith)
             go (refused n q) h = let z : e ≡ FAULT + n = ended-so (refused n q) h in absurd (omega arith)
 
         -- the root fills the manifest exactly
-        pub filled : length s ≡ e → (u : Judged) → RootIs (Here s 0) start u → (v : Judged) → u ≡ v → ruled v ≡ verdict (manifestReading end start s)
-        filled l u told v same = go (item ends 32 s) refl
-          where
-            root : RootIs s start v
-            root = subst (λ m. RootIs m start v) (part-to-end s 0) (subst (RootIs (Here s 0) start) same told)
+        record Filling : Type 0 where
+          pub tree : Node Ends
+          pub rest : List ℕ
+          pub reads : Reads 32 s tree rest
+          pub is : manifestReading end start s ≡ (mapCheck (mapModel spans) (judge start tree) >>= λ m. pass (record { start = start; model = m }))
 
-            go : (o : Outcome (Node Ends)) → item ends 32 s ≡ o → ruled v ≡ verdict (manifestReading end start s)
-            go (got t r) h =
-                let z : itemEnd 32 s ≡ took e = is-took s room e (itemEnd 32 s) (fine-ending s (item noNote 32 s)) is (omega arith) in
-                let y : length r ≡ 0 = ap length (rest-follows ends 32 s t r e h z) ∙ length-drop e s ∙ omega arith in
-                ap ruled (root t r h) ∙ judged-so (judge start t)
-                ∙ sym (ap verdict (read-so (got t r) h ∙ closed-passes (mapP spanOf t) r y ∙ ap (λ k. k >>= λ m. pass (record { start = start; model = m })) (judge-map spanOf start t)))
-            go (refused n q) h = let z : e ≡ FAULT + n = ended-so (refused n q) h in absurd (omega arith)
+        module _ (l : length s ≡ e) where
+          filling : Filling
+          filling = go (item ends 32 s) refl
+            where
+              go : (o : Outcome (Node Ends)) → item ends 32 s ≡ o → Filling
+              go (got t r) h =
+                  let z : itemEnd 32 s ≡ took e = is-took s room e (itemEnd 32 s) (fine-ending s (item noNote 32 s)) is (omega arith) in
+                  let y : length r ≡ 0 = ap length (rest-follows ends 32 s t r e h z) ∙ length-drop e s ∙ omega arith in
+                  record {
+                    tree = t;
+                    rest = r;
+                    reads = h;
+                    is = read-so (got t r) h ∙ closed-passes (mapP spans t) r y ∙ ap (λ k. k >>= λ m. pass (record { start = start; model = m })) (judge-map spans start t);
+                  }
+              go (refused n q) h = let z : e ≡ FAULT + n = ended-so (refused n q) h in absurd (omega arith)
+
+          module _ (u : Judged) (told : RootIs (Here s 0) start u) where
+            root : (v : Judged) → u ≡ v → v ≡ judged (judge start (filling .tree))
+            root v same = subst (λ m. RootIs m start v) (part-to-end s 0) (subst (RootIs (Here s 0) start) same told) (filling .tree) (filling .rest) (filling .reads)
+
+            pub root-refuses : (n o c : ℕ) → u ≡ No n o c → manifestReading end start s ≡ refuse n o c
+            root-refuses n o c same = go (judge start (filling .tree)) refl
+              where
+                go : (k : Check (Model Ends)) → judge start (filling .tree) ≡ k → manifestReading end start s ≡ refuse n o c
+                go (pass m) h = let z : No n o c ≡ judged (pass m) = root (No n o c) same ∙ ap judged h in absurd (let y : _≡_ {A = ℕ} 0 1 = cc in omega arith)
+                go (refuse n′ o′ c′) h =
+                    let z : No n o c ≡ judged (refuse n′ o′ c′) = root (No n o c) same ∙ ap judged h in
+                    let a : n′ ≡ n = cc in let b : o′ ≡ o = cc in let d : c′ ≡ c = cc in
+                    filling .is ∙ (rw (h, a, b, d) refl)
+
+            pub root-accepts : (objects components left at : ℕ) → u ≡ Yes objects components left → ObjectsAt (Here s 0) at → Accepted end start s objects components left at
+            root-accepts objects components left at same stand = go (judge start (filling .tree)) refl
+              where
+                go : (k : Check (Model Ends)) → judge start (filling .tree) ≡ k → Accepted end start s objects components left at
+                go (refuse n o c) h = let z : Yes objects components left ≡ judged (refuse n o c) = root (Yes objects components left) same ∙ ap judged h in absurd (let y : _≡_ {A = ℕ} 0 1 = cc in omega arith)
+                go (pass m) h =
+                    let z : Yes objects components left ≡ judged (pass m) = root (Yes objects components left) same ∙ ap judged h in
+                    record {
+                      tree = filling .tree;
+                      rest = filling .rest;
+                      reads = filling .reads;
+                      model = m;
+                      judged = h;
+                      is = filling .is ∙ (rw h refl);
+                      objects-are = cc;
+                      components-are = cc;
+                      attributes-left = cc;
+                      objects-at = subst (λ m. ObjectsAt m at) (part-to-end s 0) stand;
+                    }

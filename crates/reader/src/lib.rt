@@ -27,22 +27,28 @@ fn refusal(number: u64, object: u64, component: u64) -> Verdict
     }
 }
 
+// What a manifest says: a refusal with its object and component; or how many objects and components there are, and the places of the root's attributes and objects.
+pub enum Told {
+    No(u64, u64, u64),
+    Yes(usize, usize, usize, usize),
+}
+
 // The manifest m, which begins at `start`: one item that fills it exactly, and what that says.
-fn manifest(m: &[u8], start: u64) -> Verdict
-    ensures { λ r. ⌜ ((end : ℕ) → r ≡ is.verdict (is.manifestReading end start (now (m .entry)))) ⌝ }
+pub fn manifest(m: &[u8], start: u64) -> Told
+    ensures { λ r. ⌜ ((end : ℕ) → is.ManifestIs end start (now (m .entry)) r) ⌝ }
 {
     let w = root::root(&m[0..], start);
     let e = w.end;
     if m.len() < e {
-        return refusal((e - FAULT) as u64, 0, 0);
+        return Told::No((e - FAULT) as u64, 0, 0);
     }
     if e < m.len() {
-        return refusal(6, 0, 0);
+        return Told::No(6, 0, 0);
     }
     let v = w.verdict;
     match v {
-        Judged::No(n, o, c) => refusal(n, o as u64, c as u64),
-        Judged::Yes(_, _, _) => refusal(0, 0, 0),
+        Judged::No(n, o, c) => Told::No(n, o as u64, c as u64),
+        Judged::Yes(objects, components, left) => Told::Yes(objects, components, left, w.objects),
     }
 }
 
@@ -54,7 +60,10 @@ pub fn accept(file: &[u8]) -> Verdict
         Framed::No(n) => refusal(n, 0, 0),
         Framed::At(start, size) => {
             let end = start + size;
-            manifest(&file[start..end], start as u64)
+            match manifest(&file[start..end], start as u64) {
+                Told::No(n, o, c) => refusal(n, o, c),
+                Told::Yes(_, _, _, _) => refusal(0, 0, 0),
+            }
         }
     }
 }

@@ -3,14 +3,21 @@
 use Prim.Native.Nat.{ℕ, _+_, _-_, _≤_, _<_}
 use native.Mathlib.Omega.{arith}
 use mathlib.Core.List.{List}
-use mathlib.Core.Path.{_≡_, refl, subst}
-use lib.ListN.{length, getD, replicate}
+use mathlib.Core.Option.{Option, none, some}
+use mathlib.Core.Path.{_≡_, refl, sym, ap, _∙_, subst}
+use lib.ListN.{length, getD, drop, replicate, length-drop}
+use lib.Seq.{drop-drop}
 use borrow.Rule.Slice.PartAt.{part-to-end}
 use Rattle.meaning.specs.Text.{ascii}
-use Rattle.meaning.specs.Field.{rootNames, rootFields, fields}
+use Rattle.meaning.specs.Tree.{Node, Pair}
+use Rattle.meaning.specs.Check.{pass, fault}
+use Rattle.meaning.specs.Refusal.{KIND}
+use Rattle.meaning.specs.Kind.{table, aTable, asTable}
+use Rattle.meaning.specs.Field.{rootNames, rootFields, fields, get}
 use Rattle.meaning.specs.Judge.{judge}
 use Rattle.types.specs.Known.{position}
 use Rattle.cbor.specs.Ending.{FAULT, code, itemEnd, rest}
+use Rattle.walk.specs.Reading.{Ends, Reads}
 use Rattle.walk.specs.Places.{MapIs, EntryIs}
 use Rattle.walk.specs.declared.Entry.{Entry}
 use Rattle.walk.specs.declared.Entry.the-variants.{End, Value}
@@ -18,7 +25,8 @@ use Rattle.walk.specs.declared.Opening.{Opening}
 use Rattle.walk.specs.declared.Opening.the-variants.{NotOpen, Opened}
 use Rattle.walk.proofs.Turns.{Modes}
 use Rattle.walk.proofs.Opens as opens
-use Rattle.fields.specs.Slots.{marked, SlotIs}
+use Rattle.fields.specs.Slots.{marked, SlotIs, Holds}
+use Rattle.fields.proofs.Standing.{field-stands}
 use Rattle.fields.proofs.Texts.{Here}
 use Rattle.fields.proofs.Keeping as keeping
 use Rattle.objects.specs.declared.Found.{Found}
@@ -26,7 +34,7 @@ use Rattle.objects.specs.Found.{ObjectsIs}
 use Rattle.root.specs.declared.Judged.{Judged}
 use Rattle.root.specs.declared.Judged.the-variants.{No}
 use Rattle.root.specs.Walk.{Says, Walked, ValueIs}
-use Rattle.root.specs.Verdict.{VerdictIs, RootIs}
+use Rattle.root.specs.Verdict.{VerdictIs, RootIs, ObjectsAt}
 
 -- ---------------------------------------------------------------- one value
 
@@ -91,6 +99,15 @@ module _ (start mode count : ℕ) (s : List ℕ) (modes : Modes mode count) wher
 
 -- ---------------------------------------------------------------- the whole value
 
+-- what stands in a part that runs to the end stands in the whole
+holds-whole : (d : ℕ) (c : List ℕ) (a : ℕ) → a ≤ length c → (left : ℕ) (o : Option (Node Ends)) → Holds d (drop a c) left o → Holds d c left o
+holds-whole d c a l left none h = h
+holds-whole d c a l left (some t) (some-left, x) =
+    let w : left ≤ length (drop a c) = x .within in
+    let n = length-drop a c in
+    let z : a + (length (drop a c) - left) ≡ length c - left = omega arith in
+    (some-left, record { rest = x .rest; within = omega arith; left-is = x .left-is; reads = subst (λ u. Reads d u t (x .rest)) (drop-drop (length (drop a c) - left) a c ∙ ap (λ i. drop i c) z) (x .reads) })
+
 module _ (c : List ℕ) (start : ℕ) (x : Opening) (h : MapIs (Here c 0) x) where
   pub no-map : x ≡ NotOpen → RootIs c start (No 8 0 0)
   unfolding judge rootFields fields
@@ -102,3 +119,20 @@ module _ (c : List ℕ) (start : ℕ) (x : Opening) (h : MapIs (Here c 0) x) whe
       let m = opens.opened c x h mode count size is .trees 31 t q r in
       let w = subst (λ u. Walked start mode count u p found) (part-to-end c size) walked (m .pairs) (m .last) (m .due) in
       subst (λ u. VerdictIs u p found v) (part-to-end c size) judged start 30 (m .pairs) (m .last) (m .due .chain) w t (m .kind-is)
+
+  pub no-objects : x ≡ NotOpen → ObjectsAt c 0
+  unfolding aTable asTable
+  no-objects e t q r ps is =
+      let z : pass ps ≡ fault KIND = (rw is refl) ∙ opens.opening c x h NotOpen e 31 t q r in
+      absurd (let y : _≡_ {A = ℕ} 0 1 = cc in omega arith)
+
+  pub objects-stand : (mode count size : ℕ) → x ≡ Opened mode count size → (p : List ℕ) (found : Found) → Walked start mode count (Here c size) p found → (left : ℕ) → left ≡ getD p 2 0 → ObjectsAt c left
+  unfolding rootNames position
+  objects-stand mode count size is p found walked left e t q r ps kt =
+      let o = opens.opened c x h mode count size is in
+      let m = o .trees 31 t q r in
+      let z : table (m .pairs) ≡ table ps = sym (m .kind-is) ∙ kt in
+      let y : m .pairs ≡ ps = cc in
+      let w = subst (λ u. Walked start mode count u p found) (part-to-end c size) walked (m .pairs) (m .last) (m .due) in
+      let f = field-stands rootNames 31 (drop size c) (m .pairs) (m .last) (m .due .chain) p (w .0) (ascii "objects") objects-known in
+      holds-whole 31 c size (o .within) left (get (ascii "objects") ps) (subst (λ l. Holds 31 (drop size c) l (get (ascii "objects") ps)) (sym e) (subst (λ ps. Holds 31 (drop size c) (getD p 2 0) (get (ascii "objects") ps)) y f))

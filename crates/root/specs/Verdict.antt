@@ -8,13 +8,15 @@ use lib.Dec.{eqb}
 use Rattle.meaning.specs.Tree.{Node, Pair}
 use Rattle.meaning.specs.Check.{Check, pass, refuse, fault}
 use Rattle.meaning.specs.Refusal.{KIND, KEY, TWICE, MISSING}
+use Rattle.meaning.specs.Text.{ascii}
 use Rattle.meaning.specs.Model.{Model}
+use Rattle.meaning.specs.Field.{get}
 use Rattle.meaning.specs.Kind.{kind, table}
 use Rattle.meaning.specs.Judge.{aVersion, judge}
 use Rattle.meaning.specs.Rows.{componentCount}
 use Rattle.walk.specs.Reading.{Ends, Reads, Chain, leftAt}
 use Rattle.walk.specs.Places.{Whatever}
-use Rattle.fields.specs.Slots.{ItemAt}
+use Rattle.fields.specs.Slots.{ItemAt, Holds}
 use Rattle.objects.specs.declared.Found.{Found}
 use Rattle.objects.specs.declared.Found.the-variants.{No as NoObjects, Yes as Objects}
 use Rattle.root.specs.Walk.{Noted}
@@ -59,3 +61,7 @@ VerdictIs s p found r = (start d : ℕ) (ps : List (Pair Ends)) (q : List ℕ) �
 
 abbrev pub RootIs : List ℕ → ℕ → Judged → Type 0
 RootIs s start r = (t : Node Ends) (q : List ℕ) → Reads 32 s t q → r ≡ judged (judge start t)
+
+-- the place of the objects of whatever map s is read as
+abbrev pub ObjectsAt : List ℕ → ℕ → Type 0
+ObjectsAt s left = (t : Node Ends) (q : List ℕ) → Reads 32 s t q → (ps : List (Pair Ends)) → kind t ≡ table ps → Holds 31 s left (get (ascii "objects") ps)

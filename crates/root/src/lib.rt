@@ -8,7 +8,7 @@ use pass::entries;
 use walk::Opening;
 ghost use mathlib.Core.Path.{_≡_};
 ghost use Rattle.cbor.specs.Ending.{code, itemEnd};
-ghost use Rattle.root.specs.Verdict.{RootIs};
+ghost use Rattle.root.specs.Verdict.{RootIs, ObjectsAt};
 
 // A refusal: number, object, component; or how many objects and components there are, and the place of the attributes, 0 for none.
 pub enum Judged {
@@ -16,33 +16,41 @@ pub enum Judged {
     Yes(usize, usize, usize),
 }
 
-// Where a value ends, as `cbor::skip` answers it, and what it says if it is well-formed.
+// Where a value ends, as `cbor::skip` answers it, what it says if it is well-formed, and the place of its objects, 0 for none.
 pub struct Whole {
     pub end: usize,
     pub verdict: Judged,
+    pub objects: usize,
 }
 
 // The root that begins s, of a file whose manifest begins at `start`.
 pub fn root(s: &[u8], start: u64) -> Whole
-    ensures { λ r. ⌜ (r .end ≡ code (itemEnd 32 (now (s .entry)))) × RootIs (now (s .entry)) start (r .verdict) ⌝ }
+    ensures { λ r. ⌜ (r .end ≡ code (itemEnd 32 (now (s .entry)))) × RootIs (now (s .entry)) start (r .verdict) × ObjectsAt (now (s .entry)) (r .objects) ⌝ }
 {
     let mut p = [0usize; 6];
     match walk::map(&s[0..]) {
         Opening::NotOpen => Whole {
             end: cbor::skip(&s[0..], 32),
             verdict: Judged::No(8, 0, 0),
+            objects: 0,
         },
         Opening::Opened(mode, count, size) => {
             let w = entries(&s[size..], start, mode, count, &mut p);
             let e = w.end;
             let found = w.found;
             let v = verdict(&s[size..], &p, found);
+            let left = p[2];
             if s.len() - size < e {
-                return Whole { end: e, verdict: v };
+                return Whole {
+                    end: e,
+                    verdict: v,
+                    objects: left,
+                };
             }
             Whole {
                 end: size + e,
                 verdict: v,
+                objects: left,
             }
         }
     }

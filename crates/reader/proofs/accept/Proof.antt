@@ -1,10 +1,16 @@
 -- `reader::accept` meets its contract: a law for each branch.
-use Rattle.reader.proofs.Frames as frames
-use mathlib.Core.Path.{_∙_}
 use native.Mathlib.Omega.{arith}
+use mathlib.Core.Path.{refl, _∙_, subst}
+use Rattle.reader.specs.Verdict.{ManifestIs}
+use Rattle.reader.proofs.Frames as frames
 use borrow.Author.Needs.{needs}
 use Rattle.reader.proofs.accept.Statement.{statement}
 use Rattle.reader.proofs.accept.Tie as tie
+use Rattle.reader.proofs.accept.Reads as reads
+use Rattle.reader.proofs.accept.Lts as lts
+use Rattle.frame.proofs.frame.Reads as frame-reads
+use Rattle.reader.proofs.manifest.Reads as manifest-reads
+use Rattle.reader.proofs.refusal.Reads as refusal-reads
 
 pub accept-spec : {M : Type 1} → statement M
 accept-spec =
@@ -17,10 +23,15 @@ accept-spec =
     (λ c. search needs)
     (λ c κs. search needs)
     (λ c. search needs)
-    (λ c. omega (arith, frames.inside (c .before .before .before .before .before .before .args .file .now) _ (c .before .before .before .frame .ensures) _ _ (c .before .start .given .1)))
+    (λ c. omega (arith, frames.inside ((c .before .before .before .before .before .before .args .file .now)) _ ((c .before .before .before .frame .ensures)) _ _ ((c .before .start .given .1))))
     (λ c. search needs)
     (λ c. search needs)
-    (λ c. omega (arith, frames.inside (c .before .before .before .before .before .before .args .file .now) _ (c .before .before .before .frame .ensures) _ _ (c .before .start .given .1)))
+    (λ c. omega (arith, frames.inside ((c .before .before .before .before .before .before .args .file .now)) _ ((c .before .before .before .frame .ensures)) _ _ ((c .before .start .given .1))))
     (λ c κs. search needs)
-    (λ c. (c .refusal .ensures) ∙ frames.no-frame (c .before .before .before .before .before .before .before .args .file .now) _ (c .before .before .before .before .frame .ensures) _ (c .before .before .n .given .1))
-    (λ c. frames.as-read (c .before .before .before .before .before .before .before .before .args .file .now) _ (c .before .before .before .before .before .frame .ensures) _ _ (c .before .before .before .start .given .1) _ (c .manifest .ensures)))
+    (λ c. search needs)
+    (λ c κs. search needs)
+    (λ c. search needs)
+    (λ c κs. search needs)
+    (λ c. ((c .refusal .ensures)) ∙ frames.no-frame ((c .before .before .before .before .before .before .before .args .file .now)) _ ((c .before .before .before .before .frame .ensures)) _ ((c .before .before .n .given .1)))
+    (λ c. ((c .refusal2 .ensures)) ∙ frames.accept-refuses ((c .before .before .before .before .before .before .before .before .before .before .before .before .args .file .now)) _ ((c .before .before .before .before .before .before .before .before .before .frame .ensures)) _ _ ((c .before .before .before .before .before .before .before .start .given .1)) _ refl _ _ _ (subst (ManifestIs _ _ _) ((c .before .before .n2 .given .1)) (((c .before .before .before .before .manifest .ensures)) _)))
+    (λ c. ((c .refusal3 .ensures)) ∙ frames.accept-accepts ((c .before .before .before .before .before .before .before .before .before .before .before .args .file .now)) _ ((c .before .before .before .before .before .before .before .before .frame .ensures)) _ _ ((c .before .before .before .before .before .before .start .given .1)) _ refl _ _ _ _ (subst (ManifestIs _ _ _) ((c .before .enum-told .given .1)) (((c .before .before .before .manifest .ensures)) _))))

@@ -1,0 +1,10 @@
+pub mod Spelling
+pub mod Laying
+pub mod ComponentRow
+pub mod Entering
+pub mod Rowing
+pub mod ObjectRow
+pub mod Passing
+pub mod ObjectPasses
+pub mod WholeObject
+pub mod Objecting

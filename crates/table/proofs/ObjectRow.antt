@@ -1,0 +1,122 @@
+-- The row of an object: its dimensions, unused ones cleared, and its sixteen numbers.
+use Prim.Native.Nat.{ℕ, zero, suc, _+_, _-_, _≤_, _<_}
+use native.Mathlib.Omega.{arith}
+use mathlib.Core.List.{List, [], _∷_, map}
+use mathlib.Core.Logic.{⊎-elim}
+use mathlib.Core.Option.{some}
+use mathlib.Core.Path.{_≡_, refl, ap, ap₂, sym, _∙_, subst}
+use lib.ListN.{length, getD, take, drop, set, length-map}
+use lib.Seq.{sets, getD-take, getD-set-same, getD-set-other, length-take-le}
+use borrow.Rule.Slice.PartAt.{part-to-end}
+use Rattle.meaning.specs.Tree.{Node, mapP}
+use Rattle.meaning.specs.Check.{pass, fault}
+use Rattle.meaning.specs.Limit.{rankLimit}
+use Rattle.meaning.specs.Notes.{mapOption, mapComponent}
+use Rattle.meaning.specs.Judge.{shapeOf}
+use Rattle.meaning.specs.Rows.{objectRow, dimensions, optionalSpan, attributesSpan}
+use Rattle.endian.proofs.Which.{eq-or}
+use Rattle.walk.specs.Reading.{Ends, Reads}
+use Rattle.shape.specs.Shape.{ShapeRead, ShapeIs}
+use Rattle.shape.specs.declared.Shaped.{Shaped}
+use Rattle.shape.specs.declared.Shaped.the-variants.{No, Yes}
+use Rattle.components.proofs.Typed.{pass-same}
+use Rattle.fields.specs.Slots.{Stands}
+use Rattle.fields.proofs.Texts.{Here}
+use Rattle.table.specs.declared.span.Span.{Span}
+use Rattle.table.specs.Spans.{spanOf, spanned, spanOfWord, SpeltIs, SpeltAt, WholeIs}
+use Rattle.table.specs.Object.{Cleared, eight, DimensionsAt, sixteen, objectIn, ObjectPut}
+use Rattle.table.proofs.Laying as laying
+use Rattle.table.proofs.ComponentRow as rows
+
+-- ---------------------------------------------------------------- unused dimensions
+
+past-taken : (rank : ℕ) (l : List ℕ) (k : ℕ) → rank ≤ k → _≡_ {A = ℕ} (getD (take rank l) k 0) 0
+past-taken zero l k h = refl
+past-taken (suc rank) [] k h = refl
+past-taken (suc rank) (x ∷ l) zero h = absurd (omega arith)
+past-taken (suc rank) (x ∷ l) (suc k) h = past-taken rank l k (omega arith)
+
+module _ (rank : ℕ) (d₀ : List ℕ) where
+  -- cleared up to k
+  abbrev pub ClearedTo : ℕ → List ℕ → Type 0
+  ClearedTo k d = (j : ℕ) → j < k → j < length d₀ → getD d j 0 ≡ getD (take rank d₀) j 0
+
+  pub clear-starts : ClearedTo rank d₀
+  clear-starts j l m = sym (getD-take rank d₀ j 0 l)
+
+  pub one-cleared : (k : ℕ) (d : List ℕ) → rank ≤ k → length d ≡ length d₀ → ClearedTo k d → ClearedTo (k + 1) (set d k 0)
+  one-cleared k d r e h j l m = ⊎-elim
+      (λ z. ap (λ j. getD (set d k 0) j 0) z ∙ getD-set-same d k 0 0 (omega arith) ∙ sym (past-taken rank d₀ k r) ∙ ap (λ j. getD (take rank d₀) j 0) (sym z))
+      (λ z. getD-set-other d k j 0 0 z ∙ h j (omega arith) m) (eq-or j k)
+
+  pub all-cleared : (k : ℕ) (d : List ℕ) → length d ≡ length d₀ → length d ≤ k → ClearedTo k d → Cleared rank d₀ d
+  all-cleared k d e l h = record { at = λ j m. h j (omega arith) m }
+
+eight-of : (s : List ℕ) → length s ≤ rankLimit → eight s ≡ dimensions s
+unfolding dimensions
+eight-of [] h = refl
+eight-of (a ∷ []) h = refl
+eight-of (a ∷ b ∷ []) h = refl
+eight-of (a ∷ b ∷ c ∷ []) h = refl
+eight-of (a ∷ b ∷ c ∷ d ∷ []) h = refl
+eight-of (a ∷ b ∷ c ∷ d ∷ e ∷ []) h = refl
+eight-of (a ∷ b ∷ c ∷ d ∷ e ∷ f ∷ []) h = refl
+eight-of (a ∷ b ∷ c ∷ d ∷ e ∷ f ∷ g ∷ []) h = refl
+eight-of (a ∷ b ∷ c ∷ d ∷ e ∷ f ∷ g ∷ i ∷ []) h = refl
+eight-of (a ∷ b ∷ c ∷ d ∷ e ∷ f ∷ g ∷ i ∷ j ∷ s) h = absurd (omega arith)
+
+eight-same : (d e : List ℕ) → ((j : ℕ) → j < 8 → getD d j 0 ≡ getD e j 0) → eight d ≡ eight e
+eight-same d e h =
+    rw (h 0 (omega arith), h 1 (omega arith), h 2 (omega arith), h 3 (omega arith), h 4 (omega arith), h 5 (omega arith), h 6 (omega arith), h 7 (omega arith)) refl
+
+-- ---------------------------------------------------------------- the shape where it stands
+
+module _ (m : List ℕ) (left at : ℕ) (is : at ≡ length m - left) (d₁ : List ℕ) (r : Shaped) (h : ShapeRead 28 (Here m at) d₁ r) where
+  said : (t : Node Ends) → Stands 29 m left t → (x : Shaped) → r ≡ x → ShapeIs d₁ x (shapeOf t)
+  said t st x e =
+      let u : drop (length m - left) m ≡ Here m at = ap (λ (i : ℕ). drop i m) (sym is) ∙ sym (part-to-end m at) in
+      subst (λ x. ShapeIs d₁ x (shapeOf t)) e (h .trees t (st .rest) (subst (λ u. Reads 29 u t (st .rest)) u (st .reads)))
+
+  pub no-shape : (n : ℕ) → r ≡ No n → (d : List ℕ) (rank : ℕ) → DimensionsAt m left d rank
+  no-shape n e d rank = record { are = λ t st s k. absurd (let z : pass s ≡ fault n = sym k ∙ said t st (No n) e in let y : _≡_ {A = ℕ} 0 1 = cc in omega arith) }
+
+  pub a-shape : (rank : ℕ) → r ≡ Yes rank → (d₂ : List ℕ) → Cleared rank d₁ d₂ → DimensionsAt m left d₂ rank
+  a-shape rank e d₂ cleared = record {
+    are = λ t st s k.
+        let z = said t st (Yes rank) e in
+        let same : take rank d₁ ≡ s = pass-same (sym (z .0) ∙ k) in
+        let few = z .1 in
+        let room = h .room in
+        let size : length s ≡ rank = ap length (sym same) ∙ length-take-le rank d₁ (omega arith) in
+        (sym size, eight-same d₂ (take rank d₁) (λ j l. cleared .at j (omega arith)) ∙ ap eight same ∙ eight-of s (omega arith));
+  }
+
+-- ---------------------------------------------------------------- sixteen numbers
+
+pub sixteen-put : (t t₁ t₂ t₃ t₄ : List ℕ) (i a₀ a₁ a₂ a₃ a₄ b₀ b₁ b₂ b₃ b₄ c₀ c₁ c₂ c₃ c₄ d : ℕ) → t₁ ≡ sets t i (a₀ ∷ a₁ ∷ a₂ ∷ a₃ ∷ a₄ ∷ []) → t₂ ≡ sets t₁ (i + 5) (b₀ ∷ b₁ ∷ b₂ ∷ b₃ ∷ b₄ ∷ [])
+    → t₃ ≡ sets t₂ (i + 10) (c₀ ∷ c₁ ∷ c₂ ∷ c₃ ∷ c₄ ∷ []) → t₄ ≡ set t₃ (i + 15) d
+    → t₄ ≡ sets t i (a₀ ∷ a₁ ∷ a₂ ∷ a₃ ∷ a₄ ∷ b₀ ∷ b₁ ∷ b₂ ∷ b₃ ∷ b₄ ∷ c₀ ∷ c₁ ∷ c₂ ∷ c₃ ∷ c₄ ∷ d ∷ [])
+sixteen-put t t₁ t₂ t₃ t₄ i a₀ a₁ a₂ a₃ a₄ b₀ b₁ b₂ b₃ b₄ c₀ c₁ c₂ c₃ c₄ d x y z w =
+    let two = rows.ten-put t t₁ t₂ i a₀ a₁ a₂ a₃ a₄ b₀ b₁ b₂ b₃ b₄ x y in
+    let three = z ∙ ap (λ t. sets t (i + 10) (c₀ ∷ c₁ ∷ c₂ ∷ c₃ ∷ c₄ ∷ [])) two ∙ sym (laying.sets-append (a₀ ∷ a₁ ∷ a₂ ∷ a₃ ∷ a₄ ∷ b₀ ∷ b₁ ∷ b₂ ∷ b₃ ∷ b₄ ∷ []) (c₀ ∷ c₁ ∷ c₂ ∷ c₃ ∷ c₄ ∷ []) t i) in
+    w ∙ ap (λ t. sets t (i + 15) (d ∷ [])) three
+    ∙ sym (laying.sets-append (a₀ ∷ a₁ ∷ a₂ ∷ a₃ ∷ a₄ ∷ b₀ ∷ b₁ ∷ b₂ ∷ b₃ ∷ b₄ ∷ c₀ ∷ c₁ ∷ c₂ ∷ c₃ ∷ c₄ ∷ []) (d ∷ []) t i)
+
+-- ---------------------------------------------------------------- the row
+
+module _ (s m p : List ℕ) (count size end i : ℕ) (before after : List ℕ) where
+  pub row-put : (d : List ℕ) (rank : ℕ) → DimensionsAt (Here m 0) (getD p 0 0) d rank → (x : Span) → SpeltIs (Here s 0) end x → (y : Span) → SpeltAt (Here m 0) (getD p 1 0) end y
+      → (z : Span) → WholeIs (getD p 2 0) size end z → after ≡ sets before i (sixteen (spanned x) rank (eight d) (spanned y) (spanned z) count) → ObjectPut s m p count size end i before after
+  unfolding objectRow optionalSpan
+  row-put d rank dims x sx y sy z sz put e t q key o name des counted =
+      let a : spanned x ≡ spanOfWord end (o .name) = subst (λ u. SpeltIs u end x) (part-to-end s 0) sx e t q key (o .name) name in
+      let b : spanned y ≡ spanOfWord end (o .format) = subst (λ u. SpeltAt u (getD p 1 0) end y) (part-to-end m 0) sy (some (o .format)) (des .format-at) (des .format-left) in
+      let c : spanned z ≡ attributesSpan (mapOption (mapP (spanOf end)) (o .attributes)) = sz (o .attributes) (des .attributes-left) (des .attributes-take) in
+      let f = subst (λ u. DimensionsAt u (getD p 0 0) d rank) (part-to-end m 0) dims .are (des .shape) (des .shape-stands) (o .shape) (des .shape-is) in
+      let g : count ≡ length (map (mapComponent (spanOf end)) (o .components)) = counted ∙ sym (length-map (o .components) (mapComponent (spanOf end))) in
+      let same : sixteen (spanned x) rank (eight d) (spanned y) (spanned z) count ≡ objectIn end o =
+      ap (λ u. sixteen u rank (eight d) (spanned y) (spanned z) count) a
+      ∙ ap₂ (λ r u. sixteen (spanOfWord end (o .name)) r u (spanned y) (spanned z) count) (f .0) (f .1)
+      ∙ ap (λ u. sixteen (spanOfWord end (o .name)) (length (o .shape)) (dimensions (o .shape)) u (spanned z) count) b
+      ∙ ap₂ (λ u n. sixteen (spanOfWord end (o .name)) (length (o .shape)) (dimensions (o .shape)) (spanOfWord end (o .format)) u n) c g in
+      put ∙ ap (sets before i) same

@@ -1,0 +1,182 @@
+-- The loop over an object's entries, as fields' law on walks that keep what they find in one field, for two fields at once: the components' rows and the attributes' size.
+use Prim.Native.Nat.{ℕ, _+_, _-_, _≤_, _<_}
+use native.Mathlib.Omega.{arith}
+use mathlib.Core.List.{List}
+use mathlib.Core.Bool.{Bool, true, false, cond}
+use mathlib.Core.Logic.{⊎-elim}
+use mathlib.Core.Path.{_≡_, refl, ap, sym, _∙_, subst}
+use lib.ListN.{length, getD, set, replicate, length-drop}
+use lib.Seq.{getD-set-same, getD-set-other}
+use lib.Dec.{ltb, eqb}
+use borrow.Author.Tests.{eqb-false}
+use borrow.Rule.Slice.PartAt.{part-to-end}
+use Rattle.meaning.specs.Tree.{Node, noteOf}
+use Rattle.meaning.specs.Text.{ascii}
+use Rattle.meaning.specs.Field.{objectNames}
+use Rattle.types.specs.Known.{position}
+use Rattle.cbor.specs.Ending.{FAULT, code, itemEnd, rest}
+use Rattle.cbor.proofs.Rest.{never-empty}
+use Rattle.endian.proofs.Which.{eq-or}
+use Rattle.walk.specs.Reading.{Ends, Reads}
+use Rattle.walk.specs.Places.{EntryIs}
+use Rattle.walk.specs.declared.Entry.{Entry}
+use Rattle.walk.specs.declared.Entry.the-variants.{End, Value}
+use Rattle.walk.proofs.Turns.{Modes}
+use Rattle.walk.proofs.Chains.{ate}
+use Rattle.walk.proofs.ReadSays.{note-of}
+use Rattle.fields.specs.Slots.{marked, SlotIs}
+use Rattle.fields.specs.Keeping as keeping-is
+use Rattle.fields.proofs.Texts.{Here}
+use Rattle.fields.proofs.Keeping as keeping
+use Rattle.table.specs.Spans.{SizeIs}
+use Rattle.table.specs.Rows.{kept, Says, RowsPut}
+use Rattle.table.specs.Pass.{ValuePut, Sized, Passed}
+
+pub known-components : position objectNames (ascii "components") < length objectNames
+unfolding objectNames position
+known-components = omega arith
+
+pub known-attributes : position objectNames (ascii "attributes") < length objectNames
+unfolding objectNames position
+known-attributes = omega arith
+
+slot-three : position objectNames (ascii "components") ≡ 3
+unfolding objectNames position
+slot-three = refl
+
+slot-two : position objectNames (ascii "attributes") ≡ 2
+unfolding objectNames position
+slot-two = refl
+
+-- ---------------------------------------------------------------- one value
+
+module _ (start end owner from k seen : ℕ) (c before : List ℕ) (n next : ℕ) where
+  pub first-put : k ≡ 3 → seen ≡ 0 → (n′ next′ : ℕ) (after : List ℕ) → RowsPut (Here c 0) start end owner from before n′ next′ after → ValuePut start end owner from k seen c before n next n′ next′ after
+  first-put a b n′ next′ after h = record { first = λ x y. subst (λ u. RowsPut u start end owner from before n′ next′ after) (part-to-end c 0) h; other = λ m. absurd (m a b) }
+
+  pub as-kept : (k ≡ 3 → seen ≡ 0 → ⊥) → ValuePut start end owner from k seen c before n next n next before
+  as-kept m = record { first = λ a b. absurd (m a b); other = λ h. refl }
+
+-- an item takes as many bytes as its end says
+item-size : (d : ℕ) (c : List ℕ) (t : Node Ends) (r : List ℕ) → Reads d c t r → SizeIs t (code (itemEnd d c))
+item-size d c t r e =
+    let a = ate d c t r e in
+    let n = note-of d c t r e in
+    let f = a .fits in
+    let x : length (noteOf t .start) ≡ length c = ap (λ (p : Ends). length (p .start)) n in
+    let y : length (noteOf t .rest) ≡ length c - a .size = ap (λ (p : Ends). length (p .rest)) n ∙ ap length (a .is) ∙ length-drop (a .size) c in
+    ap code (a .ends-so) ∙ (omega arith)
+
+-- a slot that is still blank was so before, and another was marked
+still-blank : (known : ℕ) (p : List ℕ) (j left i : ℕ) → 0 < left → i < known → i < length p → getD (marked known p j left) i 0 ≡ 0 → (getD p i 0 ≡ 0) × (j ≡ i → ⊥)
+unfolding marked
+still-blank known p j left i some low room = go (ltb j known) refl (eqb (getD p j 0) 0) refl
+  where
+    here : getD (set p j left) i 0 ≡ 0 → j ≡ i → ⊥
+    here e z = let y : getD (set p i left) i 0 ≡ 0 = ap (λ j. getD (set p j left) i 0) (sym z) ∙ e in let x = getD-set-same p i left 0 room in omega arith
+
+    elsewhere : (k : ℕ) → (k ≡ i → ⊥) → getD (set p k left) i 0 ≡ 0 → getD p i 0 ≡ 0
+    elsewhere k n e = sym (getD-set-other p k i left 0 (λ z. n (sym z))) ∙ e
+
+    go : (a : Bool) → ltb j known ≡ a → (b : Bool) → eqb (getD p j 0) 0 ≡ b → getD (cond a (cond b (set p j left) (set p (known + 2) left)) (set p j left)) i 0 ≡ 0 → (getD p i 0 ≡ 0) × (j ≡ i → ⊥)
+    go true x true y e = (elsewhere j (here e) e, here e)
+    go true x false y e = let z = elsewhere (known + 2) (λ q. omega arith) e in (z, λ q. eqb-false (getD p j 0) 0 y (ap (λ j. getD p j 0) q ∙ z))
+    go false x b y e = (elsewhere j (here e) e, here e)
+
+-- ---------------------------------------------------------------- the loop
+
+-- up to `at`, with `due` items due
+pub record Looping (start end owner from mode count : ℕ) (s before : List ℕ) (at due : ℕ) (p : List ℕ) (n next : ℕ) (t : List ℕ) (size : ℕ) : Type 0 where
+  pub rows : keeping.Looping objectNames (ascii "components") known-components (Says start end owner from before) 28 mode count s at due p (kept n next t)
+  pub sizes : keeping.Looping objectNames (ascii "attributes") known-attributes SizeIs 28 mode count s at due p size
+  pub slots : length p ≡ 7
+  pub room : length t ≡ length before
+  -- before the components are met, the table is as it was
+  pub fresh : getD p 3 0 ≡ 0 → t ≡ before
+
+module _ (start end owner from mode count : ℕ) (s before : List ℕ) (modes : Modes mode count) where
+  pub loop-starts : (p : List ℕ) (n next size : ℕ) → p ≡ replicate 7 0 → Looping start end owner from mode count s before 0 count p n next before size
+  unfolding objectNames
+  loop-starts p n next size e = record {
+    rows = keeping.loop-starts objectNames (ascii "components") known-components (Says start end owner from before) 28 mode count s modes p (kept n next before) e;
+    sizes = keeping.loop-starts objectNames (ascii "attributes") known-attributes SizeIs 28 mode count s modes p size e;
+    slots = ap length e;
+    room = refl;
+    fresh = λ z. refl;
+  }
+
+  module _ (short : length s < FAULT) (at due : ℕ) (p : List ℕ) (n next : ℕ) (t : List ℕ) (size : ℕ) (w : Looping start end owner from mode count s before at due p n next t size) where
+    pub still-due : 1 ≤ mode → 0 < due
+    still-due = keeping.still-due objectNames (ascii "attributes") known-attributes SizeIs 28 mode count s modes short at due p size (w .sizes)
+
+    module _ (x : Entry) (h : EntryIs 29 mode due (Here s at) x) where
+      module _ (e : ℕ) (is : x ≡ End e) where
+        pub ends-inside : e ≤ length s - at → (at + e ≡ code (rest mode count 29 s)) × Passed start end owner from mode count s before p n next t size
+        ends-inside l =
+            let y = keeping.ends-inside objectNames (ascii "components") known-components (Says start end owner from before) 28 mode count s modes short at due p (kept n next t) (w .rows) x h e is l in
+            let z = keeping.ends-inside objectNames (ascii "attributes") known-attributes SizeIs 28 mode count s modes short at due p size (w .sizes) x h e is l in
+            (y .0, record { rows = y .1; sizes = z .1 })
+
+        pub ends-faulty : length s - at < e → (e ≡ code (rest mode count 29 s)) × Passed start end owner from mode count s before p n next t size
+        ends-faulty l =
+            let y = keeping.ends-faulty objectNames (ascii "components") known-components (Says start end owner from before) 28 mode count s modes short at due p (kept n next t) (w .rows) x h e is l in
+            let z = keeping.ends-faulty objectNames (ascii "attributes") known-attributes SizeIs 28 mode count s modes short at due p size (w .sizes) x h e is l in
+            (y .0, record { rows = y .1; sizes = z .1 })
+
+      module _ (k : ℕ) (is : x ≡ Value k) where
+        pub value-inside : at + k ≤ length s
+        value-inside = keeping.value-inside objectNames (ascii "attributes") known-attributes SizeIs 28 mode count s modes short at due p size (w .sizes) x h k is
+
+        module _ (e : ℕ) (ended : e ≡ code (itemEnd 29 (Here s (at + k)))) where
+          pub two-due : 2 ≤ due
+          two-due = keeping.two-due objectNames (ascii "attributes") known-attributes SizeIs 28 mode count s modes short at due p size (w .sizes) x h k is e ended
+
+          -- then nothing is read, and whatever was put may be answered
+          pub value-faulty : length s - (at + k) < e → (n′ next′ : ℕ) (t′ : List ℕ) → (e ≡ code (rest mode count 29 s)) × Passed start end owner from mode count s before p n′ next′ t′ size
+          value-faulty l n′ next′ t′ =
+              let y = keeping.value-faulty objectNames (ascii "components") known-components (Says start end owner from before) 28 mode count s modes short at due p (kept n next t) (w .rows) x h k is e ended l (kept n′ next′ t′) in
+              let z = keeping.value-faulty objectNames (ascii "attributes") known-attributes SizeIs 28 mode count s modes short at due p size (w .sizes) x h k is e ended l size in
+              (y .0, record { rows = y .1; sizes = z .1 })
+
+          module _ (l : e ≤ length s - (at + k)) where
+            pub goes-on : at < at + k + e
+            goes-on = keeping.goes-on objectNames (ascii "attributes") known-attributes SizeIs 28 mode count s modes short at due p size (w .sizes) x h k is e ended l
+
+            -- where no byte is left no value is read
+            some-left : 0 < length s - (at + k)
+            some-left = ⊎-elim (λ z. absurd (none z)) (λ z. omega arith) (eq-or (length s - (at + k)) 0)
+              where
+                none : length s - (at + k) ≡ 0 → ⊥
+                none z =
+                    let y = never-empty 29 (Here s (at + k)) (ap length (part-to-end s (at + k)) ∙ length-drop (at + k) s ∙ z) in
+                    let u : e ≡ FAULT + 6 = ended ∙ ap code y in omega arith
+
+            module _ (n′ next′ : ℕ) (t′ : List ℕ) (same : length t′ ≡ length t) (j : ℕ) (slot : SlotIs objectNames (Here s at) j)
+                (valued : ValuePut start end owner from j (getD p 3 0) (Here s (at + k)) t n next n′ next′ t′) (size′ : ℕ) (sized : Sized j (getD p 2 0) e size size′)
+                (q : List ℕ) (m : q ≡ marked 4 p j (length s - (at + k))) where
+              rows-kept : keeping-is.ValueIs objectNames (ascii "components") (Says start end owner from before) 29 j (getD p (position objectNames (ascii "components")) 0) (Here s (at + k)) (kept n next t) (kept n′ next′ t′)
+              unfolding objectNames position
+              rows-kept = record {
+                first = λ a b. subst (λ u. RowsPut (Here s (at + k)) start end owner from u n′ next′ t′) (w .fresh b) (valued .first a b);
+                other = λ h. valued .other h;
+              }
+
+              size-kept : keeping-is.ValueIs objectNames (ascii "attributes") SizeIs 29 j (getD p (position objectNames (ascii "attributes")) 0) (Here s (at + k)) size size′
+              unfolding objectNames position
+              size-kept = record {
+                first = λ a b t r read. subst (SizeIs t) (sym (sized .0 a b ∙ ended)) (item-size 29 (Here s (at + k)) t r read);
+                other = λ h. sized .1 h;
+              }
+
+              still-fresh : getD q 3 0 ≡ 0 → t′ ≡ before
+              still-fresh z =
+                  let slots = w .slots in
+                  let b = still-blank 4 p j (length s - (at + k)) 3 some-left (omega arith) (omega arith) (ap (λ q. getD q 3 0) (sym m) ∙ z) in
+                  ap (λ u. u .table) (valued .other (λ a y. b .1 a)) ∙ w .fresh (b .0)
+
+              pub loops-on : Looping start end owner from mode count s before (at + k + e) (due - 2) q n′ next′ t′ size′
+              unfolding objectNames
+              loops-on =
+                  let y = keeping.loops-on objectNames (ascii "components") known-components (Says start end owner from before) 28 mode count s modes short at due p (kept n next t) (w .rows) x h k is e ended l j slot (kept n′ next′ t′) rows-kept q m in
+                  let z = keeping.loops-on objectNames (ascii "attributes") known-attributes SizeIs 28 mode count s modes short at due p size (w .sizes) x h k is e ended l j slot size′ size-kept q m in
+                  record { rows = y; sizes = z; slots = z .slots; room = same ∙ w .room; fresh = still-fresh }

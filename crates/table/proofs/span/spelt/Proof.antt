@@ -1,0 +1,20 @@
+-- `table::span::spelt` meets its contract: a law for each branch.
+use Rattle.table.proofs.Spelling as spelling
+use mathlib.Core.Path.{_≡_, _∙_}
+use native.Mathlib.Omega.{arith}
+use borrow.Author.Needs.{needs}
+use Rattle.table.proofs.span.spelt.Statement.{statement}
+use Rattle.table.proofs.span.spelt.Tie as tie
+
+pub spelt-spec : {M : Type 1} → statement M
+spelt-spec =
+    tie.close
+    (tie.spec
+    (λ c. search needs)
+    (λ c. search needs)
+    (λ c. search needs)
+    (λ c κs. search needs)
+    (λ c. spelling.short-spelt ((c .before .before .before .before .before .args .s .now)) ((c .before .before .before .before .before .args .end)) _ ((c .before .before .head .ensures)) (omega arith) _)
+    (λ c κs. search needs)
+    (λ c. search needs)
+    (λ c. spelling.head-spelt ((c .before .before .before .before .before .before .before .args .s .now)) ((c .before .before .before .before .before .before .before .args .end)) _ ((c .before .before .before .before .head .ensures)) _ ((c .before .place-of .ensures))))

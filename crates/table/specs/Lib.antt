@@ -1,0 +1,7 @@
+pub mod Spans
+pub mod Row
+pub mod Entered
+pub mod Rows
+pub mod Object
+pub mod Pass
+pub mod Objects

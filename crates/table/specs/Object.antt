@@ -1,0 +1,59 @@
+-- The row of an object, put into the table when its map has been passed over.
+use Prim.Native.Nat.{ℕ, suc, _<_}
+use mathlib.Core.List.{List, [], _∷_, _++_}
+use mathlib.Core.Option.{some}
+use mathlib.Core.Path.{_≡_}
+use lib.ListN.{length, getD, take}
+use lib.Seq.{sets}
+use Rattle.meaning.specs.Tree.{Node}
+use Rattle.meaning.specs.Check.{pass}
+use Rattle.meaning.specs.Read.{Span}
+use Rattle.meaning.specs.Model.{Object}
+use Rattle.meaning.specs.Notes.{mapObject}
+use Rattle.meaning.specs.Kind.{aWord}
+use Rattle.meaning.specs.Judge.{shapeOf}
+use Rattle.meaning.specs.Rows.{objectRow, dimensions}
+use Rattle.walk.specs.Reading.{Ends, Reads, leftAt}
+use Rattle.component.specs.Value.{leftWord}
+use Rattle.components.specs.Typed.{WordAt}
+use Rattle.fields.specs.Slots.{Stands}
+use Rattle.table.specs.Spans.{spanOf, SizeIs}
+
+-- ---------------------------------------------------------------- dimensions
+
+-- the first `rank` stay, the others are 0
+pub record Cleared (rank : ℕ) (before after : List ℕ) : Type 0 where
+  pub at : (j : ℕ) → j < length before → getD after j 0 ≡ getD (take rank before) j 0
+
+abbrev pub eight : List ℕ → List ℕ
+eight d = getD d 0 0 ∷ getD d 1 0 ∷ getD d 2 0 ∷ getD d 3 0 ∷ getD d 4 0 ∷ getD d 5 0 ∷ getD d 6 0 ∷ getD d 7 0 ∷ []
+
+-- of the shape that stands in m
+pub record DimensionsAt (m : List ℕ) (left : ℕ) (d : List ℕ) (rank : ℕ) : Type 0 where
+  pub are : (t : Node Ends) → Stands 29 m left t → (s : List ℕ) → shapeOf t ≡ pass s → (rank ≡ length s) × (eight d ≡ dimensions s)
+
+-- ---------------------------------------------------------------- the row
+
+-- its sixteen numbers
+abbrev pub sixteen : Span → ℕ → List ℕ → Span → Span → ℕ → List ℕ
+sixteen name rank d format attributes count = name .place ∷ name .size ∷ rank ∷ d ++ format .place ∷ format .size ∷ attributes .place ∷ attributes .size ∷ count ∷ []
+
+-- its row in a file whose manifest ends at `end`
+abbrev pub objectIn : ℕ → Object Ends → List ℕ
+objectIn end o = objectRow (mapObject (spanOf end) o)
+
+-- where the fields of an object stand in m: the slots p, and how many bytes its attributes take
+pub record Described (m p : List ℕ) (size : ℕ) (o : Object Ends) : Type 0 where
+  pub shape : Node Ends
+  pub shape-stands : Stands 29 m (getD p 0 0) shape
+  pub shape-is : shapeOf shape ≡ pass (o .shape)
+  pub format-at : WordAt m (some (o .format))
+  pub format-left : leftWord (some (o .format)) ≡ getD p 1 0
+  pub attributes-left : leftAt (o .attributes) ≡ getD p 2 0
+  pub attributes-take : (t : Node Ends) → o .attributes ≡ some t → (0 < getD p 2 0) × SizeIs t size
+
+-- the row of every object whose key begins s and whose fields stand there
+abbrev pub ObjectPut : List ℕ → List ℕ → List ℕ → ℕ → ℕ → ℕ → ℕ → List ℕ → List ℕ → Type 0
+ObjectPut s m p count size end i before after =
+    (d : ℕ) (t : Node Ends) (q : List ℕ) → Reads (suc d) s t q → (o : Object Ends) → aWord t ≡ pass (o .name) → Described m p size o → count ≡ length (o .components)
+    → after ≡ sets before i (objectIn end o)

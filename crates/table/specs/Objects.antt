@@ -1,0 +1,67 @@
+-- The rows of all objects and of their components, and what the table holds in the end.
+use Prim.Native.Nat.{ℕ, suc, _+_, _*_, _≤_}
+use mathlib.Core.List.{List, _++_, map}
+use mathlib.Core.Path.{_≡_}
+use lib.ListN.{length, drop}
+use lib.Seq.{sets}
+use Rattle.meaning.specs.Tree.{Node, Pair}
+use Rattle.meaning.specs.Check.{Check, pass, inObject}
+use Rattle.meaning.specs.Model.{Named, Object, Model}
+use Rattle.meaning.specs.Notes.{mapObject, mapModel}
+use Rattle.meaning.specs.Field.{nameOf}
+use Rattle.meaning.specs.Judge.{object, objectsOf}
+use Rattle.meaning.specs.Rows.{objectWidth, componentWidth, objectRows, componentRows, componentCount, rows, roomFor}
+use Rattle.walk.specs.Reading.{Ends, Reads}
+use Rattle.walk.proofs.Passed.{AllPassed}
+use Rattle.table.specs.Spans.{spanOf}
+use Rattle.table.specs.Entered.{Entered}
+use Rattle.table.specs.Rows.{rowsIn}
+use Rattle.table.specs.Object.{objectIn}
+
+-- ---------------------------------------------------------------- one object
+
+-- its row from i on and its components' from `from` on
+pub record WholeLaid (end owner i from : ℕ) (before : List ℕ) (next : ℕ) (after : List ℕ) (o : Object Ends) : Type 0 where
+  pub next-is : next ≡ from + componentWidth * length (o .components)
+  pub after-is : after ≡ sets (sets before i (objectIn end o)) from (rowsIn end owner (o .components))
+
+-- of every object that passes, whose key begins s and whose value begins c, where there is room
+abbrev pub WholePut : List ℕ → List ℕ → ℕ → ℕ → ℕ → ℕ → ℕ → List ℕ → ℕ → List ℕ → Type 0
+WholePut s c start end owner i from before next after =
+    (p : Pair Ends) (d : ℕ) (q r : List ℕ) → Reads (suc d) s (p .key) q → Reads 30 c (p .value) r → (n : Named Ends) → nameOf p ≡ pass n → (o : Object Ends) → object start n ≡ pass o
+    → i + objectWidth ≤ from → from + componentWidth * length (o .components) ≤ length before → WholeLaid end owner i from before next after o
+
+-- ---------------------------------------------------------------- all objects
+
+abbrev pub entry : ℕ → ℕ → Named Ends → Check (Object Ends)
+entry start i n = inObject i (object start n)
+
+abbrev pub objectsIn : ℕ → List (Object Ends) → List ℕ
+objectsIn end os = objectRows (map (mapObject (spanOf end)) os)
+
+abbrev pub componentsIn : ℕ → List (Object Ends) → List ℕ
+componentsIn end os = componentRows 0 (map (mapObject (spanOf end)) os)
+
+-- the rows of these objects
+pub record Laid (end from : ℕ) (before : List ℕ) (row next : ℕ) (after : List ℕ) (os : List (Object Ends)) : Type 0 where
+  pub row-is : row ≡ objectWidth * length os
+  pub next-is : next ≡ from + componentWidth * componentCount os
+  pub after-is : after ≡ sets (sets before 0 (objectsIn end os)) from (componentsIn end os)
+
+-- what was put of the pairs `done`
+pub record ObjectsLaid (start end from : ℕ) (before : List ℕ) (n row next : ℕ) (after : List ℕ) (done : List (Pair Ends)) : Type 0 where
+  pub counted : n ≡ length done
+  pub laid : (os : List (Object Ends)) → Entered (entry start) done os → objectWidth * length os ≤ from → from + componentWidth * componentCount os ≤ length before → Laid end from before row next after os
+
+-- of all pairs that are due at s
+pub record AllLaid (start end from mode count : ℕ) (s before after : List ℕ) : Type 0 where
+  pub n : ℕ
+  pub row : ℕ
+  pub next : ℕ
+  pub are : AllPassed 30 mode count s (ObjectsLaid start end from before n row next after)
+
+-- the table of every model m whose objects are read at s, where it has room for them: its rows, and beyond them what it held
+abbrev pub Written : List ℕ → ℕ → ℕ → ℕ → List ℕ → List ℕ → Type 0
+Written s start end from before after =
+    (t : Node Ends) (q : List ℕ) → Reads 31 s t q → (m : Model Ends) → objectsOf start t ≡ pass (m .objects) → from ≡ objectWidth * length (m .objects) → roomFor m ≤ length before
+    → after ≡ rows (mapModel (spanOf end) m) ++ drop (roomFor (mapModel (spanOf end) m)) before

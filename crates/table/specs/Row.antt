@@ -1,0 +1,31 @@
+-- The row of a component, put into the table where its key and its value were met.
+use Prim.Native.Nat.{ℕ, suc}
+use mathlib.Core.List.{List, [], _∷_}
+use mathlib.Core.Path.{_≡_}
+use lib.Seq.{sets}
+use Rattle.meaning.specs.Tree.{Pair}
+use Rattle.meaning.specs.Check.{pass}
+use Rattle.meaning.specs.Read.{Span}
+use Rattle.meaning.specs.Model.{Named, Component}
+use Rattle.meaning.specs.Notes.{mapComponent}
+use Rattle.meaning.specs.Field.{nameOf}
+use Rattle.meaning.specs.Judge.{component}
+use Rattle.meaning.specs.Rows.{componentRow}
+use Rattle.walk.specs.Reading.{Ends, Reads}
+use Rattle.component.specs.Verdict.{ComponentIs}
+use Rattle.component.specs.declared.Judged.{Judged}
+use Rattle.table.specs.Spans.{spanOf}
+
+-- its ten numbers
+abbrev pub ten : Span → ℕ → Span → ℕ → ℕ → Span → ℕ → List ℕ
+ten name code type offset size digest owner = name .place ∷ name .size ∷ code ∷ type .place ∷ type .size ∷ offset ∷ size ∷ digest .place ∷ digest .size ∷ owner ∷ []
+
+-- its row in a file whose manifest ends at `end`
+abbrev pub rowIn : ℕ → ℕ → Component Ends → List ℕ
+rowIn end owner k = componentRow owner (mapComponent (spanOf end) k)
+
+-- the row of every component that passes, whose key begins s and whose value, judged as v, begins c
+abbrev pub RowPut : List ℕ → List ℕ → Judged → ℕ → ℕ → ℕ → List ℕ → List ℕ → Type 0
+RowPut s c v end owner i before after =
+    (start : ℕ) → ComponentIs c start v → (p : Pair Ends) (d : ℕ) (q r : List ℕ) → Reads (suc d) s (p .key) q → Reads 28 c (p .value) r → (n : Named Ends) → nameOf p ≡ pass n
+    → (k : Component Ends) → component start n ≡ pass k → after ≡ sets before i (rowIn end owner k)

@@ -1,0 +1,54 @@
+-- The rows of an object's components, put one after the other while their map is passed over.
+use Prim.Native.Nat.{ℕ, _+_, _*_, _≤_}
+use mathlib.Core.List.{List, map}
+use mathlib.Core.Path.{_≡_}
+use lib.ListN.{length}
+use lib.Seq.{sets}
+use Rattle.meaning.specs.Tree.{Node, Pair}
+use Rattle.meaning.specs.Check.{Check, pass, inComponent}
+use Rattle.meaning.specs.Model.{Named, Component}
+use Rattle.meaning.specs.Notes.{mapComponent}
+use Rattle.meaning.specs.Judge.{component, componentsOf}
+use Rattle.meaning.specs.Rows.{componentWidth, rowsOf}
+use Rattle.walk.specs.Reading.{Ends, Reads}
+use Rattle.walk.proofs.Passed.{AllPassed}
+use Rattle.table.specs.Spans.{spanOf}
+use Rattle.table.specs.Entered.{Entered}
+
+abbrev pub entry : ℕ → ℕ → Named Ends → Check (Component Ends)
+entry start j n = inComponent j (component start n)
+
+abbrev pub rowsIn : ℕ → ℕ → List (Component Ends) → List ℕ
+rowsIn end owner cs = rowsOf owner (map (mapComponent (spanOf end)) cs)
+
+-- the rows of these components, from `from` on, in a table that has room for them
+pub record Laid (end owner from : ℕ) (before : List ℕ) (next : ℕ) (after : List ℕ) (cs : List (Component Ends)) : Type 0 where
+  pub next-is : next ≡ from + componentWidth * length cs
+  pub after-is : after ≡ sets before from (rowsIn end owner cs)
+
+-- what was put of the pairs `done`
+pub record Rowed (start end owner from : ℕ) (before : List ℕ) (count next : ℕ) (after : List ℕ) (done : List (Pair Ends)) : Type 0 where
+  pub counted : count ≡ length done
+  pub laid : (cs : List (Component Ends)) → Entered (entry start) done cs → from + componentWidth * length cs ≤ length before → Laid end owner from before next after cs
+
+-- of all pairs that are due at s
+abbrev pub AllRowed : ℕ → ℕ → ℕ → ℕ → ℕ → ℕ → List ℕ → List ℕ → ℕ → ℕ → List ℕ → Type 0
+AllRowed start end owner from mode count s before n next after = AllPassed 28 mode count s (Rowed start end owner from before n next after)
+
+-- how many components were met, where the next row begins, and the table
+pub record Kept : Type 0 where
+  pub count : ℕ
+  pub next : ℕ
+  pub table : List ℕ
+
+abbrev pub kept : ℕ → ℕ → List ℕ → Kept
+kept n next t = record { count = n; next = next; table = t }
+
+-- of the map of components x, if it passes
+abbrev pub Says : ℕ → ℕ → ℕ → ℕ → List ℕ → Node Ends → Kept → Type 0
+Says start end owner from before x k =
+    (cs : List (Component Ends)) → componentsOf start x ≡ pass cs → (k .count ≡ length cs) × (from + componentWidth * length cs ≤ length before → Laid end owner from before (k .next) (k .table) cs)
+
+-- of whatever is read at c
+abbrev pub RowsPut : List ℕ → ℕ → ℕ → ℕ → ℕ → List ℕ → ℕ → ℕ → List ℕ → Type 0
+RowsPut c start end owner from before n next after = (t : Node Ends) (q : List ℕ) → Reads 29 c t q → Says start end owner from before t (kept n next after)

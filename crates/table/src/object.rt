@@ -1,0 +1,101 @@
+// The row of an object, from the places of its fields in m.
+use crate::lay::five;
+use crate::lay::put;
+use crate::span::Span;
+use crate::span::spelt;
+use crate::span::spelt_at;
+use crate::span::whole;
+use fields::place_of;
+use shape::Shaped;
+ghost use mathlib.Core.Path.{_≡_};
+ghost use lib.ListN.{length};
+ghost use lib.Seq.{sets};
+ghost use Rattle.table.specs.Spans.{spanned};
+ghost use Rattle.table.specs.Object as is;
+
+// Unused dimensions are 0.
+fn clear(d: &mut [u64], rank: usize)
+    ensures { λ r. ⌜ is.Cleared rank (now (d .entry)) (now (d .exit)) ⌝ }
+{
+    let mut k = rank;
+    while k < d.len() {
+        d[k] = 0;
+        k += 1;
+    }
+}
+
+// The shape, where `left` bytes are left: its dimensions are put into d, and their number is answered.
+fn dimensions_at(m: &[u8], left: usize, d: &mut [u64]) -> usize
+    requires { ⌜ length (now d) ≡ 8 ⌝ }
+    ensures { λ r. ⌜ is.DimensionsAt (now (m .entry)) left (now (d .exit)) r ⌝ }
+{
+    let at = place_of(m.len(), left);
+    match shape::shape(&m[at..], 28, d) {
+        Shaped::No(_) => 0,
+        Shaped::Yes(rank) => {
+            clear(d, rank);
+            rank
+        }
+    }
+}
+
+// Puts sixteen numbers.
+fn put_sixteen(
+    t: &mut [u64],
+    i: usize,
+    name: Span,
+    rank: u64,
+    d: &[u64],
+    format: Span,
+    attributes: Span,
+    count: u64,
+)
+    requires { ⌜ length (now d) ≡ 8 ⌝ }
+    ensures { λ r. ⌜ now (t .exit) ≡ sets (now (t .entry)) i (is.sixteen (spanned name) rank (is.eight (now (d .entry))) (spanned format) (spanned attributes) count) ⌝ }
+{
+    if i < t.len() {
+        five(t, i, name.place, name.size, rank, d[0], d[1]);
+        five(t, i + 5, d[2], d[3], d[4], d[5], d[6]);
+        five(
+            t,
+            i + 10,
+            d[7],
+            format.place,
+            format.size,
+            attributes.place,
+            attributes.size,
+        );
+        put(t, i + 15, count);
+    }
+}
+
+// Puts the row of an object with `count` components, whose key begins s; p holds the places of its fields, `size` is its attributes' size.
+pub fn put_object(
+    s: &[u8],
+    m: &[u8],
+    p: &[usize],
+    count: usize,
+    size: usize,
+    end: usize,
+    i: usize,
+    t: &mut [u64],
+)
+    requires { ⌜ length (now p) ≡ 7 ⌝ }
+    ensures { λ r. ⌜ is.ObjectPut (now (s .entry)) (now (m .entry)) (now (p .entry)) count size end i (now (t .entry)) (now (t .exit)) ⌝ }
+{
+    let mut d = [0u64; 8];
+    let rank = dimensions_at(&m[0..], p[0], &mut d);
+    let name = spelt(&s[0..], end);
+    let format = spelt_at(&m[0..], p[1], end);
+    let attributes = whole(p[2], size, end);
+    put_sixteen(
+        t,
+        i,
+        name,
+        rank as u64,
+        &d,
+        format,
+        attributes,
+        count as u64,
+    );
+}

@@ -1,0 +1,136 @@
+// Passing over the entries of an object's map: where its fields stand, its components' rows, and its attributes' size.
+use crate::rows::Run;
+use crate::rows::put_rows;
+use walk::Entry;
+use walk::Letters;
+ghost use mathlib.Core.Path.{_≡_};
+ghost use Prim.Native.Nat.{_≤_};
+ghost use lib.ListN.{replicate};
+ghost use Rattle.meaning.specs.Field.{objectNames};
+ghost use Rattle.cbor.specs.Ending.{code, itemEnd, rest};
+ghost use Rattle.walk.proofs.Turns.{Modes};
+ghost use Rattle.fields.specs.Slots.{SlotIs};
+ghost use Rattle.table.specs.Pass.{ValuePut, Sized, Passed};
+
+// What `Run` says of an object's components, and the size of its attributes.
+pub struct Walk {
+    pub end: usize,
+    pub count: usize,
+    pub next: usize,
+    pub size: usize,
+}
+
+// The slot of the key that begins s.
+fn slot(s: &[u8]) -> usize
+    ensures { λ r. ⌜ (r ≤ 5) × SlotIs objectNames (now (s .entry)) r ⌝ }
+{
+    match walk::text(&s[0..]) {
+        Letters::NoText => 5,
+        Letters::Text(at, n) => {
+            let e = at + n;
+            types::object_key(&s[at..e])
+        }
+    }
+}
+
+// The value that begins c, whose key has slot k. The rows of the first components (slot 3 still holds 0, which is `seen`) are put; with any other value, what
+// was kept before stays.
+fn value(
+    c: &[u8],
+    start: u64,
+    end: usize,
+    owner: u64,
+    from: usize,
+    k: usize,
+    seen: usize,
+    count: usize,
+    next: usize,
+    t: &mut [u64],
+) -> Run
+    ensures { λ r. ⌜ (r .end ≡ code (itemEnd 29 (now (c .entry)))) × ValuePut start end owner from k seen (now (c .entry)) (now (t .entry)) count next (r .count) (r .next) (now (t .exit)) ⌝ }
+{
+    if k == 3 {
+        if seen == 0 {
+            return put_rows(&c[0..], start, end, owner, from, t);
+        }
+    }
+    Run {
+        end: cbor::skip(&c[0..], 29),
+        count: count,
+        next: next,
+    }
+}
+
+// The size of the attributes, after a value of e bytes whose key has slot k: that of the first attributes is kept.
+fn sized(k: usize, seen: usize, e: usize, size: usize) -> usize
+    ensures { λ r. ⌜ Sized k seen e size r ⌝ }
+{
+    if k == 2 {
+        if seen == 0 {
+            return e;
+        }
+    }
+    size
+}
+
+// Entries that begin s, counted as `walk::map` says, of object number `owner`. The places of its fields are left in p, its components' rows are put from `from` on.
+pub fn pass_object(
+    s: &[u8],
+    start: u64,
+    end: usize,
+    mode: u64,
+    count: u64,
+    owner: u64,
+    from: usize,
+    p: &mut [usize],
+    t: &mut [u64],
+) -> Walk
+    requires { ⌜ (now p ≡ replicate 7 0) × Modes mode count ⌝ }
+    ensures { λ r. ⌜ (r .end ≡ code (rest mode count 29 (now (s .entry)))) × Passed start end owner from mode count (now (s .entry)) (now (t .entry)) (now (p .exit)) (r .count) (r .next) (now (t .exit)) (r .size) ⌝ }
+{
+    let mut at = 0;
+    let mut due = count;
+    let mut n = 0;
+    let mut next = from;
+    let mut size = 0;
+    loop {
+        match walk::past_key(&s[at..], mode, due, 29) {
+            Entry::End(e) => {
+                if s.len() - at < e {
+                    return Walk {
+                        end: e,
+                        count: n,
+                        next: next,
+                        size: size,
+                    };
+                }
+                return Walk {
+                    end: at + e,
+                    count: n,
+                    next: next,
+                    size: size,
+                };
+            }
+            Entry::Value(k) => {
+                let v = at + k;
+                let j = slot(&s[at..]);
+                let w = value(&s[v..], start, end, owner, from, j, p[3], n, next, t);
+                let e = w.end;
+                n = w.count;
+                next = w.next;
+                if s.len() - v < e {
+                    return Walk {
+                        end: e,
+                        count: n,
+                        next: next,
+                        size: size,
+                    };
+                }
+                size = sized(j, p[2], e, size);
+                fields::mark(p, 4, j, s.len() - v);
+                at = v + e;
+                due -= 2;
+            }
+        }
+    }
+}

@@ -1,0 +1,45 @@
+// The row of a component.
+use crate::lay::five;
+use crate::span::Span;
+use crate::span::spelt;
+use crate::span::spelt_at;
+use component::Judged;
+ghost use mathlib.Core.Path.{_≡_};
+ghost use lib.Seq.{sets};
+ghost use Rattle.table.specs.Spans.{spanned};
+ghost use Rattle.table.specs.Row.{ten, RowPut};
+
+// Puts ten numbers.
+fn put_ten(
+    t: &mut [u64],
+    i: usize,
+    name: Span,
+    code: u64,
+    kind: Span,
+    offset: u64,
+    length: u64,
+    digest: Span,
+    owner: u64,
+)
+    ensures { λ r. ⌜ now (t .exit) ≡ sets (now (t .entry)) i (ten (spanned name) code (spanned kind) offset length (spanned digest) owner) ⌝ }
+{
+    if i < t.len() {
+        five(t, i, name.place, name.size, code, kind.place, kind.size);
+        five(t, i + 5, offset, length, digest.place, digest.size, owner);
+    }
+}
+
+// Puts the row of a component, whose key begins s and whose value, judged as v, begins c. `owner` is its object's index.
+pub fn put_row(s: &[u8], c: &[u8], v: Judged, end: usize, owner: u64, i: usize, t: &mut [u64])
+    ensures { λ r. ⌜ RowPut (now (s .entry)) (now (c .entry)) v end owner i (now (t .entry)) (now (t .exit)) ⌝ }
+{
+    match v {
+        Judged::No(_) => {}
+        Judged::Yes(code, kind, offset, length, digest) => {
+            let name = spelt(&s[0..], end);
+            let typed = spelt_at(&c[0..], kind, end);
+            let digested = spelt_at(&c[0..], digest, end);
+            put_ten(t, i, name, code, typed, offset, length, digested, owner);
+        }
+    }
+}

@@ -1,0 +1,48 @@
+// Where texts stand in the file.
+use fields::place_of;
+ghost use Rattle.table.specs.Spans as is;
+
+// A place in the file and a length; 0 and 0 for what is absent.
+pub struct Span {
+    pub place: u64,
+    pub size: u64,
+}
+
+// The letters of the text that begins s.
+pub fn spelt(s: &[u8], end: usize) -> Span
+    ensures { λ r. ⌜ is.SpeltIs (now (s .entry)) end r ⌝ }
+{
+    let h = cbor::head(&s[0..]);
+    if s.len() < h.size {
+        return Span { place: 0, size: 0 };
+    }
+    let at = place_of(end, s.len());
+    Span {
+        place: (at + h.size) as u64,
+        size: h.value,
+    }
+}
+
+// The letters of the text that has `left` bytes left in c.
+pub fn spelt_at(c: &[u8], left: usize, end: usize) -> Span
+    ensures { λ r. ⌜ is.SpeltAt (now (c .entry)) left end r ⌝ }
+{
+    if left == 0 {
+        return Span { place: 0, size: 0 };
+    }
+    let at = place_of(c.len(), left);
+    spelt(&c[at..], end)
+}
+
+// The whole item that takes `size` bytes where `left` bytes are left.
+pub fn whole(left: usize, size: usize, end: usize) -> Span
+    ensures { λ r. ⌜ is.WholeIs left size end r ⌝ }
+{
+    if left == 0 {
+        return Span { place: 0, size: 0 };
+    }
+    Span {
+        place: place_of(end, left) as u64,
+        size: size as u64,
+    }
+}
