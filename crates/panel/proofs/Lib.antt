@@ -1,0 +1,9 @@
+-- Laws behind panel's proofs.
+pub mod Writing
+pub mod Pieces
+pub mod Names
+pub mod Sound
+pub mod Following
+pub mod Answers
+pub mod Columns
+pub mod OfRows

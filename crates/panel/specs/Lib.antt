@@ -1,0 +1,5 @@
+-- The definitions that the contracts of panel cite.
+pub mod Lines
+pub mod Told
+pub mod Wrote
+pub mod Stands

@@ -1,0 +1,42 @@
+// The listing's exact bytes, from a file and a table, into a lent text.
+mod lines;
+mod put;
+mod rows;
+
+ghost use mathlib.Core.Path.{_≡_};
+ghost use lib.ListN.{length};
+ghost use Rattle.panel.specs.Lines as is;
+ghost use Rattle.panel.specs.Told.{told, textAfter};
+
+// 0, and how many bytes the listing has; or INDEX or ROOM, and 0.
+#[repr(C)]
+pub struct Listed {
+    pub number: u64,
+    pub length: u64,
+}
+
+// Counted in a text of one byte, then written if it fits.
+pub fn list(file: &[u8], table: &[u64], objects: u64, components: u64, text: &mut [u8]) -> Listed
+    ensures answer { λ r. ⌜ r ≡ told (is.listed (now (file .entry)) (now (table .entry)) objects components) (length (now (text .entry))) ⌝ }
+    ensures written { λ r. ⌜ now (text .exit) ≡ textAfter (is.listed (now (file .entry)) (now (table .entry)) objects components) (now (text .entry)) ⌝ }
+{
+    if rows::sound(&file[0..], &table[0..], objects, components) {
+        let mut scrap = [0u8; 1];
+        let n = lines::whole(&file[0..], &table[0..], objects, components, &mut scrap);
+        if text.len() < n {
+            return Listed {
+                number: 24,
+                length: 0,
+            };
+        }
+        lines::whole(&file[0..], &table[0..], objects, components, text);
+        return Listed {
+            number: 0,
+            length: n as u64,
+        };
+    }
+    Listed {
+        number: 26,
+        length: 0,
+    }
+}

@@ -1,0 +1,140 @@
+// The lines of a listing, into `out` from `at` on as far as they fit; each answers the place past its lines.
+use crate::put::blank_number;
+use crate::put::blank_storage;
+use crate::put::blank_text;
+use crate::put::byte;
+use crate::put::placed;
+use crate::put::word;
+ghost use mathlib.Core.Path.{_≡_};
+ghost use mathlib.Core.List.{[], _∷_};
+ghost use mathlib.Core.Bool.{true};
+ghost use Prim.Native.Nat.{_+_, _*_, _≤_};
+ghost use lib.ListN.{length, take, drop};
+ghost use Rattle.meaning.specs.Text.{ascii};
+ghost use Rattle.meaning.specs.Types.{storageOf};
+ghost use Rattle.meaning.specs.Listing.{line, shownText, decimal};
+ghost use Rattle.panel.specs.Lines as is;
+ghost use Rattle.panel.specs.Wrote.{Wrote};
+
+// As much of that part of the file as there is.
+fn part<'a>(file: &'a [u8], place: u64, size: u64) -> &'a [u8]
+    ensures { λ r. ⌜ now r ≡ take size (drop place (now (file .entry))) ⌝ }
+{
+    let n = file.len() as u64;
+    if n < place {
+        return &file[0..0];
+    }
+    let start = place as usize;
+    if n - place < size {
+        return &file[start..];
+    }
+    let end = start + size as usize;
+    &file[start..end]
+}
+
+fn heading(objects: u64, components: u64, out: &mut [u8]) -> usize
+    ensures { λ r. ⌜ Wrote (line (ascii "objects") (decimal objects ∷ ascii "components" ∷ decimal components ∷ [])) 0 (now (out .entry)) (now (out .exit)) r ⌝ }
+{
+    let a = word(out, 0, b"objects");
+    let b = blank_number(out, a, objects);
+    let c = word(out, b, b" components");
+    let d = blank_number(out, c, components);
+    byte(out, d, 10)
+}
+
+fn blob_words(name: &[u8], code: u64, offset: u64, size: u64, out: &mut [u8], at: usize) -> usize
+    ensures { λ r. ⌜ Wrote (line (ascii "blob") (shownText (now (name .entry)) ∷ storageOf code .called ∷ decimal offset ∷ decimal size ∷ [])) at (now (out .entry)) (now (out .exit)) r ⌝ }
+{
+    let a = word(out, at, b"blob");
+    let b = blank_text(out, a, &name[0..]);
+    let c = blank_storage(out, b, code);
+    let d = blank_number(out, c, offset);
+    let e = blank_number(out, d, size);
+    byte(out, e, 10)
+}
+
+// The component whose row begins at `row`.
+fn blob(file: &[u8], table: &[u64], row: usize, out: &mut [u8], at: usize) -> usize
+    requires { ⌜ row + 10 ≤ length (now table) ⌝ }
+    ensures { λ r. ⌜ Wrote (is.blobLine (now (file .entry)) (now (table .entry)) row) at (now (out .entry)) (now (out .exit)) r ⌝ }
+{
+    let name = part(&file[0..], table[row], table[row + 1]);
+    blob_words(
+        name,
+        table[row + 2],
+        table[row + 5],
+        table[row + 6],
+        out,
+        at,
+    )
+}
+
+// n components, the first at the row `from`.
+fn blobs(file: &[u8], table: &[u64], n: u64, from: usize, out: &mut [u8], at: usize) -> usize
+    requires { ⌜ from + 10 * n ≤ length (now table) ⌝ }
+    ensures { λ r. ⌜ Wrote (is.blobLines (now (file .entry)) (now (table .entry)) n from) at (now (out .entry)) (now (out .exit)) r ⌝ }
+{
+    let mut past = at;
+    let mut row = from;
+    let mut left = n;
+    while 0 < left {
+        past = blob(&file[0..], &table[0..], row, out, past);
+        row += 10;
+        left -= 1;
+    }
+    placed(past)
+}
+
+fn object_words(name: &[u8], format: &[u8], out: &mut [u8], at: usize) -> usize
+    ensures { λ r. ⌜ Wrote (line (ascii "object") (shownText (now (name .entry)) ∷ shownText (now (format .entry)) ∷ [])) at (now (out .entry)) (now (out .exit)) r ⌝ }
+{
+    let a = word(out, at, b"object");
+    let b = blank_text(out, a, &name[0..]);
+    let c = blank_text(out, b, &format[0..]);
+    byte(out, c, 10)
+}
+
+// The object whose row begins at `row`.
+fn object(file: &[u8], table: &[u64], row: usize, out: &mut [u8], at: usize) -> usize
+    requires { ⌜ row + 16 ≤ length (now table) ⌝ }
+    ensures { λ r. ⌜ Wrote (is.objectLine (now (file .entry)) (now (table .entry)) row) at (now (out .entry)) (now (out .exit)) r ⌝ }
+{
+    let name = part(&file[0..], table[row], table[row + 1]);
+    let format = part(&file[0..], table[row + 11], table[row + 12]);
+    object_words(name, format, out, at)
+}
+
+// n objects, the first at the table's start, and their components from the row `first` on.
+fn objects_of(file: &[u8], table: &[u64], n: u64, first: usize, out: &mut [u8], at: usize) -> usize
+    requires { ⌜ (16 * n ≤ length (now table)) × (first + 10 * is.counted (now table) n 0 ≤ length (now table)) ⌝ }
+    ensures { λ r. ⌜ Wrote (is.objectLines (now (file .entry)) (now (table .entry)) n 0 first) at (now (out .entry)) (now (out .exit)) r ⌝ }
+{
+    let mut past = at;
+    let mut row = 0;
+    let mut from = first;
+    let mut left = n;
+    while 0 < left {
+        let count = table[row + 15];
+        let next = object(&file[0..], &table[0..], row, out, past);
+        past = blobs(&file[0..], &table[0..], count, from, out, next);
+        from += 10 * count as usize;
+        row += 16;
+        left -= 1;
+    }
+    placed(past)
+}
+
+pub fn whole(file: &[u8], table: &[u64], objects: u64, components: u64, out: &mut [u8]) -> usize
+    requires { ⌜ is.sound (now file) (now table) objects components ≡ true ⌝ }
+    ensures { λ r. ⌜ Wrote (is.text (now (file .entry)) (now (table .entry)) objects components) 0 (now (out .entry)) (now (out .exit)) r ⌝ }
+{
+    let at = heading(objects, components, out);
+    objects_of(
+        &file[0..],
+        &table[0..],
+        objects,
+        16 * objects as usize,
+        out,
+        at,
+    )
+}

@@ -1,0 +1,113 @@
+-- What stands in a table where a model's row begins: its columns and what follows; and how many numbers rows take.
+use Prim.Native.Nat.{ℕ, suc, _+_, _*_, _≤_}
+use native.Mathlib.Nat.{add-zero}
+use native.Mathlib.Omega.{arith}
+use mathlib.Core.List.{List, [], _∷_, _++_, append-assoc}
+use mathlib.Core.Path.{_≡_, refl, sym, ap, _∙_}
+use lib.ListN.{length, drop, getD, replicate, length-append}
+use lib.Seq.{getD-drop, drop-drop, length-take-le, drop-at}
+use Rattle.meaning.specs.Read.{Span}
+use Rattle.meaning.specs.Model.{Component, Object, Model}
+use Rattle.meaning.specs.Rows.{wordSpan, attributesSpan, dimensions, objectRow, componentRow, objectRows, rowsOf, componentRows, rows, componentCount}
+
+-- a table that goes on as R from the place p on
+module _ (T : List ℕ) (p : ℕ) (R : List ℕ) (e : drop p T ≡ R) where
+  pub column : (k : ℕ) → getD T (p + k) 0 ≡ getD R k 0
+  column k = sym (getD-drop p T k 0) ∙ ap (λ (l : List ℕ). getD l k 0) e
+
+  pub first : getD T p 0 ≡ getD R 0 0
+  first = ap (λ (j : ℕ). getD T j 0) (sym (add-zero p)) ∙ column 0
+
+  pub onward : (n : ℕ) → drop (p + n) T ≡ drop n R
+  onward n = sym (drop-drop n p T) ∙ ap (drop n) e
+
+-- an object's row: two columns, the rank and eight dimensions, and five more
+module _ (o : Object Span) where
+  unfoldable pub shape : List ℕ
+  shape = length (o .shape) ∷ dimensions (o .shape)
+
+  unfoldable pub ending : List ℕ
+  ending = wordSpan (o .format) .place ∷ wordSpan (o .format) .size ∷ attributesSpan (o .attributes) .place ∷ attributesSpan (o .attributes) .size ∷ length (o .components) ∷ []
+
+  pub nine : length shape ≡ 9
+  unfolding shape dimensions
+  nine =
+      ap suc (length-take-le 8 (o .shape ++ replicate 8 0)
+      (let z : length (o .shape ++ replicate 8 0) ≡ length (o .shape) + 8 = length-append (o .shape) (replicate 8 0) in omega (arith, z)))
+
+  pub object-width : length (objectRow o) ≡ 16
+  unfolding objectRow shape ending
+  object-width = ap (λ (n : ℕ). suc (suc n)) (length-append shape ending ∙ ap (λ (n : ℕ). n + 5) nine)
+
+-- a component's row
+module _ (T : List ℕ) (q i : ℕ) (c : Component Span) (Y : List ℕ) (e : drop q T ≡ componentRow i c ++ Y) where
+  pub name-place : getD T q 0 ≡ wordSpan (c .name) .place
+  unfolding componentRow
+  name-place = first T q (componentRow i c ++ Y) e
+
+  pub name-size : getD T (q + 1) 0 ≡ wordSpan (c .name) .size
+  unfolding componentRow
+  name-size = column T q (componentRow i c ++ Y) e 1
+
+  pub code-is : getD T (q + 2) 0 ≡ c .dtype
+  unfolding componentRow
+  code-is = column T q (componentRow i c ++ Y) e 2
+
+  pub offset-is : getD T (q + 5) 0 ≡ c .offset
+  unfolding componentRow
+  offset-is = column T q (componentRow i c ++ Y) e 5
+
+  pub length-is : getD T (q + 6) 0 ≡ c .length
+  unfolding componentRow
+  length-is = column T q (componentRow i c ++ Y) e 6
+
+  pub component-past : drop (q + 10) T ≡ Y
+  unfolding componentRow
+  component-past = onward T q (componentRow i c ++ Y) e 10
+
+-- ---- how many numbers they take
+
+pub objects-width : (os : List (Object Span)) → length (objectRows os) ≡ 16 * length os
+unfolding objectRows
+objects-width [] = refl
+objects-width (o ∷ os) =
+    let a : length (objectRow o ++ objectRows os) ≡ length (objectRow o) + length (objectRows os) = length-append (objectRow o) (objectRows os) in
+    let b : length (objectRow o) ≡ 16 = object-width o in
+    let c : length (objectRows os) ≡ 16 * length os = objects-width os in
+    omega (arith, a, b, c)
+
+pub blobs-width : (i : ℕ) (cs : List (Component Span)) → length (rowsOf i cs) ≡ 10 * length cs
+unfolding rowsOf componentRow
+blobs-width i [] = refl
+blobs-width i (c ∷ cs) =
+    let a : length (componentRow i c ++ rowsOf i cs) ≡ 10 + length (rowsOf i cs) = length-append (componentRow i c) (rowsOf i cs) in
+    let b : length (rowsOf i cs) ≡ 10 * length cs = blobs-width i cs in
+    omega (arith, a, b)
+
+pub components-width : (i : ℕ) (os : List (Object Span)) → length (componentRows i os) ≡ 10 * componentCount os
+unfolding componentRows componentCount
+components-width i [] = refl
+components-width i (o ∷ os) =
+    let a : length (rowsOf i (o .components) ++ componentRows (suc i) os) ≡ length (rowsOf i (o .components)) + length (componentRows (suc i) os) =
+    length-append (rowsOf i (o .components)) (componentRows (suc i) os) in
+    let b : length (rowsOf i (o .components)) ≡ 10 * length (o .components) = blobs-width i (o .components) in
+    let c : length (componentRows (suc i) os) ≡ 10 * componentCount os = components-width (suc i) os in
+    omega (arith, a, b, c)
+
+-- a table that begins with a model's rows
+module _ (m : Model Span) (rest : List ℕ) where
+  pub objects-at : rows m ++ rest ≡ objectRows (m .objects) ++ (componentRows 0 (m .objects) ++ rest)
+  unfolding rows
+  objects-at = append-assoc (objectRows (m .objects)) (componentRows 0 (m .objects)) rest
+
+  pub components-at : drop (16 * length (m .objects)) (rows m ++ rest) ≡ componentRows 0 (m .objects) ++ rest
+  components-at =
+      ap (drop (16 * length (m .objects))) objects-at
+      ∙ drop-at (objectRows (m .objects)) (componentRows 0 (m .objects) ++ rest) (16 * length (m .objects)) (objects-width (m .objects))
+
+  pub rows-lie : 16 * length (m .objects) + 10 * componentCount (m .objects) ≤ length (rows m ++ rest)
+  rows-lie =
+      let a : length (rows m ++ rest) ≡ length (objectRows (m .objects)) + length (componentRows 0 (m .objects) ++ rest) =
+      ap length objects-at ∙ length-append (objectRows (m .objects)) (componentRows 0 (m .objects) ++ rest) in
+      let b : length (componentRows 0 (m .objects) ++ rest) ≡ length (componentRows 0 (m .objects)) + length rest = length-append (componentRows 0 (m .objects)) rest in
+      omega (arith, a, b, objects-width (m .objects), components-width 0 (m .objects))

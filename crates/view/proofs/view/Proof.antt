@@ -1,0 +1,24 @@
+-- `view::view` meets its contract: a law for each branch. Assumes nothing.
+
+use native.Mathlib.Omega.{arith}
+use Rattle.view.proofs.Extents as extents
+use borrow.Author.Needs.{needs}
+use Rattle.view.proofs.view.Statement.{statement}
+use Rattle.view.proofs.view.Tie as tie
+
+pub view-spec : {M : Type 1} → statement M
+view-spec =
+    tie.close
+    (tie.spec
+    (λ c. search needs)
+    (λ c. search needs)
+    (λ c. search needs)
+    (λ c. search needs)
+    (λ c. search needs)
+    (λ c. search needs)
+    (λ c κs. search needs)
+    (λ c. omega (arith, extents.viewed-fits (c .before .before .before .before .before .args .file .now) (c .before .before .before .before .before .args .table .now) _ _ _ _ (c .range .ensures)))
+    (λ c. search needs)
+    (λ c. search needs)
+    (λ c. omega (arith, extents.viewed-fits (c .before .before .before .before .before .args .file .now) (c .before .before .before .before .before .args .table .now) _ _ _ _ (c .range .ensures)))
+    (λ c. extents.viewed-is (c .before .before .before .before .before .before .args .file .now) (c .before .before .before .before .before .before .args .table .now) _ _ _ _ (c .before .range .ensures)))
