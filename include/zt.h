@@ -69,6 +69,42 @@ enum zt_refusal {
  */
 uint64_t zt_accept(const uint8_t *file, size_t length);
 
+/* What zt_read answers. All but the first three are 0 on refusal. */
+typedef struct {
+    uint64_t number;            /* ZT_ACCEPTED or the refusal */
+    uint64_t object, component; /* where it is, 0 where there is none */
+    uint64_t objects, components;
+    uint64_t start;             /* the manifest start */
+    uint64_t place, size;       /* the root's attributes, 0 and 0 if absent */
+} zt_answer;
+
+/*
+ * The file read into a lent table of `room` numbers: 16 for each object, then 10 for each component, as document 01 has them. Needs
+ * 16 * objects + 10 * components numbers, else ZT_ROOM. A refusal leaves the table as it was; numbers beyond the rows stay. The table must not overlap
+ * the file, and must be aligned as uint64_t asks; it may be null where room is 0.
+ */
+zt_answer zt_read(const uint8_t *file, size_t length, uint64_t *table, size_t room);
+
+/* Where a component lies: ZT_ACCEPTED, its offset and its length; or ZT_INDEX, 0 and 0. */
+typedef struct {
+    uint64_t number, offset, length;
+} zt_range;
+
+/* The component at `index` among all components, by a table that zt_read filled; any other table, any counts and any index are answered too. */
+zt_range zt_view(const uint8_t *file, size_t length, const uint64_t *table, size_t room, uint64_t objects, uint64_t components, uint64_t index);
+
+/* ZT_ACCEPTED and a listing's length; or ZT_INDEX or ZT_ROOM, and 0. */
+typedef struct {
+    uint64_t number, length;
+} zt_text;
+
+/*
+ * The listing, by a table that zt_read filled, put into a lent text of `text_room` bytes. ZT_ROOM, if that is too little, and ZT_INDEX, for a table that
+ * is none of this file's, leave the text as it was; bytes beyond the listing stay. The text must overlap neither the file nor the table.
+ */
+zt_text zt_list(const uint8_t *file, size_t length, const uint64_t *table, size_t room, uint64_t objects, uint64_t components, uint8_t *text,
+                size_t text_room);
+
 #ifdef __cplusplus
 }
 #endif

@@ -48,7 +48,7 @@ module _ (file : List ℕ) where
           omega arith
 
   module _ (r : Framed) (asked : frame (Here file 0) ≡ told r) where
-    framed : (q : Framed) → r ≡ q → frame file ≡ told q
+    pub framed : (q : Framed) → r ≡ q → frame file ≡ told q
     framed q e = ap frame (sym (part-to-end file 0)) ∙ asked ∙ ap told e
 
     pub no-frame : (number : ℕ) → r ≡ No number → refusal number 0 0 ≡ verdict (reading file)

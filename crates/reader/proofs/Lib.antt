@@ -1,2 +1,3 @@
 pub mod Manifests
 pub mod Frames
+pub mod Answers

@@ -1,4 +1,6 @@
 // The acceptance check of a file (document 01): its frame, its manifest as one CBOR item, and the judgement of what that item says.
+pub mod into;
+
 use frame::Framed;
 use root::Judged;
 ghost use mathlib.Core.Path.{_≡_};

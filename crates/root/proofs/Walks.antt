@@ -100,7 +100,7 @@ module _ (start mode count : ℕ) (s : List ℕ) (modes : Modes mode count) wher
 -- ---------------------------------------------------------------- the whole value
 
 -- what stands in a part that runs to the end stands in the whole
-holds-whole : (d : ℕ) (c : List ℕ) (a : ℕ) → a ≤ length c → (left : ℕ) (o : Option (Node Ends)) → Holds d (drop a c) left o → Holds d c left o
+pub holds-whole : (d : ℕ) (c : List ℕ) (a : ℕ) → a ≤ length c → (left : ℕ) (o : Option (Node Ends)) → Holds d (drop a c) left o → Holds d c left o
 holds-whole d c a l left none h = h
 holds-whole d c a l left (some t) (some-left, x) =
     let w : left ≤ length (drop a c) = x .within in

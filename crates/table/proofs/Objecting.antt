@@ -81,7 +81,7 @@ module _ (end : ℕ) where
   abbrev at : Object Ends → Object Span
   at = mapObject (spanOf end)
 
-  count-mapped : (os : List (Object Ends)) → componentCount (map at os) ≡ componentCount os
+  pub count-mapped : (os : List (Object Ends)) → componentCount (map at os) ≡ componentCount os
   unfolding componentCount
   count-mapped [] = refl
   count-mapped (o ∷ os) = ap₂ (λ a b. a + b) (length-map (o .components) (mapComponent (spanOf end))) (count-mapped os)

@@ -5,7 +5,7 @@ mod object;
 mod pass;
 mod row;
 mod rows;
-mod span;
+pub mod span;
 
 use lay::ahead;
 use object::put_object;

@@ -1,7 +1,17 @@
 // The C interface: thin exported functions, nothing else.
+use panel::Listed;
+use reader::into::Answer;
+use view::Extent;
 ghost use mathlib.Core.Path.{_≡_};
+ghost use lib.ListN.{length};
 ghost use Rattle.meaning.specs.Frame.{reading};
+ghost use Rattle.meaning.specs.Rows.{readInto, tableAfter};
+ghost use Rattle.meaning.specs.View.{viewed};
 ghost use Rattle.reader.specs.Verdict.{verdict};
+ghost use Rattle.reader.specs.Answer.{answered};
+ghost use Rattle.view.specs.Told as extent;
+ghost use Rattle.panel.specs.Lines.{listed};
+ghost use Rattle.panel.specs.Told as listing;
 
 // The refusal number of a file, 0 for one that is accepted. Never ROOM: no table is lent.
 #[no_mangle]
@@ -10,4 +20,41 @@ pub extern "C" fn zt_accept(file: &[u8]) -> u64
 {
     let v = reader::accept(file);
     v.number
+}
+
+// A file read into a lent table: the verdict, both counts, the manifest's start, and the place and length of the root's attributes.
+#[no_mangle]
+pub extern "C" fn zt_read(file: &[u8], table: &mut [u64]) -> Answer
+    ensures { λ r. ⌜ (r ≡ answered (readInto (now (file .entry)) (length (now (table .entry))))) × (now (table .exit) ≡ tableAfter (now (table .entry)) (readInto (now (file .entry)) (length (now (table .entry))))) ⌝ }
+{
+    reader::into::read(file, table)
+}
+
+// Where one component lies, by any table: 0, its offset and its length; or INDEX, 0 and 0.
+#[no_mangle]
+pub extern "C" fn zt_view(
+    file: &[u8],
+    table: &[u64],
+    objects: u64,
+    components: u64,
+    index: u64,
+) -> Extent
+    ensures { λ r. ⌜ r ≡ extent.told (viewed (now (file .entry)) (now (table .entry)) objects components index) ⌝ }
+{
+    view::range(file, table, objects, components, index)
+}
+
+// The listing, by any table, put into a lent text: 0 and its length; or INDEX or ROOM, and 0.
+#[no_mangle]
+pub extern "C" fn zt_list(
+    file: &[u8],
+    table: &[u64],
+    objects: u64,
+    components: u64,
+    text: &mut [u8],
+) -> Listed
+    ensures answer { λ r. ⌜ r ≡ listing.told (listed (now (file .entry)) (now (table .entry)) objects components) (length (now (text .entry))) ⌝ }
+    ensures written { λ r. ⌜ now (text .exit) ≡ listing.textAfter (listed (now (file .entry)) (now (table .entry)) objects components) (now (text .entry)) ⌝ }
+{
+    panel::list(file, table, objects, components, text)
 }

@@ -144,6 +144,99 @@ pub fn frame(file: &[u8]) -> Place {
     unsafe { exported::leaf_frame(file.as_ptr(), file.len()) }
 }
 
+/// What a reading answers: the verdict, both counts, the manifest's start, and the root attributes' place and length.
+#[repr(C)]
+#[derive(Debug, PartialEq, Eq)]
+pub struct Answer {
+    pub number: u64,
+    pub object: u64,
+    pub component: u64,
+    pub objects: u64,
+    pub components: u64,
+    pub start: u64,
+    pub place: u64,
+    pub size: u64,
+}
+
+/// 0, and where a component lies; or INDEX, 0 and 0.
+#[repr(C)]
+#[derive(Debug, PartialEq, Eq)]
+pub struct Extent {
+    pub number: u64,
+    pub offset: u64,
+    pub length: u64,
+}
+
+/// 0 and a listing's length; or INDEX or ROOM, and 0.
+#[repr(C)]
+#[derive(Debug, PartialEq, Eq)]
+pub struct Listed {
+    pub number: u64,
+    pub length: u64,
+}
+
+/// Declared as `include/zt.h` has them.
+mod zt {
+    extern "C" {
+        pub fn zt_read(file: *const u8, length: usize, table: *mut u64, room: usize) -> super::Answer;
+        pub fn zt_view(
+            file: *const u8,
+            length: usize,
+            table: *const u64,
+            room: usize,
+            objects: u64,
+            components: u64,
+            index: u64,
+        ) -> super::Extent;
+        pub fn zt_list(
+            file: *const u8,
+            length: usize,
+            table: *const u64,
+            room: usize,
+            objects: u64,
+            components: u64,
+            text: *mut u8,
+            text_room: usize,
+        ) -> super::Listed;
+    }
+}
+
+pub fn read(file: &[u8], table: &mut [u64]) -> Answer {
+    // SAFETY: each pointer and length are a slice's, and the slices don't overlap.
+    unsafe { zt::zt_read(file.as_ptr(), file.len(), table.as_mut_ptr(), table.len()) }
+}
+
+pub fn view(file: &[u8], table: &[u64], objects: u64, components: u64, index: u64) -> Extent {
+    // SAFETY: each pointer and length are a slice's.
+    unsafe {
+        zt::zt_view(
+            file.as_ptr(),
+            file.len(),
+            table.as_ptr(),
+            table.len(),
+            objects,
+            components,
+            index,
+        )
+    }
+}
+
+pub fn list(file: &[u8], table: &[u64], objects: u64, components: u64, text: &mut [u8]) -> Listed {
+    // SAFETY: each pointer and length are a slice's, and the lent text overlaps neither.
+    unsafe {
+        zt::zt_list(
+            file.as_ptr(),
+            file.len(),
+            table.as_ptr(),
+            table.len(),
+            objects,
+            components,
+            text.as_mut_ptr(),
+            text.len(),
+        )
+    }
+}
+
 pub fn accept(file: &[u8]) -> Verdict {
     // SAFETY: the pointer and the length are a slice's.
     unsafe { exported::leaf_accept(file.as_ptr(), file.len()) }

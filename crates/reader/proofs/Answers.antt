@@ -1,0 +1,244 @@
+-- From an accepted manifest to the answer and the table: its room, where its attributes and its objects stand, and the rows.
+use Prim.Native.Nat.{ℕ, _+_, _-_, _*_, _/_, _≤_, _<_}
+use native.Mathlib.Omega.{arith}
+use mathlib.Core.List.{List, _++_}
+use mathlib.Core.Bool.{Bool, true, false}
+use mathlib.Core.Option.{Option, none, some}
+use mathlib.Core.Path.{_≡_, refl, sym, ap, ap₂, _∙_, subst}
+use lib.ListN.{length, take, drop, length-map, length-drop}
+use lib.Seq.{length-take-le}
+use lib.Dec.{leb}
+use borrow.Author.Tests.{leb-true, leb-false, le-leb, lt-leb}
+use borrow.Rule.Slice.PartAt.{part-to-end}
+use Rattle.meaning.specs.Tree.{Node, Pair, noteOf, mapP}
+use Rattle.meaning.specs.Read as spans
+use Rattle.meaning.specs.Check.{Check, pass, refuse, _>>=_, _>>_, _unless_, required, optional}
+use Rattle.meaning.specs.Text.{ascii, all}
+use Rattle.meaning.specs.Refusal.{KEY, TWICE}
+use Rattle.meaning.specs.Model.{Model, RootFields}
+use Rattle.meaning.specs.Notes.{mapOption, mapModel, mapObject}
+use Rattle.meaning.specs.Kind as kinds
+use Rattle.meaning.specs.Kind.{kind, table, aTable, asTable}
+use Rattle.meaning.specs.Field as field
+use Rattle.meaning.specs.Field.{rootNames, rootFields, isSome, keyOf, count, get}
+use Rattle.meaning.specs.Judge.{judge, aVersion, attributesOf, objectsOf}
+use Rattle.meaning.specs.Frame.{Reading, frame, reading}
+use Rattle.meaning.specs.Rows.{attributesSpan, componentCount, roomFor, roomy, answer, tableAfter, readInto}
+use Rattle.cbor.specs.Ending.{FAULT, took, code, itemEnd}
+use Rattle.walk.specs.Reading.{Ends, Reads, leftAt}
+use Rattle.walk.proofs.Passed.{Here}
+use Rattle.walk.proofs.Chains.{ate}
+use Rattle.walk.proofs.ReadSays.{note-of}
+use Rattle.fields.specs.Slots.{Holds}
+use Rattle.fields.proofs.Standing.{get-stands}
+use Rattle.components.proofs.Typed.{passed, passed-on, pass-same}
+use Rattle.components.proofs.Lettered.{pairs-chained}
+use Rattle.root.proofs.Walks.{holds-whole}
+use Rattle.table.specs.Spans.{spanOf, spanned, WholeIs}
+use Rattle.table.specs.Objects.{Written}
+use Rattle.table.specs.declared.span.Span.{Span}
+use Rattle.table.proofs.Objecting.{count-mapped}
+use Rattle.frame.specs.Told.{told as framed-told}
+use Rattle.frame.specs.declared.Framed.{Framed}
+use Rattle.frame.specs.declared.Framed.the-variants.{No as NoFrame, At}
+use Rattle.reader.specs.declared.Told.{Told}
+use Rattle.reader.specs.declared.Told.the-variants.{No, Yes}
+use Rattle.reader.specs.declared.into.Answer.{Answer}
+use Rattle.reader.specs.Verdict.{manifestReading, Accepted, ManifestIs}
+use Rattle.reader.specs.Answer.{refused, read, answered, AttributesIs, Filled}
+use Rattle.reader.proofs.Frames.{framed, inside, manifest-read}
+
+-- ---------------------------------------------------------------- the room, by division
+
+pub no-objects-fit : (room objects components : ℕ) → room / 16 < objects → false ≡ leb (16 * objects + 10 * components) room
+no-objects-fit room objects components l = sym (lt-leb (16 * objects + 10 * components) room (omega arith))
+
+pub components-fit : (room objects components : ℕ) → objects ≤ room / 16 → (b : Bool) → leb components ((room - 16 * objects) / 10) ≡ b → b ≡ leb (16 * objects + 10 * components) room
+components-fit room objects components l true e = let z = leb-true components ((room - 16 * objects) / 10) e in sym (le-leb (16 * objects + 10 * components) room (omega arith))
+components-fit room objects components l false e =
+    let z = leb-false components ((room - 16 * objects) / 10) e in sym (lt-leb (16 * objects + 10 * components) room (omega arith))
+
+-- ---------------------------------------------------------------- the attributes
+
+module _ (m : List ℕ) (left end size : ℕ) (skipped : size ≡ code (itemEnd 31 (Here m (length m - left)))) where
+  pub attributes-are : (r : Span) → WholeIs left size end r → AttributesIs m left end r
+  attributes-are r h none e = h none (sym e) (λ t z. absurd (let y : _≡_ {A = ℕ} 0 1 = cc in omega arith))
+  attributes-are r h (some t) (l, x) = h (some t) (sym (x .left-is)) (λ u z. let y : t ≡ u = cc in subst (λ (u : Node Ends). (0 < left) × (size ≡ length (noteOf u .start) - length (noteOf u .rest))) y (l, sized))
+    where
+      sized : size ≡ length (noteOf t .start) - length (noteOf t .rest)
+      sized =
+          let s : List ℕ = drop (length m - left) m in
+          let a = ate 31 s t (x .rest) (x .reads) in
+          let n = note-of 31 s t (x .rest) (x .reads) in
+          let b : size ≡ a .size = skipped ∙ ap (λ u. code (itemEnd 31 u)) (part-to-end m (length m - left)) ∙ ap code (a .ends-so) in
+          let c : length (x .rest) ≡ length s - a .size = ap length (a .is) ∙ length-drop (a .size) s in
+          let f = a .fits in
+          let g : length s - length (x .rest) ≡ a .size = omega arith in
+          b ∙ sym (ap (λ (e : Ends). length (e .start) - length (e .rest)) n ∙ g)
+
+-- ---------------------------------------------------------------- what an accepted root is made of
+
+required-some : {A : Type 0} (o : Option A) (a : A) → required o ≡ pass a → o ≡ some a
+required-some none a e = absurd (let z : _≡_ {A = ℕ} 0 1 = cc in omega arith)
+required-some (some b) a e = let z : b ≡ a = pass-same e in ap some z
+
+attributes-stay : (o a : Option (Node Ends)) → optional attributesOf o ≡ pass a → a ≡ o
+unfolding attributesOf
+attributes-stay none a e = sym (pass-same e)
+attributes-stay (some t) a e =
+    let b = passed (attributesOf t) (λ b. pass (some b)) a e in
+    let c : t ≡ b .value = pass-same (passed-on (aTable t) (pass t) (b .value) (b .is)) in
+    sym (pass-same (b .then)) ∙ ap some (sym c)
+
+record Parts (start : ℕ) (t : Node Ends) (m : Model Ends) : Type 0 where
+  pub pairs : List (Pair Ends)
+  pub kind-is : kind t ≡ table pairs
+  pub objects : Node Ends
+  pub objects-there : get (ascii "objects") pairs ≡ some objects
+  pub objects-judged : objectsOf start objects ≡ pass (m .objects)
+  pub attributes-are : m .attributes ≡ get (ascii "attributes") pairs
+
+table-kind : (k : kinds.Kind Ends) (ps : List (Pair Ends)) → asTable k ≡ pass ps → k ≡ table ps
+unfolding asTable
+table-kind (kinds.number n) ps e = absurd (let z : _≡_ {A = ℕ} 0 1 = cc in omega arith)
+table-kind (kinds.words w) ps e = absurd (let z : _≡_ {A = ℕ} 0 1 = cc in omega arith)
+table-kind (kinds.list l) ps e = absurd (let z : _≡_ {A = ℕ} 0 1 = cc in omega arith)
+table-kind (kinds.table l) ps e = ap table (pass-same e)
+table-kind kinds.null ps e = absurd (let z : _≡_ {A = ℕ} 0 1 = cc in omega arith)
+table-kind kinds.another ps e = absurd (let z : _≡_ {A = ℕ} 0 1 = cc in omega arith)
+
+parts-of : (start : ℕ) (t : Node Ends) (m : Model Ends) → judge start t ≡ pass m → Parts start t m
+unfolding judge rootFields field.fields aTable
+parts-of start t m e =
+    let root = passed (rootFields t) _ m e in
+    let version = passed (required (root .value .version)) _ m (root .then) in
+    let attributes = passed (optional attributesOf (root .value .attributes)) _ m (passed-on (aVersion (version .value)) _ m (version .then)) in
+    let objects = passed (required (root .value .objects)) _ m (attributes .then) in
+    let found = passed (objectsOf start (objects .value)) _ m (objects .then) in
+    let listed = passed (field.fields rootNames t) _ (root .value) (root .is) in
+    let mapped = passed (asTable (kind t)) _ (listed .value) (listed .is) in
+    let keyed = passed-on (KEY unless all (λ p. isSome (keyOf p)) (mapped .value)) _ (listed .value) (mapped .then) in
+    let pairs : mapped .value ≡ listed .value = pass-same (passed-on (TWICE unless all (λ n. leb (count n (mapped .value)) 1) rootNames) _ (listed .value) keyed) in
+    let whole = pass-same (found .then) in
+    let fields = pass-same (listed .then) in
+    record {
+      pairs = listed .value;
+      kind-is = table-kind (kind t) (listed .value) (mapped .is ∙ ap pass pairs);
+      objects = objects .value;
+      objects-there = ap (λ (r : RootFields Ends). r .objects) fields ∙ required-some (root .value .objects) (objects .value) (objects .is);
+      objects-judged = found .is ∙ ap pass (ap (λ (m : Model Ends). m .objects) whole);
+      attributes-are = sym (ap (λ (m : Model Ends). m .attributes) whole) ∙ attributes-stay (root .value .attributes) (attributes .value) (attributes .is) ∙ sym (ap (λ (r : RootFields Ends). r .attributes) fields);
+    }
+
+-- a field stands in the bytes of its map
+field-holds : (m : List ℕ) → length m < FAULT → (t : Node Ends) (q : List ℕ) → Reads 32 m t q → (ps : List (Pair Ends)) → kind t ≡ table ps → (name : List ℕ) (o : Option (Node Ends)) → get name ps ≡ o → Holds 31 m (leftAt o) o
+field-holds m room t q e ps is name none g = refl
+field-holds m room t q e ps is name (some x) g =
+    let h = pairs-chained 31 m room t q e ps is in
+    let s = get-stands 31 (drop (h .at) m) name ps 0 (omega arith) (h .last) (h .chain) x g in
+    let a = ate 31 (drop (length (drop (h .at) m) - length (noteOf x .start)) (drop (h .at) m)) x (s .rest) (s .reads) in
+    let n = ap (λ (e : Ends). length (e .start)) (note-of 31 (drop (length (drop (h .at) m) - length (noteOf x .start)) (drop (h .at) m)) x (s .rest) (s .reads)) in
+    let i = a .some in let j = a .fits in
+    holds-whole 31 m (h .at) (h .within) (length (noteOf x .start)) (some x) (omega arith, s)
+
+-- ---------------------------------------------------------------- the answer
+
+module _ (start : ℕ) (m : List ℕ) (before : List ℕ) where
+  pub manifest-refuses : (n o c : ℕ) → manifestReading (start + length m) start m ≡ refuse n o c → Filled start m before (refused n o c) before
+  unfolding answer tableAfter
+  manifest-refuses n o c e = (rw e refl, rw e refl)
+
+  module _ (objects components left at : ℕ) (a : Accepted (start + length m) start m objects components left at) where
+    room-is : roomFor (mapModel (spanOf (start + length m)) (a .model)) ≡ 16 * objects + 10 * components
+    unfolding roomFor
+    room-is =
+        let x = length-map (a .model .objects) (mapObject (spanOf (start + length m))) in
+        let y = count-mapped (start + length m) (a .model .objects) in
+        let z = a .objects-are in let w = a .components-are in
+        omega arith
+
+    pub no-room : false ≡ leb (16 * objects + 10 * components) (length before) → Filled start m before (refused 24 0 0) before
+    unfolding answer tableAfter roomy
+    no-room e = let r = a .is in let i = room-is in (rw (r, i, ← e) refl, rw (r, i, ← e) refl)
+
+    module _ (room : length m < FAULT) (fits : true ≡ leb (16 * objects + 10 * components) (length before)) where
+      parts : Parts start (a .tree) (a .model)
+      parts = parts-of start (a .tree) (a .model) (a .judged)
+
+      -- where the objects and the attributes stand
+      objects-read : (place : ℕ) → place ≡ length m - at → (rest : List ℕ) × Reads 31 (Here m place) (parts .objects) rest
+      objects-read place here =
+          let h : Holds 31 m at (some (parts .objects)) = subst (Holds 31 m at) (parts .objects-there) (a .objects-at (a .tree) (a .rest) (a .reads) (parts .pairs) (parts .kind-is)) in
+          (h .1 .rest, subst (λ u. Reads 31 u (parts .objects) (h .1 .rest)) (sym (part-to-end m place ∙ ap (λ i. drop i m) here)) (h .1 .reads))
+
+      attributes-hold : Holds 31 m left (a .model .attributes)
+      attributes-hold =
+          subst (λ l. Holds 31 m l (a .model .attributes)) (sym (a .attributes-left))
+          (field-holds m room (a .tree) (a .rest) (a .reads) (parts .pairs) (parts .kind-is) (ascii "attributes") (a .model .attributes) (sym (parts .attributes-are)))
+
+      enough : roomFor (a .model) ≤ length before
+      unfolding roomFor
+      enough = let x = leb-true (16 * objects + 10 * components) (length before) (sym fits) in let z = a .objects-are in let w = a .components-are in omega arith
+
+      reading-is : (manifestReading (start + length m) start m >>= roomy (length before)) ≡ pass (record { start = start; model = mapModel (spanOf (start + length m)) (a .model) })
+      unfolding roomy
+      reading-is = let r = a .is in let i = room-is in rw (r, i, ← fits) refl
+
+      answer-is : (s : Span) → AttributesIs m left (start + length m) s → read objects components start s ≡ answered (pass (record { start = start; model = mapModel (spanOf (start + length m)) (a .model) }))
+      unfolding answer
+      answer-is s h =
+          let x = a .objects-are ∙ sym (length-map (a .model .objects) (mapObject (spanOf (start + length m)))) in
+          let y = a .components-are ∙ sym (count-mapped (start + length m) (a .model .objects)) in
+          let z = h (a .model .attributes) attributes-hold in
+          let u : s .place ≡ attributesSpan (mapOption (mapP (spanOf (start + length m))) (a .model .attributes)) .place = ap (λ (s : spans.Span). s .place) z in
+          let v : s .size ≡ attributesSpan (mapOption (mapP (spanOf (start + length m))) (a .model .attributes)) .size = ap (λ (s : spans.Span). s .size) z in
+          rw (x, y, u, v) refl
+
+      pub written : (place : ℕ) → place ≡ length m - at → (after : List ℕ) → Written (Here m place) start (start + length m) (16 * objects) before after
+          → (s : Span) → AttributesIs m left (start + length m) s → Filled start m before (read objects components start s) after
+      unfolding tableAfter
+      written place here after w s h =
+          let o = objects-read place here in
+          let from : 16 * objects ≡ 16 * length (a .model .objects) = ap (λ n. 16 * n) (a .objects-are) in (
+            answer-is s h ∙ ap answered (sym reading-is),
+            w (parts .objects) (o .0) (o .1) (a .model) (parts .objects-judged) from enough ∙ ap (tableAfter before) (sym reading-is),
+          )
+
+-- ---------------------------------------------------------------- as the code has it
+
+module _ (start : ℕ) (m before : List ℕ) (x : Told) (h : (end : ℕ) → ManifestIs end start (Here m 0) x) where
+  told-there : (y : Told) → x ≡ y → ManifestIs (start + length m) start m y
+  told-there y e = subst (ManifestIs (start + length m) start m) e (subst (λ u. ManifestIs (start + length m) start u x) (part-to-end m 0) (h (start + length m)))
+
+  pub filled-not : (n o c : ℕ) → x ≡ No n o c → (r : Answer) → r ≡ refused n o c → Filled start m before r before
+  filled-not n o c e r is = subst (λ r. Filled start m before r before) (sym is) (manifest-refuses start m before n o c (told-there (No n o c) e))
+
+  module _ (objects components left at : ℕ) (e : x ≡ Yes objects components left at) where
+    pub filled-no-room : false ≡ leb (16 * objects + 10 * components) (length before) → (r : Answer) → r ≡ refused 24 0 0 → Filled start m before r before
+    filled-no-room f r is = subst (λ r. Filled start m before r before) (sym is) (no-room start m before objects components left at (told-there (Yes objects components left at) e) f)
+
+    pub filled-so : length m < FAULT → true ≡ leb (16 * objects + 10 * components) (length before) → (place : ℕ) → place ≡ length m - at → (after : List ℕ)
+        → Written (Here m place) start (start + length m) (16 * objects) before after → (s : Span) → AttributesIs (Here m 0) left (start + length m) s → Filled start m before (read objects components start s) after
+    filled-so room f place here after w s a =
+        written start m before objects components left at (told-there (Yes objects components left at) e) room f place here after w s (subst (λ u. AttributesIs u left (start + length m) s) (part-to-end m 0) a)
+
+-- from the frame on
+module _ (file before : List ℕ) (r : Framed) (asked : frame (Here file 0) ≡ framed-told r) where
+  pub no-frame-read : (n : ℕ) → r ≡ NoFrame n → (a : Answer) → a ≡ refused n 0 0 → (a ≡ answered (readInto file (length before))) × (before ≡ tableAfter before (readInto file (length before)))
+  unfolding readInto reading answer tableAfter
+  no-frame-read n e a is = let z = framed file r asked (NoFrame n) e in (is ∙ (rw z refl), rw z refl)
+
+  module _ (start size : ℕ) (e : r ≡ At start size) where
+    manifest-length : length (take (start + size - start) (drop start file)) ≡ size
+    manifest-length = let i = inside file r asked start size e in length-take-le (start + size - start) (drop start file) (omega (arith, length-drop start file)) ∙ (omega arith)
+
+    pub manifest-short : length file < FAULT → start + length (take (start + size - start) (drop start file)) < FAULT
+    manifest-short l = let i = inside file r asked start size e in let n = manifest-length in omega arith
+
+    pub frame-read : (m : List ℕ) → m ≡ take (start + size - start) (drop start file) → (a : Answer) (after : List ℕ) → Filled start m before a after
+        → (a ≡ answered (readInto file (length before))) × (after ≡ tableAfter before (readInto file (length before)))
+    unfolding readInto
+    frame-read m is a after f =
+        let l : length m ≡ size = ap length is ∙ manifest-length in
+        let z : reading file ≡ manifestReading (start + length m) start m = manifest-read file r asked start size e ∙ ap₂ (λ i u. manifestReading i start u) (ap (λ n. start + n) (sym l)) (sym is) in
+        (f .0 ∙ ap (λ k. answered (k >>= roomy (length before))) (sym z), f .1 ∙ ap (λ k. tableAfter before (k >>= roomy (length before))) (sym z))

@@ -1,0 +1,53 @@
+-- What a reading into a table answers, and what the table then holds, in the words of meaning's Rows.
+use Prim.Native.Nat.{ℕ, _+_}
+use mathlib.Core.List.{List}
+use mathlib.Core.Option.{Option}
+use mathlib.Core.Path.{_≡_}
+use lib.ListN.{length}
+use Rattle.meaning.specs.Tree.{Node, mapP}
+use Rattle.meaning.specs.Check.{Check, _>>=_}
+use Rattle.meaning.specs.Notes.{mapOption}
+use Rattle.meaning.specs.Frame.{Reading}
+use Rattle.meaning.specs.Rows as meant
+use Rattle.meaning.specs.Rows.{attributesSpan, roomy, answer, tableAfter}
+use Rattle.walk.specs.Reading.{Ends}
+use Rattle.fields.specs.Slots.{Holds}
+use Rattle.table.specs.Spans.{spanOf, spanned}
+use Rattle.table.specs.declared.span.Span.{Span}
+use Rattle.reader.specs.declared.into.Answer.{Answer}
+use Rattle.reader.specs.Verdict.{manifestReading}
+
+abbrev pub refused : ℕ → ℕ → ℕ → Answer
+refused n o c = record { number = n; object = o; component = c; objects = 0; components = 0; start = 0; place = 0; size = 0 }
+
+-- meaning's answer as the code's
+abbrev pub told : meant.Answer → Answer
+told a = record {
+  number = a .number;
+  object = a .object;
+  component = a .component;
+  objects = a .objects;
+  components = a .components;
+  start = a .start;
+  place = a .attributes .place;
+  size = a .attributes .size;
+}
+
+abbrev pub answered : Check Reading → Answer
+answered k = told (answer k)
+
+-- of an accepted file, whose root has these attributes
+abbrev pub read : ℕ → ℕ → ℕ → Span → Answer
+read objects components start s =
+    record { number = 0; object = 0; component = 0; objects = objects; components = components; start = start; place = s .place; size = s .size }
+
+-- what stands at `left`, or nothing, is a whole item in the file
+abbrev pub AttributesIs : List ℕ → ℕ → ℕ → Span → Type 0
+AttributesIs m left end r = (o : Option (Node Ends)) → Holds 31 m left o → spanned r ≡ attributesSpan (mapOption (mapP (spanOf end)) o)
+
+-- the manifest m read into a table
+abbrev into : ℕ → List ℕ → List ℕ → Check Reading
+into start m before = manifestReading (start + length m) start m >>= roomy (length before)
+
+abbrev pub Filled : ℕ → List ℕ → List ℕ → Answer → List ℕ → Type 0
+Filled start m before r after = (r ≡ answered (into start m before)) × (after ≡ tableAfter before (into start m before))

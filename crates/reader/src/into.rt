@@ -1,0 +1,105 @@
+// A file read into a lent table (document 01, "The table and the view"): the acceptance check, the room, and then the rows.
+use crate::Told;
+use crate::manifest;
+use fields::place_of;
+use frame::Framed;
+use table::span::Span;
+use table::span::whole;
+ghost use mathlib.Core.Path.{_≡_};
+ghost use Prim.Native.Nat.{_+_, _*_, _<_};
+ghost use lib.ListN.{length};
+ghost use lib.Dec.{leb};
+ghost use Rattle.meaning.specs.Check.{refuse};
+ghost use Rattle.meaning.specs.Rows.{readInto, tableAfter};
+ghost use Rattle.cbor.specs.Ending.{FAULT};
+ghost use Rattle.reader.specs.Answer as is;
+
+// The verdict; and for a file that is accepted both counts, the manifest's start, and the place and length of the root's attributes. All 0 on refusal.
+#[repr(C)]
+pub struct Answer {
+    pub number: u64,
+    pub object: u64,
+    pub component: u64,
+    pub objects: u64,
+    pub components: u64,
+    pub start: u64,
+    pub place: u64,
+    pub size: u64,
+}
+
+fn refused(number: u64, object: u64, component: u64) -> Answer
+    ensures { λ r. ⌜ r ≡ is.refused number object component ⌝ }
+{
+    Answer {
+        number: number,
+        object: object,
+        component: component,
+        objects: 0,
+        components: 0,
+        start: 0,
+        place: 0,
+        size: 0,
+    }
+}
+
+// Room for so many objects and components, by division: no product can wrap.
+fn fits(room: usize, objects: usize, components: usize) -> bool
+    ensures { λ r. ⌜ r ≡ leb (16 * objects + 10 * components) room ⌝ }
+{
+    if room / 16 < objects {
+        return false;
+    }
+    let left = room - 16 * objects;
+    components <= left / 10
+}
+
+// The root's attributes, which have `left` bytes left in m, in a file where m ends at `end`.
+fn attributes(m: &[u8], left: usize, end: usize) -> Span
+    ensures { λ r. ⌜ is.AttributesIs (now (m .entry)) left end r ⌝ }
+{
+    let at = place_of(m.len(), left);
+    let size = cbor::skip(&m[at..], 31);
+    whole(left, size, end)
+}
+
+// The manifest m, which begins at `start`, read into t.
+fn fill(m: &[u8], start: usize, t: &mut [u64]) -> Answer
+    requires { ⌜ start + length (now m) < FAULT ⌝ }
+    ensures { λ r. ⌜ is.Filled start (now (m .entry)) (now (t .entry)) r (now (t .exit)) ⌝ }
+{
+    match manifest(&m[0..], start as u64) {
+        Told::No(n, o, c) => refused(n, o, c),
+        Told::Yes(objects, components, left, at) => {
+            if !fits(t.len(), objects, components) {
+                return refused(24, 0, 0);
+            }
+            let end = start + m.len();
+            let place = place_of(m.len(), at);
+            table::write(&m[place..], start as u64, end, 16 * objects, t);
+            let a = attributes(&m[0..], left, end);
+            Answer {
+                number: 0,
+                object: 0,
+                component: 0,
+                objects: objects as u64,
+                components: components as u64,
+                start: start as u64,
+                place: a.place,
+                size: a.size,
+            }
+        }
+    }
+}
+
+// A file, lent whole, read into a lent table.
+pub fn read(file: &[u8], t: &mut [u64]) -> Answer
+    ensures { λ r. ⌜ (r ≡ is.answered (readInto (now (file .entry)) (length (now (t .entry))))) × (now (t .exit) ≡ tableAfter (now (t .entry)) (readInto (now (file .entry)) (length (now (t .entry))))) ⌝ }
+{
+    match frame::frame(&file[0..]) {
+        Framed::No(n) => refused(n, 0, 0),
+        Framed::At(start, size) => {
+            let end = start + size;
+            fill(&file[start..end], start, t)
+        }
+    }
+}
