@@ -13,16 +13,17 @@ static bool accepted(const void *x) {
     return zt_accept(z->file.bytes, z->file.length) == ZT_ACCEPTED;
 }
 
-static const program ours = {"zt_accept", accepted}, extract = {"C floor", c_floor}, strict = {"C strict, UTF-8", c_item_utf8};
+const program acceptance_check = {"zt_accept", accepted};
+static const program extract = {"C floor", c_floor}, strict = {"C strict, UTF-8", c_item_utf8};
 
 static void beside(const char *what, zt_file z) {
-    compare(what, ours, extract, &z, OBJECTS, z.manifest.length, 1.3);
-    compare("", ours, strict, &z, OBJECTS, z.manifest.length, 0);
+    compare(what, acceptance_check, extract, &z, OBJECTS, z.manifest.length, 1.3);
+    compare("", acceptance_check, strict, &z, OBJECTS, z.manifest.length, 0);
 #ifdef WITH_LIBCBOR
-    compare("", ours, (program){"libcbor, tokens", libcbor_tokens}, &z, OBJECTS, z.manifest.length, 1);
+    compare("", acceptance_check, (program){"libcbor, tokens", libcbor_tokens}, &z, OBJECTS, z.manifest.length, 1);
 #endif
 #ifdef WITH_TINYCBOR
-    compare("", ours, (program){"TinyCBOR, tokens", tinycbor_tokens}, &z, OBJECTS, z.manifest.length, 1);
+    compare("", acceptance_check, (program){"TinyCBOR, tokens", tinycbor_tokens}, &z, OBJECTS, z.manifest.length, 1);
 #endif
     free(z.file.bytes);
 }
@@ -40,9 +41,9 @@ static zt_file components(size_t size) { return packed(size / LONG, LONG / 16 - 
 static void grown(const char *what, zt_file make(size_t size)) {
     zt_file large = make(LARGE), small = make(SMALL);
     double bytes = (double)large.manifest.length, more = bytes / (double)small.manifest.length;
-    compare(what, ours, strict, &large, bytes, large.manifest.length, 4);
-    compare("", ours, extract, &large, bytes, large.manifest.length, 0);
-    double longer = growth(ours, &large, &small);
+    compare(what, acceptance_check, strict, &large, bytes, large.manifest.length, 4);
+    compare("", acceptance_check, extract, &large, bytes, large.manifest.length, 0);
+    double longer = growth(acceptance_check, &large, &small);
     printf("    %.2f times the bytes of the same in 1 MiB, %.2f times the time: %.2f for each byte\n", more, longer, longer / more);
     free(large.file.bytes);
     free(small.file.bytes);

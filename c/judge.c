@@ -4,8 +4,10 @@
 
 int main(int count, char **paths) {
     int i;
-    if (zt_accept(NULL, 0) != ZT_SHORT) {
-        fputs("no bytes are not SHORT\n", stderr);
+    /* null where nothing is lent: an empty file is SHORT, no table has a component, and no text has room for a listing's first line */
+    if (zt_accept(NULL, 0) != ZT_SHORT || zt_read(NULL, 0, NULL, 0).number != ZT_SHORT || zt_view(NULL, 0, NULL, 0, 0, 0, 0).number != ZT_INDEX ||
+        zt_list(NULL, 0, NULL, 0, 0, 0, NULL, 0).number != ZT_ROOM) {
+        fputs("null pointers with no length are answered wrongly\n", stderr);
         return 1;
     }
     for (i = 1; i < count; i++) {

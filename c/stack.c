@@ -1,6 +1,6 @@
 /*
- * How much stack zt_accept takes on the files named: each is judged in a thread whose stack was painted before, and what is no longer paint was
- * used. Prints the deepest use; it must stay within what zt.h says.
+ * How much stack the calls of zt.h take on the files named: each is judged, read and listed in a thread whose stack was painted before, and what is no
+ * longer paint was used. Prints the deepest use; it must stay within what zt.h says.
  */
 #include "read_file.h"
 #include "zt.h"
@@ -10,7 +10,10 @@
 #include <string.h>
 #include <sys/mman.h>
 
-enum { STACK = 1 << 20 };
+enum { STACK = 1 << 20, ROOM = 16 * 1024 + 10 * 16 * 1024, TEXT = 1 << 24 };
+
+static uint64_t table[ROOM];
+static uint8_t text[TEXT];
 
 typedef struct {
     bytes file;
@@ -21,6 +24,9 @@ static void *judge(void *given) {
     task *t = given;
     t->top = __builtin_frame_address(0);
     zt_accept(t->file.at, t->file.length);
+    zt_answer a = zt_read(t->file.at, t->file.length, table, ROOM);
+    zt_view(t->file.at, t->file.length, table, ROOM, a.objects, a.components, 0);
+    zt_list(t->file.at, t->file.length, table, ROOM, a.objects, a.components, text, TEXT);
     return NULL;
 }
 
@@ -57,6 +63,6 @@ int main(int count, char **paths) {
         }
         free(file.at);
     }
-    printf("deepest stack use %zu bytes, on %s; zt.h says %d\n", most, which, ZT_ACCEPT_STACK);
-    return most == 0 || most > ZT_ACCEPT_STACK;
+    printf("deepest stack use %zu bytes, on %s; zt.h says %d\n", most, which, ZT_STACK);
+    return most == 0 || most > ZT_STACK;
 }

@@ -1,5 +1,6 @@
 /*
- * Radenvyth's acceptance check of .zt files (zTensor 1.2.0), for C99 and C++. Link libzt.a.
+ * Radenvyth's reading of .zt files (zTensor 1.2.0), for C99 and C++: the acceptance check, the table, the view and the listing. Link libzt.a.
+ * examples/firmware is a whole program over it; this is the shortest:
  *
  *     #include "zt.h"
  *     #include <stdio.h>
@@ -55,18 +56,19 @@ enum zt_refusal {
 };
 
 /*
- * Bytes of stack to have free for a call of zt_accept. Measured, not proved: the deepest use seen on files at every limit lies below it, and the
- * tests measure it anew (c/stack.c).
+ * Bytes of stack to have free for any call. Measured, not proved: the deepest use seen on files at every limit lies below it, and the tests measure
+ * it anew (c/stack.c).
  */
-#define ZT_ACCEPT_STACK 32768
+#define ZT_STACK 32768
 
 /*
- * Whether these bytes are a sound .zt file: ZT_ACCEPTED, or the first refusal, ZT_SHORT to ZT_LENGTH. Never ZT_ROOM, since nothing is written.
- *
- * Every call ends and answers, whatever the bytes are and however many. Only file[0] to file[length - 1] are read; they need no alignment. `file`
- * may be null where length is 0: an empty file is ZT_SHORT. No memory is allocated, nothing is kept from one call to the next, and calls may run
- * at the same time, also on the same bytes.
+ * Of every call here: it ends and answers, whatever the bytes, numbers and counts are. Only what is lent is touched: file[0] to file[length - 1], which
+ * need no alignment, and a table or text as far as its room. A pointer may be null where its length or room is 0, and must point to that many bytes or
+ * numbers else. What is lent to be written must not overlap what is read. No memory is allocated, nothing is kept from one call to the next, and calls may
+ * run at the same time, also on the same file.
  */
+
+/* Whether these bytes are a sound .zt file: ZT_ACCEPTED, or the first refusal, ZT_SHORT to ZT_LENGTH. Never ZT_ROOM, since nothing is written. */
 uint64_t zt_accept(const uint8_t *file, size_t length);
 
 /* What zt_read answers. All but the first three are 0 on refusal. */
@@ -80,8 +82,8 @@ typedef struct {
 
 /*
  * The file read into a lent table of `room` numbers: 16 for each object, then 10 for each component, as document 01 has them. Needs
- * 16 * objects + 10 * components numbers, else ZT_ROOM. A refusal leaves the table as it was; numbers beyond the rows stay. The table must not overlap
- * the file, and must be aligned as uint64_t asks; it may be null where room is 0.
+ * 16 * objects + 10 * components numbers, at most 180,224, else ZT_ROOM. A refusal leaves the table as it was; numbers beyond the rows stay. The table
+ * must not overlap the file, and must be aligned as uint64_t asks.
  */
 zt_answer zt_read(const uint8_t *file, size_t length, uint64_t *table, size_t room);
 

@@ -20,37 +20,30 @@ pub fn program_text(file: &[u8]) -> Vec<u8> {
         return format!("refused {number} {object} {component}\n").into_bytes();
     }
     listing(file, &table, answer.objects, answer.components)
+        .expect("the rows of a file that was accepted can be listed")
 }
 
-/// One line with the counts, then each object's line followed by its blobs' lines. The table holds
-/// the rows that reading this file gave; of a table too short for the counts nothing is listed.
-pub fn listing(file: &[u8], table: &[u64], objects: u64, components: u64) -> Vec<u8> {
-    let Some((object_rows, component_rows)) = rows::split(table, objects, components) else {
-        return Vec::new();
-    };
+/// One line with the counts, then each object's line followed by its blobs' lines; nothing (INDEX) where the table or the file lacks what is to be shown.
+pub fn listing(file: &[u8], table: &[u64], objects: u64, components: u64) -> Option<Vec<u8>> {
+    let (object_rows, component_rows) = rows::split(table, objects, components)?;
+    let counted: u128 = object_rows.iter().map(|o| u128::from(o.components)).sum();
+    if counted != u128::from(components) {
+        return None;
+    }
     let mut out = format!("objects {objects} components {components}\n").into_bytes();
     let mut blobs = component_rows.iter();
     for object in object_rows {
-        line(
-            &mut out,
-            &[
-                b"object ",
-                &shown(file, object.name),
-                b" ",
-                &shown(file, object.format),
-            ],
-        );
-        let count = usize::try_from(object.components).unwrap_or(usize::MAX);
-        for row in blobs.by_ref().take(count) {
-            let dtype = DTYPES.get(row.dtype as usize).map_or("", |(name, _)| name);
+        let (name, format) = (shown(file, object.name)?, shown(file, object.format)?);
+        line(&mut out, &[b"object ", &name, b" ", &format]);
+        for row in blobs.by_ref().take(object.components as usize) {
+            let (dtype, _) = DTYPES.get(usize::try_from(row.dtype).ok()?)?;
+            row.blob.of(file)?;
             let rest = format!(" {dtype} {} {}", row.blob.place, row.blob.length);
-            line(
-                &mut out,
-                &[b"blob ", &shown(file, row.name), rest.as_bytes()],
-            );
+            let name = shown(file, row.name)?;
+            line(&mut out, &[b"blob ", &name, rest.as_bytes()]);
         }
     }
-    out
+    Some(out)
 }
 
 fn line(out: &mut Vec<u8>, parts: &[&[u8]]) {
@@ -59,14 +52,14 @@ fn line(out: &mut Vec<u8>, parts: &[&[u8]]) {
 }
 
 /// A text with bytes outside 33 to 126, and the backslash, as a backslash and two hex digits.
-fn shown(file: &[u8], text: Part) -> Vec<u8> {
+fn shown(file: &[u8], text: Part) -> Option<Vec<u8>> {
     let mut out = Vec::new();
-    for &byte in text.of(file).unwrap_or_default() {
+    for &byte in text.of(file)? {
         match byte {
             b'\\' => out.extend(b"\\5c"),
             33..=126 => out.push(byte),
             _ => out.extend(format!("\\{byte:02x}").bytes()),
         }
     }
-    out
+    Some(out)
 }

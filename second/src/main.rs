@@ -35,9 +35,13 @@ fn main() -> ExitCode {
 
 fn run(arguments: &[&str]) -> io::Result<()> {
     match arguments {
-        ["list", paths @ ..] if !paths.is_empty() => for_each(paths, program_text),
+        ["list", paths @ ..] if !paths.is_empty() => for_each(paths, |path, file| {
+            let mut text = named(path, paths.len() > 1);
+            text.extend(program_text(file));
+            text
+        }),
         ["judge", paths @ ..] if !paths.is_empty() => {
-            for_each(paths, |file| format!("{}\n", judgement(file)).into_bytes())
+            for_each(paths, |_, file| format!("{}\n", judgement(file)).into_bytes())
         }
         ["generate", seed, count, directory] => {
             let seed = number(seed)?;
@@ -67,11 +71,20 @@ fn number(text: &str) -> io::Result<u64> {
         .map_err(|error| io::Error::other(format!("{text}: {error}")))
 }
 
-fn for_each(paths: &[&str], answer: impl Fn(&[u8]) -> Vec<u8>) -> io::Result<()> {
+/// The path's own line, where there are several.
+fn named(path: &str, several: bool) -> Vec<u8> {
+    if several {
+        format!("{path}:\n").into_bytes()
+    } else {
+        Vec::new()
+    }
+}
+
+fn for_each(paths: &[&str], answer: impl Fn(&str, &[u8]) -> Vec<u8>) -> io::Result<()> {
     let mut out = io::stdout().lock();
     for path in paths {
         let file = fs::read(path).map_err(|error| io::Error::other(format!("{path}: {error}")))?;
-        out.write_all(&answer(&file))?;
+        out.write_all(&answer(path, &file))?;
     }
     Ok(())
 }

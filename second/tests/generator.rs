@@ -105,7 +105,7 @@ fn accepted(file: &[u8], answer: &Answer, table: &[u64]) {
         answer.components,
     );
     assert_eq!(past, Err(INDEX));
-    let lines = listing(file, table, answer.objects, answer.components);
+    let lines = listing(file, table, answer.objects, answer.components).unwrap();
     let count = lines.iter().filter(|&&byte| byte == b'\n').count();
     assert_eq!(count, 1 + objects.len() + components.len());
 }

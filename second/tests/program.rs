@@ -31,7 +31,10 @@ fn lists_and_judges_files() {
     let list = second(&["list", "sound.zt"], &directory);
     assert_eq!(list.stdout, b"objects 0 components 0\n");
     let list = second(&["list", "short.zt", "sound.zt"], &directory);
-    assert_eq!(list.stdout, b"refused 1 0 0\nobjects 0 components 0\n");
+    assert_eq!(
+        list.stdout,
+        b"short.zt:\nrefused 1 0 0\nsound.zt:\nobjects 0 components 0\n"
+    );
     let judge = second(&["judge", "sound.zt", "short.zt"], &directory);
     assert_eq!(judge.stdout, b"0 0 0\n1 0 0\n");
     assert!(judge.status.success());

@@ -87,7 +87,7 @@ fn lines_end_with_a_newline_and_empty_texts_print_as_nothing() {
     let lines = "objects 2 components 3\nobject  \nblob  u8 64 1\n\
         blob \\5c\\c3\\bc\\20~ bool 64 0\nobject w dense\nblob data f32 64 8\n";
     assert_eq!(
-        String::from_utf8(listing(&file, &table, 2, 3)).unwrap(),
+        String::from_utf8(listing(&file, &table, 2, 3).unwrap()).unwrap(),
         lines
     );
     assert_eq!(program_text(&file), lines.as_bytes());
@@ -97,14 +97,16 @@ fn lines_end_with_a_newline_and_empty_texts_print_as_nothing() {
 #[test]
 fn a_listing_answers_for_any_table() {
     let (file, table) = table_of(&root(named([("w", dense(data()))])));
-    assert_eq!(listing(&file, &table[..25], 1, 1), b"");
-    assert_eq!(listing(&file, &table, u64::MAX, 1), b"");
-    let foreign = listing(&file, &[u64::MAX; 26], 1, 1);
-    let lines = format!(
-        "objects 1 components 1\nobject  \nblob   {0} {0}\n",
-        u64::MAX
-    );
-    assert_eq!(foreign, lines.as_bytes());
+    assert!(listing(&file, &table, 1, 1).is_some());
+    assert_eq!(listing(&file, &table[..25], 1, 1), None);
+    assert_eq!(listing(&file, &table, u64::MAX, 1), None);
+    assert_eq!(listing(&file, &table, 1, 0), None);
+    // a name, a format, a component's name, dtype and blob that aren't there
+    for column in [0, 11, 16, 18, 21] {
+        let mut foreign = table.clone();
+        foreign[column] = u64::MAX;
+        assert_eq!(listing(&file, &foreign, 1, 1), None);
+    }
 }
 
 #[test]

@@ -32,6 +32,10 @@ pub refused : (l : Check (List ℕ)) (xs : List ℕ) → l ≡ refuse 26 0 0 →
 unfolding told textAfter
 refused l xs e = (sym (ap (λ (k : Check (List ℕ)). told k (length xs)) e), sym (ap (λ (k : Check (List ℕ)). textAfter k xs) e))
 
+-- words that are as long as a text can be are counted exactly
+pub length-counted : (t : List ℕ) → length t < most → length t ≡ capped (0 + length t)
+length-counted t h = sym (ap capped (zero-add (length t)) ∙ capped-low (length t) h)
+
 capped-most : (t : List ℕ) → capped (0 + length t) ≤ length t
 capped-most t =
     by-place (length t) (λ p. let z : capped (0 + length t) ≡ length t = ap capped (zero-add (length t)) ∙ capped-low (length t) p in omega (arith, z))

@@ -4,7 +4,11 @@ mod put;
 mod rows;
 
 ghost use mathlib.Core.Path.{_≡_};
+ghost use mathlib.Core.List.{[], _∷_};
 ghost use lib.ListN.{length};
+ghost use Rattle.meaning.specs.Check.{pass};
+ghost use Rattle.meaning.specs.Text.{ascii};
+ghost use Rattle.meaning.specs.Listing.{line, decimal};
 ghost use Rattle.panel.specs.Lines as is;
 ghost use Rattle.panel.specs.Told.{told, textAfter};
 
@@ -38,5 +42,43 @@ pub fn list(file: &[u8], table: &[u64], objects: u64, components: u64, text: &mu
     Listed {
         number: 26,
         length: 0,
+    }
+}
+
+// The line of a refusal, likewise.
+pub fn refusal(number: u64, object: u64, component: u64, text: &mut [u8]) -> Listed
+    ensures answer { λ r. ⌜ r ≡ told (pass (line (ascii "refused") (decimal number ∷ decimal object ∷ decimal component ∷ []))) (length (now (text .entry))) ⌝ }
+    ensures written { λ r. ⌜ now (text .exit) ≡ textAfter (pass (line (ascii "refused") (decimal number ∷ decimal object ∷ decimal component ∷ []))) (now (text .entry)) ⌝ }
+{
+    let mut scrap = [0u8; 1];
+    let n = lines::refused(number, object, component, &mut scrap);
+    if text.len() < n {
+        return Listed {
+            number: 24,
+            length: 0,
+        };
+    }
+    lines::refused(number, object, component, text);
+    Listed {
+        number: 0,
+        length: n as u64,
+    }
+}
+
+// Words that are put as they stand, likewise.
+pub fn words(said: &[u8], text: &mut [u8]) -> Listed
+    ensures answer { λ r. ⌜ r ≡ told (pass (now (said .entry))) (length (now (text .entry))) ⌝ }
+    ensures written { λ r. ⌜ now (text .exit) ≡ textAfter (pass (now (said .entry))) (now (text .entry)) ⌝ }
+{
+    if text.len() < said.len() {
+        return Listed {
+            number: 24,
+            length: 0,
+        };
+    }
+    put::word(text, 0, said);
+    Listed {
+        number: 0,
+        length: said.len() as u64,
     }
 }

@@ -42,6 +42,16 @@ fn heading(objects: u64, components: u64, out: &mut [u8]) -> usize
     byte(out, d, 10)
 }
 
+pub fn refused(number: u64, object: u64, component: u64, out: &mut [u8]) -> usize
+    ensures { λ r. ⌜ Wrote (line (ascii "refused") (decimal number ∷ decimal object ∷ decimal component ∷ [])) 0 (now (out .entry)) (now (out .exit)) r ⌝ }
+{
+    let a = word(out, 0, b"refused");
+    let b = blank_number(out, a, number);
+    let c = blank_number(out, b, object);
+    let d = blank_number(out, c, component);
+    byte(out, d, 10)
+}
+
 fn blob_words(name: &[u8], code: u64, offset: u64, size: u64, out: &mut [u8], at: usize) -> usize
     ensures { λ r. ⌜ Wrote (line (ascii "blob") (shownText (now (name .entry)) ∷ storageOf code .called ∷ decimal offset ∷ decimal size ∷ [])) at (now (out .entry)) (now (out .exit)) r ⌝ }
 {

@@ -101,32 +101,61 @@ fn views() {
     tally.report(2);
 }
 
+/// What the second program answers, and the text then holds.
+fn second_list(text: Option<&[u8]>, room: usize) -> (Listed, Vec<u8>) {
+    let mut held = vec![7; room];
+    let answer = match text {
+        None => Listed { number: INDEX, length: 0 },
+        Some(text) if room < text.len() => Listed { number: ROOM, length: 0 },
+        Some(text) => {
+            held[..text.len()].copy_from_slice(text);
+            Listed { number: 0, length: text.len() as u64 }
+        }
+    };
+    (answer, held)
+}
+
+/// Compares the listing of this table with several rooms for its text.
+fn compare_listings(tally: &mut Tally, index: u64, file: &[u8], table: &[u64], objects: u64, components: u64) {
+    let text = listing::listing(file, table, objects, components);
+    let exact = text.as_ref().map_or(0, Vec::len);
+    for room in [exact, exact + 3, exact.saturating_sub(1), 0] {
+        let mut ours = vec![7; room];
+        let proved = against::list(file, table, objects, components, &mut ours);
+        let second = second_list(text.as_deref(), room);
+        let label = match second.0.number {
+            0 => "listed",
+            ROOM => "no room",
+            _ => "INDEX",
+        };
+        tally.compare(label, (proved, ours), second, || {
+            format!("seed {}, file {index}, room {room}: {objects} {components}", seed())
+        });
+    }
+}
+
 #[test]
 fn listings() {
     let mut tally = Tally::of("listings");
+    let mut state = seed();
     let mut table = vec![0; AMPLE];
     for index in 0..FILES {
         let file = nth_file(seed(), index);
-        let answer = second_read(&file, &mut table);
-        if answer.number != 0 {
+        let a = second_read(&file, &mut table);
+        if a.number != 0 {
             continue;
         }
-        let text = listing::listing(&file, &table, answer.objects, answer.components);
-        for room in [text.len(), text.len() + 3, text.len() - 1, 0] {
-            let mut ours = vec![7; room];
-            let proved = against::list(&file, &table, answer.objects, answer.components, &mut ours);
-            let mut theirs = vec![7; room];
-            let fits = text.len() <= room;
-            if fits {
-                theirs[..text.len()].copy_from_slice(&text);
-            }
-            let second = match fits {
-                true => Listed { number: 0, length: text.len() as u64 },
-                false => Listed { number: ROOM, length: 0 },
-            };
-            let label = if fits { "listed" } else { "no room" };
-            tally.compare(label, (proved, ours), (second, theirs), || format!("seed {}, file {index}, room {room}", seed()));
+        let room = (16 * a.objects + 10 * a.components) as usize;
+        compare_listings(&mut tally, index, &file, &table[..room], a.objects, a.components);
+        // a row that is none of this file's, then counts that aren't
+        let mut foreign = table[..room].to_vec();
+        if room > 0 {
+            let column = hostile(&mut state, 3) as usize % room;
+            foreign[column] = hostile(&mut state, file.len() as u64);
+            compare_listings(&mut tally, index, &file, &foreign, a.objects, a.components);
         }
+        let (objects, components) = (hostile(&mut state, a.objects), hostile(&mut state, a.components));
+        compare_listings(&mut tally, index, &file, &table[..room], objects, components);
     }
-    tally.report(2);
+    tally.report(3);
 }
