@@ -51,7 +51,7 @@ found-below [] j c g = absurd (let z : _≡_ {A = ℕ} 0 1 = cc in omega arith)
 found-below (b ∷ cs) zero c g = omega arith
 found-below (b ∷ cs) (suc j) c g = let h : j < length cs = found-below cs j c g in omega (arith, h)
 
-all-counted : (os : List (Object Span)) → length (allComponents os) ≡ componentCount os
+pub all-counted : (os : List (Object Span)) → length (allComponents os) ≡ componentCount os
 unfolding allComponents componentCount
 all-counted [] = refl
 all-counted (o ∷ os) = length-append (o .components) (allComponents os) ∙ ap (λ (n : ℕ). length (o .components) + n) (all-counted os)

@@ -1,0 +1,96 @@
+-- After a file was read into a table, every component's view is its blob, and the listing is the one of what was read.
+use Prim.Native.Nat.{ℕ, zero, suc, _+_, _≤_, _<_}
+use native.Mathlib.Omega.{arith}
+use mathlib.Core.List.{List, [], _∷_}
+use mathlib.Core.Bool.{Bool, true, false}
+use mathlib.Core.Option.{some}
+use mathlib.Core.Path.{_≡_, refl, ap, sym, _∙_, subst}
+use lib.ListN.{length, drop, getElem?}
+use lib.Dec.{leb}
+use borrow.Author.Tests.{le-ltb}
+use Rattle.meaning.specs.Check.{Check, pass, refuse, _>>=_, _>>_, _unless_}
+use Rattle.meaning.specs.Refusal.{INDEX, ROOM}
+use Rattle.meaning.specs.Read.{Span}
+use Rattle.meaning.specs.Model.{Component}
+use Rattle.meaning.specs.Frame.{Reading, reading}
+use Rattle.meaning.specs.Rows.{roomFor, roomy, componentCount, answer, tableAfter, readInto}
+use Rattle.meaning.specs.View.{viewed, partAt, view}
+use Rattle.meaning.specs.Listing.{listing}
+use Rattle.view.specs.All.{allComponents}
+use Rattle.view.proofs.OfRows.{all-counted, viewed-of-rows, view-of-rows}
+use Rattle.panel.specs.Lines.{listed}
+use Rattle.panel.proofs.OfRows.{listed-of-rows}
+use Rattle.shown.specs.Shown.{viewedThen, viewThen, listedThen, Shown}
+use Rattle.shown.proofs.AcceptedFile.{refusals-of-reading, accepted-stands, accepted-blobs}
+
+-- a reading into a table is an accepted one, if there is room
+module _ (file : List ℕ) (room : ℕ) where
+  accepts : (r : Reading) → readInto file room ≡ pass r → reading file ≡ pass r
+  unfolding readInto roomy
+  accepts r = by (reading file)
+    where
+      roomy-same : (q : Reading) (b : Bool) → (ROOM unless b >> pass q) ≡ pass r → pass q ≡ pass r
+      roomy-same q true e = e
+      roomy-same q false e = absurd (let z : _≡_ {A = ℕ} 0 1 = cc in omega arith)
+
+      by : (k : Check Reading) → (k >>= λ q. ROOM unless leb (roomFor (q .model)) room >> pass q) ≡ pass r → k ≡ pass r
+      by (pass q) e = roomy-same q (leb (roomFor (q .model)) room) e
+      by (refuse n o c) e = absurd (let z : _≡_ {A = ℕ} 0 1 = cc in omega arith)
+
+  -- an answer of 0 is no refusal
+  pub read-zero : answer (readInto file room) .number ≡ 0 → (r : Reading) × (readInto file room ≡ pass r)
+  unfolding readInto roomy answer
+  read-zero = by (reading file) refl
+    where
+      fits : (q : Reading) (b : Bool) → answer (ROOM unless b >> pass q) .number ≡ 0 → (r : Reading) × ((ROOM unless b >> pass q) ≡ pass r)
+      fits q true z = (q, refl)
+      fits q false z = absurd (omega (arith, z))
+
+      by : (k : Check Reading) → reading file ≡ k → answer (k >>= roomy room) .number ≡ 0 → (r : Reading) × ((k >>= roomy room) ≡ pass r)
+      by (pass q) e z = fits q (leb (roomFor (q .model)) room) z
+      by (refuse n o c) e z = let h = refusals-of-reading file n o c e .0 in absurd (omega (arith, h, z))
+
+module _ (file table : List ℕ) (r : Reading) (reads : readInto file (length table) ≡ pass r) where
+  read-so : reading file ≡ pass r
+  read-so = accepts file (length table) r reads
+
+  pub read-view : (j : ℕ) (c : Component Span) → getElem? (allComponents (r .model .objects)) j ≡ some c → Shown file table r j c
+  unfolding answer tableAfter
+  read-view j c there =
+      let lies = accepted-blobs file r read-so j c there in
+      let a = lies .0 .before-manifest in let b = lies .1 in
+      let inside : c .offset + c .length ≤ length file = omega (arith, a, b) in
+      let rest : List ℕ = drop (roomFor (r .model)) table in
+      record {
+        blob = lies .0;
+        manifest-inside = lies .1;
+        range = rw reads (viewed-of-rows file rest (r .model) j c there inside);
+        bytes = rw reads (view-of-rows file rest (r .model) j c there inside);
+      }
+
+  pub read-listing : listedThen file table ≡ pass (listing (r .model))
+  unfolding answer tableAfter
+  read-listing = rw reads (listed-of-rows file (drop (roomFor (r .model)) table) (r .model) (accepted-stands file r read-so))
+
+  -- every index below the count is a component's
+  pub read-index : (j : ℕ) → j < answer (readInto file (length table)) .components → (c : Component Span) × (getElem? (allComponents (r .model .objects)) j ≡ some c)
+  unfolding answer
+  read-index j h =
+      let a : j < componentCount (r .model .objects) = subst (λ (k : Check Reading). j < answer k .components) reads h in
+      let b = all-counted (r .model .objects) in
+      has (allComponents (r .model .objects)) j (omega (arith, a, b))
+    where
+      has : (l : List (Component Span)) (j : ℕ) → j < length l → (c : Component Span) × (getElem? l j ≡ some c)
+      has [] j h = absurd (omega (arith, h))
+      has (c ∷ l) zero h = (c, refl)
+      has (c ∷ l) (suc j) h = has l j (omega (arith, h))
+
+-- from the count on, whatever the answer was
+module _ (file table : List ℕ) (j : ℕ) (past : answer (readInto file (length table)) .components ≤ j) where
+  pub read-view-past : viewedThen file table j ≡ refuse INDEX 0 0
+  unfolding viewed
+  read-view-past = rw (le-ltb j (answer (readInto file (length table)) .components) past) refl
+
+  pub read-view-none : viewThen file table j ≡ []
+  unfolding view partAt
+  read-view-none = ap (partAt file) read-view-past

@@ -1,0 +1,7 @@
+-- Laws behind the theorems on accepted files, and those theorems.
+pub mod Judged
+pub mod Spans
+pub mod ReadPlaced
+pub mod Judgement
+pub mod AcceptedFile
+pub mod AfterReading

@@ -1,0 +1,226 @@
+-- Every node that a manifest reads as is placed: one pass over the reading, which also finds that it refuses with one of 01's numbers up to LENGTH.
+use Prim.Native.Nat.{ℕ, zero, suc, _+_, _-_, _*_, _/_, _≤_}
+use mathlib.Core.List.{List, [], _∷_, _++_}
+use mathlib.Core.Bool.{Bool, true, false, cond}
+use mathlib.Core.Path.{_≡_, refl, ap, sym, _∙_}
+use lib.ListN.{length, take, drop, getD, take-append-drop}
+use lib.Dec.{eqb, leb, ltb}
+use Rattle.meaning.specs.Refusal.{CBOR, DEEP}
+use Rattle.meaning.specs.Limit.{depthLimit}
+use Rattle.meaning.specs.Tree.{Node, uint, nint, bytes, text, chunkedBytes, chunkedText, array, dict, tag, simple, float, Pair, nodes, pairs}
+use Rattle.meaning.specs.Read.{Outcome, got, refused, Reader, after, _>>=_, pure, malformed, here, byte, run, number, stop, times, untilBreak, toBreak}
+use Rattle.meaning.specs.Read.{Argument, known, indefinite, wide, longArguments, argument, majorOf, infoOf, definite, chunk, closed, close, pair, content, beyond, item, manifest, Span, spanTo}
+use Rattle.meaning.specs.Read.{Major, unsigned, negative, byteString, textString, arrayOf, mapOf, tagged, special}
+use Rattle.panel.specs.Stands.{Each}
+use Rattle.shown.specs.Accepted.{InManifest}
+use Rattle.shown.specs.Placed.{Placed, PlacedNodes, PlacedPairs, PlacedPair}
+use Rattle.shown.proofs.Judged.{Numbered, Any}
+use Rattle.shown.proofs.Spans.{Later, at-once, later-on, Left, left-later, span-lies, word-stands}
+
+-- what is got is so, and a refusal's number is one of 1 to 23
+module _ {A : Type 0} where
+  abbrev Cases : (A → List ℕ → Type 0) → Outcome A → Type 0
+  Cases Q (got a r) = Q a r
+  Cases Q (refused n r) = Numbered n
+
+  pub record So (Q : A → List ℕ → Type 0) (o : Outcome A) : Type 0 where
+    pub is : Cases Q o
+
+  so-map : {Q R : A → List ℕ → Type 0} (o : Outcome A) → So Q o → ((a : A) (r : List ℕ) → Q a r → R a r) → So R o
+  so-map (got a r) h f = record { is = f a r (h .is) }
+  so-map (refused n r) h f = record { is = h .is }
+
+  ended : {Q : A → List ℕ → Type 0} (r : List ℕ) → So Q (refused CBOR r)
+  ended r = record { is = tt }
+
+  so-cond : {Q : A → List ℕ → Type 0} (b : Bool) (x y : Outcome A) → So Q x → So Q y → So Q (cond b x y)
+  so-cond true x y h k = h
+  so-cond false x y h k = k
+
+so-after : {A B : Type 0} {Q : A → List ℕ → Type 0} {R : B → List ℕ → Type 0} (o : Outcome A) (k : A → Reader B)
+    → So Q o → ((a : A) (r : List ℕ) → Q a r → So R (k a r)) → So R (after o k)
+so-after (got a r) k h f = f a r (h .is)
+so-after (refused n r) k h f = record { is = h .is }
+
+module _ (file back : List ℕ) (start end : ℕ) where
+  -- ---- readers that go on in the bytes left of the manifest, what they give being so
+
+  module _ {A : Type 0} where
+    abbrev Keeps : (A → Type 0) → Reader A → Type 0
+    Keeps Q m = (s : List ℕ) → Left file back start end s → So (λ (a : A) (r : List ℕ). Q a × Later s r) (m s)
+
+    pure-keeps : {Q : A → Type 0} (a : A) → Q a → Keeps Q (pure a)
+    pure-keeps a q s l = record { is = (q, at-once s) }
+
+    malformed-keeps : {Q : A → Type 0} (o : List ℕ) → Keeps Q (malformed o)
+    malformed-keeps o s l = ended o
+
+    cond-keeps : {Q : A → Type 0} (b : Bool) (m n : Reader A) → Keeps Q m → Keeps Q n → Keeps Q (cond b m n)
+    cond-keeps true m n hm hn = hm
+    cond-keeps false m n hm hn = hn
+
+    getD-keeps : {Q : A → Type 0} (ms : List (List ℕ → Reader A)) (d : List ℕ → Reader A) → Each (λ (m : List ℕ → Reader A). (o : List ℕ) → Keeps Q (m o)) ms
+        → ((o : List ℕ) → Keeps Q (d o)) → (i : ℕ) (o : List ℕ) → Keeps Q (getD ms i d o)
+    unfolding Each
+    getD-keeps [] d hs hd i = hd
+    getD-keeps (m ∷ ms) d hs hd zero = hs .0
+    getD-keeps (m ∷ ms) d hs hd (suc i) = getD-keeps ms d (hs .1) hd i
+
+  module _ {A B : Type 0} {Q : A → Type 0} {R : B → Type 0} where
+    bind-keeps : (m : Reader A) (k : A → Reader B) → Keeps Q m → ((a : A) → Q a → Keeps R (k a)) → Keeps R (m >>= k)
+    bind-keeps m k hm hk s l =
+        so-after (m s) k (hm s l) λ a r h.
+        so-map (k a r) (hk a (h .0) r (left-later file back start end l (h .1))) λ b q g. (g .0, later-on (h .1) (g .1))
+
+  byte-keeps : Keeps Any byte
+  unfolding byte
+  byte-keeps [] l = ended []
+  byte-keeps (b ∷ s) l = record { is = (tt, record { eaten = b ∷ []; split = refl }) }
+
+  -- the bytes that are run over
+  run-gets : (n : ℕ) (s : List ℕ) → So (λ (bs r : List ℕ). s ≡ bs ++ r) (run n s)
+  unfolding run
+  run-gets n s = so-cond (leb n (length s)) _ _ (record { is = sym (take-append-drop n s) }) (ended [])
+
+  run-keeps : (n : ℕ) → Keeps Any (run n)
+  run-keeps n s l = so-map (run n s) (run-gets n s) λ bs r e. (tt, record { eaten = bs; split = e })
+
+  number-keeps : (k acc : ℕ) → Keeps Any (number k acc)
+  unfolding number
+  number-keeps zero acc = pure-keeps acc tt
+  number-keeps (suc k) acc = bind-keeps byte _ byte-keeps λ b q. number-keeps k (256 * acc + b)
+
+  stop-keeps : Keeps Any stop
+  unfolding stop
+  stop-keeps [] l = ended []
+  stop-keeps (b ∷ s) l = so-cond (eqb b 255) _ _ (record { is = (tt, record { eaten = b ∷ []; split = refl }) }) (record { is = (tt, at-once (b ∷ s)) })
+
+  module _ {A : Type 0} {Q : A → Type 0} (m : Reader A) (hm : Keeps Q m) where
+    times-keeps : (n : ℕ) → Keeps (Each Q) (times m n)
+    unfolding times Each
+    times-keeps zero = pure-keeps [] tt
+    times-keeps (suc n) = bind-keeps m _ hm λ x q. bind-keeps (times m n) _ (times-keeps n) λ xs qs. pure-keeps (x ∷ xs) (q, qs)
+
+    until-keeps : (f : ℕ) → Keeps (Each Q) (untilBreak m f)
+    unfolding untilBreak Each
+    until-keeps zero = λ s l. ended []
+    until-keeps (suc f) =
+        bind-keeps stop _ stop-keeps λ b u. cond-keeps b _ _ (pure-keeps [] tt)
+        (bind-keeps m _ hm λ x q. bind-keeps (untilBreak m f) _ (until-keeps f) λ xs qs. pure-keeps (x ∷ xs) (q, qs))
+
+    toBreak-keeps : Keeps (Each Q) (toBreak m)
+    unfolding toBreak
+    toBreak-keeps s = until-keeps (length s) s
+
+  wide-keeps : (w : ℕ) (o : List ℕ) → Keeps Any (wide w)
+  unfolding wide
+  wide-keeps w o = bind-keeps (number w 0) _ (number-keeps w 0) λ n q. pure-keeps (known w n) tt
+
+  argument-keeps : (o : List ℕ) (i : ℕ) → Keeps Any (argument o i)
+  unfolding argument longArguments Each
+  argument-keeps o i =
+      cond-keeps (ltb i 24) _ _ (pure-keeps (known 0 i) tt)
+      (getD-keeps longArguments malformed
+      (wide-keeps 1, (wide-keeps 2, (wide-keeps 4, (wide-keeps 8, (malformed-keeps, (malformed-keeps, (malformed-keeps, ((λ o. pure-keeps indefinite tt), tt))))))))
+      malformed-keeps (i - 24) o)
+
+  definite-keeps : (o : List ℕ) (a : Argument) → Keeps Any (definite o a)
+  unfolding definite
+  definite-keeps o (known w n) = run-keeps n
+  definite-keeps o indefinite = malformed-keeps o
+
+  chunk-keeps : (m : ℕ) → Keeps Any (chunk m)
+  unfolding chunk here
+  chunk-keeps m s =
+      bind-keeps byte (λ h. cond (eqb (h / 32) m) (argument s (infoOf h) >>= definite s) (malformed s)) byte-keeps
+      (λ h u. cond-keeps (eqb (h / 32) m) _ _ (bind-keeps (argument s (infoOf h)) _ (argument-keeps s (infoOf h)) λ a v. definite-keeps s a) (malformed-keeps s)) s
+
+  -- ---- the nodes
+
+  nodes-placed : (xs : List (Node Span)) → Each (Placed file start) xs → PlacedNodes file start (nodes xs)
+  unfolding Each
+  nodes-placed [] h = tt
+  nodes-placed (x ∷ xs) h = (h .0, nodes-placed xs (h .1))
+
+  pairs-placed : (ps : List (Pair Span)) → Each (PlacedPair file start) ps → PlacedPairs file start (pairs ps)
+  unfolding Each
+  pairs-placed [] h = tt
+  pairs-placed (p ∷ ps) h = (h .0, pairs-placed ps (h .1))
+
+  module _ (whole : end + length back ≡ length file) (sixteen : 16 ≤ length back) where
+    module _ (it : Reader (Node Span)) (hi : Keeps (Placed file start) it) where
+      pair-keeps : Keeps (PlacedPair file start) (pair (spanTo end) it)
+      unfolding pair
+      pair-keeps = bind-keeps it _ hi λ k q. bind-keeps it _ hi λ v p. pure-keeps (record { key = k; value = v }) (q, p)
+
+      -- an item that began at o
+      module _ (o : List ℕ) (l : Left file back start end o) where
+        abbrev Ends : Outcome (Node Span) → Type 0
+        Ends = So (λ (t : Node Span) (r : List ℕ). Placed file start t × Later o r)
+
+        ending : (make : Span → Node Span) → ((p : Span) → InManifest file start p → Placed file start (make p)) → (s : List ℕ) → Later o s → Ends (close (spanTo end) o make s)
+        unfolding close
+        ending make placed s k = record { is = (placed (spanTo end o s) (span-lies file back start end whole sixteen l k), k) }
+
+        -- a part of it is read, then it ends
+        closing : {A : Type 0} {Q : A → Type 0} (m : Reader A) (make : A → Span → Node Span) → Keeps Q m
+            → ((a : A) (p : Span) → Q a → InManifest file start p → Placed file start (make a p))
+            → (s : List ℕ) → Later o s → Ends ((m >>= λ a. close (spanTo end) o (make a)) s)
+        closing m make hm placed s k =
+            so-after (m s) _ (hm s (left-later file back start end l k)) λ a r h. ending (make a) (λ p i. placed a p (h .0) i) r (later-on k (h .1))
+
+        spelling : (n : ℕ) (s : List ℕ) → Later o s → Ends ((run n >>= λ bs. close (spanTo end) o (λ p. text p bs)) s)
+        unfolding close
+        spelling n s k =
+            so-after (run n s) _ (run-gets n s) λ bs r e.
+            let on = later-on k (record { eaten = bs; split = e }) in
+            record { is = ((span-lies file back start end whole sixteen l on, word-stands file back start end whole sixteen bs r l k e), on) }
+
+        simply : (b : Bool) (p : Span) (n w : ℕ) → InManifest file start p → Placed file start (cond b (simple p n) (float p w n))
+        simply true p n w i = i
+        simply false p n w i = i
+
+        content-ends : (m : Major) (a : Argument) (s : List ℕ) → Later o s → Ends (content (spanTo end) it o m a s)
+        unfolding content
+        content-ends unsigned (known w n) = ending (λ p. uint p n) λ p i. i
+        content-ends unsigned indefinite = λ s k. ended o
+        content-ends negative (known w n) = ending (λ p. nint p n) λ p i. i
+        content-ends negative indefinite = λ s k. ended o
+        content-ends byteString (known w n) = closing (run n) (λ bs p. bytes p bs) (run-keeps n) λ bs p q i. i
+        content-ends byteString indefinite = closing (toBreak (chunk 2)) _ (toBreak-keeps (chunk 2) (chunk-keeps 2)) λ cs p q i. i
+        content-ends textString (known w n) = spelling n
+        content-ends textString indefinite = closing (toBreak (chunk 3)) _ (toBreak-keeps (chunk 3) (chunk-keeps 3)) λ cs p q i. i
+        content-ends arrayOf (known w n) = closing (times it n) _ (times-keeps it hi n) λ xs p q i. (i, nodes-placed xs q)
+        content-ends arrayOf indefinite = closing (toBreak it) _ (toBreak-keeps it hi) λ xs p q i. (i, nodes-placed xs q)
+        content-ends mapOf (known w n) = closing (times (pair (spanTo end) it) n) _ (times-keeps (pair (spanTo end) it) pair-keeps n) λ xs p q i. (i, pairs-placed xs q)
+        content-ends mapOf indefinite = closing (toBreak (pair (spanTo end) it)) _ (toBreak-keeps (pair (spanTo end) it) pair-keeps) λ xs p q i. (i, pairs-placed xs q)
+        content-ends tagged (known w n) = closing it (λ x p. tag p n x) hi λ x p q i. (i, q)
+        content-ends tagged indefinite = λ s k. ended o
+        content-ends special (known w n) = ending (λ p. cond (leb w 1) (simple p n) (float p w n)) λ p i. simply (leb w 1) p n w i
+        content-ends special indefinite = λ s k. ended o
+
+    beyond-keeps : {A : Type 0} {Q : A → Type 0} → Keeps Q beyond
+    unfolding beyond
+    beyond-keeps [] l = ended []
+    beyond-keeps (b ∷ s) l = record { is = by (eqb b 255) }
+      where
+        by : (t : Bool) → Numbered (cond t CBOR DEEP)
+        by true = tt
+        by false = tt
+
+    item-keeps : (d : ℕ) → Keeps (Placed file start) (item (spanTo end) d)
+    unfolding item here
+    item-keeps zero s l = beyond-keeps s l
+    item-keeps (suc d) s l =
+        so-after (byte s) _ (byte-keeps s l) λ h r q.
+        so-after (argument s (infoOf h) r) _ (argument-keeps s (infoOf h) r (left-later file back start end l (q .1))) λ a z p.
+        content-ends (item (spanTo end) d) (item-keeps d) s l (majorOf h) a z (later-on (q .1) (p .1))
+
+    closed-so : (t : Node Span) → Placed file start t → (s : List ℕ) → So (λ (t : Node Span) (r : List ℕ). Placed file start t) (closed t s)
+    unfolding closed
+    closed-so t p [] = record { is = p }
+    closed-so t p (b ∷ s) = ended (b ∷ s)
+
+    pub manifest-placed : (s : List ℕ) → Left file back start end s → So (λ (t : Node Span) (r : List ℕ). Placed file start t) (manifest (spanTo end) s)
+    unfolding manifest
+    manifest-placed s l = so-after (item (spanTo end) depthLimit s) _ (item-keeps depthLimit s l) λ t r h. closed-so t (h .0) r

@@ -1,0 +1,76 @@
+-- The manifest's bytes that are still left in a file, and what a span made from them says.
+use Prim.Native.Nat.{ℕ, _+_, _-_, _≤_}
+use native.Mathlib.Omega.{arith}
+use mathlib.Core.List.{List, [], _∷_, _++_, append-assoc}
+use mathlib.Core.Path.{_≡_, refl, ap, sym, _∙_}
+use lib.ListN.{length, take, drop, length-append}
+use lib.Seq.{take-at, drop-at}
+use Rattle.meaning.specs.Read.{Span, spanTo}
+use Rattle.meaning.specs.Model.{Word}
+use Rattle.meaning.specs.Rows.{wordSpan}
+use Rattle.shown.specs.Accepted.{InManifest, WordStands}
+
+-- s goes on with r
+pub record Later (s r : List ℕ) : Type 0 where
+  pub eaten : List ℕ
+  pub split : s ≡ eaten ++ r
+
+pub at-once : (s : List ℕ) → Later s s
+at-once s = record { eaten = []; split = refl }
+
+pub later-on : {o s r : List ℕ} → Later o s → Later s r → Later o r
+later-on {o} {s} {r} l k = record {
+  eaten = l .eaten ++ k .eaten;
+  split = l .split ∙ ap (λ (z : List ℕ). l .eaten ++ z) (k .split) ∙ sym (append-assoc (l .eaten) (k .eaten) r);
+}
+
+pub later-length : {o s : List ℕ} (l : Later o s) → length o ≡ length (l .eaten) + length s
+later-length {o} {s} l = ap length (l .split) ∙ length-append (l .eaten) s
+
+-- a file whose manifest begins at `start` and ends at `end`, before the bytes `back`
+module _ (file back : List ℕ) (start end : ℕ) where
+  -- the bytes s are left of the manifest
+  pub record Left (s : List ℕ) : Type 0 where
+    pub front : List ℕ
+    pub is : file ≡ front ++ (s ++ back)
+    pub from : start ≤ length front
+
+  pub left-later : {s r : List ℕ} → Left s → Later s r → Left r
+  left-later {s} {r} l k = record {
+    front = l .front ++ k .eaten;
+    is = l .is
+        ∙ ap (λ (z : List ℕ). l .front ++ (z ++ back)) (k .split)
+        ∙ ap (λ (z : List ℕ). l .front ++ z) (append-assoc (k .eaten) r back)
+        ∙ sym (append-assoc (l .front) (k .eaten) (r ++ back));
+    from = let a : length (l .front ++ k .eaten) ≡ length (l .front) + length (k .eaten) = length-append (l .front) (k .eaten) in omega (arith, a, l .from);
+  }
+
+  left-length : {s : List ℕ} (l : Left s) → length file ≡ length (l .front) + (length s + length back)
+  left-length {s} l = ap length (l .is) ∙ length-append (l .front) (s ++ back) ∙ ap (λ (n : ℕ). length (l .front) + n) (length-append s back)
+
+  module _ (whole : end + length back ≡ length file) (sixteen : 16 ≤ length back) where
+    pub span-lies : {o r : List ℕ} → Left o → Later o r → InManifest file start (spanTo end o r)
+    unfolding spanTo
+    span-lies {o} {r} l k =
+        let a = left-length l in let b = later-length k in let c = l .from in
+        record { begins = omega (arith, a, b, c, whole, sixteen); ends = omega (arith, a, b, c, whole, sixteen) }
+
+    -- a text that ends where its letters do
+    pub word-stands : {o s : List ℕ} (bs r : List ℕ) → Left o → Later o s → s ≡ bs ++ r → WordStands file start (record { note = spanTo end o r; letters = bs })
+    unfolding spanTo wordSpan
+    word-stands {o} {s} bs r l k e =
+        let m = left-later l k in
+        let a = left-length m in let b = later-length k in let c = m .from in
+        let d : length s ≡ length bs + length r = ap length e ∙ length-append bs r in
+        let f = left-length l in
+        let place : ℕ = end - length o + (length o - length r) - length bs in
+        let at : length (m .front) ≡ place = omega (arith, a, b, d, f, whole) in
+        let there : file ≡ m .front ++ (bs ++ (r ++ back)) =
+        m .is ∙ ap (λ (z : List ℕ). m .front ++ (z ++ back)) e ∙ ap (λ (z : List ℕ). m .front ++ z) (append-assoc bs r back) in
+        record {
+          lies = record { begins = omega (arith, at, c); ends = omega (arith, a, d, at, whole, sixteen) };
+          spelled =
+              ap (λ (z : List ℕ). take (length bs) (drop place z)) there
+              ∙ ap (take (length bs)) (drop-at (m .front) (bs ++ (r ++ back)) place at)
+              ∙ take-at bs (r ++ back) (length bs) refl;
+        }

@@ -1,0 +1,59 @@
+-- What holds of an accepted file: its texts and attributes stand in the manifest where their rows say, and its blobs lie between header and manifest.
+use Prim.Native.Nat.{ℕ, _+_, _%_, _≤_, _<_}
+use mathlib.Core.List.{List}
+use mathlib.Core.Option.{Option, none, some}
+use mathlib.Core.Path.{_≡_}
+use lib.ListN.{length, take, drop}
+use Rattle.meaning.specs.Tree.{Node, noteOf}
+use Rattle.meaning.specs.Read.{Span}
+use Rattle.meaning.specs.Model.{Word, Component, Object}
+use Rattle.meaning.specs.Frame.{Reading}
+use Rattle.meaning.specs.Rows.{wordSpan}
+use Rattle.panel.specs.Stands.{Each}
+
+-- of what may be absent
+abbrev pub IfAny : {A : Type 0} → (A → Type 0) → Option A → Type 0
+IfAny Q none = Unit {0}
+IfAny Q (some a) = Q a
+
+-- a blob begins at a multiple of 64, after the header, and ends before a manifest that begins at `start`
+pub record BlobLies (start : ℕ) (c : Component Span) : Type 0 where
+  pub aligned : c .offset % 64 ≡ 0
+  pub past-header : 64 ≤ c .offset
+  pub before-manifest : c .offset + c .length ≤ start
+
+-- the manifest ends 16 bytes before the end of the file
+module _ (file : List ℕ) (start : ℕ) where
+  pub record InManifest (s : Span) : Type 0 where
+    pub begins : start ≤ s .place
+    pub ends : s .place + s .size + 16 ≤ length file
+
+  -- the text's letters are the file's bytes at the place and of the length that its row gives
+  pub record WordStands (w : Word Span) : Type 0 where
+    pub lies : InManifest (wordSpan w)
+    pub spelled : take (wordSpan w .size) (drop (wordSpan w .place) file) ≡ w .letters
+
+  -- the whole item lies there
+  pub record NodeStands (t : Node Span) : Type 0 where
+    pub lies : InManifest (noteOf t)
+
+  pub record ComponentAccepted (c : Component Span) : Type 0 where
+    pub name : WordStands (c .name)
+    pub storage : c .dtype < 13
+    pub type : IfAny WordStands (c .type)
+    pub digest : IfAny WordStands (c .digest)
+    pub blob : BlobLies start c
+
+  pub record ObjectAccepted (o : Object Span) : Type 0 where
+    pub name : WordStands (o .name)
+    pub rank : length (o .shape) ≤ 8
+    pub format : WordStands (o .format)
+    pub attributes : IfAny NodeStands (o .attributes)
+    pub components : Each ComponentAccepted (o .components)
+
+pub record Accepted (file : List ℕ) (r : Reading) : Type 0 where
+  pub header : 8 ≤ r .start
+  -- a manifest of a byte at least, its size and the footer
+  pub footer : r .start + 1 + 16 ≤ length file
+  pub attributes : IfAny (NodeStands file (r .start)) (r .model .attributes)
+  pub objects : Each (ObjectAccepted file (r .start)) (r .model .objects)

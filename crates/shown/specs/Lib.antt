@@ -1,0 +1,4 @@
+-- What is promised of an accepted file.
+pub mod Accepted
+pub mod Placed
+pub mod Shown
