@@ -1,95 +1,23 @@
 -- Of a file that is accepted: its texts stand where their rows say, its blobs lie between header and manifest. Of one that is refused: the number is one of 1 to 23.
-use Prim.Native.Nat.{ℕ, zero, suc, _+_, _-_, _≤_, _<_}
+use Prim.Native.Nat.{ℕ, zero, suc, _+_, _≤_, _<_}
 use native.Mathlib.Omega.{arith}
 use mathlib.Core.List.{List, [], _∷_, _++_}
-use mathlib.Core.Bool.{_&&_}
-use mathlib.Core.Option.{some}
-use mathlib.Core.Path.{_≡_, refl, ap, sym, _∙_, subst}
-use lib.ListN.{length, take, drop, getElem?, take-append-drop, length-drop}
-use lib.Seq.{length-take-le, drop-drop}
-use lib.Dec.{leb}
-use borrow.Author.Tests.{leb-true}
-use Rattle.types.proofs.Tagged.{both-left, both-right}
-use Rattle.meaning.specs.Check.{Check, pass, refuse, _>>=_, _>>_, _unless_}
-use Rattle.meaning.specs.Text.{same}
-use Rattle.meaning.specs.Refusal.{SHORT, HEADER, FOOTER, BIG, FIT, LENGTH, ROOM}
-use Rattle.meaning.specs.Limit.{manifestLimit}
+use mathlib.Core.Option.{Option, none, some}
+use mathlib.Core.Path.{_≡_, refl, subst}
+use lib.ListN.{length, getElem?}
+use Rattle.meaning.specs.Check.{Check, pass, refuse}
+use Rattle.meaning.specs.Refusal.{SHORT, LENGTH, ROOM}
 use Rattle.meaning.specs.Tree.{Node}
-use Rattle.meaning.specs.Read.{Span, spanTo, Outcome, got, refused, manifest}
+use Rattle.meaning.specs.Read.{Span}
 use Rattle.meaning.specs.Model.{Word, Component, Object}
-use Rattle.meaning.specs.Judge.{judge}
-use Rattle.meaning.specs.Frame.{magic, little, Frame, frame, checked, Reading, reading}
+use Rattle.meaning.specs.Frame.{Reading, reading}
+use Rattle.meaning.specs.Rows.{optionalSpan, attributesSpan}
 use Rattle.reader.specs.Verdict.{verdict}
 use Rattle.view.specs.All.{allComponents}
 use Rattle.panel.specs.Stands.{Each, Stands, ComponentStands, ObjectStands}
-use Rattle.shown.specs.Accepted.{WordStands, BlobLies, ComponentAccepted, ObjectAccepted, Accepted}
-use Rattle.shown.specs.Placed.{Placed}
-use Rattle.shown.proofs.Judged.{numbered, Judged, passes, passed-so, refused-so, bind, tested}
-use Rattle.shown.proofs.Spans.{Left}
-use Rattle.shown.proofs.ReadPlaced.{So, manifest-placed}
-use Rattle.shown.proofs.Judgement.{judge-so}
-
--- ---------------------------------------------------------------- frame, CBOR, judgement
-
-record Framed (file : List ℕ) (f : Frame) : Type 0 where
-  header : 8 ≤ f .start
-  some-bytes : 1 ≤ f .size
-  ends : f .start + f .size + 16 ≡ length file
-
-frame-so : (file : List ℕ) → Judged (Framed file) (frame file)
-unfolding frame
-frame-so file =
-    let n : ℕ = length file in
-    let size : ℕ = little (take 8 (drop (n - 16) file)) in
-    tested SHORT (leb 24 n) _ tt λ long.
-    tested HEADER (same magic (take 8 file)) _ tt λ header.
-    tested FOOTER (same magic (drop (n - 8) file)) _ tt λ footer.
-    tested BIG (leb size manifestLimit) _ tt λ small.
-    tested FIT (leb 1 size && leb size (n - 24)) _ tt λ fits.
-    let a = leb-true 24 n long in
-    let b = leb-true 1 size (both-left (leb 1 size) (leb size (n - 24)) fits) in
-    let c = leb-true size (n - 24) (both-right (leb 1 size) (leb size (n - 24)) fits) in
-    passes _ (record { header = omega (arith, a, b, c); some-bytes = b; ends = omega (arith, a, b, c) })
-
-module _ (file : List ℕ) (f : Frame) (h : Framed file f) where
-  abbrev start : ℕ
-  start = f .start
-
-  abbrev end : ℕ
-  end = f .start + f .size
-
-  abbrev bytes : List ℕ
-  bytes = take (f .size) (drop start file)
-
-  back-is : length (drop end file) ≡ 16
-  back-is = length-drop end file ∙ (let e = h .ends in omega (arith, e))
-
-  all-left : Left file (drop end file) start end bytes
-  all-left = record {
-    front = take start file;
-    is = sym (take-append-drop start file)
-        ∙ ap (λ (z : List ℕ). take start file ++ z) (sym (take-append-drop (f .size) (drop start file)) ∙ ap (λ (z : List ℕ). bytes ++ z) (drop-drop (f .size) start file));
-    from = let e = h .ends in let a = length-take-le start file (omega (arith, e)) in omega (arith, a);
-  }
-
-  checked-so : {Q : Node Span → Type 0} (o : Outcome (Node Span)) → So (λ (t : Node Span) (r : List ℕ). Q t) o → Judged Q (checked o)
-  unfolding checked
-  checked-so (got t r) s = record { is = s .is }
-  checked-so (refused n r) s = record { is = s .is }
-
-  tree-so : Judged (Placed file start) (checked (manifest (spanTo end) bytes))
-  tree-so =
-      let e = h .ends in let b = back-is in
-      checked-so (manifest (spanTo end) bytes) (manifest-placed file (drop end file) start end (omega (arith, e, b)) (omega (arith, b)) bytes all-left)
-
-reading-so : (file : List ℕ) → Judged (Accepted file) (reading file)
-unfolding reading
-reading-so file =
-    bind (frame file) _ (frame-so file) λ f h.
-    bind (checked (manifest (spanTo (f .start + f .size)) (take (f .size) (drop (f .start) file)))) _ (tree-so file f h) λ t placed.
-    bind (judge (f .start) t) _ (judge-so file (f .start) t placed) λ m s.
-    let e = h .ends in let b = h .some-bytes in
-    passes _ (record { header = h .header; footer = omega (arith, e, b); attributes = s .attributes; objects = s .objects })
+use Rattle.shown.specs.Accepted.{IfAny, WordStands, AttributesStand, BlobLies, ComponentAccepted, ObjectAccepted, Accepted}
+use Rattle.shown.proofs.Judged.{numbered, passed-so, refused-so}
+use Rattle.shown.proofs.ReadingJudged.{reading-so}
 
 -- ---------------------------------------------------------------- a file that is refused
 
@@ -118,6 +46,19 @@ module _ (file : List ℕ) where
 module _ (file : List ℕ) (r : Reading) (accepts : reading file ≡ pass r) where
   pub accepted : Accepted file r
   accepted = passed-so (reading-so file) accepts
+
+-- ---- a place of 0 in its rows is given to what is absent and to nothing else
+
+module _ (file : List ℕ) (start : ℕ) (header : 8 ≤ start) where
+  pub zero-is-no-word : (o : Option (Word Span)) → IfAny (WordStands file start) o → optionalSpan o .place ≡ 0 → o ≡ none
+  unfolding optionalSpan
+  zero-is-no-word none h e = refl
+  zero-is-no-word (some w) h e = let a = h .lies .begins in absurd (omega (arith, a, e, header))
+
+  pub zero-is-no-map : (d : ℕ) (o : Option (Node Span)) → IfAny (AttributesStand file start d) o → attributesSpan o .place ≡ 0 → o ≡ none
+  unfolding attributesSpan
+  zero-is-no-map d none h e = refl
+  zero-is-no-map d (some t) h e = let a = h .stands .lies .begins in absurd (omega (arith, a, e, header))
 
 -- ---- its texts, as the listing asks for them
 

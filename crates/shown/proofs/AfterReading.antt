@@ -4,7 +4,7 @@ use native.Mathlib.Omega.{arith}
 use mathlib.Core.List.{List, [], _∷_}
 use mathlib.Core.Bool.{Bool, true, false}
 use mathlib.Core.Option.{some}
-use mathlib.Core.Path.{_≡_, refl, ap, sym, _∙_, subst}
+use mathlib.Core.Path.{_≡_, refl, ap, subst}
 use lib.ListN.{length, drop, getElem?}
 use lib.Dec.{leb}
 use borrow.Author.Tests.{le-ltb}
@@ -18,7 +18,6 @@ use Rattle.meaning.specs.View.{viewed, partAt, view}
 use Rattle.meaning.specs.Listing.{listing}
 use Rattle.view.specs.All.{allComponents}
 use Rattle.view.proofs.OfRows.{all-counted, viewed-of-rows, view-of-rows}
-use Rattle.panel.specs.Lines.{listed}
 use Rattle.panel.proofs.OfRows.{listed-of-rows}
 use Rattle.shown.specs.Shown.{viewedThen, viewThen, listedThen, Shown}
 use Rattle.shown.proofs.AcceptedFile.{refusals-of-reading, accepted-stands, accepted-blobs}

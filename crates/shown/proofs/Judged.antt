@@ -47,10 +47,6 @@ module _ {A : Type 0} where
   pub refused-so : {Q : A → Type 0} {k : Check A} {n o c : ℕ} → Judged Q k → k ≡ refuse n o c → Numbered n
   refused-so {Q} h e = subst (Judged Q) e h .is
 
-  pub judged-map : {Q R : A → Type 0} (k : Check A) → Judged Q k → ((a : A) → Q a → R a) → Judged R k
-  judged-map (pass a) h f = record { is = f a (h .is) }
-  judged-map (refuse n o c) h f = record { is = h .is }
-
   pub in-object : {Q : A → Type 0} (i : ℕ) (k : Check A) → Judged Q k → Judged Q (inObject i k)
   in-object i (pass a) h = record { is = h .is }
   in-object i (refuse n o c) h = record { is = h .is }

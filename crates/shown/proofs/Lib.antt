@@ -1,7 +1,9 @@
 -- Laws behind the theorems on accepted files, and those theorems.
 pub mod Judged
+pub mod FormatNumbered
 pub mod Spans
 pub mod ReadPlaced
 pub mod Judgement
+pub mod ReadingJudged
 pub mod AcceptedFile
 pub mod AfterReading

@@ -2,20 +2,19 @@
 use Prim.Native.Nat.{ℕ, zero, suc, _+_, _-_, _*_, _/_, _≤_}
 use mathlib.Core.List.{List, [], _∷_, _++_}
 use mathlib.Core.Bool.{Bool, true, false, cond}
-use mathlib.Core.Path.{_≡_, refl, ap, sym, _∙_}
-use lib.ListN.{length, take, drop, getD, take-append-drop}
+use mathlib.Core.Path.{_≡_, refl, sym}
+use lib.ListN.{length, getD, take-append-drop}
 use lib.Dec.{eqb, leb, ltb}
 use Rattle.meaning.specs.Refusal.{CBOR, DEEP}
 use Rattle.meaning.specs.Limit.{depthLimit}
-use Rattle.meaning.specs.Tree.{Node, uint, nint, bytes, text, chunkedBytes, chunkedText, array, dict, tag, simple, float, Pair, nodes, pairs}
+use Rattle.meaning.specs.Tree.{Node, uint, nint, bytes, text, tag, simple, float, Pair, noteOf, nodes, pairs}
 use Rattle.meaning.specs.Read.{Outcome, got, refused, Reader, after, _>>=_, pure, malformed, here, byte, run, number, stop, times, untilBreak, toBreak}
 use Rattle.meaning.specs.Read.{Argument, known, indefinite, wide, longArguments, argument, majorOf, infoOf, definite, chunk, closed, close, pair, content, beyond, item, manifest, Span, spanTo}
 use Rattle.meaning.specs.Read.{Major, unsigned, negative, byteString, textString, arrayOf, mapOf, tagged, special}
 use Rattle.panel.specs.Stands.{Each}
-use Rattle.shown.specs.Accepted.{InManifest}
-use Rattle.shown.specs.Placed.{Placed, PlacedNodes, PlacedPairs, PlacedPair}
+use Rattle.shown.specs.Placed.{Placed, Within, PlacedNodes, PlacedPairs, PlacedPair}
 use Rattle.shown.proofs.Judged.{Numbered, Any}
-use Rattle.shown.proofs.Spans.{Later, at-once, later-on, Left, left-later, span-lies, word-stands}
+use Rattle.shown.proofs.Spans.{Later, at-once, later-on, Left, left-later, word-stands, node-stands}
 
 -- what is got is so, and a refusal's number is one of 1 to 23
 module _ {A : Type 0} where
@@ -26,9 +25,9 @@ module _ {A : Type 0} where
   pub record So (Q : A → List ℕ → Type 0) (o : Outcome A) : Type 0 where
     pub is : Cases Q o
 
-  so-map : {Q R : A → List ℕ → Type 0} (o : Outcome A) → So Q o → ((a : A) (r : List ℕ) → Q a r → R a r) → So R o
-  so-map (got a r) h f = record { is = f a r (h .is) }
-  so-map (refused n r) h f = record { is = h .is }
+  so-with : {Q R : A → List ℕ → Type 0} (o : Outcome A) → So Q o → ((a : A) (r : List ℕ) → o ≡ got a r → Q a r → R a r) → So R o
+  so-with (got a r) h f = record { is = f a r refl (h .is) }
+  so-with (refused n r) h f = record { is = h .is }
 
   ended : {Q : A → List ℕ → Type 0} (r : List ℕ) → So Q (refused CBOR r)
   ended r = record { is = tt }
@@ -70,7 +69,7 @@ module _ (file back : List ℕ) (start end : ℕ) where
     bind-keeps : (m : Reader A) (k : A → Reader B) → Keeps Q m → ((a : A) → Q a → Keeps R (k a)) → Keeps R (m >>= k)
     bind-keeps m k hm hk s l =
         so-after (m s) k (hm s l) λ a r h.
-        so-map (k a r) (hk a (h .0) r (left-later file back start end l (h .1))) λ b q g. (g .0, later-on (h .1) (g .1))
+        so-with (k a r) (hk a (h .0) r (left-later file back start end l (h .1))) λ b q e g. (g .0, later-on (h .1) (g .1))
 
   byte-keeps : Keeps Any byte
   unfolding byte
@@ -83,7 +82,7 @@ module _ (file back : List ℕ) (start end : ℕ) where
   run-gets n s = so-cond (leb n (length s)) _ _ (record { is = sym (take-append-drop n s) }) (ended [])
 
   run-keeps : (n : ℕ) → Keeps Any (run n)
-  run-keeps n s l = so-map (run n s) (run-gets n s) λ bs r e. (tt, record { eaten = bs; split = e })
+  run-keeps n s l = so-with (run n s) (run-gets n s) λ bs r g e. (tt, record { eaten = bs; split = e })
 
   number-keeps : (k acc : ℕ) → Keeps Any (number k acc)
   unfolding number
@@ -137,90 +136,96 @@ module _ (file back : List ℕ) (start end : ℕ) where
 
   -- ---- the nodes
 
-  nodes-placed : (xs : List (Node Span)) → Each (Placed file start) xs → PlacedNodes file start (nodes xs)
+  nodes-placed : (d : ℕ) (xs : List (Node Span)) → Each (Placed file start d) xs → PlacedNodes file start d (nodes xs)
   unfolding Each
-  nodes-placed [] h = tt
-  nodes-placed (x ∷ xs) h = (h .0, nodes-placed xs (h .1))
+  nodes-placed d [] h = tt
+  nodes-placed d (x ∷ xs) h = (h .0, nodes-placed d xs (h .1))
 
-  pairs-placed : (ps : List (Pair Span)) → Each (PlacedPair file start) ps → PlacedPairs file start (pairs ps)
+  pairs-placed : (d : ℕ) (ps : List (Pair Span)) → Each (PlacedPair file start d) ps → PlacedPairs file start d (pairs ps)
   unfolding Each
-  pairs-placed [] h = tt
-  pairs-placed (p ∷ ps) h = (h .0, pairs-placed ps (h .1))
+  pairs-placed d [] h = tt
+  pairs-placed d (p ∷ ps) h = (h .0, pairs-placed d ps (h .1))
 
   module _ (whole : end + length back ≡ length file) (sixteen : 16 ≤ length back) where
-    module _ (it : Reader (Node Span)) (hi : Keeps (Placed file start) it) where
-      pair-keeps : Keeps (PlacedPair file start) (pair (spanTo end) it)
+    -- an item that has parts where d levels are left
+    module _ (d : ℕ) (it : Reader (Node Span)) (hi : Keeps (Placed file start d) it) where
+      pair-keeps : Keeps (PlacedPair file start d) (pair (spanTo end) it)
       unfolding pair
       pair-keeps = bind-keeps it _ hi λ k q. bind-keeps it _ hi λ v p. pure-keeps (record { key = k; value = v }) (q, p)
 
-      -- an item that began at o
+      -- it began at o
       module _ (o : List ℕ) (l : Left file back start end o) where
         abbrev Ends : Outcome (Node Span) → Type 0
-        Ends = So (λ (t : Node Span) (r : List ℕ). Placed file start t × Later o r)
+        Ends = So (λ (t : Node Span) (r : List ℕ). Within file start (suc d) t × (noteOf t ≡ spanTo end o r) × Later o r)
 
-        ending : (make : Span → Node Span) → ((p : Span) → InManifest file start p → Placed file start (make p)) → (s : List ℕ) → Later o s → Ends (close (spanTo end) o make s)
+        ending : (make : Span → Node Span) → ((p : Span) → Within file start (suc d) (make p) × (noteOf (make p) ≡ p)) → (s : List ℕ) → Later o s → Ends (close (spanTo end) o make s)
         unfolding close
-        ending make placed s k = record { is = (placed (spanTo end o s) (span-lies file back start end whole sixteen l k), k) }
+        ending make within s k = let w = within (spanTo end o s) in record { is = (w .0, w .1, k) }
 
         -- a part of it is read, then it ends
         closing : {A : Type 0} {Q : A → Type 0} (m : Reader A) (make : A → Span → Node Span) → Keeps Q m
-            → ((a : A) (p : Span) → Q a → InManifest file start p → Placed file start (make a p))
+            → ((a : A) (p : Span) → Q a → Within file start (suc d) (make a p) × (noteOf (make a p) ≡ p))
             → (s : List ℕ) → Later o s → Ends ((m >>= λ a. close (spanTo end) o (make a)) s)
-        closing m make hm placed s k =
-            so-after (m s) _ (hm s (left-later file back start end l k)) λ a r h. ending (make a) (λ p i. placed a p (h .0) i) r (later-on k (h .1))
+        closing m make hm within s k =
+            so-after (m s) _ (hm s (left-later file back start end l k)) λ a r h. ending (make a) (λ p. within a p (h .0)) r (later-on k (h .1))
 
         spelling : (n : ℕ) (s : List ℕ) → Later o s → Ends ((run n >>= λ bs. close (spanTo end) o (λ p. text p bs)) s)
         unfolding close
         spelling n s k =
             so-after (run n s) _ (run-gets n s) λ bs r e.
-            let on = later-on k (record { eaten = bs; split = e }) in
-            record { is = ((span-lies file back start end whole sixteen l on, word-stands file back start end whole sixteen bs r l k e), on) }
+            record { is = (word-stands file back start end whole sixteen bs r l k e, refl, later-on k (record { eaten = bs; split = e })) }
 
-        simply : (b : Bool) (p : Span) (n w : ℕ) → InManifest file start p → Placed file start (cond b (simple p n) (float p w n))
-        simply true p n w i = i
-        simply false p n w i = i
+        simply : (b : Bool) (p : Span) (n w : ℕ) → Within file start (suc d) (cond b (simple p n) (float p w n)) × (noteOf (cond b (simple p n) (float p w n)) ≡ p)
+        simply true p n w = (tt, refl)
+        simply false p n w = (tt, refl)
 
         content-ends : (m : Major) (a : Argument) (s : List ℕ) → Later o s → Ends (content (spanTo end) it o m a s)
         unfolding content
-        content-ends unsigned (known w n) = ending (λ p. uint p n) λ p i. i
+        content-ends unsigned (known w n) = ending (λ p. uint p n) λ p. (tt, refl)
         content-ends unsigned indefinite = λ s k. ended o
-        content-ends negative (known w n) = ending (λ p. nint p n) λ p i. i
+        content-ends negative (known w n) = ending (λ p. nint p n) λ p. (tt, refl)
         content-ends negative indefinite = λ s k. ended o
-        content-ends byteString (known w n) = closing (run n) (λ bs p. bytes p bs) (run-keeps n) λ bs p q i. i
-        content-ends byteString indefinite = closing (toBreak (chunk 2)) _ (toBreak-keeps (chunk 2) (chunk-keeps 2)) λ cs p q i. i
+        content-ends byteString (known w n) = closing (run n) (λ bs p. bytes p bs) (run-keeps n) λ bs p q. (tt, refl)
+        content-ends byteString indefinite = closing (toBreak (chunk 2)) _ (toBreak-keeps (chunk 2) (chunk-keeps 2)) λ cs p q. (tt, refl)
         content-ends textString (known w n) = spelling n
-        content-ends textString indefinite = closing (toBreak (chunk 3)) _ (toBreak-keeps (chunk 3) (chunk-keeps 3)) λ cs p q i. i
-        content-ends arrayOf (known w n) = closing (times it n) _ (times-keeps it hi n) λ xs p q i. (i, nodes-placed xs q)
-        content-ends arrayOf indefinite = closing (toBreak it) _ (toBreak-keeps it hi) λ xs p q i. (i, nodes-placed xs q)
-        content-ends mapOf (known w n) = closing (times (pair (spanTo end) it) n) _ (times-keeps (pair (spanTo end) it) pair-keeps n) λ xs p q i. (i, pairs-placed xs q)
-        content-ends mapOf indefinite = closing (toBreak (pair (spanTo end) it)) _ (toBreak-keeps (pair (spanTo end) it) pair-keeps) λ xs p q i. (i, pairs-placed xs q)
-        content-ends tagged (known w n) = closing it (λ x p. tag p n x) hi λ x p q i. (i, q)
+        content-ends textString indefinite = closing (toBreak (chunk 3)) _ (toBreak-keeps (chunk 3) (chunk-keeps 3)) λ cs p q. (tt, refl)
+        content-ends arrayOf (known w n) = closing (times it n) _ (times-keeps it hi n) λ xs p q. (nodes-placed d xs q, refl)
+        content-ends arrayOf indefinite = closing (toBreak it) _ (toBreak-keeps it hi) λ xs p q. (nodes-placed d xs q, refl)
+        content-ends mapOf (known w n) = closing (times (pair (spanTo end) it) n) _ (times-keeps (pair (spanTo end) it) pair-keeps n) λ xs p q. (pairs-placed d xs q, refl)
+        content-ends mapOf indefinite = closing (toBreak (pair (spanTo end) it)) _ (toBreak-keeps (pair (spanTo end) it) pair-keeps) λ xs p q. (pairs-placed d xs q, refl)
+        content-ends tagged (known w n) = closing it (λ x p. tag p n x) hi λ x p q. (q, refl)
         content-ends tagged indefinite = λ s k. ended o
-        content-ends special (known w n) = ending (λ p. cond (leb w 1) (simple p n) (float p w n)) λ p i. simply (leb w 1) p n w i
+        content-ends special (known w n) = ending (λ p. cond (leb w 1) (simple p n) (float p w n)) λ p. simply (leb w 1) p n w
         content-ends special indefinite = λ s k. ended o
 
-    beyond-keeps : {A : Type 0} {Q : A → Type 0} → Keeps Q beyond
-    unfolding beyond
-    beyond-keeps [] l = ended []
-    beyond-keeps (b ∷ s) l = record { is = by (eqb b 255) }
+    none-left : {Q : Node Span → Type 0} → Keeps Q (item (spanTo end) zero)
+    unfolding item beyond
+    none-left [] l = ended []
+    none-left (b ∷ s) l = record { is = by (eqb b 255) }
       where
         by : (t : Bool) → Numbered (cond t CBOR DEEP)
         by true = tt
         by false = tt
 
-    item-keeps : (d : ℕ) → Keeps (Placed file start) (item (spanTo end) d)
+    item-ends : (d : ℕ) → Keeps (Placed file start d) (item (spanTo end) d) → (s : List ℕ) (l : Left file back start end s)
+        → So (λ (t : Node Span) (r : List ℕ). Within file start (suc d) t × (noteOf t ≡ spanTo end s r) × Later s r) (item (spanTo end) (suc d) s)
     unfolding item here
-    item-keeps zero s l = beyond-keeps s l
-    item-keeps (suc d) s l =
+    item-ends d hi s l =
         so-after (byte s) _ (byte-keeps s l) λ h r q.
         so-after (argument s (infoOf h) r) _ (argument-keeps s (infoOf h) r (left-later file back start end l (q .1))) λ a z p.
-        content-ends (item (spanTo end) d) (item-keeps d) s l (majorOf h) a z (later-on (q .1) (p .1))
+        content-ends d (item (spanTo end) d) hi s l (majorOf h) a z (later-on (q .1) (p .1))
 
-    closed-so : (t : Node Span) → Placed file start t → (s : List ℕ) → So (λ (t : Node Span) (r : List ℕ). Placed file start t) (closed t s)
+    item-keeps : (d : ℕ) → Keeps (Placed file start d) (item (spanTo end) d)
+    item-keeps zero s l = none-left s l
+    item-keeps (suc d) s l =
+        so-with (item (spanTo end) (suc d) s) (item-ends d (item-keeps d) s l) λ t r e h.
+        ((node-stands file back start end whole sixteen (suc d) t l (h .2) (h .1) e, h .0), h .2)
+
+    closed-so : {Q : Node Span → Type 0} (t : Node Span) → Q t → (s : List ℕ) → So (λ (t : Node Span) (r : List ℕ). Q t) (closed t s)
     unfolding closed
-    closed-so t p [] = record { is = p }
-    closed-so t p (b ∷ s) = ended (b ∷ s)
+    closed-so t q [] = record { is = q }
+    closed-so t q (b ∷ s) = ended (b ∷ s)
 
-    pub manifest-placed : (s : List ℕ) → Left file back start end s → So (λ (t : Node Span) (r : List ℕ). Placed file start t) (manifest (spanTo end) s)
+    pub manifest-placed : (s : List ℕ) → Left file back start end s → So (λ (t : Node Span) (r : List ℕ). Placed file start depthLimit t) (manifest (spanTo end) s)
     unfolding manifest
     manifest-placed s l = so-after (item (spanTo end) depthLimit s) _ (item-keeps depthLimit s l) λ t r h. closed-so t (h .0) r

@@ -1,14 +1,16 @@
 -- The manifest's bytes that are still left in a file, and what a span made from them says.
 use Prim.Native.Nat.{ℕ, _+_, _-_, _≤_}
 use native.Mathlib.Omega.{arith}
-use mathlib.Core.List.{List, [], _∷_, _++_, append-assoc}
-use mathlib.Core.Path.{_≡_, refl, ap, sym, _∙_}
+use mathlib.Core.List.{List, [], _++_, append-assoc, append-nil}
+use mathlib.Core.Path.{_≡_, refl, ap, ap₂, sym, _∙_, subst}
 use lib.ListN.{length, take, drop, length-append}
 use lib.Seq.{take-at, drop-at}
-use Rattle.meaning.specs.Read.{Span, spanTo}
-use Rattle.meaning.specs.Model.{Word}
+use Rattle.meaning.specs.Tree.{Node, noteOf, mapP, nothing, meaning}
+use Rattle.meaning.specs.Read.{Span, spanTo, noNote, got, item}
 use Rattle.meaning.specs.Rows.{wordSpan}
-use Rattle.shown.specs.Accepted.{InManifest, WordStands}
+use Rattle.meaning.proofs.ReadNatural.{mapOut, item-follows}
+use Rattle.meaning.proofs.ReadPrefix.{item-exact}
+use Rattle.shown.specs.Accepted.{InManifest, WordStands, NodeStands}
 
 -- s goes on with r
 pub record Later (s r : List ℕ) : Type 0 where
@@ -49,11 +51,26 @@ module _ (file back : List ℕ) (start end : ℕ) where
   left-length {s} l = ap length (l .is) ∙ length-append (l .front) (s ++ back) ∙ ap (λ (n : ℕ). length (l .front) + n) (length-append s back)
 
   module _ (whole : end + length back ≡ length file) (sixteen : 16 ≤ length back) where
-    pub span-lies : {o r : List ℕ} → Left o → Later o r → InManifest file start (spanTo end o r)
+    span-lies : {o r : List ℕ} → Left o → Later o r → InManifest file start (spanTo end o r)
     unfolding spanTo
     span-lies {o} {r} l k =
         let a = left-length l in let b = later-length k in let c = l .from in
         record { begins = omega (arith, a, b, c, whole, sixteen); ends = omega (arith, a, b, c, whole, sixteen) }
+
+    -- without its annotations
+    unnoted : (d : ℕ) (s : List ℕ) → item noNote d s ≡ mapOut (mapP nothing) (item (spanTo end) d s)
+    unfolding noNote
+    unnoted d s = item-follows nothing (spanTo end) d s
+
+    -- the bytes from s up to r are there
+    part-is : {s r : List ℕ} → Left s → (k : Later s r) → take (length s - length r) (drop (end - length s) file) ≡ k .eaten
+    part-is {s} {r} l k =
+        let a = left-length l in let b = later-length k in
+        let there : file ≡ l .front ++ (k .eaten ++ (r ++ back)) =
+        l .is ∙ ap (λ (z : List ℕ). l .front ++ (z ++ back)) (k .split) ∙ ap (λ (z : List ℕ). l .front ++ z) (append-assoc (k .eaten) r back) in
+        ap (λ (z : List ℕ). take (length s - length r) (drop (end - length s) z)) there
+        ∙ ap (take (length s - length r)) (drop-at (l .front) (k .eaten ++ (r ++ back)) (end - length s) (omega (arith, a, whole)))
+        ∙ take-at (k .eaten) (r ++ back) (length s - length r) (omega (arith, b))
 
     -- a text that ends where its letters do
     pub word-stands : {o s : List ℕ} (bs r : List ℕ) → Left o → Later o s → s ≡ bs ++ r → WordStands file start (record { note = spanTo end o r; letters = bs })
@@ -64,13 +81,23 @@ module _ (file back : List ℕ) (start end : ℕ) where
         let d : length s ≡ length bs + length r = ap length e ∙ length-append bs r in
         let f = left-length l in
         let place : ℕ = end - length o + (length o - length r) - length bs in
-        let at : length (m .front) ≡ place = omega (arith, a, b, d, f, whole) in
-        let there : file ≡ m .front ++ (bs ++ (r ++ back)) =
-        m .is ∙ ap (λ (z : List ℕ). m .front ++ (z ++ back)) e ∙ ap (λ (z : List ℕ). m .front ++ z) (append-assoc bs r back) in
+        let at : end - length s ≡ place = omega (arith, a, b, d, f, whole) in
+        let size : length s - length r ≡ length bs = omega (arith, d) in
         record {
-          lies = record { begins = omega (arith, at, c); ends = omega (arith, a, d, at, whole, sixteen) };
-          spelled =
-              ap (λ (z : List ℕ). take (length bs) (drop place z)) there
-              ∙ ap (take (length bs)) (drop-at (m .front) (bs ++ (r ++ back)) place at)
-              ∙ take-at bs (r ++ back) (length bs) refl;
+          lies = record { begins = omega (arith, at, a, c, whole); ends = omega (arith, a, d, at, whole, sixteen) };
+          spelled = ap₂ (λ (n k : ℕ). take n (drop k file)) (sym size) (sym at) ∙ part-is m (record { eaten = bs; split = e });
+        }
+
+    -- an item that was read at s, up to r
+    pub node-stands : (d : ℕ) {s r : List ℕ} (t : Node Span) → Left s → Later s r → noteOf t ≡ spanTo end s r → item (spanTo end) d s ≡ got t r → NodeStands file start d t
+    unfolding spanTo
+    node-stands d {s} {r} t l k noted e =
+        let bare : item noNote d s ≡ got (meaning t) r = unnoted d s ∙ ap (mapOut (mapP nothing)) e in
+        let took = item-exact d [] s (meaning t) r bare in
+        let there = part-is l (record { eaten = took .eaten; split = took .split }) in
+        record {
+          lies = subst (InManifest file start) (sym noted) (span-lies l k);
+          read = ap (λ (p : Span). item noNote d (take (p .size) (drop (p .place) file))) noted
+              ∙ ap (item noNote d) (there ∙ sym (append-nil (took .eaten)))
+              ∙ took .again [] [];
         }

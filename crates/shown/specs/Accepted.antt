@@ -1,11 +1,13 @@
 -- What holds of an accepted file: its texts and attributes stand in the manifest where their rows say, and its blobs lie between header and manifest.
 use Prim.Native.Nat.{ℕ, _+_, _%_, _≤_, _<_}
-use mathlib.Core.List.{List}
+use mathlib.Core.List.{List, []}
 use mathlib.Core.Option.{Option, none, some}
 use mathlib.Core.Path.{_≡_}
 use lib.ListN.{length, take, drop}
-use Rattle.meaning.specs.Tree.{Node, noteOf}
-use Rattle.meaning.specs.Read.{Span}
+use Rattle.meaning.specs.Tree.{Node, Pair, noteOf, meaning}
+use Rattle.meaning.specs.Check.{pass}
+use Rattle.meaning.specs.Read.{Span, got, item, noNote}
+use Rattle.meaning.specs.Kind.{aTable}
 use Rattle.meaning.specs.Model.{Word, Component, Object}
 use Rattle.meaning.specs.Frame.{Reading}
 use Rattle.meaning.specs.Rows.{wordSpan}
@@ -33,9 +35,16 @@ module _ (file : List ℕ) (start : ℕ) where
     pub lies : InManifest (wordSpan w)
     pub spelled : take (wordSpan w .size) (drop (wordSpan w .place) file) ≡ w .letters
 
-  -- the whole item lies there
-  pub record NodeStands (t : Node Span) : Type 0 where
+  -- the item's own bytes, read where d levels are left, are this node and nothing more
+  pub record NodeStands (d : ℕ) (t : Node Span) : Type 0 where
     pub lies : InManifest (noteOf t)
+    pub read : item noNote d (take (noteOf t .size) (drop (noteOf t .place) file)) ≡ got (meaning t) []
+
+  -- and it is a map
+  pub record AttributesStand (d : ℕ) (t : Node Span) : Type 0 where
+    pub stands : NodeStands d t
+    pub pairs : List (Pair Span)
+    pub map : aTable t ≡ pass pairs
 
   pub record ComponentAccepted (c : Component Span) : Type 0 where
     pub name : WordStands (c .name)
@@ -44,16 +53,18 @@ module _ (file : List ℕ) (start : ℕ) where
     pub digest : IfAny WordStands (c .digest)
     pub blob : BlobLies start c
 
+  -- its attributes are at depth 4: 29 levels are left there
   pub record ObjectAccepted (o : Object Span) : Type 0 where
     pub name : WordStands (o .name)
     pub rank : length (o .shape) ≤ 8
     pub format : WordStands (o .format)
-    pub attributes : IfAny NodeStands (o .attributes)
+    pub attributes : IfAny (AttributesStand 29) (o .attributes)
     pub components : Each ComponentAccepted (o .components)
 
+-- the root's attributes are at depth 2: 31 levels are left there
 pub record Accepted (file : List ℕ) (r : Reading) : Type 0 where
   pub header : 8 ≤ r .start
   -- a manifest of a byte at least, its size and the footer
   pub footer : r .start + 1 + 16 ≤ length file
-  pub attributes : IfAny (NodeStands file (r .start)) (r .model .attributes)
+  pub attributes : IfAny (AttributesStand file (r .start) 31) (r .model .attributes)
   pub objects : Each (ObjectAccepted file (r .start)) (r .model .objects)

@@ -1,0 +1,30 @@
+-- `listing::printed::print` meets its contract: a law for each branch. Assumes nothing.
+use mathlib.Core.Path.{refl}
+use Rattle.listing.proofs.Printing as printing
+use borrow.Author.Needs.{needs}
+use Rattle.listing.proofs.printed.print.Statement.{statement}
+use Rattle.listing.proofs.printed.print.Tie as tie
+use Rattle.listing.proofs.printed.print.Reads as reads
+use Rattle.listing.proofs.printed.print.Lts as lts
+use Rattle.panel.proofs.list.Reads as list-reads
+use Rattle.panel.proofs.refusal.Reads as refusal-reads
+use Rattle.panel.proofs.words.Reads as words-reads
+use Rattle.reader.proofs.into.read.Reads as read-reads
+
+pub print-spec : {M : Type 1} → statement M
+print-spec =
+    tie.close
+    (tie.spec
+    (λ c. search needs)
+    (λ c κs. search needs)
+    (λ c. search needs)
+    (λ c. printing.told-alike ((c .before .before .before .before .before .before .before .before .args .text .now)) (printing.printed-too-long ((c .before .before .before .before .before .before .before .before .args .file .now)) ((c .before .before .before .before .before .if1 .taken))) ((c .before .before .words .ensures)))
+    (λ c. search needs)
+    (λ c κs. search needs)
+    (λ c. search needs)
+    (λ c κs. search needs)
+    (λ c. search needs)
+    (λ c. printing.told-alike ((c .before .before .before .before .before .before .before .before .before .before .before .before .before .args .text .now)) (printing.printed-listed ((c .before .before .before .before .before .before .before .before .before .before .before .before .before .args .file .now)) ((c .before .before .before .before .before .before .before .before .before .before .if1 .left)) _ _ (search needs) _ ((c .before .before .before .before .before .before .before .before .read .ensures)) ((c .before .before .before .before .before .if2 .taken))) ((c .before .before .list .ensures)))
+    (λ c κs. search needs)
+    (λ c. search needs)
+    (λ c. printing.told-alike ((c .before .before .before .before .before .before .before .before .before .before .before .before .args .text .now)) (printing.printed-refused ((c .before .before .before .before .before .before .before .before .before .before .before .before .args .file .now)) ((c .before .before .before .before .before .before .before .before .before .if1 .left)) _ _ (search needs) _ ((c .before .before .before .before .before .before .before .read .ensures)) ((c .before .before .before .before .if2 .left))) ((c .before .before .refusal .ensures))))

@@ -1,0 +1,84 @@
+-- A file's reading, from its frame to the judgement: what it accepts is an accepted file, and it refuses with 1 to 23.
+use Prim.Native.Nat.{ℕ, _+_, _-_, _≤_}
+use native.Mathlib.Omega.{arith}
+use mathlib.Core.List.{List, _++_}
+use mathlib.Core.Bool.{_&&_}
+use mathlib.Core.Path.{_≡_, ap, sym, _∙_}
+use lib.ListN.{length, take, drop, take-append-drop, length-drop}
+use lib.Seq.{length-take-le, drop-drop}
+use lib.Dec.{leb}
+use borrow.Author.Tests.{leb-true}
+use Rattle.types.proofs.Tagged.{both-left, both-right}
+use Rattle.meaning.specs.Text.{same}
+use Rattle.meaning.specs.Refusal.{SHORT, HEADER, FOOTER, BIG, FIT}
+use Rattle.meaning.specs.Limit.{manifestLimit, depthLimit}
+use Rattle.meaning.specs.Tree.{Node}
+use Rattle.meaning.specs.Read.{Span, spanTo, Outcome, got, refused, manifest}
+use Rattle.meaning.specs.Judge.{judge}
+use Rattle.meaning.specs.Frame.{magic, little, Frame, frame, checked, reading}
+use Rattle.shown.specs.Accepted.{Accepted}
+use Rattle.shown.specs.Placed.{Placed}
+use Rattle.shown.proofs.Judged.{Judged, passes, bind, tested}
+use Rattle.shown.proofs.Spans.{Left}
+use Rattle.shown.proofs.ReadPlaced.{So, manifest-placed}
+use Rattle.shown.proofs.Judgement.{judge-so}
+
+record Framed (file : List ℕ) (f : Frame) : Type 0 where
+  header : 8 ≤ f .start
+  some-bytes : 1 ≤ f .size
+  ends : f .start + f .size + 16 ≡ length file
+
+frame-so : (file : List ℕ) → Judged (Framed file) (frame file)
+unfolding frame
+frame-so file =
+    let n : ℕ = length file in
+    let size : ℕ = little (take 8 (drop (n - 16) file)) in
+    tested SHORT (leb 24 n) _ tt λ long.
+    tested HEADER (same magic (take 8 file)) _ tt λ header.
+    tested FOOTER (same magic (drop (n - 8) file)) _ tt λ footer.
+    tested BIG (leb size manifestLimit) _ tt λ small.
+    tested FIT (leb 1 size && leb size (n - 24)) _ tt λ fits.
+    let a = leb-true 24 n long in
+    let b = leb-true 1 size (both-left (leb 1 size) (leb size (n - 24)) fits) in
+    let c = leb-true size (n - 24) (both-right (leb 1 size) (leb size (n - 24)) fits) in
+    passes _ (record { header = omega (arith, a, b, c); some-bytes = b; ends = omega (arith, a, b, c) })
+
+module _ (file : List ℕ) (f : Frame) (h : Framed file f) where
+  abbrev start : ℕ
+  start = f .start
+
+  abbrev end : ℕ
+  end = f .start + f .size
+
+  abbrev bytes : List ℕ
+  bytes = take (f .size) (drop start file)
+
+  back-is : length (drop end file) ≡ 16
+  back-is = length-drop end file ∙ (let e = h .ends in omega (arith, e))
+
+  all-left : Left file (drop end file) start end bytes
+  all-left = record {
+    front = take start file;
+    is = sym (take-append-drop start file)
+        ∙ ap (λ (z : List ℕ). take start file ++ z) (sym (take-append-drop (f .size) (drop start file)) ∙ ap (λ (z : List ℕ). bytes ++ z) (drop-drop (f .size) start file));
+    from = let e = h .ends in let a = length-take-le start file (omega (arith, e)) in omega (arith, a);
+  }
+
+  checked-so : {Q : Node Span → Type 0} (o : Outcome (Node Span)) → So (λ (t : Node Span) (r : List ℕ). Q t) o → Judged Q (checked o)
+  unfolding checked
+  checked-so (got t r) s = record { is = s .is }
+  checked-so (refused n r) s = record { is = s .is }
+
+  tree-so : Judged (Placed file start depthLimit) (checked (manifest (spanTo end) bytes))
+  tree-so =
+      let e = h .ends in let b = back-is in
+      checked-so (manifest (spanTo end) bytes) (manifest-placed file (drop end file) start end (omega (arith, e, b)) (omega (arith, b)) bytes all-left)
+
+pub reading-so : (file : List ℕ) → Judged (Accepted file) (reading file)
+unfolding reading
+reading-so file =
+    bind (frame file) _ (frame-so file) λ f h.
+    bind (checked (manifest (spanTo (f .start + f .size)) (take (f .size) (drop (f .start) file)))) _ (tree-so file f h) λ t placed.
+    bind (judge (f .start) t) _ (judge-so file (f .start) t placed) λ m s.
+    let e = h .ends in let b = h .some-bytes in
+    passes _ (record { header = h .header; footer = omega (arith, e, b); attributes = s .attributes; objects = s .objects })
