@@ -1,27 +1,35 @@
-//! Tables for the prover: generated files and items with this program's answers, in antt's words, so that the definitions are computed on the same bytes.
+//! Tables for the prover: generated files, items and writer's rows with this program's answers, in antt's words, so that the definitions are computed on the same bytes.
 
 use crate::cbor;
-use crate::generate::Generator;
+use crate::generate::{Generator, RowSet};
 use crate::listing;
 use crate::probes;
+use crate::row_probes;
 use crate::rows::{self, COMPONENT_ROW, OBJECT_ROW};
 use crate::view;
+use crate::writer;
 use std::collections::BTreeMap;
 
-/// Larger files and items are passed over: antt computes on lists.
+/// Larger files, items and row sets are passed over: antt computes on lists.
 const SIZE_LIMIT: usize = 1_000;
 /// What every number of the lent table holds before a reading.
 const BEFORE: u64 = 7;
 /// A lent table of this many numbers is ample for every file within the size limit.
 const AMPLE: usize = 400;
+/// An output of this many bytes is ample for every row set within the size limit.
+const AMPLE_OUTPUT: usize = 1_000_000;
+/// What every byte of the lent output holds before a writing.
+const BYTE_BEFORE: u8 = 7;
 
-/// `each` files for every answer of the reader, and as many items for every answer of the CBOR reading, as an antt module.
+/// `each` files for every answer of the reader, as many items for every answer of the CBOR reading, and as many row sets for every answer of the writer but BIG and its own
+/// COUNT, as an antt module.
 pub fn module(seed: u64, each: usize) -> String {
     let mut generator = Generator::new(seed);
     let mut files = of_every_answer(
         each,
         24,
         || generator.next_file(),
+        |file| file.len(),
         |file| rows::read(file, &mut [BEFORE; AMPLE]).number,
     );
     files.extend(probes::files());
@@ -29,9 +37,18 @@ pub fn module(seed: u64, each: usize) -> String {
         each,
         3,
         || generator.next_item(),
+        |item| item.len(),
         |item| cbor::decode(item).map_or_else(|fault| fault.number, |_| 0),
     );
     let program_files = probes::program_files();
+    let mut row_sets = of_every_answer(
+        each,
+        10,
+        || generator.next_rows(),
+        set_size,
+        |set| written(set, &mut vec![BYTE_BEFORE; AMPLE_OUTPUT]).number,
+    );
+    row_sets.extend(row_probes::row_sets());
     [
         HEADER.to_string(),
         table("files", "FileCase", files.iter().enumerate().map(file_case)),
@@ -45,27 +62,53 @@ pub fn module(seed: u64, each: usize) -> String {
             "ProgramCase",
             program_files.iter().map(|file| program_case(file)),
         ),
+        table(
+            "rowSets",
+            "RowCase",
+            row_sets.iter().enumerate().map(row_case),
+        ),
+        table(
+            "placements",
+            "PlacementCase",
+            PLACED.iter().map(|lengths| placement_case(lengths)),
+        ),
     ]
     .join("\n")
 }
 
-const HEADER: &str = "-- Made by `second table`: files and items with the second program's answers.
+const HEADER: &str =
+    "-- Made by `second table`: files, items and row sets with the second program's answers.
 use mathlib.Core.List.{List, [], _∷_, _++_}
+use mathlib.Core.Bool.{true, false}
 use lib.ListN.{replicate}
-use Rattle.agreement.specs.Case.{FileCase, ItemCase, ProgramCase}
+use Rattle.agreement.specs.Case.{FileCase, ItemCase, ProgramCase, RowCase, PlacementCase}
 ";
 
+/// Lengths of blobs: none, empty ones, around a multiple of 64, and a last end at 2^40 and one past it.
+const PLACED: [&[u64]; 9] = [
+    &[],
+    &[0],
+    &[0, 0, 1, 0],
+    &[63, 64, 65, 127, 128, 129],
+    &[(1 << 40) - 64],
+    &[(1 << 40) - 63],
+    &[1, (1 << 40) - 128],
+    &[1, (1 << 40) - 127],
+    &[u64::MAX, u64::MAX],
+];
+
 /// Up to `each` of the things made for every answer; it stops when that many answers have theirs.
-fn of_every_answer(
+fn of_every_answer<T>(
     each: usize,
     answers: usize,
-    mut make: impl FnMut() -> Vec<u8>,
-    answer: impl Fn(&[u8]) -> u8,
-) -> Vec<Vec<u8>> {
-    let mut kept: BTreeMap<u8, Vec<Vec<u8>>> = BTreeMap::new();
+    mut make: impl FnMut() -> T,
+    size: impl Fn(&T) -> usize,
+    answer: impl Fn(&T) -> u8,
+) -> Vec<T> {
+    let mut kept: BTreeMap<u8, Vec<T>> = BTreeMap::new();
     while kept.len() < answers || kept.values().any(|made| made.len() < each) {
         let made = make();
-        if made.len() > SIZE_LIMIT {
+        if size(&made) > SIZE_LIMIT {
             continue;
         }
         let alike = kept.entry(answer(&made)).or_default();
@@ -121,6 +164,57 @@ fn program_case(file: &[u8]) -> String {
         "record {{ file = {}; text = {} }}",
         bytes(file),
         bytes(&listing::program_text(file))
+    )
+}
+
+fn written(set: &RowSet, output: &mut [u8]) -> writer::Written {
+    writer::write(
+        &set.rows,
+        set.objects,
+        set.components,
+        set.attributes_place,
+        set.attributes_length,
+        &set.buffer,
+        output,
+    )
+}
+
+/// What is asked with, or the file, whichever is longer.
+fn set_size(set: &RowSet) -> usize {
+    let asked = set.rows.len() + set.buffer.len();
+    if asked > SIZE_LIMIT {
+        return asked;
+    }
+    asked.max(written(set, &mut vec![BYTE_BEFORE; AMPLE_OUTPUT]).length as usize)
+}
+
+/// Rows written into an output that is ample, exact, or one byte short.
+fn row_case((index, set): (usize, &RowSet)) -> String {
+    let exact = written(set, &mut vec![BYTE_BEFORE; AMPLE_OUTPUT]).length as usize;
+    let room = [exact + 9, exact, exact.saturating_sub(1)][index % 3];
+    let mut output = vec![BYTE_BEFORE; room];
+    let answer = written(set, &mut output);
+    format!(
+        "record {{ rows = {}; objects = {}; components = {}; place = {}; size = {}; buffer = {}; room = {room}; answer = {}; output = {} }}",
+        list(&set.rows),
+        set.objects,
+        set.components,
+        set.attributes_place,
+        set.attributes_length,
+        bytes(&set.buffer),
+        list(&[u64::from(answer.number), answer.object, answer.component, answer.length]),
+        bytes(&output),
+    )
+}
+
+/// Offsets for blobs of these lengths; none if the last would end above the limit.
+fn placement_case(lengths: &[u64]) -> String {
+    let offsets = writer::offsets(lengths.iter().copied());
+    let fits = if offsets.is_some() { "true" } else { "false" };
+    format!(
+        "record {{ lengths = {}; fits = {fits}; offsets = {} }}",
+        list(lengths),
+        list(&offsets.unwrap_or_default()),
     )
 }
 

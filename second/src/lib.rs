@@ -15,6 +15,7 @@ pub mod judge;
 pub mod listing;
 pub mod probes;
 pub mod refusal;
+pub mod row_probes;
 pub mod rows;
 pub mod sweep;
 pub mod types;

@@ -64,7 +64,8 @@ fn try_write(
         rows::split(rows, objects, components).ok_or(Refusal::whole(ROW))?;
     let source =
         Source::checked(&objects, &components, attributes, buffer).ok_or(Refusal::whole(ROW))?;
-    let offsets = offsets(&source.components).ok_or(Refusal::whole(COUNT))?;
+    let lengths = source.components.iter().map(|c| c.blob.len() as u64);
+    let offsets = offsets(lengths).ok_or(Refusal::whole(COUNT))?;
     let mut size = Size(0);
     source.manifest(&offsets, &mut size);
     if size.0 > u128::from(SIZE_LIMIT) {
@@ -90,12 +91,12 @@ fn try_write(
 
 /// The offset of each blob: the least multiple of 64 not below the place reached. Nothing if the
 /// last one ends above the limit; ends only grow, so it is enough to stop at the first that does.
-fn offsets(components: &[ComponentSource]) -> Option<Vec<u64>> {
+pub fn offsets(lengths: impl Iterator<Item = u64>) -> Option<Vec<u64>> {
     let mut reached: u128 = 8;
-    let mut offsets = Vec::with_capacity(components.len());
-    for component in components {
+    let mut offsets = Vec::new();
+    for length in lengths {
         let offset = reached.next_multiple_of(64);
-        reached = offset + component.blob.len() as u128;
+        reached = offset + u128::from(length);
         if reached > END_LIMIT {
             return None;
         }

@@ -1,4 +1,5 @@
--- The table of the cases marked P: for each file its length, the reader's answer, the rows it writes and the text that the small program prints.
+-- The table of the cases marked P: for each file its length, the reader's answer, the rows it writes and the text that the small program prints; and the rows of
+-- those that the writer writes.
 use Prim.Native.Nat.{ℕ, _+_, _-_}
 use Prim.Native.String.{String}
 use mathlib.Core.List.{List, [], _∷_, _++_}
@@ -6,9 +7,12 @@ use mathlib.Core.Bool.{Bool, _&&_}
 use lib.ListN.{length, replicate}
 use lib.Dec.{eqb}
 use Rattle.meaning.specs.Text.{ascii, same}
-use Rattle.meaning.specs.Refusal.{FIT, LENGTH, BOUNDS, ALIGN, MAJOR, VERSION, TWICE}
+use Rattle.meaning.specs.Refusal.{FIT, LENGTH, BOUNDS, ALIGN, MAJOR, VERSION, TWICE, ROOM}
 use Rattle.meaning.specs.Rows.{Answer, answer, tableAfter, readInto}
 use Rattle.meaning.specs.Listing.{printed}
+use Rattle.meaning.specs.Read.{Span}
+use Rattle.meaning.specs.Check.{Check}
+use Rattle.meaning.specs.Write.{Written, written, writeAnswer, outputAfter}
 use Rattle.cases.specs.Files.{empty, emptySized, emptyOf, oneFile, plainFile, two, high, middle}
 
 pub record Case : Type 0 where
@@ -108,3 +112,43 @@ holds c =
     && same (flat (answer (readInto (c .file) room))) (c .answer)
     && same (tableAfter (before room) (readInto (c .file) room)) (c .rows ++ before (room - length (c .rows)))
     && same (printed (c .file)) (text (c .lines))
+
+-- ---------------------------------------------------------------- written files
+
+-- rows without root attributes, and the file that they are written as
+pub record Writing : Type 0 where
+  pub rows : List ℕ
+  pub objects : ℕ
+  pub components : ℕ
+  pub buffer : List ℕ
+  pub file : List ℕ
+
+abbrev pub writings : List Writing
+writings =
+    -- 1
+    record { rows = []; objects = 0; components = 0; buffer = []; file = empty }
+    -- 2, with a blob of zeros
+    ∷ record {
+      rows = row 0 1 (2 ∷ replicate 7 0) 1 6 10 8;
+      objects = 1;
+      components = 1;
+      buffer = ascii "wdensedata" ++ replicate 8 0;
+      file = plainFile 8 two (0x18 ∷ 64 ∷ []) (8 ∷ []);
+    }
+    ∷ []
+
+abbrev writing : Writing → ℕ → Check (List ℕ)
+writing w n = written (w .rows) (w .objects) (w .components) (record { place = 0; size = 0 }) (w .buffer) n
+
+abbrev flatWritten : Written → List ℕ
+flatWritten a = a .number ∷ a .object ∷ a .component ∷ a .length ∷ []
+
+-- into an output of just its length, into a longer one, of which the rest stays, and into one that is too short and stays
+abbrev pub writes : Writing → Bool
+writes w =
+    let n = length (w .file) in
+    same (flatWritten (writeAnswer (writing w n))) (0 ∷ 0 ∷ 0 ∷ n ∷ [])
+    && same (outputAfter (before n) (writing w n)) (w .file)
+    && same (outputAfter (before (n + 3)) (writing w (n + 3))) (w .file ++ before 3)
+    && same (flatWritten (writeAnswer (writing w (n - 1)))) (ROOM ∷ 0 ∷ 0 ∷ 0 ∷ [])
+    && same (outputAfter (before (n - 1)) (writing w (n - 1))) (before (n - 1))

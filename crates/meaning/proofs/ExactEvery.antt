@@ -80,7 +80,7 @@ wide-reads : (w n : ℕ) → n < 256 ^ w → Reads (wide w) (known w n) (big w n
 unfolding wide
 wide-reads w n h x = bind-got (number w 0) (λ n. pure (known w n)) (big w n ++ x) (number-reads w 0 n h x) ∙ ap {B = Outcome Argument} (λ v. got (known w v) x) (omega arith)
 
-low-reads : {w n l : ℕ} → Low w n l → (o : List ℕ) → Reads (argument o l) (known w n) (big w n)
+pub low-reads : {w n l : ℕ} → Low w n l → (o : List ℕ) → Reads (argument o l) (known w n) (big w n)
 unfolding argument longArguments big
 low-reads (inside {n} h) o x = rw (lt-ltb n 24 h)
 low-reads (one {n} h) o x = wide-reads 1 n h x
@@ -88,17 +88,17 @@ low-reads (two {n} h) o x = wide-reads 2 n h x
 low-reads (four {n} h) o x = wide-reads 4 n h x
 low-reads (eight {n} h) o x = wide-reads 8 n h x
 
-low-fits : {w n l : ℕ} → Low w n l → l < 32
+pub low-fits : {w n l : ℕ} → Low w n l → l < 32
 low-fits (inside h) = omega arith
 low-fits (one h) = omega arith
 low-fits (two h) = omega arith
 low-fits (four h) = omega arith
 low-fits (eight h) = omega arith
 
-major-at : (m l : ℕ) → l < 32 → (m * 32 + l) / 32 ≡ m
+pub major-at : (m l : ℕ) → l < 32 → (m * 32 + l) / 32 ≡ m
 major-at m l h = omega arith
 
-info-at : (m l : ℕ) → l < 32 → infoOf (m * 32 + l) ≡ l
+pub info-at : (m l : ℕ) → l < 32 → infoOf (m * 32 + l) ≡ l
 unfolding infoOf
 info-at m l h = omega arith
 

@@ -18,4 +18,11 @@ pub mod Listing
 pub mod Drop
 pub mod Notes
 pub mod Encoding
+pub mod Asked
+pub mod Described
+pub mod Sound
+pub mod Placement
+pub mod Manifest
+pub mod Layout
+pub mod Write
 pub mod Computed

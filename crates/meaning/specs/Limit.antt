@@ -1,4 +1,4 @@
--- Document 01's limits: "File frame", "CBOR carried", "Types and lengths", and the box's own in "The box's job".
+-- Document 01's limits: "File frame", "CBOR carried", "Types and lengths", "The writer", and the box's own in "The box's job".
 use Prim.Native.Nat.{ℕ}
 
 -- bytes of the largest manifest
@@ -22,6 +22,10 @@ rankLimit = 8
 -- every component begins at a multiple of this, and not before it
 abbrev pub alignment : ℕ
 alignment = 64
+
+-- the writer's last blob may end here, not above: 2 ^ 40
+abbrev pub endLimit : ℕ
+endLimit = 1_099_511_627_776
 
 -- the small program's file, in bytes, and its table, in numbers
 abbrev pub programFile : ℕ

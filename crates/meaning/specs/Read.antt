@@ -212,3 +212,7 @@ pub record Span : Type 0 where
 -- of an item in bytes that end at the place `end`
 unfoldable pub spanTo : ℕ → List ℕ → List ℕ → Span
 spanTo end s r = record { place = end - length s; size = length s - length r }
+
+-- the bytes that stand there
+abbrev pub bytesAt : List ℕ → Span → List ℕ
+bytesAt file s = take (s .size) (drop (s .place) file)

@@ -2,11 +2,11 @@
 use Prim.Native.Nat.{ℕ, _+_, _*_}
 use mathlib.Core.List.{List, []}
 use mathlib.Core.Bool.{_&&_}
-use lib.ListN.{length, take, drop, getD}
+use lib.ListN.{length, getD}
 use lib.Dec.{leb, ltb}
 use Rattle.meaning.specs.Check.{Check, pass, refuse, _>>=_, _>>_, _unless_}
 use Rattle.meaning.specs.Refusal.{INDEX}
-use Rattle.meaning.specs.Read.{Span}
+use Rattle.meaning.specs.Read.{Span, bytesAt}
 use Rattle.meaning.specs.Rows.{objectWidth, componentWidth}
 
 -- columns of a component's row
@@ -27,7 +27,7 @@ viewed file table objects components index = do
 
 unfoldable pub partAt : List ℕ → Check Span → List ℕ
 partAt file (refuse n o c) = []
-partAt file (pass s) = take (s .size) (drop (s .place) file)
+partAt file (pass s) = bytesAt file s
 
 -- empty for INDEX
 unfoldable pub view : List ℕ → List ℕ → ℕ → ℕ → ℕ → List ℕ

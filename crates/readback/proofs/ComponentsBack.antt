@@ -1,0 +1,67 @@
+-- The components of an object are judged as their descriptions say, and tell them back.
+use Prim.Native.Nat.{ℕ, suc}
+use mathlib.Core.List.{List, [], _∷_, _++_, map}
+use mathlib.Core.Option.{Option}
+use mathlib.Core.Path.{_≡_, refl, ap, ap₂, sym, _∙_, subst}
+use lib.ListN.{length, drop, getD}
+use Rattle.meaning.specs.Limit.{componentLimit}
+use Rattle.meaning.specs.Check.{Check, pass, _>>=_, _>>_, inComponent, each}
+use Rattle.meaning.specs.Read.{Span}
+use Rattle.meaning.specs.Model.{Component}
+use Rattle.meaning.specs.Format.{Part}
+use Rattle.meaning.specs.Judge.{lettersOf, component, componentsOf, part}
+use Rattle.meaning.specs.Described.{DescribedComponent, readComponent}
+use Rattle.readback.specs.Every.{Every}
+use Rattle.readback.specs.Trees.{mapPiece, componentPieces, componentPiece, entryPiece}
+use Rattle.readback.specs.Piece.{allWritten}
+use Rattle.readback.specs.Judged.{judgedNames, judgedComponent, partOf}
+use Rattle.readback.specs.Fine.{FineComponent}
+use Rattle.readback.specs.Agrees.{Agrees, passes, refuses}
+use Rattle.readback.specs.Back.{Tells, Stand, AllTell}
+use Rattle.readback.proofs.Agreeing.{agrees-bind, agrees-in-component, each-agrees}
+use Rattle.readback.proofs.NamesBack.{namedOf, names-agree}
+use Rattle.readback.proofs.ComponentBack.{component-agrees}
+
+module _ (file : List ℕ) (start : ℕ) (note : List ℕ → List ℕ → Span) where
+  components-agree : (j : ℕ) (offsets : List ℕ) (cs : List DescribedComponent) (x : List ℕ) → Every FineComponent cs → Stand file start offsets cs
+      → Agrees (AllTell file cs) (each (λ j n. inComponent j (component start n)) j (namedOf note (componentPieces note offsets cs) x)) (each (λ j c. inComponent j (judgedComponent c)) j cs)
+  unfolding componentPieces
+  components-agree j offsets [] x f s = passes tt
+  components-agree j offsets (c ∷ cs) x (f, fs) (s, ss) =
+      each-agrees (λ j n. inComponent j (component start n)) (λ j c. inComponent j (judgedComponent c)) j _ (namedOf note (componentPieces note (drop 1 offsets) cs) x) c cs
+      (agrees-in-component j (component-agrees file start note (getD offsets 0 0) c _ _ refl (f .dtype) s))
+      (components-agree (suc j) (drop 1 offsets) cs x fs ss) (λ m ms t ts. (t, ts))
+
+  component-keys : (offsets : List ℕ) (cs : List DescribedComponent) → map (λ e. e .key) (componentPieces note offsets cs) ≡ map (λ c. c .name) cs
+  unfolding componentPieces
+  component-keys offsets [] = refl
+  component-keys offsets (c ∷ cs) = ap (λ (r : List (List ℕ)). c .name ∷ r) (component-keys (drop 1 offsets) cs)
+
+  pub components-of-agree : (offsets : List ℕ) (cs : List DescribedComponent) (x : List ℕ) → Every FineComponent cs → Stand file start offsets cs
+      → Agrees (AllTell file cs) (componentsOf start (mapPiece note (componentPieces note offsets cs) .meant x))
+      (judgedNames componentLimit (map (λ c. c .name) cs) >> each (λ j c. inComponent j (judgedComponent c)) 0 cs)
+  unfolding componentsOf
+  components-of-agree offsets cs x f s =
+      agrees-bind (names-agree note componentLimit (componentPieces note offsets cs) x (map (λ c. c .name) cs) (component-keys offsets cs))
+      (λ ns e. rw e (components-agree 0 offsets cs x f s))
+
+-- ---- what they tell
+
+parts-same : {n n′ : List ℕ} {d d′ : ℕ} {t t′ : Option (List ℕ)} {s s′ : ℕ} → n ≡ n′ → d ≡ d′ → t ≡ t′ → s ≡ s′
+    → _≡_ {A = Part} (record { called = n; code = d; typed = t; size = s }) (record { called = n′; code = d′; typed = t′; size = s′ })
+parts-same en ed et es = rw (en, ed, et, es)
+
+module _ (file : List ℕ) where
+  part-is : (c : DescribedComponent) (m : Component Span) → Tells file c m → part m ≡ partOf c
+  unfolding part partOf readComponent
+  part-is c m t =
+      let e : readComponent file m ≡ c = t .same in
+      parts-same (ap (λ (c : DescribedComponent). c .name) e) (ap (λ (c : DescribedComponent). c .dtype) e) (ap (λ (c : DescribedComponent). c .type) e) (t .size)
+
+  pub parts-are : (cs : List DescribedComponent) (ms : List (Component Span)) → AllTell file cs ms → map part ms ≡ map partOf cs
+  parts-are [] [] t = refl
+  parts-are (c ∷ cs) (m ∷ ms) (t, ts) = ap₂ {A = Part} {B = List Part} (λ a b. a ∷ b) (part-is c m t) (parts-are cs ms ts)
+
+  pub components-are : (cs : List DescribedComponent) (ms : List (Component Span)) → AllTell file cs ms → map (readComponent file) ms ≡ cs
+  components-are [] [] t = refl
+  components-are (c ∷ cs) (m ∷ ms) (t, ts) = ap₂ {A = DescribedComponent} {B = List DescribedComponent} (λ a b. a ∷ b) (t .same) (components-are cs ms ts)

@@ -1,0 +1,163 @@
+-- A written file is judged as its description says, and an accepted one reads back as what was described.
+use Prim.Native.Nat.{ℕ, _+_, _≤_, _<_, _^_}
+use native.Mathlib.Omega.{arith}
+use mathlib.Core.List.{List, [], _∷_, _++_, map, append-assoc, append-nil}
+use mathlib.Core.Bool.{Bool, true, false, cond, not}
+use mathlib.Core.Path.{_≡_, refl, ap, sym, _∙_, subst}
+use lib.Dec.{leb}
+use lib.ListN.{length}
+use borrow.Author.Tests.{leb-true}
+use Rattle.meaning.specs.Refusal.{DEEP, BIG, COUNT, ROOM}
+use Rattle.meaning.specs.Limit.{manifestLimit, endLimit}
+use Rattle.meaning.specs.Check.{Check, pass, refuse, _>>=_, _>>_, _unless_, fault}
+use Rattle.meaning.specs.Tree.{Node}
+use Rattle.meaning.specs.Read.{Span, spanTo, manifest}
+use Rattle.meaning.specs.Judge.{judge}
+use Rattle.meaning.specs.Frame.{magic, checked, Reading, reading}
+use Rattle.meaning.specs.Placement.{placement, lastEnd}
+use Rattle.meaning.specs.Described.{Described, blobs, describedBy}
+use Rattle.meaning.specs.Manifest.{manifestBytes}
+use Rattle.meaning.specs.Layout.{littleBytes, blobsFrom, closing, fileOf}
+use Rattle.meaning.specs.Write.{writtenAt, writtenPlain}
+use Rattle.readback.specs.Lies.{Rises}
+use Rattle.readback.specs.Trees.{manifestPiece}
+use Rattle.readback.specs.Judged.{tooDeep, judgedObjects, judged}
+use Rattle.readback.specs.Fine.{Fine}
+use Rattle.readback.specs.Agrees.{Agrees, passes, refuses}
+use Rattle.readback.specs.Back.{AllAt, ReadsBack}
+use Rattle.readback.proofs.Placed.{body-length, blobs-lie, placement-rises}
+use Rattle.readback.proofs.Framed.{frame-is, manifest-is, reading-by}
+use Rattle.readback.proofs.Agreeing.{agrees-map, passed-has, agrees-then}
+use Rattle.readback.proofs.PiecesWritten.{manifest-written}
+use Rattle.readback.proofs.ManifestRead.{manifest-read, manifest-some}
+use Rattle.readback.proofs.Standing.{all-at, offsets-fit, stand-all}
+use Rattle.readback.proofs.AttributesBack.{Suffix}
+use Rattle.readback.proofs.ManifestBack.{manifest-agrees}
+
+-- ---- a file whose blobs stand before its manifest, however they were laid: X is what lies between the header and the manifest
+
+module _ (d : Described) (offsets X : List ℕ) (fine : Fine d) where
+  abbrev before : List ℕ
+  before = magic ++ X
+
+  abbrev M : List ℕ
+  M = manifestBytes d offsets
+
+  abbrev file : List ℕ
+  file = before ++ closing M
+
+  abbrev span : List ℕ → List ℕ → Span
+  span = spanTo (length before + length M)
+
+  split : file ≡ before ++ (M ++ (littleBytes 8 (length M) ++ magic))
+  unfolding closing
+  split = ap (λ (r : List ℕ). before ++ r) (append-assoc M (littleBytes 8 (length M)) magic)
+
+  whole : Suffix M (manifestPiece span d offsets .written ++ [])
+  whole = record { before = []; is = sym (append-nil _ ∙ manifest-written span d offsets) }
+
+  module _ (stand : AllAt file (length before) offsets (blobs d)) (low : length before ≤ endLimit) (small : length M ≤ manifestLimit) where
+    abbrev tree : Node Span
+    tree = manifestPiece span d offsets .meant []
+
+    -- the manifest is read to its tree, unless it is too deep
+    checked-is : checked (manifest span M) ≡ cond (tooDeep d) (fault DEEP) (pass tree)
+    checked-is = manifest-read span d offsets (offsets-fit file (length before) offsets (blobs d) stand (omega arith)) fine
+
+    abbrev finish : Node Span → Check Reading
+    finish t = judge (length before) t >>= λ m. pass (record { start = length before; model = m })
+
+    finish-agrees : (b : Bool) → tooDeep d ≡ b
+        → Agrees (λ r. describedBy file (r .model) ≡ d) (cond b (fault DEEP) (pass tree) >>= finish) ((DEEP unless not b) >> judgedObjects (d .objects))
+    finish-agrees true e = refuses
+    finish-agrees false e =
+        agrees-map (λ m. record { start = length before; model = m })
+        (manifest-agrees file before M (littleBytes 8 (length M) ++ magic) split (length before) d offsets [] fine e (stand-all file (length before) offsets (d .objects) stand) whole) (λ m r. r)
+
+    pub reading-agrees : Agrees (λ r. describedBy file (r .model) ≡ d) (reading file) (judged d)
+    unfolding judged
+    reading-agrees =
+        subst (λ (c : Check Reading). Agrees (λ r. describedBy file (r .model) ≡ d) c ((DEEP unless not (tooDeep d)) >> judgedObjects (d .objects)))
+        (sym (reading-by file M (length before) (frame-is X M (manifest-some d offsets) small) (manifest-is X M (manifest-some d offsets) small) ∙ ap (λ (c : Check (Node Span)). c >>= finish) checked-is))
+        (finish-agrees (tooDeep d) refl)
+
+-- ---- with blobs at rising offsets
+
+pub refused-is-not : {A : Type 0} {n o c : ℕ} {a : A} → refuse n o c ≡ pass a → ⊥
+refused-is-not e = let z : _≡_ {A = ℕ} 0 1 = cc in omega arith
+
+nothing-passes : {A B : Type 0} (n : ℕ) (m : Check A) {b : B} → (m >> refuse n 0 0) ≡ pass b → ⊥
+nothing-passes n (pass a) e = refused-is-not e
+nothing-passes n (refuse n′ o c) e = refused-is-not e
+
+module _ (d : Described) (offsets : List ℕ) (fine : Fine d) (rises : Rises 8 offsets (map length (blobs d))) (ends : lastEnd offsets (map length (blobs d)) ≤ endLimit) where
+  abbrev laid : List ℕ
+  laid = fileOf d offsets
+
+  abbrev size : ℕ
+  size = length (manifestBytes d offsets)
+
+  at-offsets : (start : ℕ) → start ≡ lastEnd offsets (map length (blobs d)) → AllAt laid start offsets (blobs d)
+  unfolding lastEnd magic
+  at-offsets start e = all-at laid start 8 offsets (blobs d) rises (blobs-lie d offsets rises) (omega arith) (omega arith)
+
+  pub written-agrees : size ≤ manifestLimit → Agrees (λ r. describedBy laid (r .model) ≡ d) (reading laid) (judged d)
+  unfolding fileOf
+  written-agrees small =
+      let X : List ℕ = blobsFrom (length magic) offsets (blobs d) in
+      let e : length (magic ++ X) ≡ lastEnd offsets (map length (blobs d)) = body-length d offsets rises in
+      reading-agrees d offsets X fine (at-offsets (length (magic ++ X)) e) (omega arith) small
+
+  -- what the writer answers, without a reading
+  pub written-at-is : (room : ℕ) → writtenAt d offsets room ≡ ((BIG unless leb size manifestLimit) >> (judged d >> ((ROOM unless leb (length laid) room) >> pass laid)))
+  unfolding writtenAt
+  written-at-is room = go (leb size manifestLimit) refl
+    where
+      go : (b : Bool) → leb size manifestLimit ≡ b
+          → ((BIG unless b) >> (reading laid >> ((ROOM unless leb (length laid) room) >> pass laid))) ≡ ((BIG unless b) >> (judged d >> ((ROOM unless leb (length laid) room) >> pass laid)))
+      go true e = agrees-then (written-agrees (leb-true size manifestLimit e)) ((ROOM unless leb (length laid) room) >> pass laid)
+      go false e = refl
+
+  -- a file that the reader accepts reads back
+  reads-back : size ≤ manifestLimit → (r : Check Reading) → reading laid ≡ r → (f : List ℕ) → (r >> pass laid) ≡ pass f → ReadsBack f d
+  reads-back small (pass r) e f h =
+      let same : laid ≡ f = cc in
+      subst (λ (g : List ℕ). ReadsBack g d) same (record { read = r; is = e; back = passed-has (written-agrees small) e })
+  reads-back small (refuse n o c) e f h = absurd (refused-is-not h)
+
+  pub written-at-reads-back : (room : ℕ) (f : List ℕ) → writtenAt d offsets room ≡ pass f → ReadsBack f d
+  unfolding writtenAt
+  written-at-reads-back room f = go (leb size manifestLimit) refl (leb (length laid) room)
+    where
+      go : (b : Bool) → leb size manifestLimit ≡ b → (b′ : Bool) → ((BIG unless b) >> (reading laid >> ((ROOM unless b′) >> pass laid))) ≡ pass f → ReadsBack f d
+      go true e true h = reads-back (leb-true size manifestLimit e) (reading laid) refl f h
+      go true e false h = absurd (nothing-passes ROOM (reading laid) h)
+      go false e b′ h = absurd (refused-is-not h)
+
+-- ---- by 01's placement
+
+module _ (d : Described) (room : ℕ) (fine : Fine d) where
+  abbrev lengths : List ℕ
+  lengths = map length (blobs d)
+
+  abbrev placed : List ℕ
+  placed = placement lengths
+
+  abbrev rest : Check (List ℕ)
+  rest = (BIG unless leb (length (manifestBytes d placed)) manifestLimit) >> (judged d >> ((ROOM unless leb (length (fileOf d placed)) room) >> pass (fileOf d placed)))
+
+  pub written-plain-is : writtenPlain d room ≡ ((COUNT unless leb (lastEnd placed lengths) endLimit) >> rest)
+  unfolding writtenPlain
+  written-plain-is = go (leb (lastEnd placed lengths) endLimit) refl
+    where
+      go : (b : Bool) → leb (lastEnd placed lengths) endLimit ≡ b → ((COUNT unless b) >> writtenAt d placed room) ≡ ((COUNT unless b) >> rest)
+      go true e = written-at-is d placed fine (placement-rises lengths) (leb-true (lastEnd placed lengths) endLimit e) room
+      go false e = refl
+
+  pub written-plain-reads-back : (f : List ℕ) → writtenPlain d room ≡ pass f → ReadsBack f d
+  unfolding writtenPlain
+  written-plain-reads-back f = go (leb (lastEnd placed lengths) endLimit) refl
+    where
+      go : (b : Bool) → leb (lastEnd placed lengths) endLimit ≡ b → ((COUNT unless b) >> writtenAt d placed room) ≡ pass f → ReadsBack f d
+      go true e h = written-at-reads-back d placed fine (placement-rises lengths) (leb-true (lastEnd placed lengths) endLimit e) room f h
+      go false e h = absurd (refused-is-not h)

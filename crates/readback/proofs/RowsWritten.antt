@@ -1,0 +1,182 @@
+-- What the writer answers for rows: its checks in order, from the rows' description; and that an accepted file reads back as what the rows describe.
+use Prim.Native.Nat.{ℕ, zero, suc, _+_, _-_, _*_, _≤_, _<_}
+use native.Mathlib.Omega.{arith}
+use mathlib.Core.List.{List, [], _∷_, _++_, map}
+use mathlib.Core.Bool.{Bool, true, false}
+use mathlib.Core.Path.{_≡_, refl, ap, ap₂, sym, _∙_, subst}
+use lib.Dec.{eqb, leb}
+use lib.ListN.{length, take, drop, replicate, length-append, length-take, length-drop, length-replicate, length-map, take-append-drop}
+use lib.Seq.{take-all}
+use borrow.Author.Tests.{leb-true}
+use Rattle.meaning.specs.Refusal.{ROW, BIG, COUNT, ROOM}
+use Rattle.meaning.specs.Limit.{manifestLimit, endLimit}
+use Rattle.meaning.specs.Check.{Check, pass, refuse, _>>=_, _>>_, _unless_}
+use Rattle.meaning.specs.Text.{all, same}
+use Rattle.meaning.specs.Read.{Span, bytesAt}
+use Rattle.meaning.specs.Rows.{objectWidth, componentWidth}
+use Rattle.meaning.specs.Asked.{AskedObject, AskedComponent, askedComponent, Asked, asked}
+use Rattle.meaning.specs.Sound.{owners, inside, componentSound, rowsSound}
+use Rattle.meaning.specs.Placement.{placement, lastEnd}
+use Rattle.meaning.specs.Described.{Described, blobsIn, blobs, describedComponent, describedObject, describedObjects, described}
+use Rattle.meaning.specs.Manifest.{manifestBytes}
+use Rattle.meaning.specs.Layout.{fileOf}
+use Rattle.meaning.specs.Write.{writtenAt, writtenPlain, written}
+use Rattle.readback.specs.Every.{Every}
+use Rattle.readback.specs.Lies.{sum}
+use Rattle.readback.specs.Judged.{judged}
+use Rattle.readback.specs.Fine.{Fits, Brief, Fine}
+use Rattle.readback.specs.Back.{ReadsBack}
+use Rattle.readback.proofs.EveryPart.{every-all, false-not, and-left, and-right}
+use Rattle.readback.proofs.Placed.{length-bound}
+use Rattle.readback.proofs.ReadBack.{refused-is-not, written-plain-is, written-plain-reads-back}
+use Rattle.readback.proofs.SoundIsFine.{each-row-length, component-tests, tests, sound-is-fine}
+
+-- ---- the blobs are those of the component rows, in row order
+
+same-length : (a b : List ℕ) → same a b ≡ true → length a ≡ length b
+same-length [] [] h = refl
+same-length [] (y ∷ b) h = absurd (false-not h)
+same-length (x ∷ a) [] h = absurd (false-not h)
+same-length (x ∷ a) (y ∷ b) h = ap suc (same-length a b (and-right (eqb x y) (same a b) h))
+
+counts : List AskedObject → ℕ
+counts [] = 0
+counts (o ∷ os) = o .count + counts os
+
+owners-length : (i : ℕ) (os : List AskedObject) → length (owners i os) ≡ counts os
+unfolding owners counts
+owners-length i [] = refl
+owners-length i (o ∷ os) = omega (arith, length-append (replicate (o .count) i) (owners (suc i) os), length-replicate {A = ℕ} (o .count) i, owners-length (suc i) os)
+
+module _ (buffer : List ℕ) where
+  abbrev blobOf : AskedComponent → List ℕ
+  blobOf c = bytesAt buffer (c .blob)
+
+  described-blobs : (cs : List AskedComponent) → map (λ c. c .blob) (map (describedComponent buffer) cs) ≡ map blobOf cs
+  unfolding describedComponent
+  described-blobs [] = refl
+  described-blobs (c ∷ cs) = ap (λ (r : List (List ℕ)). blobOf c ∷ r) (described-blobs cs)
+
+  map-append : (a b : List AskedComponent) → map blobOf (a ++ b) ≡ map blobOf a ++ map blobOf b
+  map-append [] b = refl
+  map-append (c ∷ a) b = ap (λ (r : List (List ℕ)). blobOf c ∷ r) (map-append a b)
+
+  none-left : (cs : List AskedComponent) → length cs ≡ 0 → cs ≡ []
+  none-left [] h = refl
+  none-left (c ∷ cs) h = absurd (omega arith)
+
+  blobs-are : (os : List AskedObject) (cs : List AskedComponent) → counts os ≡ length cs → blobsIn (describedObjects buffer os cs) ≡ map blobOf cs
+  unfolding counts describedObjects describedObject blobsIn
+  blobs-are [] cs h = ap (map blobOf) (sym (none-left cs (sym h)))
+  blobs-are (o ∷ os) cs h =
+      ap₂ {A = List (List ℕ)} {B = List (List ℕ)} (λ a b. a ++ b) (described-blobs (take (o .count) cs)) (blobs-are os (drop (o .count) cs) (omega (arith, length-drop (o .count) cs)))
+      ∙ sym (map-append (take (o .count) cs) (drop (o .count) cs)) ∙ ap (map blobOf) (take-append-drop (o .count) cs)
+
+  part-length : (s : Span) → inside buffer s ≡ true → length (bytesAt buffer s) ≡ s .size
+  unfolding inside
+  part-length s h = let l : s .place + s .size ≤ length buffer = leb-true (s .place + s .size) (length buffer) h in simp (length-take, length-drop) (omega arith)
+
+  lengths-are : (cs : List AskedComponent) → Every (λ c. componentSound buffer c ≡ true) cs → map length (map blobOf cs) ≡ map (λ c. c .blob .size) cs
+  lengths-are [] h = refl
+  lengths-are (c ∷ cs) (h, hs) =
+      ap₂ {A = ℕ} {B = List ℕ} (λ a b. a ∷ b) (part-length (c .blob) (component-tests buffer c h .1 .1 .1)) (lengths-are cs hs)
+
+-- ---- the writer
+
+unless-passes : {A : Type 0} (n : ℕ) (b : Bool) (k : Check A) {a : A} → ((n unless b) >> k) ≡ pass a → (b ≡ true) × (k ≡ pass a)
+unless-passes n true k h = (refl, h)
+unless-passes n false k h = absurd (refused-is-not h)
+
+then-passes : {A B : Type 0} (m : Check A) (k : Check B) {b : B} → (m >> k) ≡ pass b → k ≡ pass b
+then-passes (pass a) k h = h
+then-passes (refuse n o c) k h = absurd (refused-is-not h)
+
+passed-same : {A : Type 0} {a b : A} → pass a ≡ pass b → a ≡ b
+passed-same e = cc
+
+rows-counted : (rows : List ℕ) (objects components : ℕ) (attributes : Span) → length (asked rows objects components attributes .components) ≡ components
+unfolding asked
+rows-counted rows objects components attributes = each-row-length askedComponent componentWidth components (drop (objectWidth * objects) rows)
+
+-- the file of an accepted writing
+pub record Accepted (sound : Bool) (whole file : List ℕ) (room : ℕ) : Type 0 where
+  pub rows : sound ≡ true
+  pub is : file ≡ whole
+  pub fits : length file ≤ room
+
+module _ (rows : List ℕ) (fit : Every Fits rows) (few : Brief rows) (buffer : List ℕ) (small : Brief buffer) (objects components : ℕ) (attributes : Span) where
+  abbrev of-rows : Described
+  of-rows = described buffer (asked rows objects components attributes)
+
+  abbrev component-rows : List AskedComponent
+  component-rows = asked rows objects components attributes .components
+
+  module _ (sound : rowsSound buffer rows objects components attributes ≡ true) where
+    -- one blob for each component row, in row order
+    pub blobs-of-rows : blobs of-rows ≡ map (λ c. bytesAt buffer (c .blob)) component-rows
+    unfolding described
+    blobs-of-rows = blobs-are buffer (asked rows objects components attributes .objects) component-rows same-count
+      where
+        same-count : counts (asked rows objects components attributes .objects) ≡ length component-rows
+        same-count =
+            sym (owners-length 0 (asked rows objects components attributes .objects))
+            ∙ same-length (owners 0 (asked rows objects components attributes .objects)) (map (λ c. c .owner) component-rows) (tests buffer small rows fit few objects components attributes sound .0)
+            ∙ length-map component-rows (λ (c : AskedComponent). c .owner)
+
+    -- as long as the rows say
+    pub lengths-of-rows : map length (blobs of-rows) ≡ map (λ c. c .blob .size) component-rows
+    lengths-of-rows =
+        ap (map length) blobs-of-rows
+        ∙ lengths-are buffer component-rows (every-all (componentSound buffer) component-rows (tests buffer small rows fit few objects components attributes sound .1 .1 .1))
+
+  abbrev offsets : List ℕ
+  offsets = placement (map length (blobs of-rows))
+
+  abbrev answer : ℕ → Check (List ℕ)
+  answer room =
+      (COUNT unless leb (lastEnd offsets (map length (blobs of-rows))) endLimit) >> ((BIG unless leb (length (manifestBytes of-rows offsets)) manifestLimit)
+      >> (judged of-rows >> ((ROOM unless leb (length (fileOf of-rows offsets)) room) >> pass (fileOf of-rows offsets))))
+
+  -- ROW, COUNT, BIG, the reader's refusal from the description alone, ROOM
+  pub written-is : (room : ℕ) → written rows objects components attributes buffer room ≡ ((ROW unless rowsSound buffer rows objects components attributes) >> answer room)
+  unfolding written
+  written-is room = go (rowsSound buffer rows objects components attributes) refl
+    where
+      go : (b : Bool) → rowsSound buffer rows objects components attributes ≡ b → ((ROW unless b) >> writtenPlain of-rows room) ≡ ((ROW unless b) >> answer room)
+      go true e = written-plain-is of-rows room (sound-is-fine buffer small rows fit few objects components attributes e)
+      go false e = refl
+
+  pub written-reads-back : (room : ℕ) (file : List ℕ) → written rows objects components attributes buffer room ≡ pass file → ReadsBack file of-rows
+  unfolding written
+  written-reads-back room file = go (rowsSound buffer rows objects components attributes) refl
+    where
+      go : (b : Bool) → rowsSound buffer rows objects components attributes ≡ b → ((ROW unless b) >> writtenPlain of-rows room) ≡ pass file → ReadsBack file of-rows
+      go true e h = written-plain-reads-back of-rows room (sound-is-fine buffer small rows fit few objects components attributes e) file h
+      go false e h = absurd (refused-is-not h)
+
+  pub written-file : (room : ℕ) (file : List ℕ) → written rows objects components attributes buffer room ≡ pass file
+      → Accepted (rowsSound buffer rows objects components attributes) (fileOf of-rows offsets) file room
+  written-file room file h =
+      let F : List ℕ = fileOf of-rows offsets in
+      let roomy : Check (List ℕ) = (ROOM unless leb (length F) room) >> pass F in
+      let k₀ = unless-passes ROW (rowsSound buffer rows objects components attributes) (answer room) (sym (written-is room) ∙ h) in
+      let k₁ = unless-passes COUNT (leb (lastEnd offsets (map length (blobs of-rows))) endLimit)
+      ((BIG unless leb (length (manifestBytes of-rows offsets)) manifestLimit) >> (judged of-rows >> roomy)) (k₀ .1) in
+      let k₂ = unless-passes BIG (leb (length (manifestBytes of-rows offsets)) manifestLimit) (judged of-rows >> roomy) (k₁ .1) in
+      let k₃ = unless-passes ROOM (leb (length F) room) (pass F) (then-passes (judged of-rows) roomy (k₂ .1)) in
+      let e : F ≡ file = passed-same (k₃ .1) in
+      record { rows = k₀ .0; is = sym e; fits = subst (λ (f : List ℕ). length f ≤ room) e (leb-true (length F) room (k₃ .0)) }
+
+  -- the bound of document 01
+  pub written-bound : (room : ℕ) (file : List ℕ) → written rows objects components attributes buffer room ≡ pass file
+      → length file ≤ 24 + length (manifestBytes of-rows offsets) + sum (map (λ c. c .blob .size) component-rows) + 63 * components
+  written-bound room file h =
+      let a = written-file room file h in
+      let e : map length (blobs of-rows) ≡ map (λ c. c .blob .size) component-rows = lengths-of-rows (a .rows) in
+      let n : length (blobs of-rows) ≡ components = ap length (blobs-of-rows (a .rows)) ∙ length-map component-rows (λ (c : AskedComponent). bytesAt buffer (c .blob)) ∙ row-count in
+      let l : length file ≡ length (fileOf of-rows offsets) = ap length (a .is) in
+      let t : sum (map length (blobs of-rows)) ≡ sum (map (λ c. c .blob .size) component-rows) = ap sum e in
+      omega (arith, length-bound of-rows, n, l, t)
+    where
+      row-count : length component-rows ≡ components
+      row-count = rows-counted rows objects components attributes
