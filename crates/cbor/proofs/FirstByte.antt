@@ -1,19 +1,21 @@
 -- The laws of Majors, by the first byte of any list that has one.
-use Prim.Native.Nat.{ℕ, zero, suc, _+_, _/_, _%_, _≤_, _<_}
+use Prim.Native.Nat.{ℕ, zero, suc, _+_, _-_, _/_, _%_, _≤_, _<_}
 use native.Mathlib.Omega.{arith}
 use mathlib.Core.List.{List, [], _∷_}
 use mathlib.Core.Bool.{Bool, true, false, _&&_}
-use mathlib.Core.Path.{_≡_, refl, ap, _∙_}
+use mathlib.Core.Path.{_≡_, refl, ap, sym, _∙_}
 use lib.Dec.{leb, ltb}
 use borrow.Author.Tests.{leb-true, ltb-true, le-leb, lt-ltb}
 use lib.ListN.{length, getD, drop}
-use Rattle.meaning.specs.Read.{toBreak, chunk}
-use Rattle.cbor.specs.Ending.{fault, FAULT, code, ending, shift, itemEnd, headOf, stringEnd, holds, HolderIs, held, doubled, Counted}
+use Rattle.meaning.specs.Read.{toBreak, chunk, longArguments, malformed, wide}
+use Rattle.cbor.specs.Ending.{fault, FAULT, code, ending, shift, itemEnd, headOf, stringEnd, holds, HolderIs, held, doubled, Counted, SizeIs}
 use Rattle.cbor.specs.declared.Holding.{Holding}
-use Rattle.cbor.proofs.Heads.{head-small}
+use Rattle.cbor.proofs.Heads.{head-small, head-fits, head-short, is-24}
+use Rattle.cbor.proofs.Answers.{string-fits, string-short}
 use Rattle.cbor.proofs.Majors as majors
 use Rattle.cbor.proofs.Majors.{Scalar, low, high}
 use Rattle.endian.proofs.Which.{lt-or}
+use Rattle.endian.proofs.Laws.{word-one}
 use mathlib.Core.Logic.{⊎-elim}
 
 pub chunk-other : (s : List ℕ) (m : ℕ) → 1 ≤ length s → (getD s 0 0 / 32 ≡ m → ⊥) → FAULT + 6 ≡ code (ending s (chunk m s))
@@ -101,3 +103,27 @@ pub short-text : (left : ℕ) (s : List ℕ) → 0 < left → 1 ≤ length s →
 short-text zero s l k room a b i e = absurd (omega arith)
 short-text (suc d) s l k room a b i e =
     ap (λ h. stringEnd (length s) (h .size) (h .value)) (head-small s i k e (omega arith)) ∙ string-ends s d k (omega arith) (omega arith) room (λ z. omega arith)
+
+-- text whose length stands in one byte after it
+pub byte-text : (left : ℕ) (s : List ℕ) → 0 < left → 2 ≤ length s → length s < FAULT → getD s 0 0 ≡ 120 → (i : ℕ) → i ≡ getD s 1 0 → stringEnd (length s) 2 i ≡ code (itemEnd left s)
+byte-text zero s l k room b i e = absurd (omega arith)
+byte-text (suc d) s l k room b i e =
+    ap (stringEnd (length s) 2) (e ∙ sym (word-one s 1)) ∙ ap (λ h. stringEnd (length s) (h .size) (h .value)) (head-fits 1 24 is-24 s (omega arith) (omega arith) (omega arith))
+    ∙ string-ends s d (omega arith) (omega arith) (omega arith) room (λ z. omega arith)
+
+-- a number's head, in one byte or with an argument of w bytes
+pub small-size : (b : ℕ) → b < 24 → SizeIs b 1
+small-size b h s l e = sym (string-fits (length s) 1 0 (omega arith)) ∙ ap (λ a. a .size) (head-small s b l (omega arith) h)
+
+pub wide-size : (w b : ℕ) → ((s : List ℕ) → getD longArguments (b - 24) malformed [] s ≡ wide w s) → 24 ≤ b → b < 28 → SizeIs b (w + 1)
+wide-size w b is h k s l e = ⊎-elim
+    (λ x. sym (string-short (length s) (w + 1) 0 (omega arith)) ∙ ap (λ a. a .size) (head-short w b is s (omega arith) h l (omega arith)))
+    (λ x. sym (string-fits (length s) (w + 1) 0 (omega arith)) ∙ plain ∙ ap (λ a. a .size) (head-fits w b is s (omega arith) h (omega arith)))
+    (lt-or (length s) (w + 1))
+  where
+    plain : w + 1 + 0 ≡ w + 1
+    plain = omega arith
+
+pub number-ends : (left : ℕ) (s : List ℕ) → 0 < left → 1 ≤ length s → getD s 0 0 < 28 → (n : ℕ) → SizeIs (getD s 0 0) n → stringEnd (length s) n 0 ≡ code (itemEnd left s)
+number-ends zero s l k b n z = absurd (omega arith)
+number-ends (suc d) s l k b n z = z s k refl ∙ scalar-ends s d k (low (omega arith)) (λ e. omega arith)

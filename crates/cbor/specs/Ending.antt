@@ -95,3 +95,7 @@ pub record HolderIs (s : List ℕ) (r : Holding) : Type 0 where
   pub counted : Counted (r .mode) (r .count)
   pub inside : r .size ≤ length s → holds (getD s 0 0) ≡ true → (d : ℕ) → itemEnd (suc d) s ≡ shift (r .size) (rest (r .mode) (r .count) d (drop (r .size) s))
   pub outside : length s < r .size → holds (getD s 0 0) ≡ true → (d : ℕ) → itemEnd (suc d) s ≡ fault 6
+
+-- a head that begins with b takes n bytes, or ends early
+abbrev pub SizeIs : ℕ → ℕ → Type 0
+SizeIs b n = (s : List ℕ) → 1 ≤ length s → getD s 0 0 ≡ b → stringEnd (length s) n 0 ≡ headOf s .size

@@ -317,7 +317,48 @@ fn items(s: &[u8], count: u64, mode: u64, left: u64) -> usize
     at
 }
 
-// The item that begins s, where `left` levels are left: how many bytes it takes, or the refusal. Short text, which most keys are, needs no loop.
+// The bytes of a head that begins with b, which begins an unsigned integer.
+fn number_size(b: u8) -> usize
+    requires { ⌜ b < 28 ⌝ }
+    ensures { λ r. ⌜ spec.SizeIs b r ⌝ }
+{
+    if b < 24 {
+        return 1;
+    }
+    if b == 24 {
+        return 2;
+    }
+    if b == 25 {
+        return 3;
+    }
+    if b == 26 {
+        return 5;
+    }
+    9
+}
+
+// The same as `skip`. Unsigned integers and text of up to 255 bytes, which most values are, need no loop.
+fn skip_value(s: &[u8], left: u64) -> usize
+    ensures { λ r. ⌜ r ≡ spec.code (spec.ending (now (s .entry)) (read.item read.noNote left (now (s .entry)))) ⌝ }
+{
+    if s.len() == 0 {
+        return MALFORMED;
+    }
+    let b = s[0];
+    if 0 < left {
+        if b < 28 {
+            return string_end(s.len(), number_size(b), 0);
+        }
+        if b == 120 {
+            if 2 <= s.len() {
+                return string_end(s.len(), 2, wide(s[1]));
+            }
+        }
+    }
+    items(&s[0..], 1, 0, left)
+}
+
+// The item that begins s, where `left` levels are left: how many bytes it takes, or the refusal. Short text, which most keys are, comes first.
 pub fn skip(s: &[u8], left: u64) -> usize
     ensures { λ r. ⌜ r ≡ spec.code (spec.ending (now (s .entry)) (read.item read.noNote left (now (s .entry)))) ⌝ }
 {
@@ -332,5 +373,5 @@ pub fn skip(s: &[u8], left: u64) -> usize
             }
         }
     }
-    items(&s[0..], 1, 0, left)
+    skip_value(&s[0..], left)
 }

@@ -11,14 +11,18 @@ use Rattle.endian.specs.Word.{word}
 use Rattle.text.specs.Digest.{mixed, mixedIn, ofWords, ofBytes, digest}
 use Rattle.text.proofs.SameIsEqual.{whole}
 
-pub one-more : (step k : ℕ) (s : List ℕ) (i h w : ℕ) → 0 < k → w ≡ word step s i 0 → mixedIn step k s i h ≡ mixedIn step (k - 1) s (i + step) (mixed h w)
-unfolding mixedIn
-one-more step zero s i h w l e = absurd (omega arith)
-one-more step (suc k) s i h w l e = let z : suc k - 1 ≡ k = omega arith in rw (z, e)
+module _ (width step k : ℕ) (s : List ℕ) (i h : ℕ) where
+  pub one-more : (j w g : ℕ) → 0 < k → j ≡ i + step → w ≡ word width s i 0 → g ≡ mixed h w → mixedIn width step k s i h ≡ mixedIn width step (k - 1) s j g
+  unfolding mixedIn
+  one-more j w g l p e q = go k l
+    where
+      go : (m : ℕ) → 0 < m → mixedIn width step m s i h ≡ mixedIn width step (m - 1) s j g
+      go zero l = absurd (omega arith)
+      go (suc m) l = let z : suc m - 1 ≡ m = omega arith in rw (z, p, q, e)
 
-pub no-more : (step k : ℕ) (s : List ℕ) (i h : ℕ) → k ≡ 0 → mixedIn step k s i h ≡ h
-unfolding mixedIn
-no-more step k s i h e = rw e
+  pub no-more : k ≡ 0 → mixedIn width step k s i h ≡ h
+  unfolding mixedIn
+  no-more e = rw e
 
 -- by bytes or by words, of a part from 0 on
 pub digest-by : (of : List ℕ → ℕ) (s : List ℕ) {r : ℕ} → r ≡ of (take (length s - 0) (drop 0 s)) → cond (ltb (length s) 8) (ofBytes s) (ofWords s) ≡ of s

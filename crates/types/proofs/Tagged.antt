@@ -2,13 +2,13 @@
 use mathlib.Core.Path.{_≡_, refl, ap, _∙_}
 use mathlib.Core.List.{List, [], _∷_}
 use mathlib.Core.Bool.{Bool, true, false, _&&_}
-use Prim.Native.Nat.{ℕ, zero, suc, _+_, _-_, _*_, _≤_, _<_}
+use Prim.Native.Nat.{ℕ, zero, suc, _+_, _-_, _*_, _/_, _^_, _≤_, _<_}
 use native.Mathlib.Omega.{arith}
 use lib.ListN.{length, getD, take, drop}
 use lib.Dec.{ltb, eqb}
 use borrow.Author.Tests.{eq-eqb, ne-eqb, eqb-true, eqb-false, ltb-true, lt-ltb}
 use Rattle.meaning.specs.Text.{same}
-use Rattle.types.specs.Row.{tagged, bytes}
+use Rattle.types.specs.Row.{tagged, fourAt, bytes}
 use Rattle.types.proofs.Tell.{not-both}
 
 -- ---------------------------------------------------------------- the number of a few bytes, and of four and the rest
@@ -40,6 +40,20 @@ tagged-four (a ∷ []) l = absurd (omega arith)
 tagged-four (a ∷ b ∷ []) l = absurd (omega arith)
 tagged-four (a ∷ b ∷ c ∷ []) l = absurd (omega arith)
 tagged-four (a ∷ b ∷ c ∷ d ∷ k) l = omega arith
+
+-- of the last four of up to seven bytes, those that follow the first four, with the digit 1 above
+pub tagged-late : (k : List ℕ) → 4 ≤ length k → length k ≤ 7 → ((i : ℕ) → getD k i 0 < 256) → (v : ℕ) → v ≡ fourAt k (length k - 4)
+    → ((v + 4294967296) / 2 ^ (8 * (8 - length k)) ≡ tagged (drop 4 k)) × (tagged (drop 4 k) < 33554432)
+unfolding tagged
+tagged-late [] l m h v e = absurd (omega arith)
+tagged-late (a ∷ []) l m h v e = absurd (omega arith)
+tagged-late (a ∷ b ∷ []) l m h v e = absurd (omega arith)
+tagged-late (a ∷ b ∷ c ∷ []) l m h v e = absurd (omega arith)
+tagged-late (a ∷ b ∷ c ∷ d ∷ []) l m h v e = let p = h 0 in let q = h 1 in let r = h 2 in let s = h 3 in (omega arith, omega arith)
+tagged-late (a ∷ b ∷ c ∷ d ∷ x ∷ []) l m h v e = let q = h 1 in let r = h 2 in let s = h 3 in let t = h 4 in (omega arith, omega arith)
+tagged-late (a ∷ b ∷ c ∷ d ∷ x ∷ y ∷ []) l m h v e = let r = h 2 in let s = h 3 in let t = h 4 in let u = h 5 in (omega arith, omega arith)
+tagged-late (a ∷ b ∷ c ∷ d ∷ x ∷ y ∷ z ∷ []) l m h v e = let s = h 3 in let t = h 4 in let u = h 5 in let w = h 6 in (omega arith, omega arith)
+tagged-late (a ∷ b ∷ c ∷ d ∷ x ∷ y ∷ z ∷ o ∷ k) l m h v e = absurd (omega arith)
 
 -- ---------------------------------------------------------------- texts of bytes
 

@@ -12,6 +12,10 @@ unfoldable pub tagged : List ℕ → ℕ
 tagged [] = 1
 tagged (b ∷ s) = b + 256 * tagged s
 
+-- the four bytes from i on as digits
+abbrev pub fourAt : List ℕ → ℕ → ℕ
+fourAt k i = getD k i 0 + getD k (i + 1) 0 * 256 + getD k (i + 2) 0 * 65536 + getD k (i + 3) 0 * 16777216
+
 -- the name n has these three numbers
 abbrev pub hits : List ℕ → ℕ → ℕ → ℕ → Bool
 hits n a b c = eqb (tagged (take 7 n)) a && (eqb (tagged (take 7 (drop 7 n))) b && eqb (tagged (drop 7 (drop 7 n))) c)

@@ -64,7 +64,7 @@ pub fn width_of(code: u64) -> u64
 fn logical_index(k: &[u8]) -> usize
     ensures { λ r. ⌜ r ≡ known.position known.logicalNames (now (k .entry)) ⌝ }
 {
-    let w = row::words_of(&k[0..]);
+    let w = row::any_words(&k[0..]);
     row::found(&tables::LOGICAL, w.a, w.b, w.c)
 }
 

@@ -2,8 +2,8 @@
 use endian::wide;
 ghost use mathlib.Core.Path.{_≡_};
 ghost use Prim.Native.Nat.{_+_, _≤_, _<_};
-ghost use lib.ListN.{length};
-ghost use Rattle.types.specs.Row.{tagged as taggedOf, Tells, isRow, found as foundIn, digitOf};
+ghost use lib.ListN.{length, drop};
+ghost use Rattle.types.specs.Row.{tagged as taggedOf, fourAt, Tells, isRow, found as foundIn, digitOf};
 
 pub struct Words {
     pub a: u64,
@@ -32,7 +32,26 @@ fn few(k: &[u8]) -> u64
     a + b * 256 + c * 65536 + 16777216
 }
 
-// At most seven bytes as one number: four at once, and what follows them.
+// The four bytes from i on as one number, the first byte the lowest.
+fn four(k: &[u8], i: usize) -> u64
+    requires { ⌜ i + 4 ≤ length (now k) ⌝ }
+    ensures { λ r. ⌜ (r ≡ fourAt (now (k .entry)) i) × (r < 4294967296) ⌝ }
+{
+    wide(k[i]) + wide(k[i + 1]) * 256 + wide(k[i + 2]) * 65536 + wide(k[i + 3]) * 16777216
+}
+
+// Of four to seven bytes those after the first four as one number, without a branch: the last four, with the digit 1 above, less those that are among the first.
+fn after_four(k: &[u8]) -> u64
+    requires { ⌜ (4 ≤ length (now k)) × (length (now k) ≤ 7) ⌝ }
+    ensures { λ r. ⌜ (r ≡ taggedOf (drop 4 (now (k .entry)))) × (r < 33554432) ⌝ }
+{
+    let n = k.len();
+    let last = four(k, n - 4) + 4294967296;
+    let common = 8 * (8 - n as u64);
+    last >> common
+}
+
+// At most seven bytes as one number.
 fn tagged(k: &[u8]) -> u64
     requires { ⌜ length (now k) ≤ 7 ⌝ }
     ensures { λ r. ⌜ r ≡ taggedOf (now (k .entry)) ⌝ }
@@ -40,16 +59,11 @@ fn tagged(k: &[u8]) -> u64
     if k.len() < 4 {
         return few(&k[0..]);
     }
-    let a = wide(k[0]);
-    let b = wide(k[1]);
-    let c = wide(k[2]);
-    let d = wide(k[3]);
-    let more = few(&k[4..]);
-    a + b * 256 + c * 65536 + d * 16777216 + more * 4294967296
+    four(k, 0) + after_four(k) * 4294967296
 }
 
 // The numbers of a text's first seven bytes, of the next seven and of the rest. No name that is known is longer than 21 bytes or has a 0 there.
-pub fn words_of(k: &[u8]) -> Words
+pub fn any_words(k: &[u8]) -> Words
     ensures { λ r. ⌜ Tells (r .a) (r .b) (r .c) (now (k .entry)) ⌝ }
 {
     let n = k.len();
@@ -75,6 +89,20 @@ pub fn words_of(k: &[u8]) -> Words
         };
     }
     Words { a: 0, b: 0, c: 0 }
+}
+
+// The same numbers, with short texts first: this is small enough to be inlined.
+pub fn words_of(k: &[u8]) -> Words
+    ensures { λ r. ⌜ Tells (r .a) (r .b) (r .c) (now (k .entry)) ⌝ }
+{
+    if k.len() <= 7 {
+        return Words {
+            a: tagged(&k[0..]),
+            b: 1,
+            c: 1,
+        };
+    }
+    any_words(&k[0..])
 }
 
 // The row that begins at `at` is a, b, c.

@@ -21,8 +21,8 @@ pub enum Opening {
     Opened(u64, u64, usize),
 }
 
-// The whole text that begins s.
-pub fn text(s: &[u8]) -> Letters
+// The whole text that begins s, with any head.
+fn any_text(s: &[u8]) -> Letters
     ensures { λ r. ⌜ places.Inside (now (s .entry)) r × places.TextIs (now (s .entry)) r ⌝ }
 {
     if s.len() == 0 {
@@ -43,6 +43,25 @@ pub fn text(s: &[u8]) -> Letters
         return Letters::NoText;
     }
     Letters::Text(h.size, h.value as usize)
+}
+
+// The whole text that begins s. Short text is seen at once; two calls of `any_text` keep it apart, so that this is small enough to be inlined.
+pub fn text(s: &[u8]) -> Letters
+    ensures { λ r. ⌜ places.Inside (now (s .entry)) r × places.TextIs (now (s .entry)) r ⌝ }
+{
+    if s.len() == 0 {
+        return any_text(&s[0..]);
+    }
+    let b = s[0];
+    if 96 <= b {
+        if b < 120 {
+            let n = (b - 96) as usize;
+            if n < s.len() {
+                return Letters::Text(1, n);
+            }
+        }
+    }
+    any_text(&s[0..])
 }
 
 // The unsigned integer that begins s.
@@ -79,8 +98,8 @@ pub fn null(s: &[u8]) -> bool
     false
 }
 
-// The map that begins s.
-pub fn map(s: &[u8]) -> Opening
+// The map that begins s, with any head.
+fn any_map(s: &[u8]) -> Opening
     ensures { λ r. ⌜ places.MapIs (now (s .entry)) r ⌝ }
 {
     if s.len() == 0 {
@@ -101,6 +120,22 @@ pub fn map(s: &[u8]) -> Opening
         return Opening::Opened(2, h.value, h.size);
     }
     Opening::Opened(0, cbor::doubled(h.value), h.size)
+}
+
+// The map that begins s. A short one is seen at once, as in `text`.
+pub fn map(s: &[u8]) -> Opening
+    ensures { λ r. ⌜ places.MapIs (now (s .entry)) r ⌝ }
+{
+    if s.len() == 0 {
+        return any_map(&s[0..]);
+    }
+    let b = s[0];
+    if 160 <= b {
+        if b < 184 {
+            return Opening::Opened(0, cbor::doubled((b - 160) as u64), 1);
+        }
+    }
+    any_map(&s[0..])
 }
 
 // The array that begins s.

@@ -1,8 +1,8 @@
--- `cbor::skip` meets its contract: short text by its first byte, anything else as one item that is due.
+-- `cbor::skip` meets its contract: short text by its first byte, anything else by `skip_value`.
 use mathlib.Core.Path.{ap, sym, _∙_}
 use borrow.Rule.Slice.PartAt.{part-to-end}
 use native.Mathlib.Omega.{arith}
-use Rattle.cbor.specs.Ending.{code, rest}
+use Rattle.cbor.specs.Ending.{code, itemEnd}
 use Rattle.cbor.proofs.FirstByte as first
 use Rattle.cbor.proofs.Rest as due
 use borrow.Author.Needs.{needs}
@@ -10,7 +10,7 @@ use Rattle.cbor.proofs.skip.Statement.{statement}
 use Rattle.cbor.proofs.skip.Tie as tie
 use Rattle.cbor.proofs.skip.Reads as reads
 use Rattle.cbor.proofs.skip.Lts as lts
-use Rattle.cbor.proofs.items.Reads as items-reads
+use Rattle.cbor.proofs.skip_value.Reads as skip-value-reads
 use Rattle.cbor.proofs.low_of.Reads as low-of-reads
 use Rattle.cbor.proofs.string_end.Reads as string-end-reads
 
@@ -27,5 +27,5 @@ skip-spec =
     (λ c. search needs)
     (λ c. search needs)
     (λ c. search needs)
-    (λ c κs. λ h. absurd (omega arith))
-    (λ c. let s = ((c .before .before .before .before .before .before .args .s .now)) in ((c .items .ensures)) ∙ ap (λ x. code (rest 0 1 ((c .before .before .before .before .before .before .args .left)) x)) (part-to-end s 0) ∙ ap code (due.one-due ((c .before .before .before .before .before .before .args .left)) s)))
+    (λ c κs. search needs)
+    (λ c. let s = ((c .before .before .before .before .before .before .args .s .now)) in ((c .skip-value .ensures)) ∙ ap (λ x. code (itemEnd ((c .before .before .before .before .before .before .args .left)) x)) (part-to-end s 0)))

@@ -18,4 +18,4 @@ logical-index-spec =
     (λ c κs. search needs)
     (λ c. search needs)
     (λ c κs. search needs)
-    (λ c. unfold logicals tagged rowsOf in named _ _ _ (c .before .before .before .before .before .args .k .now) _ _ logicalNames (record { are = refl; hold = refl }) (c .before .before .words-of .ensures) (c .found .ensures)))
+    (λ c. unfold logicals tagged rowsOf in named _ _ _ (c .before .before .before .before .before .args .k .now) _ _ logicalNames (record { are = refl; hold = refl }) (c .before .before .any-words .ensures) (c .found .ensures)))

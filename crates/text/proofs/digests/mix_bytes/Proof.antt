@@ -1,6 +1,6 @@
 -- `text::digests::mix_bytes` meets its contract. The loop's invariant: what is left to mix into h gives the digest. Assumes nothing.
 use Prim.Native.Nat.{_+_, _-_, _≤_}
-use mathlib.Core.Path.{_≡_, refl, sym, ap, _∙_}
+use mathlib.Core.Path.{_≡_, refl, sym, _∙_}
 use native.Mathlib.Omega.{arith}
 use lib.ListN.{length}
 use borrow.Author.Needs.{needs}
@@ -11,7 +11,7 @@ use Rattle.text.proofs.digests.mix_bytes.Statement.{statement}
 use Rattle.text.proofs.digests.mix_bytes.Tie as tie
 
 abbrev Inv-loop : tie.InvT-loop
-Inv-loop t n left₀ i₀ h₀ left i h = (i + left ≤ length t) × (mixedIn 1 (length t) t 0 (length t) ≡ mixedIn 1 left t i h)
+Inv-loop t n left₀ i₀ h₀ left i h = (i + left ≤ length t) × (mixedIn 1 1 (length t) t 0 (length t) ≡ mixedIn 1 1 left t i h)
 
 abbrev μ-loop : tie.MeasureT-loop
 μ-loop t n left₀ i₀ h₀ left i h = left
@@ -29,5 +29,5 @@ mix-bytes-spec =
     (λ c. search needs)
     (λ c. search needs)
     (λ c. search needs)
-    (λ c. (omega arith, (c .before .before .before .before .loop .inv .1) ∙ steps.one-more 1 (c .before .before .before .before .loop .left) (c .before .before .before .before .before .before .args .t .now) (c .before .before .before .before .loop .i) (c .before .before .before .before .loop .h) _ (omega arith) ((c .before .wide .ensures .0) ∙ sym (numbers.word-one (c .before .before .before .before .before .before .args .t .now) (c .before .before .before .before .loop .i))) ∙ ap (mixedIn 1 ((c .before .before .before .before .loop .left) - 1) (c .before .before .before .before .before .before .args .t .now) ((c .before .before .before .before .loop .i) + 1)) (sym (c .mix .ensures))))
-    (λ c. unfold ofBytes in sym ((c .before .loop .inv .1) ∙ steps.no-more 1 (c .before .loop .left) (c .before .before .before .args .t .now) (c .before .loop .i) (c .before .loop .h) (omega arith))))
+    (λ c. (omega arith, (c .before .before .before .before .loop .inv .1) ∙ steps.one-more 1 1 (c .before .before .before .before .loop .left) (c .before .before .before .before .before .before .args .t .now) (c .before .before .before .before .loop .i) (c .before .before .before .before .loop .h) _ _ _ (omega arith) refl ((c .before .wide .ensures .0) ∙ sym (numbers.word-one (c .before .before .before .before .before .before .args .t .now) (c .before .before .before .before .loop .i))) (c .mix .ensures)))
+    (λ c. unfold ofBytes in sym ((c .before .loop .inv .1) ∙ steps.no-more 1 1 (c .before .loop .left) (c .before .before .before .args .t .now) (c .before .loop .i) (c .before .loop .h) (omega arith))))

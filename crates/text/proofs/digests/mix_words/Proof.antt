@@ -1,20 +1,21 @@
--- `text::digests::mix_words` meets its contract. The loop's invariant: what is left to mix into h gives the digest. Assumes nothing.
-use Prim.Native.Nat.{_+_, _-_, _*_, _/_, _≤_}
-use mathlib.Core.Path.{_≡_, refl, sym, ap, ap₂, _∙_}
-use native.Mathlib.Omega.{arith}
-use lib.ListN.{length}
-use borrow.Author.Needs.{needs}
-use Rattle.text.proofs.DigestSteps as steps
+-- `text::digests::mix_words` meets its contract. The loop's invariant: what is left to mix into g and h gives every other word's digest. Assumes nothing.
+use Rattle.text.specs.Digest.{mixed, mixedIn, everyOther, ofWords}
 use Rattle.text.proofs.WordsDecide as words
-use Rattle.text.specs.Digest.{mixed, mixedIn, ofWords}
+use Rattle.text.proofs.DigestSteps as steps
+use Rattle.endian.specs.Word.{word}
+use lib.ListN.{length}
+use native.Mathlib.Omega.{arith}
+use mathlib.Core.Path.{_≡_, refl, sym, ap, ap₂, _∙_}
+use Prim.Native.Nat.{_+_, _-_, _*_, _≤_}
+use borrow.Author.Needs.{needs}
 use Rattle.text.proofs.digests.mix_words.Statement.{statement}
 use Rattle.text.proofs.digests.mix_words.Tie as tie
 
 abbrev Inv-loop : tie.InvT-loop
-Inv-loop t n last left₀ i₀ h₀ left i h = (i + 8 * left ≤ length t) × (mixedIn 8 (length t / 8) t 0 (length t) ≡ mixedIn 8 left t i h)
+Inv-loop t n last before left₀ i₀ g₀ h₀ left i g h = (i + 16 * left ≤ length t) × (everyOther t 0 ≡ mixedIn 8 16 left t i g) × (everyOther t 8 ≡ mixedIn 8 16 left t (i + 8) h)
 
 abbrev μ-loop : tie.MeasureT-loop
-μ-loop t n last left₀ i₀ h₀ left i h = left
+μ-loop t n last before left₀ i₀ g₀ h₀ left i g h = left
 
 pub mix-words-spec : {M : Type 1} → statement M
 mix-words-spec =
@@ -23,7 +24,9 @@ mix-words-spec =
     Inv-loop
     μ-loop
     (λ c. search needs)
-    (λ c. (omega arith, refl))
+    (λ c κs. search needs)
+    (λ c. (omega arith, refl, refl))
+    (λ c. search needs)
     (λ c. search needs)
     (λ c. search needs)
     (λ c. search needs)
@@ -32,10 +35,21 @@ mix-words-spec =
     (λ c. search needs)
     (λ c. search needs)
     (λ c. search needs)
-    (λ c. (omega arith, (c .before .before .before .before .loop .inv .1) ∙ steps.one-more 8 (c .before .before .before .before .loop .left) (c .before .before .before .before .before .before .args .t .now) (c .before .before .before .before .loop .i) (c .before .before .before .before .loop .h) _ (omega arith) ((c .before .be8 .ensures) ∙ words.word-part 8 (c .before .before .before .before .before .before .args .t .now) (c .before .before .before .before .loop .i)) ∙ ap (mixedIn 8 ((c .before .before .before .before .loop .left) - 1) (c .before .before .before .before .before .before .args .t .now) ((c .before .before .before .before .loop .i) + 8)) (sym (c .mix .ensures))))
+    (λ c κs. search needs)
+    (λ c κs. search needs)
+    (λ c. search needs)
+    (λ c. search needs)
+    (λ c. search needs)
+    (λ c. let t = ((c .before .before .before .before .before .before .before .before .before .before .args .t .now)) in let i = ((c .before .before .before .before .before .before .before .loop .i)) in (omega arith, ((c .before .before .before .before .before .before .before .loop .inv .1)) ∙ steps.one-more 8 16 ((c .before .before .before .before .before .before .before .loop .left)) t i ((c .before .before .before .before .before .before .before .loop .g)) _ _ _ (omega arith) refl (((c .before .before .before .before .be8 .ensures)) ∙ words.word-part 8 t i) ((c .before .before .before .mix .ensures)), ((c .before .before .before .before .before .before .before .loop .inv .2)) ∙ steps.one-more 8 16 ((c .before .before .before .before .before .before .before .loop .left)) t (i + 8) ((c .before .before .before .before .before .before .before .loop .h)) (i + 16 + 8) _ _ (omega arith) (omega arith) (((c .before .be82 .ensures)) ∙ words.word-part 8 t (i + 8)) ((c .mix2 .ensures))))
     (λ c. search needs)
     (λ c. search needs)
     (λ c. search needs)
     (λ c κs. search needs)
     (λ c κs. search needs)
-    (λ c. unfold ofWords in (c .mix2 .ensures) ∙ ap₂ mixed (sym ((c .before .before .before .before .loop .inv .1) ∙ steps.no-more 8 (c .before .before .before .before .loop .left) (c .before .before .before .before .before .before .args .t .now) (c .before .before .before .before .loop .i) (c .before .before .before .before .loop .h) (omega arith))) ((c .before .be82 .ensures) ∙ words.word-part 8 (c .before .before .before .before .before .before .args .t .now) (length (c .before .before .before .before .before .before .args .t .now) - 8))))
+    (λ c. search needs)
+    (λ c. search needs)
+    (λ c. search needs)
+    (λ c κs. search needs)
+    (λ c κs. search needs)
+    (λ c κs. search needs)
+    (λ c. unfold ofWords in ((c .mix5 .ensures)) ∙ ap₂ mixed (((c .before .mix4 .ensures)) ∙ ap₂ mixed (((c .before .before .before .before .mix3 .ensures)) ∙ ap₂ mixed (sym (((c .before .before .before .before .before .before .before .before .loop .inv .1)) ∙ steps.no-more 8 16 ((c .before .before .before .before .before .before .before .before .loop .left)) ((c .before .before .before .before .before .before .before .before .before .before .before .args .t .now)) ((c .before .before .before .before .before .before .before .before .loop .i)) ((c .before .before .before .before .before .before .before .before .loop .g)) (omega arith))) (((c .before .before .before .before .before .be83 .ensures)) ∙ words.word-part 8 ((c .before .before .before .before .before .before .before .before .before .before .before .args .t .now)) ((c .before .before .before .before .before .before .before .before .before .eight-less .result)) ∙ ap (λ i. word 8 ((c .before .before .before .before .before .before .before .before .before .before .before .args .t .now)) i 0) (omega arith))) (((c .before .before .be84 .ensures)) ∙ words.word-part 8 ((c .before .before .before .before .before .before .before .before .before .before .before .args .t .now)) (length ((c .before .before .before .before .before .before .before .before .before .before .before .args .t .now)) - 8))) (sym (((c .before .before .before .before .before .before .before .before .loop .inv .2)) ∙ steps.no-more 8 16 ((c .before .before .before .before .before .before .before .before .loop .left)) ((c .before .before .before .before .before .before .before .before .before .before .before .args .t .now)) (((c .before .before .before .before .before .before .before .before .loop .i)) + 8) ((c .before .before .before .before .before .before .before .before .loop .h)) (omega arith)))))

@@ -1,6 +1,9 @@
--- `types::row::words_of` meets its contract: three numbers tell a text of at most 21 bytes, by the law `tagged-same`. Assumes nothing.
-use Rattle.types.proofs.Named as laws
+-- `types::row::words_of` meets its contract: a short text by its one number, any other by `any_words`.
 use Rattle.types.proofs.Tagged.{bytes-of}
+use Rattle.types.proofs.Named as laws
+use Rattle.types.specs.Row.{Tells}
+use borrow.Rule.Slice.PartAt.{part-to-end}
+use mathlib.Core.Path.{subst}
 use native.Mathlib.Omega.{arith}
 use borrow.Author.Needs.{needs}
 use Rattle.types.proofs.row.words_of.Statement.{statement}
@@ -14,27 +17,9 @@ words-of-spec =
     (λ c. search needs)
     (λ c. search needs)
     (λ c κs. search needs)
-    (λ c. laws.tells-one (c .before .before .before .before .args .k .now) (bytes-of (c .before .before .before .before .args .k .now) (λ i. omega (arith, (c .before .before .before .shared-slice-known .given) i))) _ (c .before .before .if1 .taken) (c .tagged .ensures))
+    (λ c. laws.tells-one ((c .before .before .before .before .args .k .now)) (bytes-of ((c .before .before .before .before .args .k .now)) (λ i. omega (arith, ((c .before .before .before .shared-slice-known .given)) i))) _ ((c .before .before .if1 .taken)) ((c .tagged .ensures)))
     (λ c. search needs)
     (λ c. search needs)
     (λ c. search needs)
     (λ c κs. search needs)
-    (λ c. search needs)
-    (λ c. search needs)
-    (λ c. search needs)
-    (λ c κs. search needs)
-    (λ c. laws.tells-two (c .before .before .before .before .before .before .before .args .k .now) (bytes-of (c .before .before .before .before .before .before .before .args .k .now) (λ i. omega (arith, (c .before .before .before .before .before .before .shared-slice-known .given) i))) _ _ (c .before .before .before .before .if2 .taken) (c .before .before .tagged2 .ensures) (c .tagged3 .ensures))
-    (λ c. search needs)
-    (λ c. search needs)
-    (λ c. search needs)
-    (λ c κs. search needs)
-    (λ c. search needs)
-    (λ c. search needs)
-    (λ c. search needs)
-    (λ c κs. search needs)
-    (λ c. search needs)
-    (λ c. search needs)
-    (λ c. search needs)
-    (λ c κs. search needs)
-    (λ c. laws.tells-three (c .before .before .before .before .before .before .before .before .before .before .args .k .now) (bytes-of (c .before .before .before .before .before .before .before .before .before .before .args .k .now) (λ i. omega (arith, (c .before .before .before .before .before .before .before .before .before .shared-slice-known .given) i))) _ _ _ (c .before .before .before .before .tagged4 .ensures) (c .before .before .tagged5 .ensures) (c .tagged6 .ensures))
-    (λ c. laws.tells-long (c .before .before .before .before .args .k .now) (c .if3 .left)))
+    (λ c. subst (λ k. Tells ((c .any-words .result .a)) ((c .any-words .result .b)) ((c .any-words .result .c)) k) (part-to-end ((c .before .before .before .before .args .k .now)) 0) ((c .any-words .ensures))))
