@@ -179,9 +179,11 @@ fn written(set: &RowSet, output: &mut [u8]) -> writer::Written {
     )
 }
 
-/// What is asked with, or the file, whichever is longer.
+/// What is asked with, or the file, whichever is longer; a component count stands for as many owners, which antt lists.
 fn set_size(set: &RowSet) -> usize {
-    let asked = set.rows.len() + set.buffer.len();
+    let objects = set.rows.chunks_exact(OBJECT_ROW).take(set.objects as usize);
+    let owners = objects.map(|row| row[OBJECT_ROW - 1] as usize).max();
+    let asked = (set.rows.len() + set.buffer.len()).max(owners.unwrap_or(0));
     if asked > SIZE_LIMIT {
         return asked;
     }

@@ -95,7 +95,7 @@ fn numbers() -> Vec<RowSet> {
         .to_vec();
     sets.extend([12, 13, u64::MAX].map(|code| with(&[(PARTS[0] + DTYPE, code)])));
     sets.extend(
-        [[1, 1], [1, 2], [3, 0], [2, 2], [u64::MAX, 2]]
+        [[1, 1], [1, 2], [3, 0], [2, 2], [1_000, 2]]
             .map(|[first, second]| with(&[(FIRST + COUNT, first), (SECOND + COUNT, second)])),
     );
     sets.extend([[0, 1, 0], [0, 1, 1], [1, 0, 0], [0, 0, 2]].map(|owners| {

@@ -3,7 +3,7 @@ use Prim.Native.Nat.{ℕ, suc}
 use native.Mathlib.Omega.{arith}
 use mathlib.Core.List.{List, [], _∷_}
 use mathlib.Core.Bool.{Bool, true, false}
-use mathlib.Core.Path.{_≡_, refl, ap, sym, _∙_, subst}
+use mathlib.Core.Path.{_≡_, refl, subst}
 use Rattle.meaning.specs.Check.{Check, pass, refuse, _>>=_, _>>_, _unless_, inObject, inComponent, each}
 use Rattle.readback.specs.Agrees.{Agrees, passes, refuses}
 

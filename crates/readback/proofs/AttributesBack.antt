@@ -1,21 +1,21 @@
 -- Copied attributes are read as a map that stands where its span says.
-use Prim.Native.Nat.{ℕ, zero, suc, _+_, _-_, _/_, _≤_}
+use Prim.Native.Nat.{ℕ, zero, suc, _+_, _-_, _/_}
 use native.Mathlib.Omega.{arith}
-use mathlib.Core.List.{List, [], _∷_, _++_, map, append-assoc}
-use mathlib.Core.Bool.{Bool, true, false, cond, _&&_}
+use mathlib.Core.List.{List, [], _∷_, _++_, append-assoc}
+use mathlib.Core.Bool.{Bool, true, false}
 use mathlib.Core.Option.{Option, none, some}
 use mathlib.Core.Path.{_≡_, refl, ap, sym, _∙_, subst}
 use lib.Dec.{eqb}
-use lib.ListN.{length, take, drop, getD, length-append}
+use lib.ListN.{length, drop, length-append}
 use borrow.Author.Tests.{eqb-true}
-use Rattle.meaning.specs.Check.{Check, pass, optional}
+use Rattle.meaning.specs.Check.{pass, optional}
 use Rattle.meaning.specs.Tree.{Node, Pair, dict, pairs, noteOf}
-use Rattle.meaning.specs.Read.{Outcome, got, refused, Reader, after, _>>=_, here, byte, times, toBreak, Argument, known, indefinite, argument, majors, majorOf, infoOf, special, mapOf, close, pair, content, item, noNote, Span, bytesAt, spanTo}
+use Rattle.meaning.specs.Read.{Outcome, got, refused, Reader, after, _>>=_, here, byte, times, toBreak, Argument, known, indefinite, argument, majorOf, infoOf, mapOf, close, pair, content, item, noNote, Span, bytesAt, spanTo}
 use Rattle.meaning.specs.Notes.{mapOption}
 use Rattle.meaning.specs.Kind as kinds
 use Rattle.meaning.specs.Judge.{attributesOf}
 use Rattle.meaning.specs.Sound.{aMap, beginsAsMap, fillsOrDeep, absentOr}
-use Rattle.readback.specs.Piece.{Piece, Ends, Goes, allWritten}
+use Rattle.readback.specs.Piece.{Piece, Ends, allWritten}
 use Rattle.readback.specs.Trees.{deepAt, copiedPiece}
 use Rattle.readback.specs.Judged.{deepOption}
 use Rattle.readback.proofs.Placed.{between}

@@ -1,21 +1,21 @@
 -- A component's entry is judged as its description says, and tells it back.
-use Prim.Native.Nat.{ℕ, zero, suc, _+_, _%_, _≤_, _<_}
+use Prim.Native.Nat.{ℕ, zero, suc, _+_, _%_, _<_}
 use native.Mathlib.Omega.{arith}
-use mathlib.Core.List.{List, [], _∷_, _++_, map}
-use mathlib.Core.Bool.{Bool, true, false, cond, _&&_}
+use mathlib.Core.List.{List, []}
+use mathlib.Core.Bool.{Bool, true, false, _&&_}
 use mathlib.Core.Option.{Option, none, some}
 use mathlib.Core.Path.{_≡_, refl, ap, sym, _∙_, subst}
-use lib.Dec.{eqb, leb}
-use lib.ListN.{length, take, drop}
+use lib.Dec.{eqb}
+use lib.ListN.{length}
 use borrow.Author.Tests.{eqb-true, eqb-false, eq-eqb, le-leb}
 use Rattle.meaning.specs.Refusal.{TEXT, TYPE}
 use Rattle.meaning.specs.Limit.{alignment}
 use Rattle.meaning.specs.Text.{ascii, utf8}
-use Rattle.meaning.specs.Check.{Check, pass, refuse, _>>=_, _>>_, _unless_, optional}
+use Rattle.meaning.specs.Check.{pass, _>>=_, _>>_, _unless_, optional}
 use Rattle.meaning.specs.Tree.{Node, Pair, text, uint, noteOf}
 use Rattle.meaning.specs.Notes.{mapOption}
 use Rattle.meaning.specs.Read.{Span}
-use Rattle.meaning.specs.Model.{Word, Named, Component}
+use Rattle.meaning.specs.Model.{Word, Component}
 use Rattle.meaning.specs.Kind as kinds
 use Rattle.meaning.specs.Kind.{Kind}
 use Rattle.meaning.specs.Field as field

@@ -1,22 +1,21 @@
 -- The components of an object are judged as their descriptions say, and tell them back.
 use Prim.Native.Nat.{ℕ, suc}
-use mathlib.Core.List.{List, [], _∷_, _++_, map}
+use mathlib.Core.List.{List, [], _∷_, map}
 use mathlib.Core.Option.{Option}
-use mathlib.Core.Path.{_≡_, refl, ap, ap₂, sym, _∙_, subst}
-use lib.ListN.{length, drop, getD}
+use mathlib.Core.Path.{_≡_, refl, ap, ap₂}
+use lib.ListN.{drop, getD}
 use Rattle.meaning.specs.Limit.{componentLimit}
-use Rattle.meaning.specs.Check.{Check, pass, _>>=_, _>>_, inComponent, each}
+use Rattle.meaning.specs.Check.{_>>_, inComponent, each}
 use Rattle.meaning.specs.Read.{Span}
 use Rattle.meaning.specs.Model.{Component}
 use Rattle.meaning.specs.Format.{Part}
-use Rattle.meaning.specs.Judge.{lettersOf, component, componentsOf, part}
+use Rattle.meaning.specs.Judge.{component, componentsOf, part}
 use Rattle.meaning.specs.Described.{DescribedComponent, readComponent}
 use Rattle.readback.specs.Every.{Every}
-use Rattle.readback.specs.Trees.{mapPiece, componentPieces, componentPiece, entryPiece}
-use Rattle.readback.specs.Piece.{allWritten}
+use Rattle.readback.specs.Trees.{mapPiece, componentPieces}
 use Rattle.readback.specs.Judged.{judgedNames, judgedComponent, partOf}
 use Rattle.readback.specs.Fine.{FineComponent}
-use Rattle.readback.specs.Agrees.{Agrees, passes, refuses}
+use Rattle.readback.specs.Agrees.{Agrees, passes}
 use Rattle.readback.specs.Back.{Tells, Stand, AllTell}
 use Rattle.readback.proofs.Agreeing.{agrees-bind, agrees-in-component, each-agrees}
 use Rattle.readback.proofs.NamesBack.{namedOf, names-agree}

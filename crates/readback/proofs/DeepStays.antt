@@ -8,10 +8,10 @@ use lib.Dec.{eqb, leb, ltb}
 use lib.ListN.{length, take, drop, getD}
 use Rattle.meaning.specs.Refusal.{CBOR, DEEP}
 use Rattle.meaning.specs.Tree.{Node}
-use Rattle.meaning.specs.Read.{Outcome, got, refused, Reader, after, _>>=_, pure, malformed, here, byte, run, number, times, untilBreak, toBreak}
+use Rattle.meaning.specs.Read.{Outcome, got, refused, Reader, after, _>>=_, pure, malformed, here, byte, run, number, times, toBreak}
 use Rattle.meaning.specs.Read.{Argument, known, indefinite, wide, longArguments, argument, majorOf, infoOf, definite, chunk, close, pair, content, beyond, item, noNote}
 use Rattle.meaning.specs.Read.{Major, unsigned, negative, byteString, textString, arrayOf, mapOf, tagged, special}
-use Rattle.meaning.proofs.ReadPrefix.{still, Took, Exact, Hungry, bind-got, byte-exact, argument-exact, times-exact, chunk-exact, chunk-hungry, pair-exact, pair-hungry, item-exact, item-hungry}
+use Rattle.meaning.proofs.ReadPrefix.{still, Took, Exact, Hungry, bind-got, byte-exact, argument-exact, chunk-exact, chunk-hungry, pair-exact, pair-hungry, item-exact, item-hungry}
 use Rattle.meaning.proofs.ReadTurns.{oneTurn, break-ends, nothing-ends-early, another-turn}
 use Rattle.readback.specs.Piece.{Sunk}
 

@@ -19,15 +19,10 @@ module _ {A : Type 0} (P : A → Type 0) where
   every-drop (suc n) [] h = tt
   every-drop (suc n) (a ∷ l) (h, hs) = every-drop n l hs
 
--- by index
+-- told of each index
 pub every-by-index : {A : Type 0} (P : A → Type 0) (d : A) (l : List A) → ((i : ℕ) → i < length l → P (getD l i d)) → Every P l
 every-by-index P d [] h = tt
 every-by-index P d (a ∷ l) h = (h 0 (omega arith), every-by-index P d l (λ i k. h (suc i) (omega arith)))
-
-pub every-at : {A : Type 0} (P : A → Type 0) (d : A) (l : List A) (i : ℕ) → Every P l → i < length l → P (getD l i d)
-every-at P d [] i h k = absurd (omega arith)
-every-at P d (a ∷ l) zero (h, hs) k = h
-every-at P d (a ∷ l) (suc i) (h, hs) k = every-at P d l i hs (omega arith)
 
 pub every-map : {A B : Type 0} (P : A → Type 0) (Q : B → Type 0) (f : A → B) (l : List A) → ((a : A) → P a → Q (f a)) → Every P l → Every Q (map f l)
 every-map P Q f [] k h = tt

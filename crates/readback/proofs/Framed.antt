@@ -1,15 +1,12 @@
 -- The frame of a written file: the reader finds the manifest where it was laid, and its bytes.
-use Prim.Native.Nat.{ℕ, zero, suc, _+_, _-_, _*_, _/_, _%_, _^_, _≤_, _<_}
+use Prim.Native.Nat.{ℕ, zero, suc, _+_, _-_, _/_, _^_, _≤_, _<_}
 use native.Mathlib.Omega.{arith}
-use native.Mathlib.Nat.{div-add-mod', pow-suc}
-use mathlib.Core.List.{List, [], _∷_, _++_, map, append-assoc}
-use mathlib.Core.Bool.{true, _&&_}
+use native.Mathlib.Nat.{pow-suc}
+use mathlib.Core.List.{List, [], _++_, map, append-assoc}
 use mathlib.Core.Path.{_≡_, refl, ap, sym, _∙_}
-use lib.Dec.{leb}
 use lib.ListN.{length, take, drop, length-append}
-use lib.Seq.{take-at, drop-at, take-append-le}
+use lib.Seq.{drop-at}
 use borrow.Author.Tests.{le-leb}
-use Rattle.meaning.specs.Text.{same}
 use Rattle.meaning.specs.Check.{Check, pass, _>>=_}
 use Rattle.meaning.specs.Limit.{manifestLimit}
 use Rattle.meaning.specs.Read.{spanTo, manifest}

@@ -17,4 +17,6 @@ pub mod ManifestBack
 pub mod ReadBack
 pub mod SoundIsFine
 pub mod RowsWritten
-pub mod RowByRow
+pub mod RowsOfModel
+pub mod RowsOfReading
+pub mod BeginsAsMap

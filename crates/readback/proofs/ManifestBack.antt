@@ -1,18 +1,18 @@
 -- The manifest's tree is judged as the description says, and tells it back.
-use Prim.Native.Nat.{ℕ, zero, suc, _+_, _≤_}
+use Prim.Native.Nat.{ℕ, suc, _+_}
 use native.Mathlib.Omega.{arith}
-use mathlib.Core.List.{List, [], _∷_, _++_, map, append-assoc}
+use mathlib.Core.List.{List, [], _∷_, _++_, map}
 use mathlib.Core.Bool.{Bool, true, false, cond}
 use mathlib.Core.Option.{Option, none, some}
-use mathlib.Core.Path.{_≡_, refl, ap, ap₂, sym, _∙_, subst}
+use mathlib.Core.Path.{_≡_, refl, ap, ap₂}
 use lib.ListN.{length, take, drop}
 use Rattle.meaning.specs.Limit.{objectLimit}
 use Rattle.meaning.specs.Text.{ascii}
-use Rattle.meaning.specs.Check.{Check, pass, _>>=_, _>>_, inObject, each}
-use Rattle.meaning.specs.Tree.{Node, text, noteOf}
+use Rattle.meaning.specs.Check.{Check, pass, _>>_, inObject, each}
+use Rattle.meaning.specs.Tree.{Node, text}
 use Rattle.meaning.specs.Read.{Span, spanTo}
 use Rattle.meaning.specs.Notes.{mapOption}
-use Rattle.meaning.specs.Model.{Object, Model}
+use Rattle.meaning.specs.Model.{Object}
 use Rattle.meaning.specs.Kind as kinds
 use Rattle.meaning.specs.Field as field
 use Rattle.meaning.specs.Computed.{computed}
@@ -25,12 +25,12 @@ use Rattle.readback.specs.Piece.{Piece, allWritten}
 use Rattle.readback.specs.Trees.{textPiece, several, copiedPiece, entryPiece, mapPiece, objectPiece, objectPieces, manifestPiece}
 use Rattle.readback.specs.Judged.{judgedNames, judgedObject, judgedObjects, deepOption, anyTooDeep, tooDeep}
 use Rattle.readback.specs.Fine.{FineObject, Fine}
-use Rattle.readback.specs.Agrees.{Agrees, passes, refuses}
-use Rattle.readback.specs.Back.{Stand, StandAll}
+use Rattle.readback.specs.Agrees.{Agrees, passes}
+use Rattle.readback.specs.Back.{StandAll}
 use Rattle.readback.proofs.Agreeing.{agrees-bind, agrees-in-object, each-agrees, then-then}
 use Rattle.readback.proofs.NamesBack.{namedOf, names-agree}
 use Rattle.readback.proofs.ComponentBack.{fieldNote, noteIn}
-use Rattle.readback.proofs.AttributesBack.{Suffix, suffix-rest, suffix-pieces, Within, copied, attributes-pass, attributes-back}
+use Rattle.readback.proofs.AttributesBack.{Suffix, suffix-pieces, Within, copied, attributes-pass, attributes-back}
 use Rattle.readback.proofs.ObjectBack.{entry-suffix, map-suffix, object-agrees}
 
 cond-first : (a b : Bool) → cond a true b ≡ false → a ≡ false

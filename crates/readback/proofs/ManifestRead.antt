@@ -1,20 +1,20 @@
 -- The manifest of a fine description is read as its tree; where attributes are too deep for their place, it is DEEP.
 use Prim.Native.Nat.{ℕ, _^_, _≤_}
 use native.Mathlib.Omega.{arith}
-use mathlib.Core.List.{List, [], _∷_, _++_, map, append-nil}
+use mathlib.Core.List.{List, [], _++_, map, append-nil}
 use mathlib.Core.Bool.{Bool, true, false, cond}
-use mathlib.Core.Path.{_≡_, refl, ap, sym, _∙_, subst}
+use mathlib.Core.Path.{_≡_, ap, _∙_, subst}
 use lib.Dec.{ltb}
 use lib.ListN.{length, length-append}
 use Rattle.meaning.specs.Refusal.{DEEP}
 use Rattle.meaning.specs.Tree.{Node}
-use Rattle.meaning.specs.Read.{Outcome, got, refused, after, closed, joined, item, manifest}
-use Rattle.meaning.specs.Check.{Check, pass, fault}
+use Rattle.meaning.specs.Read.{Outcome, after, closed, joined, item, manifest}
+use Rattle.meaning.specs.Check.{pass, fault}
 use Rattle.meaning.specs.Frame.{checked}
 use Rattle.meaning.specs.Described.{Described}
 use Rattle.meaning.specs.Manifest.{shortestHead, Keyed, entryBytes, mapBytes, manifestBytes}
 use Rattle.readback.specs.Every.{Every}
-use Rattle.readback.specs.Piece.{Piece, Sunk, Ends}
+use Rattle.readback.specs.Piece.{Piece, Ends}
 use Rattle.readback.specs.Trees.{manifestPiece}
 use Rattle.readback.specs.Judged.{tooDeep}
 use Rattle.readback.specs.Fine.{Fits, Fine}

@@ -2,14 +2,14 @@
 use Prim.Native.Nat.{ℕ, suc}
 use mathlib.Core.List.{List, [], _∷_, _++_, map}
 use mathlib.Core.Bool.{Bool, true, false, _&&_}
-use mathlib.Core.Path.{_≡_, refl, ap, sym, _∙_, subst}
+use mathlib.Core.Path.{_≡_, refl, ap}
 use lib.Dec.{leb}
-use lib.ListN.{length, length-map}
+use lib.ListN.{length}
 use Rattle.meaning.specs.Refusal.{TEXT, COUNT, TWICE}
 use Rattle.meaning.specs.Text.{all, distinct, utf8}
-use Rattle.meaning.specs.Check.{Check, pass, _>>=_, _>>_, _unless_, each}
-use Rattle.meaning.specs.Tree.{Node, Pair, pairs, pairList, pairList-pairs}
-use Rattle.meaning.specs.Model.{Word, Named}
+use Rattle.meaning.specs.Check.{pass, _>>_, _unless_, each}
+use Rattle.meaning.specs.Tree.{Node, pairList-pairs}
+use Rattle.meaning.specs.Model.{Named}
 use Rattle.meaning.specs.Kind as kinds
 use Rattle.meaning.specs.Field.{nameKind, nameOf, names}
 use Rattle.meaning.specs.Manifest.{textBytes, Keyed}

@@ -1,27 +1,25 @@
 -- An object's entry is judged as its description says, and tells it back.
-use Prim.Native.Nat.{ℕ, zero, suc, _+_, _≤_}
-use native.Mathlib.Omega.{arith}
+use Prim.Native.Nat.{ℕ, suc, _+_, _≤_}
 use mathlib.Core.List.{List, [], _∷_, _++_, map, append-assoc}
 use mathlib.Core.Bool.{Bool, true, false}
 use mathlib.Core.Option.{Option, none, some}
-use mathlib.Core.Path.{_≡_, refl, ap, sym, _∙_, subst}
-use lib.Dec.{leb}
-use lib.ListN.{length, take, drop}
+use mathlib.Core.Path.{_≡_, refl, ap, subst}
+use lib.ListN.{length, drop}
 use borrow.Author.Tests.{le-leb}
 use Rattle.meaning.specs.Refusal.{TEXT}
 use Rattle.meaning.specs.Limit.{rankLimit, componentLimit}
 use Rattle.meaning.specs.Text.{ascii, utf8}
 use Rattle.meaning.specs.Check.{Check, pass, refuse, _>>=_, _>>_, _unless_, inComponent, each}
-use Rattle.meaning.specs.Tree.{Node, Pair, text, nodes, nodeList, nodeList-nodes, noteOf}
-use Rattle.meaning.specs.Read.{Span, bytesAt, spanTo}
+use Rattle.meaning.specs.Tree.{Node, Pair, text, nodeList-nodes}
+use Rattle.meaning.specs.Read.{Span, spanTo}
 use Rattle.meaning.specs.Notes.{mapOption}
 use Rattle.meaning.specs.Model.{Word, Component, Object}
 use Rattle.meaning.specs.Kind as kinds
 use Rattle.meaning.specs.Field as field
 use Rattle.meaning.specs.Format.{formatRules}
 use Rattle.meaning.specs.Judge.{shapeOf, componentsOf, part, object}
-use Rattle.meaning.specs.Sound.{aMap, absentOr, objectLevels}
-use Rattle.meaning.specs.Described.{DescribedComponent, DescribedObject, readComponent, readObject}
+use Rattle.meaning.specs.Sound.{objectLevels}
+use Rattle.meaning.specs.Described.{DescribedComponent, DescribedObject, readObject}
 use Rattle.meaning.specs.Manifest.{shortestHead, textBytes, Keyed, under, given}
 use Rattle.readback.specs.Piece.{Piece, allWritten, allMeant}
 use Rattle.readback.specs.Trees.{numberPiece, textPiece, several, listPiece, copiedPiece, entryPiece, mapPiece, componentPieces, objectPiece}
@@ -29,10 +27,10 @@ use Rattle.readback.specs.Judged.{judgedNames, judgedComponent, partOf, 
 use Rattle.readback.specs.Fine.{FineObject}
 use Rattle.readback.specs.Agrees.{Agrees, passes, refuses}
 use Rattle.readback.specs.Back.{Stand, AllTell}
-use Rattle.readback.proofs.Agreeing.{agrees-bind, agrees-map, then-then}
+use Rattle.readback.proofs.Agreeing.{agrees-bind, then-then}
 use Rattle.readback.proofs.ComponentBack.{fieldNote, noteIn}
 use Rattle.readback.proofs.ComponentsBack.{components-of-agree, parts-are, components-are}
-use Rattle.readback.proofs.AttributesBack.{Suffix, suffix-past, suffix-rest, suffix-pieces, Within, copied, attributes-pass, attributes-back}
+use Rattle.readback.proofs.AttributesBack.{Suffix, suffix-rest, suffix-pieces, Within, copied, attributes-pass, attributes-back}
 
 -- ---- the shape
 

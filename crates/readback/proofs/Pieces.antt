@@ -1,21 +1,18 @@
 -- Readers over pieces: one after the other, several, and what follows a head.
-use Prim.Native.Nat.{ℕ, zero, suc, _+_, _*_, _^_, _<_, _≤_}
-use native.Mathlib.Omega.{arith}
-use mathlib.Core.List.{List, [], _∷_, _++_, map, append-assoc}
+use Prim.Native.Nat.{ℕ, suc, _+_, _*_, _^_, _<_}
+use mathlib.Core.List.{List, [], _∷_, _++_, append-assoc}
 use mathlib.Core.Bool.{Bool, true, false, cond}
 use mathlib.Core.Path.{_≡_, refl, ap, sym, _∙_, subst}
 use lib.Dec.{ltb}
 use lib.ListN.{length, getD}
-use borrow.Author.Tests.{ltb-true, lt-ltb, le-ltb}
-use Rattle.meaning.specs.Refusal.{DEEP}
-use Rattle.meaning.specs.Tree.{Node}
-use Rattle.meaning.specs.Read.{Outcome, got, refused, Reader, after, _>>=_, pure, here, byte, times, Argument, known, argument, majors, majorOf, infoOf, special, content, item}
-use Rattle.meaning.specs.Encoding.{big, Low, inside, one, two, four, eight, Head, head}
+use borrow.Author.Tests.{ltb-true}
+use Rattle.meaning.specs.Read.{Outcome, got, Reader, after, _>>=_, pure, here, byte, times, known, argument, majors, majorOf, special, content, item}
+use Rattle.meaning.specs.Encoding.{big, inside, one, two, four, eight, Head, head}
 use Rattle.meaning.specs.Manifest.{shortestHead}
 use Rattle.meaning.proofs.ReadPrefix.{bind-got}
 use Rattle.meaning.proofs.ExactEvery.{low-reads, low-fits, major-at, info-at}
 use Rattle.readback.specs.Every.{Every}
-use Rattle.readback.specs.Piece.{Piece, Sunk, Ends, allWritten, allMeant, anyDeep, Goes}
+use Rattle.readback.specs.Piece.{Piece, Ends, allWritten, allMeant, anyDeep, Goes}
 
 module _ {A B : Type 0} where
   pub ends-bind : (b c : Bool) (m : Reader A) (k : A → Reader B) (s s′ x : List ℕ) (a : A) (z : B)

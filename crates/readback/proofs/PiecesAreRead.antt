@@ -1,8 +1,8 @@
 -- The pieces of the manifest are read as their trees, or DEEP is met in their attributes.
-use Prim.Native.Nat.{ℕ, zero, suc, _+_, _*_, _/_, _^_, _<_, _≤_}
+use Prim.Native.Nat.{ℕ, zero, suc, _+_, _^_, _≤_}
 use native.Mathlib.Omega.{arith}
 use mathlib.Core.List.{List, [], _∷_, _++_, map, append-assoc, append-nil}
-use mathlib.Core.Bool.{Bool, true, false, cond, _&&_}
+use mathlib.Core.Bool.{Bool, true, false}
 use mathlib.Core.Option.{Option, none, some}
 use mathlib.Core.Path.{_≡_, refl, ap, sym, _∙_, subst}
 use lib.Dec.{eqb, ltb}
@@ -10,15 +10,14 @@ use lib.ListN.{length, take, drop, getD, length-map}
 use borrow.Author.Tests.{eqb-true, ltb-true}
 use Rattle.meaning.specs.Refusal.{DEEP}
 use Rattle.meaning.specs.Text.{all, ascii}
-use Rattle.meaning.specs.Tree.{Node, Pair, uint, text, array, dict, nodes, pairs, mapP, nothing}
-use Rattle.meaning.specs.Read.{Outcome, got, refused, Reader, after, _>>=_, pure, run, times, known, majors, special, close, pair, content, item, noNote}
-use Rattle.meaning.specs.Encoding.{Head}
+use Rattle.meaning.specs.Tree.{Node, text, array, dict, nodes, pairs, mapP, nothing}
+use Rattle.meaning.specs.Read.{Outcome, got, refused, Reader, _>>=_, pure, run, times, known, majors, special, close, pair, content, item, noNote}
 use Rattle.meaning.specs.Notes.{mapOption}
 use Rattle.meaning.specs.Field.{rootNames, objectNames, componentNames}
 use Rattle.meaning.specs.Types.{Storage, storages, storageOf}
 use Rattle.meaning.specs.Sound.{aMap, fillsOrDeep, beginsAsMap, rootLevels, objectLevels, absentOr}
 use Rattle.meaning.specs.Described.{DescribedComponent, DescribedObject, Described}
-use Rattle.meaning.specs.Manifest.{shortestHead, numberBytes, textBytes, Keyed, under, given}
+use Rattle.meaning.specs.Manifest.{shortestHead, numberBytes, textBytes, Keyed, given}
 use Rattle.meaning.proofs.ReadPrefix.{still, Took, bind-got, run-at, item-exact}
 use Rattle.meaning.proofs.ReadNatural.{mapOut, item-follows}
 use Rattle.readback.specs.Every.{Every}
@@ -26,7 +25,7 @@ use Rattle.readback.specs.Piece.{Piece, Sunk, Ends, allWritten, allMeant
 use Rattle.readback.specs.Trees.{isDeep, deepAt, numberPiece, textPiece, several, listPiece, gotOr, copiedPiece, entryPiece, mapPiece, componentPiece, componentPieces, objectPiece, objectPieces, manifestPiece}
 use Rattle.readback.specs.Fine.{Fits, Brief, BriefOption, FineComponent, FineObject, Fine}
 use Rattle.readback.proofs.EveryPart.{every-take, every-drop, false-not, and-left, and-right}
-use Rattle.readback.proofs.Pieces.{ends-bind, ends-then, times-goes, Shortest, shortest-is-head, item-at}
+use Rattle.readback.proofs.Pieces.{ends-bind, ends-then, times-goes, shortest-is-head, item-at}
 use Rattle.readback.proofs.DeepStays.{item-stays}
 
 -- names of fields and dtypes are short

@@ -1,19 +1,19 @@
 -- The pieces of the manifest are written as its bytes, and DEEP is met in them exactly where attributes are too deep.
-use Prim.Native.Nat.{ℕ, suc}
+use Prim.Native.Nat.{ℕ}
 use mathlib.Core.List.{List, [], _∷_, _++_, map}
 use mathlib.Core.Bool.{Bool, true, false, cond}
 use mathlib.Core.Option.{Option, none, some}
-use mathlib.Core.Path.{_≡_, refl, ap, ap₂, sym, _∙_}
+use mathlib.Core.Path.{_≡_, refl, ap, _∙_}
 use lib.ListN.{length, take, drop, getD, length-map}
 use Rattle.meaning.specs.Text.{ascii}
-use Rattle.meaning.specs.Tree.{Node, Pair}
+use Rattle.meaning.specs.Tree.{Node}
 use Rattle.meaning.specs.Read.{joined}
 use Rattle.meaning.specs.Notes.{mapOption}
 use Rattle.meaning.specs.Field.{rootNames, objectNames, componentNames}
 use Rattle.meaning.specs.Types.{storageOf}
 use Rattle.meaning.specs.Sound.{rootLevels, objectLevels}
 use Rattle.meaning.specs.Described.{DescribedComponent, DescribedObject, Described}
-use Rattle.meaning.specs.Manifest.{shortestHead, numberBytes, textBytes, listBytes, Keyed, under, given, entryBytes, mapBytes, componentBytes, componentEntries, objectBytes, objectEntries, manifestBytes}
+use Rattle.meaning.specs.Manifest.{numberBytes, textBytes, listBytes, Keyed, under, given, entryBytes, mapBytes, componentBytes, componentEntries, objectBytes, objectEntries, manifestBytes}
 use Rattle.readback.specs.Piece.{Piece, allWritten, anyDeep}
 use Rattle.readback.specs.Trees.{deepAt, numberPiece, textPiece, several, listPiece, copiedPiece, entryPiece, mapPiece, componentPiece, componentPieces, objectPiece, objectPieces, manifestPiece}
 use Rattle.readback.specs.Judged.{deepOption, anyTooDeep, tooDeep}

@@ -1,10 +1,10 @@
 -- Where the rule places blobs, how long the file gets, and that each blob stands at its offset with zeros between.
-use Prim.Native.Nat.{ℕ, zero, suc, _+_, _-_, _*_, _/_, _%_, _≤_, _<_}
+use Prim.Native.Nat.{ℕ, zero, suc, _+_, _-_, _*_, _/_, _%_, _≤_}
 use native.Mathlib.Omega.{arith}
 use mathlib.Core.List.{List, [], _∷_, _++_, map, append-assoc}
 use mathlib.Core.Option as option
 use mathlib.Core.Option.{some}
-use mathlib.Core.Path.{_≡_, refl, ap, sym, _∙_, subst}
+use mathlib.Core.Path.{_≡_, refl, ap, _∙_, subst}
 use lib.ListN.{length, take, drop, replicate, getElem?, length-append, length-replicate, length-map}
 use lib.Seq.{take-at, drop-at}
 use Rattle.meaning.specs.Frame.{magic}

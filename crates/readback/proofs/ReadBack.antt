@@ -1,7 +1,7 @@
 -- A written file is judged as its description says, and an accepted one reads back as what was described.
-use Prim.Native.Nat.{ℕ, _+_, _≤_, _<_, _^_}
+use Prim.Native.Nat.{ℕ, _+_, _≤_}
 use native.Mathlib.Omega.{arith}
-use mathlib.Core.List.{List, [], _∷_, _++_, map, append-assoc, append-nil}
+use mathlib.Core.List.{List, [], _++_, map, append-assoc, append-nil}
 use mathlib.Core.Bool.{Bool, true, false, cond, not}
 use mathlib.Core.Path.{_≡_, refl, ap, sym, _∙_, subst}
 use lib.Dec.{leb}
@@ -23,7 +23,7 @@ use Rattle.readback.specs.Lies.{Rises}
 use Rattle.readback.specs.Trees.{manifestPiece}
 use Rattle.readback.specs.Judged.{tooDeep, judgedObjects, judged}
 use Rattle.readback.specs.Fine.{Fine}
-use Rattle.readback.specs.Agrees.{Agrees, passes, refuses}
+use Rattle.readback.specs.Agrees.{Agrees, refuses}
 use Rattle.readback.specs.Back.{AllAt, ReadsBack}
 use Rattle.readback.proofs.Placed.{body-length, blobs-lie, placement-rises}
 use Rattle.readback.proofs.Framed.{frame-is, manifest-is, reading-by}

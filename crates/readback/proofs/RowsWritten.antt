@@ -1,32 +1,31 @@
 -- What the writer answers for rows: its checks in order, from the rows' description; and that an accepted file reads back as what the rows describe.
-use Prim.Native.Nat.{ℕ, zero, suc, _+_, _-_, _*_, _≤_, _<_}
+use Prim.Native.Nat.{ℕ, suc, _+_, _-_, _*_, _≤_}
 use native.Mathlib.Omega.{arith}
 use mathlib.Core.List.{List, [], _∷_, _++_, map}
 use mathlib.Core.Bool.{Bool, true, false}
 use mathlib.Core.Path.{_≡_, refl, ap, ap₂, sym, _∙_, subst}
 use lib.Dec.{eqb, leb}
 use lib.ListN.{length, take, drop, replicate, length-append, length-take, length-drop, length-replicate, length-map, take-append-drop}
-use lib.Seq.{take-all}
 use borrow.Author.Tests.{leb-true}
 use Rattle.meaning.specs.Refusal.{ROW, BIG, COUNT, ROOM}
 use Rattle.meaning.specs.Limit.{manifestLimit, endLimit}
-use Rattle.meaning.specs.Check.{Check, pass, refuse, _>>=_, _>>_, _unless_}
-use Rattle.meaning.specs.Text.{all, same}
+use Rattle.meaning.specs.Check.{Check, pass, refuse, _>>_, _unless_}
+use Rattle.meaning.specs.Text.{same}
 use Rattle.meaning.specs.Read.{Span, bytesAt}
 use Rattle.meaning.specs.Rows.{objectWidth, componentWidth}
-use Rattle.meaning.specs.Asked.{AskedObject, AskedComponent, askedComponent, Asked, asked}
+use Rattle.meaning.specs.Asked.{AskedObject, AskedComponent, askedComponent, asked}
 use Rattle.meaning.specs.Sound.{owners, inside, componentSound, rowsSound}
 use Rattle.meaning.specs.Placement.{placement, lastEnd}
 use Rattle.meaning.specs.Described.{Described, blobsIn, blobs, describedComponent, describedObject, describedObjects, described}
 use Rattle.meaning.specs.Manifest.{manifestBytes}
 use Rattle.meaning.specs.Layout.{fileOf}
-use Rattle.meaning.specs.Write.{writtenAt, writtenPlain, written}
+use Rattle.meaning.specs.Write.{writtenPlain, written}
 use Rattle.readback.specs.Every.{Every}
 use Rattle.readback.specs.Lies.{sum}
 use Rattle.readback.specs.Judged.{judged}
-use Rattle.readback.specs.Fine.{Fits, Brief, Fine}
+use Rattle.readback.specs.Fine.{Fits, Brief}
 use Rattle.readback.specs.Back.{ReadsBack}
-use Rattle.readback.proofs.EveryPart.{every-all, false-not, and-left, and-right}
+use Rattle.readback.proofs.EveryPart.{every-all, false-not, and-right}
 use Rattle.readback.proofs.Placed.{length-bound}
 use Rattle.readback.proofs.ReadBack.{refused-is-not, written-plain-is, written-plain-reads-back}
 use Rattle.readback.proofs.SoundIsFine.{each-row-length, component-tests, tests, sound-is-fine}

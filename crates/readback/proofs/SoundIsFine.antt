@@ -1,10 +1,10 @@
 -- Sound rows of numbers below 2 ^ 64, with a buffer that is no longer, give a fine description.
-use Prim.Native.Nat.{ℕ, zero, suc, _+_, _*_, _≤_, _<_, _^_}
+use Prim.Native.Nat.{ℕ, zero, suc, _+_, _*_, _≤_}
 use native.Mathlib.Omega.{arith}
-use mathlib.Core.List.{List, [], _∷_, _++_, map}
+use mathlib.Core.List.{List, [], _∷_, map}
 use mathlib.Core.Bool.{Bool, true, false, cond, _&&_}
-use mathlib.Core.Option.{Option, none, some}
-use mathlib.Core.Path.{_≡_, refl, ap, sym, _∙_, subst}
+use mathlib.Core.Option.{none, some}
+use mathlib.Core.Path.{_≡_, refl, ap}
 use lib.Dec.{eqb, leb, ltb}
 use lib.ListN.{length, take, drop, getD, length-take, length-map}
 use borrow.Author.Tests.{leb-true, ltb-true}
@@ -15,7 +15,7 @@ use Rattle.meaning.specs.Types.{storages}
 use Rattle.meaning.specs.Rows.{objectWidth, componentWidth}
 use Rattle.meaning.specs.Asked.{AskedObject, AskedComponent, Asked, askedObject, askedComponent, eachRow, asked, presentAt}
 use Rattle.meaning.specs.Sound.{aMap, rootLevels, objectLevels, absentOr, owners, inside, attributesSound, objectSound, componentSound, askedSound, rowsSound}
-use Rattle.meaning.specs.Described.{DescribedComponent, DescribedObject, Described, describedComponent, describedObject, describedObjects, described}
+use Rattle.meaning.specs.Described.{describedComponent, describedObject, describedObjects, described}
 use Rattle.readback.specs.Every.{Every}
 use Rattle.readback.specs.Fine.{Fits, Brief, BriefOption, FineComponent, FineObject, Fine}
 use Rattle.readback.proofs.EveryPart.{every-take, every-drop, every-map, every-all, four, and-left, and-right}

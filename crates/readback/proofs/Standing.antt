@@ -1,16 +1,15 @@
 -- Blobs that lie in the file at rising offsets stand where each component's entry says.
-use Prim.Native.Nat.{ℕ, zero, suc, _+_, _≤_, _<_, _^_}
+use Prim.Native.Nat.{ℕ, _+_, _≤_, _<_, _^_}
 use native.Mathlib.Omega.{arith}
 use mathlib.Core.List.{List, [], _∷_, _++_, map}
-use mathlib.Core.Path.{_≡_, refl}
-use lib.ListN.{length, take, drop, getD}
+use lib.ListN.{length, take, drop}
 use Rattle.meaning.specs.Placement.{endFrom}
 use Rattle.meaning.specs.Described.{DescribedComponent, DescribedObject, blobsIn}
 use Rattle.readback.specs.Every.{Every}
 use Rattle.readback.specs.Lies.{Rises, Lies}
 use Rattle.readback.specs.Lies as lies
 use Rattle.readback.specs.Fine.{Fits}
-use Rattle.readback.specs.Back.{BlobAt, AllAt, Stand, StandAll}
+use Rattle.readback.specs.Back.{AllAt, Stand, StandAll}
 use Rattle.readback.proofs.Placed.{rises-end, first-offset}
 
 module _ (file : List ℕ) (start : ℕ) where

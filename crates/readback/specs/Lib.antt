@@ -6,3 +6,4 @@ pub mod Fine
 pub mod Judged
 pub mod Agrees
 pub mod Back
+pub mod Spelled
