@@ -1,5 +1,5 @@
 // The `components` map of an object: its names, and each component judged, in one walk.
-mod row;
+pub mod row;
 
 use component::Judged;
 use naming::Named;

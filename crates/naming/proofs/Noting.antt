@@ -74,7 +74,7 @@ module _ (m : List ℕ) (left size : List ℕ) (same : length size ≡ length le
   unfolding name
   new-one r = rw (lt-ltb n (length left) r, lt-ltb n (length size) (omega arith), getD-set-same left n l 0 r, getD-set-same size n k 0 (omega arith)) refl
 
-  one-more : (ws : List (List ℕ)) (w : List ℕ) → length ws ≡ n → take k (drop (length m - l) m) ≡ w → listed (name m left size) 0 (min n (length left)) ≡ take (length left) ws
+  pub one-more : (ws : List (List ℕ)) (w : List ℕ) → length ws ≡ n → take k (drop (length m - l) m) ≡ w → listed (name m left size) 0 (min n (length left)) ≡ take (length left) ws
       → listed (name m (put left n l) (put size n k)) 0 (min (n + 1) (length (put left n l))) ≡ take (length (put left n l)) (ws ++ w ∷ [])
   one-more ws w e is h = rw (length-put left n l) (⊎-elim room full (lt-or n (length left)))
     where

@@ -30,7 +30,7 @@ fn told(count: usize, odd: bool, bad: bool) -> Tally
 }
 
 // Puts x at i, if there is room.
-fn put(a: &mut [usize], i: usize, x: usize)
+pub fn put(a: &mut [usize], i: usize, x: usize)
     ensures { λ r. ⌜ now (a .exit) ≡ put (now (a .entry)) i x ⌝ }
 {
     if i < a.len() {

@@ -1,4 +1,4 @@
--- The words of a line: bytes and texts from a place on, the digits of a number, the names of the storages, parts of a file.
+-- The words of a line: bytes and texts from a place on, the digits of a number, the names of the storages.
 use Prim.Native.Nat.{ℕ, zero, suc, _+_, _-_, _*_, _/_, _%_, _≤_, _<_}
 use native.Mathlib.Numerals.{add-one}
 use native.Mathlib.Omega.{arith}
@@ -78,17 +78,3 @@ unfolding decimal digits
 decimal-more n s h =
     ap (λ (ds : List ℕ). ds ++ (48 + n % 10) ∷ []) (sym (digits-more 18 (n / 10) (few n s)))
     ∙ sym (ap (λ (b : Bool). cond b ((48 + n) ∷ []) (digits 18 (n / 10) ++ (48 + n % 10) ∷ [])) (le-ltb n 10 h))
-
--- ---- parts of a file
-
-module _ (file : List ℕ) (place size : ℕ) where
-  pub part-none : length file < place → [] ≡ take size (drop place file)
-  part-none h = sym (ap (take size) (drop-of-length-le file {i = place} (omega (arith, h))) ∙ take-nil size)
-
-  pub part-rest : place ≤ length file → length file - place < size → take (length file - place) (drop place file) ≡ take size (drop place file)
-  part-rest g h =
-      part-to-end file place
-      ∙ sym (take-all size (drop place file) (let e : length (drop place file) ≡ length file - place = length-drop place file in omega (arith, e, h)))
-
-  pub part-whole : take (place + size - place) (drop place file) ≡ take size (drop place file)
-  part-whole = let e : place + size - place ≡ size = omega arith in ap (λ (n : ℕ). take n (drop place file)) e

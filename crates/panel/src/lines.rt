@@ -5,32 +5,17 @@ use crate::put::blank_text;
 use crate::put::byte;
 use crate::put::placed;
 use crate::put::word;
+use view::part;
 ghost use mathlib.Core.Path.{_≡_};
 ghost use mathlib.Core.List.{[], _∷_};
 ghost use mathlib.Core.Bool.{true};
 ghost use Prim.Native.Nat.{_+_, _*_, _≤_};
-ghost use lib.ListN.{length, take, drop};
+ghost use lib.ListN.{length};
 ghost use Rattle.meaning.specs.Text.{ascii};
 ghost use Rattle.meaning.specs.Types.{storageOf};
 ghost use Rattle.meaning.specs.Listing.{line, shownText, decimal};
 ghost use Rattle.panel.specs.Lines as is;
 ghost use Rattle.panel.specs.Wrote.{Wrote};
-
-// As much of that part of the file as there is.
-fn part<'a>(file: &'a [u8], place: u64, size: u64) -> &'a [u8]
-    ensures { λ r. ⌜ now r ≡ take size (drop place (now (file .entry))) ⌝ }
-{
-    let n = file.len() as u64;
-    if n < place {
-        return &file[0..0];
-    }
-    let start = place as usize;
-    if n - place < size {
-        return &file[start..];
-    }
-    let end = start + size as usize;
-    &file[start..end]
-}
 
 fn heading(objects: u64, components: u64, out: &mut [u8]) -> usize
     ensures { λ r. ⌜ Wrote (line (ascii "objects") (decimal objects ∷ ascii "components" ∷ decimal components ∷ [])) 0 (now (out .entry)) (now (out .exit)) r ⌝ }

@@ -1,7 +1,7 @@
 // One component's part of the file, lent back, and the question where it lies. For any table, any counts and any index: what lies outside is INDEX.
 ghost use mathlib.Core.Path.{_≡_};
 ghost use Prim.Native.Nat.{_+_, _*_};
-ghost use lib.ListN.{length};
+ghost use lib.ListN.{length, take, drop};
 ghost use Rattle.meaning.specs.View as meaning;
 ghost use Rattle.view.specs.Told.{told, found, within};
 
@@ -92,5 +92,21 @@ pub fn view<'a>(
     let r = range(&file[0..], &table[0..], objects, components, index);
     let start = r.offset as usize;
     let end = start + r.length as usize;
+    &file[start..end]
+}
+
+// As much of that part of the file as there is.
+pub fn part<'a>(file: &'a [u8], place: u64, size: u64) -> &'a [u8]
+    ensures { λ r. ⌜ now r ≡ take size (drop place (now (file .entry))) ⌝ }
+{
+    let n = file.len() as u64;
+    if n < place {
+        return &file[0..0];
+    }
+    let start = place as usize;
+    if n - place < size {
+        return &file[start..];
+    }
+    let end = start + size as usize;
     &file[start..end]
 }
