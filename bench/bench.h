@@ -8,4 +8,5 @@ extern const program acceptance_check;
 void leaves(void);
 void acceptance(void);
 void reading(void);
+void writing(void);
 #endif

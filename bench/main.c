@@ -6,4 +6,5 @@ int main(void) {
     leaves();
     acceptance();
     reading();
+    writing();
 }

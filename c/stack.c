@@ -1,6 +1,6 @@
 /*
- * How much stack the calls of zt.h take on the files named: each is judged, read and listed in a thread whose stack was painted before, and what is no
- * longer paint was used. Prints the deepest use; it must stay within what zt.h says.
+ * How much stack the calls of zt.h take on the files named: each is judged, read, listed and written anew in a thread whose stack was painted before, and
+ * what is no longer paint was used. Prints the deepest use; it must stay within what zt.h says.
  */
 #include "read_file.h"
 #include "zt.h"
@@ -13,7 +13,7 @@
 enum { STACK = 1 << 20, ROOM = 16 * 1024 + 10 * 16 * 1024, TEXT = 1 << 24 };
 
 static uint64_t table[ROOM];
-static uint8_t text[TEXT];
+static uint8_t text[TEXT], out[2 * TEXT];
 
 typedef struct {
     bytes file;
@@ -27,6 +27,7 @@ static void *judge(void *given) {
     zt_answer a = zt_read(t->file.at, t->file.length, table, ROOM);
     zt_view(t->file.at, t->file.length, table, ROOM, a.objects, a.components, 0);
     zt_list(t->file.at, t->file.length, table, ROOM, a.objects, a.components, text, TEXT);
+    zt_write(table, ROOM, a.objects, a.components, a.place, a.size, t->file.at, t->file.length, out, sizeof out);
     return NULL;
 }
 

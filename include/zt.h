@@ -1,6 +1,6 @@
 /*
- * Radenvyth's reading of .zt files (zTensor 1.2.0), for C99 and C++: the acceptance check, the table, the view and the listing. Link libzt.a.
- * examples/firmware is a whole program over it; this is the shortest:
+ * Radenvyth's reading and writing of .zt files (zTensor 1.2.0), for C99 and C++: the acceptance check, the table, the view, the listing, and the
+ * writer. Link libzt.a. examples/firmware and examples/maker are whole programs over it; this is the shortest:
  *
  *     #include "zt.h"
  *     #include <stdio.h>
@@ -39,9 +39,9 @@ enum zt_refusal {
     ZT_TEXT = 10,     /* name, format, type or digest isn't UTF-8 (RFC 3629) */
     ZT_TWICE = 11,    /* a known field or a name repeated */
     ZT_MISSING = 12,  /* required field absent */
-    ZT_VERSION = 13,  /* text not two or three runs of 1 to 9 digits joined by dots */
+    ZT_VERSION = 13,  /* text not two or three runs of 1 to 9 digits joined by dots, or a run but "0" that begins with 0 */
     ZT_MAJOR = 14,    /* major isn't 1 */
-    ZT_COUNT = 15,    /* a limit passed: 1,024 objects, 16 components an object, rank 8 */
+    ZT_COUNT = 15,    /* a limit passed: 1,024 objects, 16 components an object, rank 8; written: a last blob that ends above 2^40 */
     ZT_DTYPE = 16,    /* not one of the 13 */
     ZT_ENCODING = 17, /* present and not "raw" */
     ZT_TYPE = 18,     /* listed type over another dtype */
@@ -106,6 +106,20 @@ typedef struct {
  */
 zt_text zt_list(const uint8_t *file, size_t length, const uint64_t *table, size_t room, uint64_t objects, uint64_t components, uint8_t *text,
                 size_t text_room);
+
+/* What zt_write answers: ZT_ACCEPTED and the file's length; or the refusal, where it is, and 0. */
+typedef struct {
+    uint64_t number, object, component, length;
+} zt_written;
+
+/*
+ * A whole file, from rows as zt_read fills them (document 01, "The writer"), whose places, offsets and root attributes point into `buffer`; absent
+ * attributes are 0 and 0. Blobs go to the next multiple of 64 in row order, the manifest after them. Refused, before a byte is written: ZT_ROW for rows that
+ * are unsound, ZT_COUNT for a last blob that would end above 2^40, ZT_BIG for a manifest over the limit, whatever zt_read would refuse that file with,
+ * and ZT_ROOM. Bytes beyond the file stay. `out` must overlap neither the rows nor the buffer; rows must be aligned as uint64_t asks.
+ */
+zt_written zt_write(const uint64_t *rows, size_t numbers, uint64_t objects, uint64_t components, uint64_t attributes_place, uint64_t attributes_length,
+                    const uint8_t *buffer, size_t buffer_length, uint8_t *out, size_t out_room);
 
 #ifdef __cplusplus
 }

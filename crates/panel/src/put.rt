@@ -99,7 +99,7 @@ fn number(out: &mut [u8], at: usize, n: u64) -> usize
 }
 
 // Four bytes for each storage's name, after how many of them it has.
-const NAMES: [u8; 65] =
+pub const NAMES: [u8; 65] =
     *b"\x03f64 \x03f32 \x03f16 \x04bf16\x03i64 \x03i32 \x03i16 \x02i8  \x03u64 \x03u32 \x03u16 \x02u8  \x04bool";
 
 // A storage's name, nothing for a code that has none.

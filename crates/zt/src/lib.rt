@@ -2,16 +2,19 @@
 use panel::Listed;
 use reader::into::Answer;
 use view::Extent;
+use writer::Written;
 ghost use mathlib.Core.Path.{_≡_};
 ghost use lib.ListN.{length};
 ghost use Rattle.meaning.specs.Frame.{reading};
 ghost use Rattle.meaning.specs.Rows.{readInto, tableAfter};
 ghost use Rattle.meaning.specs.View.{viewed};
+ghost use Rattle.meaning.specs.Write.{written};
 ghost use Rattle.reader.specs.Verdict.{verdict};
 ghost use Rattle.reader.specs.Answer.{answered};
 ghost use Rattle.view.specs.Told as extent;
 ghost use Rattle.panel.specs.Lines.{listed};
 ghost use Rattle.panel.specs.Told as listing;
+ghost use Rattle.writer.specs.Told.{Answered};
 
 // The refusal number of a file, 0 for one that is accepted. Never ROOM: no table is lent.
 #[no_mangle]
@@ -57,4 +60,20 @@ pub extern "C" fn zt_list(
     ensures written { λ r. ⌜ now (text .exit) ≡ listing.textAfter (listed (now (file .entry)) (now (table .entry)) objects components) (now (text .entry)) ⌝ }
 {
     panel::list(file, table, objects, components, text)
+}
+
+// A whole file from rows, put into a lent output: 0, 0, 0 and its length; or the refusal, where it is, and 0.
+#[no_mangle]
+pub extern "C" fn zt_write(
+    rows: &[u64],
+    objects: u64,
+    components: u64,
+    place: u64,
+    size: u64,
+    buffer: &[u8],
+    out: &mut [u8],
+) -> Written
+    ensures { λ r. ⌜ Answered (written (now (rows .entry)) objects components (record { place = place; size = size }) (now (buffer .entry)) (length (now (out .entry)))) r (now (out .entry)) (now (out .exit)) ⌝ }
+{
+    writer::write(rows, objects, components, place, size, buffer, out)
 }

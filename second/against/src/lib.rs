@@ -1,5 +1,7 @@
 //! The proved leaves of `crates/exported` and the acceptance check of `crates/zt`, as safe functions.
 
+use second::generate::RowSet;
+
 pub mod tally;
 
 /// What `skip` adds to the number of a refusal.
@@ -175,6 +177,16 @@ pub struct Listed {
     pub length: u64,
 }
 
+/// What writing answers: the refusal with its indices, or the file's length.
+#[repr(C)]
+#[derive(Debug, PartialEq, Eq)]
+pub struct Written {
+    pub number: u64,
+    pub object: u64,
+    pub component: u64,
+    pub length: u64,
+}
+
 /// Declared as `include/zt.h` has them.
 mod zt {
     extern "C" {
@@ -198,6 +210,18 @@ mod zt {
             text: *mut u8,
             text_room: usize,
         ) -> super::Listed;
+        pub fn zt_write(
+            rows: *const u64,
+            numbers: usize,
+            objects: u64,
+            components: u64,
+            attributes_place: u64,
+            attributes_length: u64,
+            buffer: *const u8,
+            buffer_length: usize,
+            out: *mut u8,
+            out_room: usize,
+        ) -> super::Written;
     }
 }
 
@@ -233,6 +257,24 @@ pub fn list(file: &[u8], table: &[u64], objects: u64, components: u64, text: &mu
             components,
             text.as_mut_ptr(),
             text.len(),
+        )
+    }
+}
+
+pub fn write(set: &RowSet, out: &mut [u8]) -> Written {
+    // SAFETY: each pointer and length are a slice's, and the lent output overlaps neither rows nor buffer.
+    unsafe {
+        zt::zt_write(
+            set.rows.as_ptr(),
+            set.rows.len(),
+            set.objects,
+            set.components,
+            set.attributes_place,
+            set.attributes_length,
+            set.buffer.as_ptr(),
+            set.buffer.len(),
+            out.as_mut_ptr(),
+            out.len(),
         )
     }
 }

@@ -1,0 +1,55 @@
+/* The writer beside memcpy of the same blobs. */
+#include "bench.h"
+#include "timing.h"
+#include "zt.h"
+#include <stdio.h>
+#include <stdlib.h>
+#include <string.h>
+
+enum { OBJECTS = 1000, BLOB = 67136, ROWS = 26 * OBJECTS, BLOBS = OBJECTS * BLOB, OUT = BLOBS + (1 << 20) };
+
+typedef struct {
+    uint64_t rows[ROWS];
+    uint8_t *buffer, *out; /* names of eight bytes, format, component's name; then the blobs */
+    size_t filled;
+} job_of_writing;
+
+static job_of_writing work;
+
+static bool written(const void *x) {
+    const job_of_writing *w = x;
+    return zt_write(w->rows, ROWS, OBJECTS, OBJECTS, 0, 0, w->buffer, w->filled, w->out, OUT).number == ZT_ACCEPTED;
+}
+
+static bool copied(const void *x) {
+    const job_of_writing *w = x;
+    for (size_t i = 0; i < OBJECTS; i++) memcpy(w->out + 64 + i * BLOB, w->buffer + (w->filled - BLOBS) + i * BLOB, BLOB);
+    return w->out[64] == w->buffer[w->filled - BLOBS];
+}
+
+/* Dense objects of u8: 64 MiB in all. */
+static void fill(void) {
+    uint8_t *at = work.buffer;
+    memcpy(at, "densedata", 9);
+    for (size_t i = 0; i < OBJECTS; i++) {
+        uint64_t *object = work.rows + 16 * i, *component = work.rows + 16 * OBJECTS + 10 * i;
+        char name[16];
+        snprintf(name, sizeof name, "layer%03zu", i);
+        memcpy(at + 9 + 8 * i, name, 8);
+        object[0] = 9 + 8 * i, object[1] = 8, object[2] = 1, object[3] = BLOB, object[11] = 0, object[12] = 5, object[15] = 1;
+        component[0] = 5, component[1] = 4, component[2] = 11, component[5] = 9 + 8 * OBJECTS + i * BLOB, component[6] = BLOB, component[9] = i;
+    }
+    for (size_t i = 0; i < BLOBS; i++) at[9 + 8 * OBJECTS + i] = (uint8_t)(i * 31);
+    work.filled = 9 + 8 * OBJECTS + BLOBS;
+}
+
+void writing(void) {
+    work.buffer = malloc(9 + 8 * OBJECTS + BLOBS);
+    work.out = malloc(OUT);
+    if (!work.buffer || !work.out) exit(2);
+    fill();
+    heading("writing 1000 objects with 64 MiB of blobs", "per byte");
+    compare("a model", (program){"zt_write", written}, (program){"memcpy", copied}, &work, BLOBS, BLOBS, 2);
+    free(work.buffer);
+    free(work.out);
+}

@@ -1,0 +1,3 @@
+-- Laws behind emit's proofs.
+pub mod Laying
+pub mod Numbers

@@ -1,0 +1,30 @@
+-- `emit::front::copy` meets its contract: the invariant says how many bytes stand. Assumes nothing.
+use native.Mathlib.Omega.{arith}
+use mathlib.Core.Path.{refl}
+use Prim.Native.Nat.{_-_}
+use lib.ListN.{length}
+use Rattle.emit.proofs.Laying as laying
+use borrow.Author.Needs.{needs}
+use Rattle.emit.proofs.front.copy.Statement.{statement}
+use Rattle.emit.proofs.front.copy.Tie as tie
+
+abbrev Inv-loop : tie.InvT-loop
+Inv-loop out₀ s i₀ out i = laying.Filling s (length s) out₀ out i
+
+abbrev μ-loop : tie.MeasureT-loop
+μ-loop out₀ s i₀ out i = length s - i
+
+pub copy-spec : {M : Type 1} → statement M
+copy-spec =
+    tie.close
+    (tie.spec
+    Inv-loop
+    μ-loop
+    (λ c. laying.begin _ _ _ refl (c .pre))
+    (λ c. search needs)
+    (λ c. search needs)
+    (λ c. search needs)
+    (λ c. search needs)
+    (λ c. laying.more (c .before .before .loop .inv) (c .before .loop-test .taken) refl)
+    (λ c. (c .before .loop .inv .long))
+    (λ c. laying.filled (c .before .loop .inv) (c .loop-test .left) (omega arith)))

@@ -1,0 +1,8 @@
+-- `emit::magic_at` meets its contract: the fixed bytes. Assumes nothing.
+use Rattle.meaning.specs.Frame.{magic}
+use borrow.Author.Needs.{needs}
+use Rattle.emit.proofs.magic_at.Statement.{statement}
+use Rattle.emit.proofs.magic_at.Tie as tie
+
+pub magic-at-spec : {M : Type 1} → statement M
+magic-at-spec = tie.close (tie.spec (λ c. search needs) (λ c κs. unfold magic in (c .before .before .before .pre)) (λ c. search needs) (λ c. unfold magic in (c .before .before .bytes-at .ensures)))

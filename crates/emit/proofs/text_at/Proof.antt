@@ -1,0 +1,10 @@
+-- `emit::text_at` meets its contract: a law for each return. Assumes nothing.
+use native.Mathlib.Omega.{arith}
+use Rattle.meaning.specs.Manifest.{textBytes}
+use Rattle.emit.proofs.Laying as laying
+use borrow.Author.Needs.{needs}
+use Rattle.emit.proofs.text_at.Statement.{statement}
+use Rattle.emit.proofs.text_at.Tie as tie
+
+pub text-at-spec : {M : Type 1} → statement M
+text-at-spec = tie.close (tie.spec (λ c κs. unfold textBytes in (omega arith, laying.room-first _ (c .before .before .before .pre))) (λ c κs. unfold textBytes in laying.room-next (c .before .before .before .head-at .ensures) (c .before .before .before .before .before .before .before .pre)) (λ c. search needs) (λ c. unfold textBytes in laying.then (c .before .before .before .before .before .before .head-at .ensures) (c .before .before .bytes-at .ensures)))

@@ -1,0 +1,2 @@
+-- The definitions that the contracts of emit cite.
+pub mod Laid

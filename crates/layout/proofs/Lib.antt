@@ -1,0 +1,7 @@
+-- Laws behind the proofs of layout.
+pub mod Present
+pub mod Walking
+pub mod Turns
+pub mod Frames
+pub mod Meant
+pub mod Fit

@@ -1,0 +1,317 @@
+-- The file's bytes by places in the rows are the meaning's. Assumes nothing.
+use Prim.Native.Nat.{ℕ, zero, suc, _+_, _-_, _*_, _≤_, _<_}
+use Prim.Native.String.{String}
+use native.Mathlib.Omega.{arith}
+use mathlib.Core.List.{List, [], _∷_, _++_, map, append-assoc, append-nil}
+use mathlib.Core.Bool.{Bool, true, false, cond, _&&_}
+use mathlib.Core.Option.{none, some}
+use mathlib.Core.Path.{_≡_, refl, sym, ap, _∙_, subst}
+use lib.ListN.{length, take, drop, getD, replicate, length-drop, length-map}
+use lib.Seq.{getD-drop, drop-drop, length-take-le}
+use lib.Dec.{eqb}
+use Rattle.meaning.specs.Text.{ascii, all}
+use Rattle.meaning.specs.Read.{joined}
+use Rattle.meaning.specs.Notes.{mapOption}
+use Rattle.meaning.specs.Types.{storageOf}
+use Rattle.meaning.specs.Field.{rootNames, objectNames, componentNames}
+use Rattle.meaning.specs.Frame.{magic}
+use Rattle.meaning.specs.Placement.{aligned, placedFrom, placement}
+use Rattle.meaning.specs.Asked.{AskedObject, AskedComponent, eachRow, askedObject, askedComponent, asked, presentAt}
+use Rattle.meaning.specs.Sound.{componentSound, rowsSound}
+use Rattle.meaning.specs.Described.{DescribedComponent, DescribedObject, Described, blobs, describedComponent, describedObject, describedObjects, described}
+use Rattle.meaning.specs.Manifest.{Keyed, under, given, entryBytes, mapBytes, shortestHead, numberBytes, textBytes, listBytes, componentBytes, manifestBytes}
+use Rattle.meaning.specs.Layout.{littleBytes, blobsFrom, closing, fileOf}
+use Rattle.rows.specs.Running.{reached, blobLengths, entriesFrom, objectFrom, objectsFrom, counted}
+use Rattle.rows.proofs.EachRow.{how-many, later-rows, all-dropped}
+use Rattle.rows.proofs.Running.{manifest-placed}
+use Rattle.rows.proofs.Whole.{sound-components}
+use Rattle.rows.proofs.Steps.{next-object, own-sound}
+use Rattle.rows.proofs.Describes as describes
+use Rattle.rows.proofs.Describes.{counted-next, rows-counted}
+use Rattle.layout.specs.Pieces.{presence, range, optional, componentAt, objectFront, objectRest, blobsOf, componentsOf, reachedPast, objectsOf, rootFront, manifestFrom, wholeOf}
+use Rattle.layout.specs.Rows.{Within, ComponentRow, ComponentRows, ObjectRows, WholeRows}
+use Rattle.layout.proofs.Walking.{first-component, next-components, its-components, next-objects}
+
+abbrev field : String → List ℕ → List ℕ
+field key value = textBytes (ascii key) ++ value
+
+-- ---- one map of the format: its fields, by which of the optional ones are there
+
+component-fields : (t g : Bool) (D T O L G : List ℕ)
+    → mapBytes (given componentNames (some D ∷ mapOption textBytes (cond t none (some T)) ∷ some O ∷ some L ∷ none ∷ none ∷ mapOption textBytes (cond g none (some G)) ∷ []))
+    ≡ shortestHead 5 (3 + cond t 0 1 + cond g 0 1)
+    ++ (field "dtype" D ++ (cond t [] (field "type" (textBytes T)) ++ (field "offset" O ++ (field "length" L ++ cond g [] (field "digest" (textBytes G))))))
+unfolding mapBytes given entryBytes componentNames
+component-fields true true D T O L G = refl
+component-fields true false D T O L G = simp append-nil
+component-fields false true D T O L G = refl
+component-fields false false D T O L G = simp append-nil
+
+object-fields : (t : Bool) (S F A C : List ℕ)
+    → mapBytes (given objectNames (some S ∷ some F ∷ cond t none (some A) ∷ some C ∷ []))
+    ≡ shortestHead 5 (3 + cond t 0 1) ++ (field "shape" S ++ (field "format" F ++ (cond t [] (field "attributes" A) ++ field "components" C)))
+unfolding mapBytes given entryBytes objectNames
+object-fields true S F A C = simp append-nil
+object-fields false S F A C = simp append-nil
+
+root-fields : (t : Bool) (N A O : List ℕ)
+    → mapBytes (given rootNames (some N ∷ cond t none (some A) ∷ some O ∷ []))
+    ≡ shortestHead 5 (2 + cond t 0 1) ++ (field "version" N ++ (cond t [] (field "attributes" A) ++ field "objects" O))
+unfolding mapBytes given entryBytes rootNames
+root-fields true N A O = simp append-nil
+root-fields false N A O = simp append-nil
+
+module _ (buffer : List ℕ) where
+  within-length : {place size : ℕ} → Within buffer place size → length (range buffer place size) ≡ size
+  within-length {place} {size} w = length-take-le size (drop place buffer) (omega (arith, w .inside, length-drop place buffer))
+
+  -- ---- components
+
+  -- as long as its row says
+  blob-long : (rows : List ℕ) (row : ℕ) → ComponentRow buffer (drop row rows) → getD rows (row + 6) 0 ≡ length (describedComponent buffer (askedComponent (drop row rows)) .blob)
+  unfolding describedComponent askedComponent
+  blob-long rows row c = sym (getD-drop row rows 6 0) ∙ sym (within-length (c .blob))
+
+  component-meant : (row : List ℕ) (offset : ℕ) → Within buffer (getD row 5 0) (getD row 6 0)
+      → componentAt buffer row offset ≡ entryBytes (under (describedComponent buffer (askedComponent row) .name) (componentBytes offset (describedComponent buffer (askedComponent row))))
+  unfolding componentAt optional presence entryBytes componentBytes describedComponent askedComponent presentAt
+  component-meant row offset w =
+      ap (λ (z : List ℕ). textBytes (range buffer (getD row 0 0) (getD row 1 0)) ++ z)
+      (sym (ap (λ (n : ℕ). mapBytes (given componentNames (some (textBytes (storageOf (getD row 2 0) .called))
+      ∷ mapOption textBytes (cond (eqb (getD row 3 0) 0 && eqb (getD row 4 0) 0) none (some (range buffer (getD row 3 0) (getD row 4 0))))
+      ∷ some (numberBytes offset) ∷ some (numberBytes n) ∷ none ∷ none
+      ∷ mapOption textBytes (cond (eqb (getD row 7 0) 0 && eqb (getD row 8 0) 0) none (some (range buffer (getD row 7 0) (getD row 8 0)))) ∷ []))) (within-length w)
+      ∙ component-fields (eqb (getD row 3 0) 0 && eqb (getD row 4 0) 0) (eqb (getD row 7 0) 0 && eqb (getD row 8 0) 0) (textBytes (storageOf (getD row 2 0) .called))
+      (range buffer (getD row 3 0) (getD row 4 0)) (numberBytes offset) (numberBytes (getD row 6 0)) (range buffer (getD row 7 0) (getD row 8 0))))
+
+  components-meant : (rows : List ℕ) (n row place : ℕ) → ComponentRows buffer rows n row place
+      → componentsOf buffer rows n row place ≡ joined (map entryBytes (entriesFrom place (map (describedComponent buffer) (eachRow askedComponent 10 n (drop row rows)))))
+  unfolding componentsOf entriesFrom eachRow
+  components-meant rows zero row place rs = refl
+  components-meant rows (suc n) row place rs =
+      let some-left : 0 < suc n = omega arith in
+      let e : suc n - 1 ≡ n = omega arith in
+      let c : DescribedComponent = describedComponent buffer (askedComponent (drop row rows)) in
+      let l : aligned place + getD rows (row + 6) 0 ≡ aligned place + length (c .blob) = ap (λ (k : ℕ). aligned place + k) (blob-long rows row (first-component rs some-left)) in
+      ap (λ (z : List ℕ). z ++ componentsOf buffer rows n (row + 10) (aligned place + getD rows (row + 6) 0)) (component-meant (drop row rows) (aligned place) (first-component rs some-left .blob))
+      ∙ ap (λ (z : List ℕ). entryBytes (under (c .name) (componentBytes (aligned place) c)) ++ z)
+      (components-meant rows n (row + 10) (aligned place + getD rows (row + 6) 0)
+      (subst (λ (k : ℕ). ComponentRows buffer rows k (row + 10) (aligned place + getD rows (row + 6) 0)) e (next-components rs some-left))
+      ∙ ap (λ (s : List ℕ). joined (map entryBytes (entriesFrom (aligned place + getD rows (row + 6) 0) (map (describedComponent buffer) (eachRow askedComponent 10 n s))))) (sym (drop-drop 10 row rows))
+      ∙ ap (λ (k : ℕ). joined (map entryBytes (entriesFrom k (map (describedComponent buffer) (eachRow askedComponent 10 n (drop 10 (drop row rows))))))) l)
+
+  -- ---- blobs
+
+  blob-same : (rows : List ℕ) (row : ℕ) → range buffer (getD rows (row + 5) 0) (getD rows (row + 6) 0) ≡ describedComponent buffer (askedComponent (drop row rows)) .blob
+  unfolding describedComponent askedComponent
+  blob-same rows row = ap (λ (k : ℕ). range buffer k (getD rows (row + 6) 0)) (sym (getD-drop row rows 5 0)) ∙ ap (λ (k : ℕ). range buffer (getD (drop row rows) 5 0) k) (sym (getD-drop row rows 6 0))
+
+  abbrev blobs-in : List AskedComponent → List (List ℕ)
+  blobs-in cs = describes.blobsOf buffer cs
+
+  blobs-meant : (rows : List ℕ) (n row place : ℕ) → ComponentRows buffer rows n row place
+      → blobsOf buffer rows n row place
+      ≡ blobsFrom place (placedFrom place (map length (blobs-in (eachRow askedComponent 10 n (drop row rows))))) (blobs-in (eachRow askedComponent 10 n (drop row rows)))
+  unfolding blobsOf blobsFrom placedFrom eachRow describedComponent
+  blobs-meant rows zero row place rs = refl
+  blobs-meant rows (suc n) row place rs =
+      let some-left : 0 < suc n = omega arith in
+      let e : suc n - 1 ≡ n = omega arith in
+      let b : List ℕ = describedComponent buffer (askedComponent (drop row rows)) .blob in
+      let k : ℕ = aligned place + getD rows (row + 6) 0 in
+      let l : k ≡ aligned place + length b = ap (λ (z : ℕ). aligned place + z) (blob-long rows row (first-component rs some-left)) in
+      ap (λ (z : List ℕ). replicate (aligned place - place) 0 ++ (z ++ blobsOf buffer rows n (row + 10) k)) (blob-same rows row)
+      ∙ ap (λ (z : List ℕ). replicate (aligned place - place) 0 ++ (b ++ z))
+      (blobs-meant rows n (row + 10) k (subst (λ (j : ℕ). ComponentRows buffer rows j (row + 10) k) e (next-components rs some-left))
+      ∙ ap (λ (s : List ℕ). blobsFrom k (placedFrom k (map length (blobs-in (eachRow askedComponent 10 n s)))) (blobs-in (eachRow askedComponent 10 n s))) (sym (drop-drop 10 row rows))
+      ∙ ap (λ (j : ℕ). blobsFrom j (placedFrom j (map length (blobs-in (eachRow askedComponent 10 n (drop 10 (drop row rows)))))) (blobs-in (eachRow askedComponent 10 n (drop 10 (drop row rows))))) l)
+      ∙ sym (append-assoc (replicate (aligned place - place) 0) b _)
+
+  -- ---- objects
+
+  entries-counted : (n : ℕ) (cs : List DescribedComponent) → length (entriesFrom n cs) ≡ length cs
+  unfolding entriesFrom
+  entries-counted n [] = refl
+  entries-counted n (c ∷ cs) = ap suc (entries-counted (aligned n + length (c .blob)) cs)
+
+  objects-counted : (n : ℕ) (os : List DescribedObject) → length (objectsFrom n os) ≡ length os
+  unfolding objectsFrom
+  objects-counted n [] = refl
+  objects-counted n (o ∷ os) = ap suc (objects-counted (reached n (blobLengths (o .components))) os)
+
+  described-counted : (os : List AskedObject) (cs : List AskedComponent) → length (describedObjects buffer os cs) ≡ length os
+  unfolding describedObjects
+  described-counted [] cs = refl
+  described-counted (o ∷ os) cs = ap suc (described-counted os (drop (o .count) cs))
+
+  regrouped : (N H s S f F A k h E : List ℕ) → (N ++ (H ++ (s ++ S))) ++ (((f ++ F) ++ (A ++ (k ++ h))) ++ E) ≡ N ++ (H ++ ((s ++ S) ++ ((f ++ F) ++ (A ++ (k ++ (h ++ E))))))
+  regrouped N H s S f F A k h E = simp append-assoc
+
+  module _ (rows : List ℕ) where
+    module _ (row from place : ℕ) where
+      abbrev count : ℕ
+      count = getD rows (row + 15) 0
+
+      abbrev its : List AskedComponent
+      its = eachRow askedComponent 10 count (drop from rows)
+
+      abbrev object : DescribedObject
+      object = describedObject buffer (askedObject (drop row rows)) its
+
+      components-map : ComponentRows buffer rows count from place
+          → mapBytes (entriesFrom place (map (describedComponent buffer) its)) ≡ shortestHead 5 (getD (drop row rows) 15 0) ++ componentsOf buffer rows count from place
+      unfolding mapBytes
+      components-map rs =
+          ap (λ (k : ℕ). shortestHead 5 k ++ joined (map entryBytes (entriesFrom place (map (describedComponent buffer) its))))
+          (entries-counted place (map (describedComponent buffer) its) ∙ length-map its (describedComponent buffer) ∙ how-many askedComponent 10 count (drop from rows) ∙ sym (getD-drop row rows 15 0))
+          ∙ ap (λ (z : List ℕ). shortestHead 5 (getD (drop row rows) 15 0) ++ z) (sym (components-meant rows count from place rs))
+
+      object-meant : ComponentRows buffer rows count from place
+          → objectFront buffer (drop row rows) ++ (objectRest buffer (drop row rows) ++ componentsOf buffer rows count from place) ≡ entryBytes (under (object .name) (objectFrom place object))
+      unfolding objectFront objectRest optional presence entryBytes objectFrom describedObject askedObject presentAt
+      object-meant rs =
+          let r : List ℕ = drop row rows in
+          let t : Bool = eqb (getD r 13 0) 0 && eqb (getD r 14 0) 0 in
+          regrouped (textBytes (range buffer (getD r 0 0) (getD r 1 0))) (shortestHead 5 (3 + cond t 0 1)) (textBytes (ascii "shape")) (listBytes (take (getD r 2 0) (drop 3 r)))
+          (textBytes (ascii "format")) (textBytes (range buffer (getD r 11 0) (getD r 12 0)))
+          (cond t [] (textBytes (ascii "attributes") ++ range buffer (getD r 13 0) (getD r 14 0))) (textBytes (ascii "components")) (shortestHead 5 (getD r 15 0))
+          (componentsOf buffer rows count from place)
+          ∙ ap (λ (z : List ℕ). textBytes (range buffer (getD r 0 0) (getD r 1 0)) ++ z)
+          (sym (object-fields t (listBytes (take (getD r 2 0) (drop 3 r))) (textBytes (range buffer (getD r 11 0) (getD r 12 0))) (range buffer (getD r 13 0) (getD r 14 0))
+          (shortestHead 5 (getD r 15 0) ++ componentsOf buffer rows count from place))
+          ∙ ap (λ (z : List ℕ). mapBytes (given objectNames (some (listBytes (take (getD r 2 0) (drop 3 r))) ∷ some (textBytes (range buffer (getD r 11 0) (getD r 12 0)))
+          ∷ cond t none (some (range buffer (getD r 13 0) (getD r 14 0))) ∷ some z ∷ []))) (sym (components-map rs)))
+
+    -- n objects from the place `row` on, with the components that they count from the place `from` on
+    abbrev all-counted : ℕ → ℕ → ℕ
+    all-counted n row = counted (eachRow askedObject 16 n (drop row rows))
+
+    abbrev asked-from : ℕ → ℕ → List AskedComponent
+    asked-from m from = eachRow askedComponent 10 m (drop from rows)
+
+    abbrev described-from : ℕ → ℕ → ℕ → ℕ → List DescribedObject
+    described-from n m row from = describedObjects buffer (eachRow askedObject 16 n (drop row rows)) (asked-from m from)
+
+    module _ (n row from place : ℕ) (rs : ObjectRows buffer rows (suc n) row from place)
+        (sound : all (componentSound buffer) (asked-from (all-counted (suc n) row) from) ≡ true) where
+      abbrev k : ℕ
+      k = getD rows (row + 15) 0
+
+      abbrev q : ℕ
+      q = from + 10 * k
+
+      one-less : suc n - 1 ≡ n
+      one-less = omega arith
+
+      some-left : 0 < suc n
+      some-left = omega arith
+
+      counts : all-counted (suc n) row ≡ k + all-counted n (row + 16)
+      counts = counted-next rows (suc n) row some-left ∙ ap (λ (j : ℕ). k + all-counted j (row + 16)) one-less
+
+      few : k ≤ all-counted (suc n) row
+      few = omega (arith, counts)
+
+      left-over : all-counted (suc n) row - k ≡ all-counted n (row + 16)
+      left-over = omega (arith, counts)
+
+      others-sound : all (componentSound buffer) (asked-from (all-counted n (row + 16)) q) ≡ true
+      others-sound =
+          sym (ap (all (componentSound buffer)) (later-rows askedComponent 10 (all-counted (suc n) row) k from rows few ∙ ap (λ (j : ℕ). asked-from j q) left-over))
+          ∙ all-dropped (componentSound buffer) k (asked-from (all-counted (suc n) row) from) sound
+
+      first-entry : objectsFrom place (described-from (suc n) (all-counted (suc n) row) row from)
+          ≡ under (object row from place .name) (objectFrom place (object row from place))
+          ∷ objectsFrom (reachedPast rows k from place) (described-from n (all-counted n (row + 16)) (row + 16) q)
+      unfolding describedObject
+      first-entry =
+          next-object buffer rows rows (suc n) (all-counted (suc n) row) row from place some-left few
+          (own-sound buffer rows rows (suc n) (all-counted (suc n) row) row from place few sound)
+          ∙ ap (λ (j : ℕ). under (object row from place .name) (objectFrom place (object row from place))
+          ∷ objectsFrom (reachedPast rows k from place) (described-from j (all-counted (suc n) row - k) (row + 16) q)) one-less
+          ∙ ap (λ (j : ℕ). under (object row from place .name) (objectFrom place (object row from place))
+          ∷ objectsFrom (reachedPast rows k from place) (described-from n j (row + 16) q)) left-over
+
+      others : ObjectRows buffer rows n (row + 16) q (reachedPast rows k from place)
+      others = subst (λ (j : ℕ). ObjectRows buffer rows j (row + 16) q (reachedPast rows k from place)) one-less (next-objects rs some-left)
+
+      first-meant : objectsOf buffer rows (suc n) row from place
+          ≡ entryBytes (under (object row from place .name) (objectFrom place (object row from place))) ++ objectsOf buffer rows n (row + 16) q (reachedPast rows k from place)
+      unfolding objectsOf
+      first-meant =
+          together (objectFront buffer (drop row rows)) (objectRest buffer (drop row rows)) (componentsOf buffer rows k from place)
+          (objectsOf buffer rows n (row + 16) q (reachedPast rows k from place))
+          ∙ ap (λ (z : List ℕ). z ++ objectsOf buffer rows n (row + 16) q (reachedPast rows k from place)) (object-meant row from place (its-components rs some-left))
+        where
+          together : (A B C D : List ℕ) → A ++ (B ++ (C ++ D)) ≡ (A ++ (B ++ C)) ++ D
+          together A B C D = simp append-assoc
+
+    objects-meant : (n row from place : ℕ) → ObjectRows buffer rows n row from place → all (componentSound buffer) (asked-from (all-counted n row) from) ≡ true
+        → objectsOf buffer rows n row from place ≡ joined (map entryBytes (objectsFrom place (described-from n (all-counted n row) row from)))
+    unfolding objectsOf objectsFrom eachRow describedObjects
+    objects-meant zero row from place rs e = refl
+    objects-meant (suc n) row from place rs e =
+        first-meant n row from place rs e
+        ∙ ap (λ (z : List ℕ). entryBytes (under (object row from place .name) (objectFrom place (object row from place))) ++ z)
+        (objects-meant n (row + 16) (from + 10 * getD rows (row + 15) 0) (reachedPast rows (getD rows (row + 15) 0) from place) (others n row from place rs e)
+        (others-sound n row from place rs e))
+        ∙ ap (λ (es : List (Keyed (List ℕ))). joined (map entryBytes es)) (sym (first-entry n row from place rs e))
+
+-- ---- all of it, of sound rows
+
+module _ (buffer rows : List ℕ) (objects components place size : ℕ) (sound : rowsSound buffer rows objects components (record { place = place; size = size }) ≡ true)
+    (whole : WholeRows buffer rows objects components place size) where
+  abbrev d : Described
+  d = described buffer (asked rows objects components (record { place = place; size = size }))
+
+  abbrev offsets : List ℕ
+  offsets = placement (map length (blobs d))
+
+  abbrev cs : List AskedComponent
+  cs = eachRow askedComponent 10 components (drop (16 * objects) rows)
+
+  all-sound : all (componentSound buffer) cs ≡ true
+  all-sound = sound-components buffer rows objects components (record { place = place; size = size }) sound
+
+  all-there : counted (eachRow askedObject 16 objects rows) ≡ components
+  all-there = rows-counted buffer rows objects components (record { place = place; size = size }) sound
+
+  objects-map : mapBytes (objectsFrom 8 (d .objects)) ≡ shortestHead 5 objects ++ objectsOf buffer rows objects 0 (16 * objects) 8
+  unfolding mapBytes described asked
+  objects-map =
+      ap (λ (k : ℕ). shortestHead 5 k ++ joined (map entryBytes (objectsFrom 8 (d .objects))))
+      (objects-counted buffer 8 (d .objects) ∙ described-counted buffer (eachRow askedObject 16 objects rows) cs ∙ how-many askedObject 16 objects rows)
+      ∙ ap (λ (z : List ℕ). shortestHead 5 objects ++ z)
+      (sym (objects-meant buffer rows objects 0 (16 * objects) 8 (whole .each)
+      (subst (λ (m : ℕ). all (componentSound buffer) (eachRow askedComponent 10 m (drop (16 * objects) rows)) ≡ true) (sym all-there) all-sound)
+      ∙ ap (λ (m : ℕ). joined (map entryBytes (objectsFrom 8 (describedObjects buffer (eachRow askedObject 16 objects rows) (eachRow askedComponent 10 m (drop (16 * objects) rows))))))
+      all-there))
+
+  pub manifest-meant : manifestFrom buffer rows objects (16 * objects) place size ≡ manifestBytes d offsets
+  unfolding manifestFrom rootFront optional presence described asked presentAt
+  manifest-meant =
+      let t : Bool = eqb place 0 && eqb size 0 in
+      joined-up (shortestHead 5 (2 + cond t 0 1)) (textBytes (ascii "version")) (textBytes (ascii "1.2.0")) (cond t [] (textBytes (ascii "attributes") ++ range buffer place size))
+      (textBytes (ascii "objects")) (shortestHead 5 objects) (objectsOf buffer rows objects 0 (16 * objects) 8)
+      ∙ sym (root-fields t (textBytes (ascii "1.2.0")) (range buffer place size) (shortestHead 5 objects ++ objectsOf buffer rows objects 0 (16 * objects) 8))
+      ∙ ap (λ (z : List ℕ). mapBytes (given rootNames (some (textBytes (ascii "1.2.0")) ∷ cond t none (some (range buffer place size)) ∷ some z ∷ []))) (sym objects-map)
+      ∙ sym (manifest-placed d)
+    where
+      joined-up : (H v w A o h E : List ℕ) → (H ++ (v ++ (w ++ (A ++ (o ++ h))))) ++ E ≡ H ++ ((v ++ w) ++ (A ++ (o ++ (h ++ E))))
+      joined-up H v w A o h E = simp append-assoc
+
+  blobs-placed : blobsOf buffer rows components (16 * objects) 8 ≡ blobsFrom 8 offsets (blobs d)
+  unfolding placement magic
+  blobs-placed =
+      blobs-meant buffer rows components (16 * objects) 8 (whole .blobs)
+      ∙ ap (λ (bs : List (List ℕ)). blobsFrom 8 (placedFrom 8 (map length bs)) bs) (sym (describes.blobs-are buffer rows objects components (record { place = place; size = size }) sound))
+
+  pub whole-meant : wholeOf buffer rows objects components place size ≡ fileOf d offsets
+  unfolding wholeOf fileOf closing magic
+  whole-meant =
+      ap (λ (m : List ℕ). magic ++ (blobsOf buffer rows components (16 * objects) 8 ++ (m ++ (littleBytes 8 (length m) ++ magic)))) manifest-meant
+      ∙ ap (λ (b : List ℕ). magic ++ (b ++ (manifestBytes d offsets ++ (littleBytes 8 (length (manifestBytes d offsets)) ++ magic)))) blobs-placed
+      ∙ in-a-row magic (blobsFrom 8 offsets (blobs d)) (manifestBytes d offsets) (littleBytes 8 (length (manifestBytes d offsets))) magic
+    where
+      in-a-row : (a b m l z : List ℕ) → a ++ (b ++ (m ++ (l ++ z))) ≡ (a ++ b) ++ ((m ++ l) ++ z)
+      in-a-row a b m l z = simp append-assoc

@@ -1,0 +1,28 @@
+-- `layout::framing::root` meets its contract: a law for each return. Assumes nothing.
+use Rattle.layout.proofs.Present as laws
+use Rattle.layout.specs.Pieces.{rootFront}
+use mathlib.Core.Path.{sym}
+use native.Mathlib.Omega.{arith}
+use Rattle.emit.proofs.Laying as laying
+use borrow.Author.Needs.{needs}
+use Rattle.layout.proofs.framing.root.Statement.{statement}
+use Rattle.layout.proofs.framing.root.Tie as tie
+
+pub root-spec : {M : Type 1} → statement M
+root-spec =
+    tie.close
+    (tie.spec
+    (λ c κs. search needs)
+    (λ c. search needs)
+    (λ c κs. unfold rootFront in (omega arith, laying.room-as (sym (laws.one-present 2 (c .before .before .before .before .args .place) (c .before .before .before .before .args .size) (c .presence .ensures .0))) (laying.room-first _ (c .before .before .before .before .pre .1))))
+    (λ c. search needs)
+    (λ c κs. unfold rootFront in laying.room-first _ (laying.room-next (laying.as-bytes (laws.one-present 2 (c .before .before .before .before .before .before .before .before .before .args .place) (c .before .before .before .before .before .before .before .before .before .args .size) (c .before .before .before .before .before .presence .ensures .0)) (c .before .before .before .before .head-at .ensures)) (c .before .before .before .before .before .before .before .before .before .pre .1)))
+    (λ c. search needs)
+    (λ c κs. unfold rootFront in laying.room-first _ (laying.room-next (c .before .before .before .before .text-at .ensures) (laying.room-next (laying.as-bytes (laws.one-present 2 (c .before .before .before .before .before .before .before .before .before .before .before .before .before .before .args .place) (c .before .before .before .before .before .before .before .before .before .before .before .before .before .before .args .size) (c .before .before .before .before .before .before .before .before .before .before .presence .ensures .0)) (c .before .before .before .before .before .before .before .before .before .head-at .ensures)) (c .before .before .before .before .before .before .before .before .before .before .before .before .before .before .pre .1))))
+    (λ c. search needs)
+    (λ c κs. unfold rootFront in ((c .before .before .before .before .before .before .before .before .before .before .before .before .before .before .before .before .before .before .before .pre .0), laying.room-first _ (laying.room-next (c .before .before .before .before .text-at2 .ensures) (laying.room-next (c .before .before .before .before .before .before .before .before .before .text-at .ensures) (laying.room-next (laying.as-bytes (laws.one-present 2 (c .before .before .before .before .before .before .before .before .before .before .before .before .before .before .before .before .before .before .before .args .place) (c .before .before .before .before .before .before .before .before .before .before .before .before .before .before .before .before .before .before .before .args .size) (c .before .before .before .before .before .before .before .before .before .before .before .before .before .before .before .presence .ensures .0)) (c .before .before .before .before .before .before .before .before .before .before .before .before .before .before .head-at .ensures)) (c .before .before .before .before .before .before .before .before .before .before .before .before .before .before .before .before .before .before .before .pre .1))))))
+    (λ c. search needs)
+    (λ c κs. unfold rootFront in laying.room-first _ (laying.room-next (c .before .before .before .before .optional-item .ensures) (laying.room-next (c .before .before .before .before .before .before .before .before .before .text-at2 .ensures) (laying.room-next (c .before .before .before .before .before .before .before .before .before .before .before .before .before .before .text-at .ensures) (laying.room-next (laying.as-bytes (laws.one-present 2 (c .before .before .before .before .before .before .before .before .before .before .before .before .before .before .before .before .before .before .before .before .before .before .before .before .args .place) (c .before .before .before .before .before .before .before .before .before .before .before .before .before .before .before .before .before .before .before .before .before .before .before .before .args .size) (c .before .before .before .before .before .before .before .before .before .before .before .before .before .before .before .before .before .before .before .before .presence .ensures .0)) (c .before .before .before .before .before .before .before .before .before .before .before .before .before .before .before .before .before .before .before .head-at .ensures)) (c .before .before .before .before .before .before .before .before .before .before .before .before .before .before .before .before .before .before .before .before .before .before .before .before .pre .1))))))
+    (λ c κs. unfold rootFront in (omega arith, (laying.room-next (c .before .before .before .text-at3 .ensures) (laying.room-next (c .before .before .before .before .before .before .before .before .optional-item .ensures) (laying.room-next (c .before .before .before .before .before .before .before .before .before .before .before .before .before .text-at2 .ensures) (laying.room-next (c .before .before .before .before .before .before .before .before .before .before .before .before .before .before .before .before .before .before .text-at .ensures) (laying.room-next (laying.as-bytes (laws.one-present 2 (c .before .before .before .before .before .before .before .before .before .before .before .before .before .before .before .before .before .before .before .before .before .before .before .before .before .before .before .before .args .place) (c .before .before .before .before .before .before .before .before .before .before .before .before .before .before .before .before .before .before .before .before .before .before .before .before .before .before .before .before .args .size) (c .before .before .before .before .before .before .before .before .before .before .before .before .before .before .before .before .before .before .before .before .before .before .before .before .presence .ensures .0)) (c .before .before .before .before .before .before .before .before .before .before .before .before .before .before .before .before .before .before .before .before .before .before .before .head-at .ensures)) (c .before .before .before .before .before .before .before .before .before .before .before .before .before .before .before .before .before .before .before .before .before .before .before .before .before .before .before .before .pre .1))))))))
+    (λ c. laying.same-length (laying.then (laying.as-bytes (laws.one-present 2 (c .before .before .before .before .before .before .before .before .before .before .before .before .before .before .before .before .before .before .before .before .before .before .before .before .before .before .before .before .before .before .before .args .place) (c .before .before .before .before .before .before .before .before .before .before .before .before .before .before .before .before .before .before .before .before .before .before .before .before .before .before .before .before .before .before .before .args .size) (c .before .before .before .before .before .before .before .before .before .before .before .before .before .before .before .before .before .before .before .before .before .before .before .before .before .before .before .presence .ensures .0)) (c .before .before .before .before .before .before .before .before .before .before .before .before .before .before .before .before .before .before .before .before .before .before .before .before .before .before .head-at .ensures)) (laying.then (c .before .before .before .before .before .before .before .before .before .before .before .before .before .before .before .before .before .before .before .before .before .text-at .ensures) (laying.then (c .before .before .before .before .before .before .before .before .before .before .before .before .before .before .before .before .text-at2 .ensures) (laying.then (c .before .before .before .before .before .before .before .before .before .before .before .optional-item .ensures) (laying.then (c .before .before .before .before .before .before .text-at3 .ensures) (c .before .before .head-at2 .ensures)))))))
+    (λ c. unfold rootFront in (laying.then (laying.as-bytes (laws.one-present 2 (c .before .before .before .before .before .before .before .before .before .before .before .before .before .before .before .before .before .before .before .before .before .before .before .before .before .before .before .before .before .before .before .args .place) (c .before .before .before .before .before .before .before .before .before .before .before .before .before .before .before .before .before .before .before .before .before .before .before .before .before .before .before .before .before .before .before .args .size) (c .before .before .before .before .before .before .before .before .before .before .before .before .before .before .before .before .before .before .before .before .before .before .before .before .before .before .before .presence .ensures .0)) (c .before .before .before .before .before .before .before .before .before .before .before .before .before .before .before .before .before .before .before .before .before .before .before .before .before .before .head-at .ensures)) (laying.then (c .before .before .before .before .before .before .before .before .before .before .before .before .before .before .before .before .before .before .before .before .before .text-at .ensures) (laying.then (c .before .before .before .before .before .before .before .before .before .before .before .before .before .before .before .before .text-at2 .ensures) (laying.then (c .before .before .before .before .before .before .before .before .before .before .before .optional-item .ensures) (laying.then (c .before .before .before .before .before .before .text-at3 .ensures) (c .before .before .head-at2 .ensures))))))))

@@ -1,0 +1,44 @@
+-- Rows that can be laid: what a row points at lies in the buffer, each of its numbers in the rows.
+use Prim.Native.Nat.{ℕ, _+_, _*_, _≤_, _<_}
+use mathlib.Core.List.{List}
+use lib.ListN.{length, drop, getD}
+use Rattle.meaning.specs.Limit.{endLimit}
+use Rattle.meaning.specs.Rows.{objectWidth, componentWidth}
+use Rattle.meaning.specs.Asked.{eachRow, askedObject}
+use Rattle.rows.specs.Running.{counted}
+use Rattle.layout.specs.Pieces.{reachedPast}
+
+pub record Within (buffer : List ℕ) (place size : ℕ) : Type 0 where
+  pub inside : place + size ≤ length buffer
+
+pub record ComponentRow (buffer row : List ℕ) : Type 0 where
+  pub long : componentWidth ≤ length row
+  pub name : Within buffer (getD row 0 0) (getD row 1 0)
+  pub code : getD row 2 0 < 13
+  pub type : Within buffer (getD row 3 0) (getD row 4 0)
+  pub blob : Within buffer (getD row 5 0) (getD row 6 0)
+  pub digest : Within buffer (getD row 7 0) (getD row 8 0)
+
+pub record ObjectRow (buffer row : List ℕ) : Type 0 where
+  pub long : objectWidth ≤ length row
+  pub name : Within buffer (getD row 0 0) (getD row 1 0)
+  pub rank : getD row 2 0 ≤ 8
+  pub format : Within buffer (getD row 11 0) (getD row 12 0)
+  pub attributes : Within buffer (getD row 13 0) (getD row 14 0)
+
+-- n components, the first at this place, whose blobs end at most at the limit where `reached` is reached
+pub record ComponentRows (buffer rows : List ℕ) (n row reached : ℕ) : Type 0 where
+  pub each : (j : ℕ) → j < n → ComponentRow buffer (drop (row + componentWidth * j) rows)
+  pub lie : row + componentWidth * n ≤ length rows
+  pub low : reachedPast rows n row reached ≤ endLimit
+
+-- n objects, the first at the place `row`, and their components from the place `from` on
+pub record ObjectRows (buffer rows : List ℕ) (n row from reached : ℕ) : Type 0 where
+  pub each : (i : ℕ) → i < n → ObjectRow buffer (drop (row + objectWidth * i) rows)
+  pub components : ComponentRows buffer rows (counted (eachRow askedObject objectWidth n (drop row rows))) from reached
+
+-- all rows, objects first, and the root's attributes
+pub record WholeRows (buffer rows : List ℕ) (objects components place size : ℕ) : Type 0 where
+  pub attributes : Within buffer place size
+  pub each : ObjectRows buffer rows objects 0 (objectWidth * objects) 8
+  pub blobs : ComponentRows buffer rows components (objectWidth * objects) 8

@@ -1,0 +1,43 @@
+// The whole file that sound rows ask for: header, blobs, manifest, size, footer.
+mod components;
+mod fields;
+mod framing;
+mod objects;
+
+ghost use mathlib.Core.Path.{_≡_};
+ghost use mathlib.Core.List.{_++_};
+ghost use mathlib.Core.Bool.{true};
+ghost use Prim.Native.Nat.{_≤_};
+ghost use lib.ListN.{length, drop};
+ghost use Rattle.meaning.specs.Limit.{endLimit};
+ghost use Rattle.meaning.specs.Sound.{rowsSound};
+ghost use Rattle.layout.specs.Plain.{rootAttributes, plainFile, plainEnd};
+
+// Laid into an output that has room for it; its length. What lies beyond stays.
+pub fn file(
+    rows: &[u64],
+    objects: u64,
+    components: u64,
+    place: u64,
+    size: u64,
+    buffer: &[u8],
+    out: &mut [u8],
+) -> usize
+    requires { ⌜ rowsSound (now buffer) (now rows) objects components (rootAttributes place size) ≡ true ⌝ }
+    requires { ⌜ plainEnd (now buffer) (now rows) objects components place size ≤ endLimit ⌝ }
+    requires { ⌜ length (plainFile (now buffer) (now rows) objects components place size) ≤ length (now out) ⌝ }
+    ensures whole { λ r. ⌜ r ≡ length (plainFile (now (buffer .entry)) (now (rows .entry)) objects components place size) ⌝ }
+    ensures written { λ r. ⌜ now (out .exit)
+        ≡ plainFile (now (buffer .entry)) (now (rows .entry)) objects components place size
+        ++ drop (length (plainFile (now (buffer .entry)) (now (rows .entry)) objects components place size)) (now (out .entry)) ⌝ }
+{
+    framing::whole(
+        out,
+        &buffer[0..],
+        &rows[0..],
+        objects,
+        components,
+        place,
+        size,
+    )
+}

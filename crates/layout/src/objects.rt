@@ -1,0 +1,69 @@
+// Objects in the manifest, with their components.
+use crate::components::components_at;
+use crate::fields::optional_item;
+use crate::fields::presence;
+use crate::fields::word_at;
+use crate::fields::word_field;
+use emit::head_at;
+use emit::list_at;
+use emit::text_at;
+ghost use Rattle.emit.specs.Laid.{Room, Laid};
+ghost use Rattle.layout.specs.Pieces as is;
+ghost use Rattle.layout.specs.Rows.{ObjectRow, ObjectRows};
+
+// The name and the shape of the object whose row these numbers begin with.
+fn front_at(out: &mut [u8], at: usize, buffer: &[u8], row: &[u64]) -> usize
+    requires { ⌜ ObjectRow (now buffer) (now row) ⌝ }
+    requires { ⌜ Room (is.objectFront (now buffer) (now row)) at (now out) ⌝ }
+    ensures { λ r. ⌜ Laid (is.objectFront (now (buffer .entry)) (now (row .entry))) at (now (out .entry)) (now (out .exit)) r ⌝ }
+{
+    let a = word_at(out, at, buffer, row[0], row[1]);
+    let b = head_at(out, a, 5, 3 + presence(row[13], row[14]));
+    let c = text_at(out, b, b"shape");
+    let end = 3 + row[2] as usize;
+    list_at(out, c, &row[3..end])
+}
+
+// The rest of it, up to its components.
+fn rest_at(out: &mut [u8], at: usize, buffer: &[u8], row: &[u64]) -> usize
+    requires { ⌜ ObjectRow (now buffer) (now row) ⌝ }
+    requires { ⌜ Room (is.objectRest (now buffer) (now row)) at (now out) ⌝ }
+    ensures { λ r. ⌜ Laid (is.objectRest (now (buffer .entry)) (now (row .entry))) at (now (out .entry)) (now (out .exit)) r ⌝ }
+{
+    let a = word_field(out, at, b"format", buffer, row[11], row[12]);
+    let b = optional_item(out, a, b"attributes", buffer, row[13], row[14]);
+    let c = text_at(out, b, b"components");
+    head_at(out, c, 5, row[15])
+}
+
+// The entries of n objects, the first at the rows' start, their components from the place `first` on.
+pub fn objects_at(
+    out: &mut [u8],
+    at: usize,
+    buffer: &[u8],
+    rows: &[u64],
+    n: u64,
+    first: usize,
+) -> usize
+    requires { ⌜ ObjectRows (now buffer) (now rows) n 0 first 8 ⌝ }
+    requires { ⌜ Room (is.objectsOf (now buffer) (now rows) n 0 first 8) at (now out) ⌝ }
+    ensures { λ r. ⌜ Laid (is.objectsOf (now (buffer .entry)) (now (rows .entry)) n 0 first 8) at (now (out .entry)) (now (out .exit)) r ⌝ }
+{
+    let mut past = at;
+    let mut row = 0;
+    let mut from = first;
+    let mut reached: u64 = 8;
+    let mut left = n;
+    while 0 < left {
+        let count = rows[row + 15];
+        let front = front_at(out, past, &buffer[0..], &rows[row..]);
+        let rest = rest_at(out, front, &buffer[0..], &rows[row..]);
+        let p = components_at(out, rest, &buffer[0..], &rows[0..], count, from, reached);
+        past = p.at;
+        reached = p.reached;
+        from += 10 * count as usize;
+        row += 16;
+        left -= 1;
+    }
+    past
+}

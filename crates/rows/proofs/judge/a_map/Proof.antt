@@ -1,0 +1,27 @@
+-- `rows::judge::a_map` meets its contract: a law for each branch.
+use borrow.Rule.Slice.PartAt.{part-to-end}
+use native.Mathlib.Omega.{arith}
+use mathlib.Core.Path.{ap, sym, _∙_}
+use mathlib.Core.List.{List}
+use Prim.Native.Nat.{ℕ}
+use Rattle.cbor.specs.Ending.{code, ending}
+use Rattle.meaning.specs.Read.{item, noNote}
+use Rattle.rows.proofs.Judged as law
+use borrow.Author.Needs.{needs}
+use Rattle.rows.proofs.judge.a_map.Statement.{statement}
+use Rattle.rows.proofs.judge.a_map.Tie as tie
+
+pub a-map-spec : {M : Type 1} → statement M
+a-map-spec =
+    tie.close
+    (tie.spec
+    (λ c. law.empty-no-map ((c .before .before .args .levels)) ((c .before .before .args .s .now)) ((c .if1 .taken)))
+    (λ c. search needs)
+    (λ c κs. search needs)
+    (λ c. law.other-no-map ((c .before .before .before .before .before .args .levels)) ((c .before .before .before .before .before .args .s .now)) ((c .before .before .before .if1 .left)) (λ e. (c .if2 .taken) ((c .before .major-of .ensures) ∙ e)))
+    (λ c. search needs)
+    (λ c. search needs)
+    (λ c. search needs)
+    (λ c κs. search needs)
+    (λ c. law.map-fills ((c .before .before .before .before .before .before .before .before .args .levels)) ((c .before .before .before .before .before .before .before .before .args .s .now)) ((c .before .before .before .before .before .before .if1 .left)) (sym ((c .before .before .before .before .major-of .ensures)) ∙ (c .before .before .before .if2 .left)) (let g = ((c .before .before .before .before .before .before .before .before .good)) in omega arith) ((c .before .skip .result)) ((c .before .skip .ensures) ∙ ap (λ (s : List ℕ). code (ending s (item noNote ((c .before .before .before .before .before .before .before .before .args .levels)) s))) (part-to-end ((c .before .before .before .before .before .before .before .before .args .s .now)) 0)) ((c .if3 .taken)))
+    (λ c. law.by-deep ((c .before .before .before .before .before .before .before .before .args .levels)) ((c .before .before .before .before .before .before .before .before .args .s .now)) ((c .before .before .before .before .before .before .if1 .left)) (sym ((c .before .before .before .before .major-of .ensures)) ∙ (c .before .before .before .if2 .left)) (let g = ((c .before .before .before .before .before .before .before .before .good)) in omega arith) ((c .before .skip .result)) ((c .before .skip .ensures) ∙ ap (λ (s : List ℕ). code (ending s (item noNote ((c .before .before .before .before .before .before .before .before .args .levels)) s))) (part-to-end ((c .before .before .before .before .before .before .before .before .args .s .now)) 0)) ((c .if3 .left))))

@@ -1,0 +1,201 @@
+-- These sizes are the lengths of what sound rows describe.
+use Prim.Native.Nat.{ℕ, zero, suc, _+_, _*_, _≤_}
+use native.Mathlib.Omega.{arith}
+use mathlib.Core.List.{List, [], _∷_, map}
+use mathlib.Core.Bool.{Bool, true}
+use mathlib.Core.Path.{_≡_, refl, sym, ap, _∙_}
+use lib.ListN.{length, take, drop, getD, length-map, length-take, length-drop}
+use lib.Seq.{length-take-le}
+use lib.Dec.{ltb}
+use borrow.Author.Tests.{ltb-true, le-leb, lt-ltb}
+use Rattle.meaning.specs.Text.{all}
+use Rattle.meaning.specs.Read.{Span, bytesAt}
+use Rattle.meaning.specs.Limit.{endLimit}
+use Rattle.meaning.specs.Asked.{AskedObject, AskedComponent, Asked, eachRow, askedObject, askedComponent, asked}
+use Rattle.meaning.specs.Sound.{objectSound, componentSound, rowsSound}
+use Rattle.meaning.specs.Placement.{aligned}
+use Rattle.meaning.specs.Described.{DescribedComponent, Described, describedComponent, describedObject, describedObjects, described}
+use Rattle.meaning.specs.Manifest.{mapBytes, componentBytes}
+use Rattle.rows.specs.Placed.{objectsAt, componentsAt}
+use Rattle.rows.specs.Running.{reached, entriesFrom, objectFrom, objectsFrom, blobSizes, counted}
+use Rattle.rows.proofs.Both.{both-left, both-right}
+use Rattle.rows.proofs.EachRow.{all-taken, all-dropped, how-many}
+use Rattle.rows.proofs.Running.{last-is-reached}
+use Rattle.rows.proofs.Whole.{sound-lies, sound-attributes, sound-objects, sound-components}
+use Rattle.rows.proofs.SoundRow.{as-long, component-name-inside, component-type-inside, component-blob-inside, component-digest-inside, attributes-inside, object-name-inside, object-rank-small, object-format-inside, object-attributes-sound}
+use Rattle.rows.proofs.Describes.{blobs-as-long, rows-counted, blob-lengths}
+use Rattle.sizes.specs.Size.{capped, headSize, textSize, optionalCopy, fixedSize, componentSize, componentsSize, objectSize, objectsSize, objectsSizeIn, manifestSize}
+use Rattle.sizes.specs.Measured.{shaped, Fits, Measurable, lengthsOf, endOf, manifestLength}
+use Rattle.sizes.proofs.Heads.{head-one}
+use Rattle.sizes.proofs.Lengths.{text-length, number-length, list-length, entriesSize, map-length, text-field, copied-field, text-there, called-size, component-bytes, object-bytes, manifest-bytes}
+
+-- ---- components
+
+module _ (buffer : List ℕ) where
+  component-length : (offset : ℕ) (c : AskedComponent) → componentSound buffer c ≡ true
+      → textSize (length (bytesAt buffer (c .name))) + length (componentBytes offset (describedComponent buffer c)) ≡ componentSize offset c
+  unfolding describedComponent componentSize fixedSize
+  component-length offset c e =
+      omega (
+        arith,
+        component-bytes offset (describedComponent buffer c),
+        text-there buffer (c .name) (component-name-inside buffer c e),
+        called-size (c .dtype),
+        text-field buffer 5 (c .type) (component-type-inside buffer c e),
+        text-field buffer 7 (c .digest) (component-digest-inside buffer c e),
+        number-length offset,
+        number-length (length (bytesAt buffer (c .blob))),
+        ap headSize (as-long buffer (c .blob) (component-blob-inside buffer c e)),
+      )
+
+  components-length : (n : ℕ) (cs : List AskedComponent) → all (componentSound buffer) cs ≡ true
+      → entriesSize (entriesFrom n (map (describedComponent buffer) cs)) ≡ componentsSize n cs
+  unfolding entriesSize entriesFrom componentsSize describedComponent
+  components-length n [] e = refl
+  components-length n (c ∷ cs) e =
+      let first = both-left _ (all (componentSound buffer) cs) e in
+      let one = component-length (aligned n) c first in
+      let others = components-length (aligned n + c .blob .size) cs (both-right (componentSound buffer c) _ e) in
+      let blob = ap (λ (k : ℕ). entriesSize (entriesFrom (aligned n + k) (map (describedComponent buffer) cs)))
+      (as-long buffer (c .blob) (component-blob-inside buffer c first)) in
+      omega (arith, one, others, blob)
+
+  entries-many : (n : ℕ) (ds : List DescribedComponent) → length (entriesFrom n ds) ≡ length ds
+  unfolding entriesFrom
+  entries-many n [] = refl
+  entries-many n (d ∷ ds) = ap suc (entries-many (aligned n + length (d .blob)) ds)
+
+  parts-length : (n : ℕ) (cs : List AskedComponent) → all (componentSound buffer) cs ≡ true
+      → length (mapBytes (entriesFrom n (map (describedComponent buffer) cs))) ≡ headSize (length cs) + componentsSize n cs
+  parts-length n cs e =
+      omega (
+        arith,
+        map-length (entriesFrom n (map (describedComponent buffer) cs)),
+        ap headSize (entries-many n (map (describedComponent buffer) cs) ∙ length-map cs (describedComponent buffer)),
+        components-length n cs e,
+      )
+
+  -- ---- objects
+
+  -- a shape is no longer than rows have room for
+  abbrev short : AskedObject → Bool
+  short o = ltb (length (o .shape)) 24
+
+  short-row : (row : List ℕ) → objectSound buffer (askedObject row) ≡ true → short (askedObject row) ≡ true
+  unfolding askedObject
+  short-row row e =
+      lt-ltb (length (take (getD row 2 0) (drop 3 row))) 24 (omega (arith, object-rank-small buffer (askedObject row) e, length-take (getD row 2 0) (drop 3 row)))
+
+  short-rows : (n : ℕ) (rows : List ℕ) → all (objectSound buffer) (eachRow askedObject 16 n rows) ≡ true → all short (eachRow askedObject 16 n rows) ≡ true
+  unfolding eachRow
+  short-rows zero rows e = refl
+  short-rows (suc n) rows e =
+      rw (short-row rows (both-left _ (all (objectSound buffer) (objectsAt n 16 rows)) e))
+      (short-rows n (drop 16 rows) (both-right (objectSound buffer (askedObject rows)) _ e))
+
+  object-length : (n : ℕ) (o : AskedObject) (cs : List AskedComponent) → objectSound buffer o ≡ true → short o ≡ true → all (componentSound buffer) cs ≡ true
+      → textSize (length (bytesAt buffer (o .name))) + length (objectFrom n (describedObject buffer o cs)) ≡ objectSize o + headSize (length cs) + componentsSize n cs
+  unfolding describedObject objectSize
+  object-length n o cs e s f =
+      omega (
+        arith,
+        object-bytes n (describedObject buffer o cs),
+        text-there buffer (o .name) (object-name-inside buffer o e),
+        list-length (o .shape),
+        head-one (length (o .shape)) (ltb-true (length (o .shape)) 24 s),
+        text-length (bytesAt buffer (o .format)),
+        text-there buffer (o .format) (object-format-inside buffer o e),
+        copied-field buffer 11 (o .attributes) (attributes-inside buffer 29 (o .attributes) (object-attributes-sound buffer o e)),
+        parts-length n cs f,
+      )
+
+  objects-length : (n : ℕ) (os : List AskedObject) (cs : List AskedComponent) → counted os ≡ length cs → all (objectSound buffer) os ≡ true → all short os ≡ true
+      → all (componentSound buffer) cs ≡ true → entriesSize (objectsFrom n (describedObjects buffer os cs)) ≡ objectsSize n os cs
+  unfolding entriesSize objectsFrom objectsSize describedObjects describedObject counted
+  objects-length n [] cs k e s f = refl
+  objects-length n (o ∷ os) cs k e s f =
+      let taken = all-taken (componentSound buffer) (o .count) cs f in
+      let one = object-length n o (take (o .count) cs) (both-left _ (all (objectSound buffer) os) e) (both-left _ (all short os) s) taken in
+      let many = ap headSize (length-take-le (o .count) cs (omega (arith, k))) in
+      let others = objects-length (reached n (blobSizes (take (o .count) cs))) os (drop (o .count) cs) (omega (arith, k, length-drop (o .count) cs))
+      (both-right (objectSound buffer o) _ e) (both-right (short o) _ s) (all-dropped (componentSound buffer) (o .count) cs f) in
+      let on = ap (λ (ls : List ℕ). entriesSize (objectsFrom (reached n ls) (describedObjects buffer os (drop (o .count) cs))))
+      (blobs-as-long buffer (take (o .count) cs) taken) in
+      omega (arith, one, many, others, on)
+
+  objects-many : (n : ℕ) (os : List AskedObject) (cs : List AskedComponent) → length (objectsFrom n (describedObjects buffer os cs)) ≡ length os
+  unfolding objectsFrom describedObjects
+  objects-many n [] cs = refl
+  objects-many n (o ∷ os) cs = ap suc (objects-many _ os (drop (o .count) cs))
+
+-- ---- all of it
+
+module _ (buffer rows : List ℕ) (objects components : ℕ) (attributes : Span) (sound : rowsSound buffer rows objects components attributes ≡ true) where
+  abbrev a : Asked
+  a = asked rows objects components attributes
+
+  abbrev d : Described
+  d = described buffer a
+
+  abbrev Os : List AskedObject
+  Os = eachRow askedObject 16 objects rows
+
+  abbrev Cs : List AskedComponent
+  Cs = componentsAt components (16 * objects) rows
+
+  pub end-is : endOf d ≡ reached 8 (blobSizes Cs)
+  end-is = last-is-reached (lengthsOf d) ∙ ap (reached 8) (blob-lengths buffer rows objects components attributes sound)
+
+  pub manifest-is : manifestLength d ≡ manifestSize a
+  unfolding described asked manifestSize
+  manifest-is =
+      let all-objects = sound-objects buffer rows objects components attributes sound in
+      omega (
+        arith,
+        manifest-bytes d,
+        copied-field buffer 11 attributes (attributes-inside buffer 31 attributes (sound-attributes buffer rows objects components attributes sound)),
+        map-length (objectsFrom 8 (describedObjects buffer Os Cs)),
+        ap headSize (objects-many buffer 8 Os Cs),
+        objects-length buffer 8 Os Cs (rows-counted buffer rows objects components attributes sound ∙ sym (how-many askedComponent 10 components (drop (16 * objects) rows)))
+            all-objects (short-rows buffer objects rows all-objects) (sound-components buffer rows objects components attributes sound),
+      )
+
+  ranked : (os : List AskedObject) → all (objectSound buffer) os ≡ true → all shaped os ≡ true
+  unfolding shaped
+  ranked [] e = refl
+  ranked (o ∷ os) e =
+      rw (le-leb (o .rank) 8 (object-rank-small buffer o (both-left _ (all (objectSound buffer) os) e))) (ranked os (both-right (objectSound buffer o) _ e))
+
+  -- sound rows whose last blob ends in time can be measured
+  pub measurable : endOf d ≤ endLimit → Measurable rows objects components
+  measurable h = record {
+    lie = sound-lies buffer rows objects components attributes sound;
+    counts = rows-counted buffer rows objects components attributes sound;
+    ranks = ranked Os (sound-objects buffer rows objects components attributes sound);
+    ends = omega (arith, h, end-is);
+  }
+
+-- ---- what is measured
+
+module _ (rows : List ℕ) (objects components : ℕ) (m : Measurable rows objects components) where
+  pub all-fit : Fits rows (drop (16 * objects) rows) objects 0 0 8
+  all-fit = record {
+    objects = omega (arith, m .lie);
+    components = omega (arith, m .lie, m .counts, length-drop (16 * objects) rows);
+    ranks = m .ranks;
+    ends = rw (m .counts) (m .ends);
+  }
+
+  pub manifest-sum : (attributes : Span) (t h p : ℕ) → t ≡ capped (optionalCopy 11 attributes) → h ≡ headSize objects
+      → p ≡ capped (objectsSizeIn rows (drop (16 * objects) rows) objects)
+      → capped (23 + t + h + p) ≡ capped (manifestSize (asked rows objects components attributes))
+  unfolding manifestSize asked
+  manifest-sum attributes t h p e f g =
+      omega (
+        arith,
+        e,
+        f,
+        g,
+        ap headSize (how-many askedObject 16 objects rows),
+        ap (λ (k : ℕ). objectsSize 8 (eachRow askedObject 16 objects rows) (componentsAt k (16 * objects) rows)) (m .counts),
+      )

@@ -1,0 +1,5 @@
+-- Laws behind the proofs of sizes.
+pub mod Heads
+pub mod Sums
+pub mod Lengths
+pub mod Exact

@@ -1,0 +1,7 @@
+-- Theorems on what an old reader answers alike.
+pub mod RowsAlike
+pub mod ReadsAlike
+pub mod ShownAlike
+pub mod Columns
+pub mod MajorRefused
+pub mod NotVacuous

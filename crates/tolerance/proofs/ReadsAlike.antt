@@ -1,0 +1,188 @@
+-- Files whose manifests mean the same, unknown fields and the minor version apart, are read alike.
+use Prim.Native.Nat.{ℕ, _+_, _≤_}
+use native.Mathlib.Omega.{arith}
+use mathlib.Core.List.{List, [], _∷_, _++_, map}
+use mathlib.Core.Bool.{Bool, true, false}
+use mathlib.Core.Path.{_≡_, refl, ap, ap₂, sym, subst, _∙_}
+use lib.ListN.{length, take, drop, length-map, length-append, length-drop}
+use lib.Seq.{drop-at}
+use lib.Dec.{leb}
+use borrow.Author.Tests.{leb-true}
+use Rattle.meaning.specs.Tree.{Node, nothing}
+use Rattle.meaning.specs.Check.{Check, pass, refuse, _>>=_}
+use Rattle.meaning.specs.Refusal.{ROOM}
+use Rattle.meaning.specs.Read.{Span, Outcome, spanTo, manifest}
+use Rattle.meaning.specs.Model.{Object, Model}
+use Rattle.meaning.specs.Notes.{mapCheck, mapComponent, mapObject, mapModel, bare}
+use Rattle.meaning.specs.Judge.{judge}
+use Rattle.meaning.specs.Frame.{Frame, frame, checked, Reading, reading}
+use Rattle.meaning.specs.Rows.{attributesSpan, componentCount, roomFor, roomy, rows, answer, tableAfter, readInto, objectRows, componentRows}
+use Rattle.meaning.proofs.DropKeepsVerdict.{tolerant}
+use Rattle.view.proofs.Columns.{objects-width, components-width}
+use Rattle.shown.proofs.AcceptedFile.{accepted, refusals-of-reading}
+use Rattle.tolerance.specs.Manifests.{Parsed, parsed, SameOnceDropped}
+use Rattle.tolerance.specs.Alike.{acceptance, afterwards, ReadAlike, refused, accepted as both}
+use Rattle.tolerance.proofs.RowsAlike.{maps-alike, table-alike}
+
+-- the reading after checks 1 to 7
+unfoldable pub judged : Parsed → Check Reading
+judged p = do
+  m ← judge (p .start) (p .tree)
+  pass (record { start = p .start; model = m })
+
+pub reading-parsed : (file : List ℕ) → reading file ≡ (parsed file >>= judged)
+unfolding reading parsed judged
+reading-parsed file = by (frame file)
+  where
+    read : Frame → Outcome (Node Span)
+    read f = manifest (spanTo (f .start + f .size)) (take (f .size) (drop (f .start) file))
+
+    tree : (f : Frame) (k : Check (Node Span))
+        → (k >>= λ t. judge (f .start) t >>= λ m. pass (record { start = f .start; model = m })) ≡ ((k >>= λ t. pass (record { start = f .start; tree = t })) >>= judged)
+    tree f (pass t) = refl
+    tree f (refuse n o c) = refl
+
+    by : (k : Check Frame)
+        → (k >>= λ f. checked (read f) >>= λ t. judge (f .start) t >>= λ m. pass (record { start = f .start; model = m }))
+        ≡ ((k >>= λ f. checked (read f) >>= λ t. pass (record { start = f .start; tree = t })) >>= judged)
+    by (pass f) = tree f (checked (read f))
+    by (refuse n o c) = refl
+
+-- what was read, with annotations forgotten
+pub record Said : Type 0 where
+  pub start : ℕ
+  pub model : Model (Unit {0})
+
+abbrev pub said : Reading → Said
+said r = record { start = r .start; model = mapModel nothing (r .model) }
+
+said-judged : (p : Parsed) → mapCheck said (judged p) ≡ mapCheck (λ m. record { start = p .start; model = m }) (bare (judge (p .start) (p .tree)))
+unfolding judged
+said-judged p = by (judge (p .start) (p .tree))
+  where
+    by : (k : Check (Model Span))
+        → mapCheck said (k >>= λ m. pass (record { start = p .start; model = m })) ≡ mapCheck (λ m. record { start = p .start; model = m }) (bare k)
+    by (pass m) = refl
+    by (refuse n o c) = refl
+
+-- Manifests that mean the same, unknown fields and the minor version apart, say the same.
+pub readings-same : (file₁ file₂ : List ℕ) → SameOnceDropped (parsed file₁) (parsed file₂) → mapCheck said (reading file₁) ≡ mapCheck said (reading file₂)
+readings-same file₁ file₂ h = ap (mapCheck said) (reading-parsed file₁) ∙ by (parsed file₁) (parsed file₂) h ∙ sym (ap (mapCheck said) (reading-parsed file₂))
+  where
+    by : (k₁ k₂ : Check Parsed) → SameOnceDropped k₁ k₂ → mapCheck said (k₁ >>= judged) ≡ mapCheck said (k₂ >>= judged)
+    by (pass p) (pass q) s =
+        let at : ℕ → Check Said = λ n. mapCheck (λ m. record { start = n; model = m }) (bare (judge n (q .tree))) in
+        said-judged p ∙ ap (mapCheck (λ m. record { start = p .start; model = m })) (tolerant (p .start) (p .tree) (q .tree) (s .meant)) ∙ ap at (s .start) ∙ sym (said-judged q)
+    by (pass p) (refuse n o c) s = absurd s
+    by (refuse n o c) k₂ s = absurd s
+
+-- ---------------------------------------------------------------- counts of models that are the same with annotations forgotten
+
+pub components-counted : (os : List (Object Span)) → componentCount (map (mapObject nothing) os) ≡ componentCount os
+unfolding componentCount
+components-counted [] = refl
+components-counted (o ∷ os) = let a = length-map (o .components) (mapComponent nothing) in let b = components-counted os in omega (arith, a, b)
+
+module _ (m₁ m₂ : Model Span) (same : mapModel nothing m₁ ≡ mapModel nothing m₂) where
+  objects-same : length (m₁ .objects) ≡ length (m₂ .objects)
+  objects-same = sym (length-map (m₁ .objects) (mapObject nothing)) ∙ ap (λ (m : Model (Unit {0})). length (m .objects)) same ∙ length-map (m₂ .objects) (mapObject nothing)
+
+  components-same : componentCount (m₁ .objects) ≡ componentCount (m₂ .objects)
+  components-same = sym (components-counted (m₁ .objects)) ∙ ap (λ (m : Model (Unit {0})). componentCount (m .objects)) same ∙ components-counted (m₂ .objects)
+
+  pub room-same : roomFor m₁ ≡ roomFor m₂
+  unfolding roomFor
+  room-same = let a = objects-same in let b = components-same in omega (arith, a, b)
+
+-- ---------------------------------------------------------------- a table that begins with a model's rows
+
+module _ (m : Model Span) where
+  rows-width : length (rows m) ≡ roomFor m
+  unfolding roomFor rows
+  rows-width = length-append (objectRows (m .objects)) (componentRows 0 (m .objects))
+      ∙ (let a = objects-width (m .objects) in let b = components-width 0 (m .objects) in omega (arith, a, b))
+
+  behind : (rest : List ℕ) → drop (roomFor m) (rows m ++ rest) ≡ rest
+  behind rest = drop-at (rows m) rest (roomFor m) rows-width
+
+  whole : (table : List ℕ) → roomFor m ≤ length table → length (rows m ++ drop (roomFor m) table) ≡ length table
+  whole table h =
+      let a = length-append (rows m) (drop (roomFor m) table) in let b = rows-width in let c = length-drop (roomFor m) table in
+      omega (arith, a, b, c, h)
+
+-- ---------------------------------------------------------------- the two readings
+
+module _ (file₁ table₁ file₂ table₂ : List ℕ) (tables : length table₁ ≡ length table₂) where
+  same-refusal : (n o c : ℕ) → 1 ≤ n → readInto file₁ (length table₁) ≡ refuse n o c → readInto file₂ (length table₂) ≡ refuse n o c → ReadAlike file₁ table₁ file₂ table₂
+  unfolding tableAfter
+  same-refusal n o c h e₁ e₂ = refused (record {
+    number = n;
+    object = o;
+    component = c;
+    not-accepted = h;
+    first = ap answer e₁;
+    second = ap answer e₂;
+    untouched₁ = ap (tableAfter table₁) e₁;
+    untouched₂ = ap (tableAfter table₂) e₂;
+  })
+
+  module _ (start : ℕ) (m₁ m₂ : Model Span) (same : mapModel nothing m₁ ≡ mapModel nothing m₂)
+      (reads₁ : reading file₁ ≡ pass (record { start = start; model = m₁ })) (reads₂ : reading file₂ ≡ pass (record { start = start; model = m₂ })) where
+    abbrev reading₁ : Reading
+    reading₁ = record { start = start; model = m₁ }
+
+    abbrev reading₂ : Reading
+    reading₂ = record { start = start; model = m₂ }
+
+    both-accepted : roomFor m₁ ≤ length table₁ → readInto file₁ (length table₁) ≡ pass reading₁ → readInto file₂ (length table₂) ≡ pass reading₂
+        → ReadAlike file₁ table₁ file₂ table₂
+    unfolding answer tableAfter roomFor
+    both-accepted h e₁ e₂ =
+        let a₁ = accepted file₁ reading₁ reads₁ in
+        let a₂ = accepted file₂ reading₂ reads₂ in
+        both (record {
+          objects = length (m₁ .objects);
+          components = componentCount (m₁ .objects);
+          start = start;
+          attributes₁ = attributesSpan (m₁ .attributes);
+          attributes₂ = attributesSpan (m₂ .attributes);
+          first = ap answer e₁;
+          second = ap answer e₂ ∙ ap₂ (λ (n c : ℕ). acceptance n c start (attributesSpan (m₂ .attributes))) (sym (objects-same m₁ m₂ same)) (sym (components-same m₁ m₂ same));
+          root = maps-alike file₁ file₂ start (a₁ .header) 31 (m₁ .attributes) (m₂ .attributes) (a₁ .attributes) (a₂ .attributes)
+              (ap (λ (m : Model (Unit {0})). m .attributes) same);
+          rows = rw (e₁, e₂) (table-alike file₁ file₂ start (a₁ .header) m₁ m₂ (a₁ .objects) (a₂ .objects) same (drop (roomFor m₁) table₁) (drop (roomFor m₂) table₂));
+          room = h;
+          whole₁ = ap (λ (k : Check Reading). length (tableAfter table₁ k)) e₁ ∙ whole m₁ table₁ h;
+          whole₂ = ap (λ (k : Check Reading). length (tableAfter table₂ k)) e₂ ∙ whole m₂ table₂ (let r = room-same m₁ m₂ same in omega (arith, h, r, tables));
+          beyond₁ = ap (λ (k : Check Reading). drop (roomFor m₁) (tableAfter table₁ k)) e₁ ∙ behind m₁ (drop (roomFor m₁) table₁);
+          beyond₂ = subst (λ (n : ℕ). drop n (afterwards file₂ table₂) ≡ drop n table₂) (sym (room-same m₁ m₂ same))
+              (ap (λ (k : Check Reading). drop (roomFor m₂) (tableAfter table₂ k)) e₂ ∙ behind m₂ (drop (roomFor m₂) table₂));
+        })
+
+    -- ROOM is last, and both have the same room
+    both-read : ReadAlike file₁ table₁ file₂ table₂
+    unfolding readInto roomy
+    both-read = by (leb (roomFor m₁) (length table₁)) refl
+      where
+        second : (b : Bool) → leb (roomFor m₁) (length table₁) ≡ b → leb (roomFor m₂) (length table₂) ≡ b
+        second b e = subst (λ (n : ℕ). leb n (length table₂) ≡ b) (room-same m₁ m₂ same) (subst (λ (n : ℕ). leb (roomFor m₁) n ≡ b) tables e)
+
+        by : (b : Bool) → leb (roomFor m₁) (length table₁) ≡ b → ReadAlike file₁ table₁ file₂ table₂
+        by true e = both-accepted (leb-true (roomFor m₁) (length table₁) e) (rw (reads₁, e) refl) (rw (reads₂, second true e) refl)
+        by false e = same-refusal ROOM 0 0 (omega arith) (rw (reads₁, e) refl) (rw (reads₂, second false e) refl)
+
+  -- An old reader meets a newer 1.x writer: `read` answers alike, whatever stands between the magic and the manifest.
+  pub read-alike : SameOnceDropped (parsed file₁) (parsed file₂) → ReadAlike file₁ table₁ file₂ table₂
+  unfolding readInto
+  read-alike h = by (reading file₁) refl (reading file₂) refl (readings-same file₁ file₂ h)
+    where
+      by : (k₁ : Check Reading) → reading file₁ ≡ k₁ → (k₂ : Check Reading) → reading file₂ ≡ k₂ → mapCheck said k₁ ≡ mapCheck said k₂ → ReadAlike file₁ table₁ file₂ table₂
+      by (pass r₁) e₁ (pass r₂) e₂ s =
+          let z : said r₁ ≡ said r₂ = cc in
+          both-read (r₁ .start) (r₁ .model) (r₂ .model) (ap (λ x. x .model) z) e₁ (e₂ ∙ ap (λ n. pass (record { start = n; model = r₂ .model })) (sym (ap (λ x. x .start) z)))
+      by (pass r₁) e₁ (refuse n o c) e₂ s = absurd (let z : _≡_ {A = ℕ} 0 1 = cc in omega arith)
+      by (refuse n o c) e₁ (pass r₂) e₂ s = absurd (let z : _≡_ {A = ℕ} 0 1 = cc in omega arith)
+      by (refuse n o c) e₁ (refuse n′ o′ c′) e₂ s =
+          let z : _≡_ {A = Check Reading} (refuse n′ o′ c′) (refuse n o c) = cc in
+          let b = refusals-of-reading file₁ n o c e₁ .0 in
+          same-refusal n o c (omega (arith, b)) (ap (λ (k : Check Reading). k >>= roomy (length table₁)) e₁) (ap (λ (k : Check Reading). k >>= roomy (length table₂)) (e₂ ∙ z))

@@ -1,0 +1,92 @@
+-- What the firmware and the panel say of files whose manifests mean the same, unknown fields and the minor version apart, is the same, byte by byte.
+use Prim.Native.Nat.{ℕ}
+use native.Mathlib.Omega.{arith}
+use mathlib.Core.List.{List, [], _∷_, _++_, map}
+use mathlib.Core.Bool.{Bool, true, false}
+use mathlib.Core.Path.{_≡_, refl, ap, ap₂, sym, _∙_}
+use lib.ListN.{length, length-map}
+use lib.Dec.{leb}
+use Rattle.meaning.specs.Tree.{nothing}
+use Rattle.meaning.specs.Check.{Check, pass, refuse, _>>=_, _>>_, _unless_}
+use Rattle.meaning.specs.Refusal.{ROOM}
+use Rattle.meaning.specs.Read.{Span}
+use Rattle.meaning.specs.Model.{Component, Object, Model}
+use Rattle.meaning.specs.Notes.{mapCheck, mapComponent, mapObject, mapModel}
+use Rattle.meaning.specs.Frame.{Reading, reading}
+use Rattle.meaning.specs.Rows.{roomFor, roomy, answer, readInto}
+use Rattle.meaning.specs.Listing.{blobLine, blobLines, objectLine, objectLines, listing, listingOf}
+use Rattle.reader.specs.Verdict.{verdict}
+use Rattle.shown.specs.Shown.{listedThen}
+use Rattle.shown.proofs.AfterReading.{read-zero, read-listing}
+use Rattle.tolerance.specs.Manifests.{parsed, SameOnceDropped}
+use Rattle.tolerance.specs.Alike.{answerOf, ReadAlike, refused, accepted}
+use Rattle.tolerance.proofs.ReadsAlike.{said, readings-same, components-counted, room-same, read-alike}
+
+-- ---------------------------------------------------------------- a listing does not look at annotations
+
+blobs-listed : (cs : List (Component Span)) → blobLines (map (mapComponent nothing) cs) ≡ blobLines cs
+unfolding blobLines blobLine
+blobs-listed [] = refl
+blobs-listed (c ∷ cs) = ap (λ (l : List ℕ). blobLine c ++ l) (blobs-listed cs)
+
+objects-listed : (os : List (Object Span)) → objectLines (map (mapObject nothing) os) ≡ objectLines os
+unfolding objectLines objectLine
+objects-listed [] = refl
+objects-listed (o ∷ os) = ap₂ (λ (b l : List ℕ). objectLine o ++ b ++ l) (blobs-listed (o .components)) (objects-listed os)
+
+listed : (m : Model Span) → listing (mapModel nothing m) ≡ listing m
+unfolding listing
+listed m = rw (length-map (m .objects) (mapObject nothing), components-counted (m .objects), objects-listed (m .objects)) refl
+
+-- ---------------------------------------------------------------- two readings that say the same
+
+module _ (room : ℕ) where
+  -- ROOM is last, and both need the same room
+  listed-alike : (r₁ r₂ : Reading) → mapModel nothing (r₁ .model) ≡ mapModel nothing (r₂ .model) → listingOf (roomy room r₁) ≡ listingOf (roomy room r₂)
+  unfolding roomy listingOf
+  listed-alike r₁ r₂ e =
+      let same : listing (r₁ .model) ≡ listing (r₂ .model) = sym (listed (r₁ .model)) ∙ ap listing e ∙ listed (r₂ .model) in
+      rw (room-same (r₁ .model) (r₂ .model) e) (by same (leb (roomFor (r₂ .model)) room))
+    where
+      by : listing (r₁ .model) ≡ listing (r₂ .model) → (b : Bool) → listingOf (ROOM unless b >> pass r₁) ≡ listingOf (ROOM unless b >> pass r₂)
+      by same true = same
+      by same false = refl
+
+  listings-alike : (k₁ k₂ : Check Reading) → mapCheck said k₁ ≡ mapCheck said k₂ → listingOf (k₁ >>= roomy room) ≡ listingOf (k₂ >>= roomy room)
+  listings-alike (pass r₁) (pass r₂) e = let z : said r₁ ≡ said r₂ = cc in listed-alike r₁ r₂ (ap (λ x. x .model) z)
+  listings-alike (pass r₁) (refuse n o c) e = absurd (let z : _≡_ {A = ℕ} 0 1 = cc in omega arith)
+  listings-alike (refuse n o c) (pass r₂) e = absurd (let z : _≡_ {A = ℕ} 0 1 = cc in omega arith)
+  listings-alike (refuse n o c) (refuse n′ o′ c′) e = let z : _≡_ {A = Check Reading} (refuse n o c) (refuse n′ o′ c′) = cc in ap listingOf z
+
+verdicts-alike : (k₁ k₂ : Check Reading) → mapCheck said k₁ ≡ mapCheck said k₂ → verdict k₁ ≡ verdict k₂
+verdicts-alike (pass r₁) (pass r₂) e = refl
+verdicts-alike (pass r₁) (refuse n o c) e = absurd (let z : _≡_ {A = ℕ} 0 1 = cc in omega arith)
+verdicts-alike (refuse n o c) (pass r₂) e = absurd (let z : _≡_ {A = ℕ} 0 1 = cc in omega arith)
+verdicts-alike (refuse n o c) (refuse n′ o′ c′) e = let z : _≡_ {A = Check Reading} (refuse n o c) (refuse n′ o′ c′) = cc in ap verdict z
+
+module _ (file₁ file₂ : List ℕ) (same : SameOnceDropped (parsed file₁) (parsed file₂)) where
+  -- the answer of the acceptance check
+  pub accept-alike : verdict (reading file₁) ≡ verdict (reading file₂)
+  accept-alike = verdicts-alike (reading file₁) (reading file₂) (readings-same file₁ file₂ same)
+
+  -- the listing, or the refusal's line, of a reading into a table of any length
+  pub listing-alike : (room : ℕ) → listingOf (readInto file₁ room) ≡ listingOf (readInto file₂ room)
+  unfolding readInto
+  listing-alike room = listings-alike room (reading file₁) (reading file₂) (readings-same file₁ file₂ same)
+
+  module _ (table₁ table₂ : List ℕ) (tables : length table₁ ≡ length table₂) where
+    second-accepted : ReadAlike file₁ table₁ file₂ table₂ → answerOf file₁ table₁ .number ≡ 0 → answerOf file₂ table₂ .number ≡ 0
+    unfolding answer
+    second-accepted (refused b) z =
+        let a : answerOf file₁ table₁ .number ≡ b .number = ap (λ x. x .number) (b .first) in let h = b .not-accepted in absurd (omega (arith, a, h, z))
+    second-accepted (accepted b) z = ap (λ x. x .number) (b .second)
+
+    -- after the one file was accepted, and so the other: the panel's lines by the table and counts that the reading left
+    pub panel-alike : answerOf file₁ table₁ .number ≡ 0 → listedThen file₁ table₁ ≡ listedThen file₂ table₂
+    unfolding listingOf
+    panel-alike z =
+        let r₁ = read-zero file₁ (length table₁) z in
+        let r₂ = read-zero file₂ (length table₂) (second-accepted (read-alike file₁ table₁ file₂ table₂ tables same) z) in
+        let lines : listingOf (readInto file₁ (length table₁)) ≡ listingOf (readInto file₂ (length table₂)) =
+        listing-alike (length table₁) ∙ ap (λ (n : ℕ). listingOf (readInto file₂ n)) tables in
+        read-listing file₁ table₁ (r₁ .0) (r₁ .1) ∙ ap pass (sym (ap listingOf (r₁ .1)) ∙ lines ∙ ap listingOf (r₂ .1)) ∙ sym (read-listing file₂ table₂ (r₂ .0) (r₂ .1))

@@ -1,0 +1,2 @@
+-- Laws behind the writer's proofs.
+pub mod Checks

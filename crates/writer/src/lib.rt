@@ -1,0 +1,138 @@
+// The writer (document 01): rows and a lent buffer to a whole file in a lent output. Every check is made before a byte is written.
+use foresee::Foreseen;
+use rows::sound;
+ghost use mathlib.Core.Path.{_≡_};
+ghost use Prim.Native.Nat.{_<_, _^_};
+ghost use lib.ListN.{length};
+ghost use Rattle.writer.specs.Told as is;
+ghost use Rattle.meaning.specs.Write.{written};
+ghost use Rattle.writer.specs.Sized.{Fit, Measures};
+
+// The refusal with its object and component, or 0, 0 and 0; and the file's length, 0 on refusal.
+#[repr(C)]
+pub struct Written {
+    pub number: u64,
+    pub object: u64,
+    pub component: u64,
+    pub length: u64,
+}
+
+fn refused(number: u64, object: u64, component: u64) -> Written
+    ensures { λ r. ⌜ r ≡ is.refused number object component ⌝ }
+{
+    Written {
+        number: number,
+        object: object,
+        component: component,
+        length: 0,
+    }
+}
+
+// A number of 64 bits is below 2^64: said of each, since a slice's own facts are its length's alone.
+fn below(n: u64) -> bool
+    ensures { λ r. ⌜ n < 256 ^ 8 ⌝ }
+{
+    true
+}
+
+fn all_below(rows: &[u64])
+    ensures { λ r. ⌜ is.Numbers (now (rows .entry)) ⌝ }
+{
+    let mut i = 0;
+    while i < rows.len() {
+        below(rows[i]);
+        i += 1;
+    }
+}
+
+// The number of a refusal of the rows alone; or where the last blob ends, and how long the manifest is.
+enum Sized {
+    No(u64),
+    Yes(u64, u64),
+}
+
+// ROW, COUNT and BIG.
+fn measured(
+    rows: &[u64],
+    objects: u64,
+    components: u64,
+    place: u64,
+    size: u64,
+    buffer: &[u8],
+) -> Sized
+    ensures { λ r. ⌜ Measures (now (rows .entry)) objects components (record { place = place; size = size }) (now (buffer .entry)) r ⌝ }
+{
+    if !sound(rows, objects, components, place, size, buffer) {
+        return Sized::No(25);
+    }
+    all_below(rows);
+    let end = sizes::last_end(rows, objects, components);
+    if 1099511627776 < end {
+        return Sized::No(15);
+    }
+    let manifest = sizes::manifest(rows, objects, components, place, size);
+    if 16777216 < manifest {
+        return Sized::No(4);
+    }
+    Sized::Yes(end, manifest)
+}
+
+// Rows that fit: the refusal that the reader would give the file, ROOM, or the file.
+fn fill(
+    rows: &[u64],
+    objects: u64,
+    components: u64,
+    place: u64,
+    size: u64,
+    buffer: &[u8],
+    end: u64,
+    manifest: u64,
+    out: &mut [u8],
+) -> Written
+    requires { ⌜ Fit (now rows) objects components (record { place = place; size = size }) (now buffer) end manifest ⌝ }
+    ensures { λ r. ⌜ is.Answered (written (now (rows .entry)) objects components (record { place = place; size = size }) (now (buffer .entry)) (length (now (out .entry)))) r (now (out .entry)) (now (out .exit)) ⌝ }
+{
+    match foresee::verdict(rows, objects, components, place, size, buffer) {
+        Foreseen::Fault(n, o, c) => refused(n, o as u64, c as u64),
+        Foreseen::Fine => {
+            if (out.len() as u64) < end + manifest + 16 {
+                return refused(24, 0, 0);
+            }
+            let n = layout::file(rows, objects, components, place, size, buffer, out);
+            Written {
+                number: 0,
+                object: 0,
+                component: 0,
+                length: n as u64,
+            }
+        }
+    }
+}
+
+// Rows of so many objects and components, the root's attributes, and the buffer that they point into, as a whole file in `out`.
+pub fn write(
+    rows: &[u64],
+    objects: u64,
+    components: u64,
+    place: u64,
+    size: u64,
+    buffer: &[u8],
+    out: &mut [u8],
+) -> Written
+    ensures { λ r. ⌜ is.Answered (written (now (rows .entry)) objects components (record { place = place; size = size }) (now (buffer .entry)) (length (now (out .entry)))) r (now (out .entry)) (now (out .exit)) ⌝ }
+{
+    match measured(rows, objects, components, place, size, buffer) {
+        Sized::No(n) => refused(n, 0, 0),
+        Sized::Yes(end, manifest) => fill(
+            rows,
+            objects,
+            components,
+            place,
+            size,
+            buffer,
+            end,
+            manifest,
+            out,
+        ),
+    }
+}
