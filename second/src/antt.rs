@@ -46,7 +46,7 @@ pub fn module(seed: u64, each: usize) -> String {
         10,
         || generator.next_rows(),
         set_size,
-        |set| written(set, &mut vec![BYTE_BEFORE; AMPLE_OUTPUT]).number,
+        |set| set.write(&mut vec![BYTE_BEFORE; AMPLE_OUTPUT]).number,
     );
     row_sets.extend(row_probes::row_sets());
     [
@@ -167,18 +167,6 @@ fn program_case(file: &[u8]) -> String {
     )
 }
 
-fn written(set: &RowSet, output: &mut [u8]) -> writer::Written {
-    writer::write(
-        &set.rows,
-        set.objects,
-        set.components,
-        set.attributes_place,
-        set.attributes_length,
-        &set.buffer,
-        output,
-    )
-}
-
 /// What is asked with, or the file, whichever is longer; a component count stands for as many owners, which antt lists.
 fn set_size(set: &RowSet) -> usize {
     let objects = set.rows.chunks_exact(OBJECT_ROW).take(set.objects as usize);
@@ -187,15 +175,15 @@ fn set_size(set: &RowSet) -> usize {
     if asked > SIZE_LIMIT {
         return asked;
     }
-    asked.max(written(set, &mut vec![BYTE_BEFORE; AMPLE_OUTPUT]).length as usize)
+    asked.max(set.write(&mut vec![BYTE_BEFORE; AMPLE_OUTPUT]).length as usize)
 }
 
 /// Rows written into an output that is ample, exact, or one byte short.
 fn row_case((index, set): (usize, &RowSet)) -> String {
-    let exact = written(set, &mut vec![BYTE_BEFORE; AMPLE_OUTPUT]).length as usize;
+    let exact = set.write(&mut vec![BYTE_BEFORE; AMPLE_OUTPUT]).length as usize;
     let room = [exact + 9, exact, exact.saturating_sub(1)][index % 3];
     let mut output = vec![BYTE_BEFORE; room];
-    let answer = written(set, &mut output);
+    let answer = set.write(&mut output);
     format!(
         "record {{ rows = {}; objects = {}; components = {}; place = {}; size = {}; buffer = {}; room = {room}; answer = {}; output = {} }}",
         list(&set.rows),

@@ -7,6 +7,7 @@ mod plan;
 pub mod rng;
 mod rowset;
 
+use crate::writer::{self, Written};
 use rng::Rng;
 
 /// Gives the same sequence for the same seed and calls.
@@ -23,6 +24,21 @@ pub struct RowSet {
     pub attributes_place: u64,
     pub attributes_length: u64,
     pub buffer: Vec<u8>,
+}
+
+impl RowSet {
+    /// The writer's answer to this.
+    pub fn write(&self, out: &mut [u8]) -> Written {
+        writer::write(
+            &self.rows,
+            self.objects,
+            self.components,
+            self.attributes_place,
+            self.attributes_length,
+            &self.buffer,
+            out,
+        )
+    }
 }
 
 /// One of the files of a seed, made for itself: every second one is for a chosen refusal, the others are damaged anywhere.

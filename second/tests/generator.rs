@@ -9,7 +9,6 @@ use second::listing::listing;
 use second::refusal::{BIG, CBOR, COUNT, DEEP, INDEX, LENGTH, ROOM, ROW};
 use second::rows::{read, split, Answer, ComponentRow, ObjectRow, Part};
 use second::view::view;
-use second::writer::{write, Written};
 
 const FILES: usize = 200_000;
 const ROWS: usize = 60_000;
@@ -277,18 +276,6 @@ fn told(bytes: &[u8], manifest: &Manifest) -> Vec<String> {
     lines
 }
 
-fn written(set: &RowSet, out: &mut [u8]) -> Written {
-    write(
-        &set.rows,
-        set.objects,
-        set.components,
-        set.attributes_place,
-        set.attributes_length,
-        &set.buffer,
-        out,
-    )
-}
-
 #[test]
 fn rows_are_written_and_read_back_or_refused() {
     let mut generator = Generator::new(5);
@@ -297,13 +284,13 @@ fn rows_are_written_and_read_back_or_refused() {
     let mut out = vec![MARK_BYTE; 100_000];
     for _ in 0..ROWS {
         let set = generator.next_rows();
-        let answer = written(&set, &mut out);
+        let answer = set.write(&mut out);
         seen[usize::from(answer.number)] += 1;
         if answer.number == 0 {
             let length = answer.length as usize;
             read_back(&set, &out[..length]);
             let mut short = vec![MARK_BYTE; length - 1];
-            assert_eq!(written(&set, &mut short).number, ROOM);
+            assert_eq!(set.write(&mut short).number, ROOM);
             assert!(short.iter().all(|&byte| byte == MARK_BYTE));
             out[..length].fill(MARK_BYTE);
         } else {

@@ -2,6 +2,7 @@
 
 use second::generate::RowSet;
 
+pub mod beside;
 pub mod tally;
 
 /// What `skip` adds to the number of a refusal.

@@ -2,10 +2,11 @@
 
 #![forbid(unsafe_code)]
 
+use against::beside;
 use against::tally::{seed, Tally};
-use against::{Answer, Extent, Listed};
+use against::Extent;
 use second::generate::nth_file;
-use second::{listing, rows, view};
+use second::{listing, view};
 
 const FILES: u64 = 200_000;
 /// Room for every file that is accepted.
@@ -16,20 +17,6 @@ const INDEX: u64 = 26;
 /// A table whose numbers tell whether they were touched.
 fn fresh(room: usize) -> Vec<u64> {
     (0..room as u64).map(|i| i ^ 0x5a5a_5a5a_5a5a_5a5a).collect()
-}
-
-fn second_read(file: &[u8], table: &mut [u64]) -> Answer {
-    let a = rows::read(file, table);
-    Answer {
-        number: a.number.into(),
-        object: a.object,
-        component: a.component,
-        objects: a.objects,
-        components: a.components,
-        start: a.manifest_start,
-        place: a.attributes_place,
-        size: a.attributes_length,
-    }
 }
 
 fn second_view(file: &[u8], table: &[u64], objects: u64, components: u64, index: u64) -> Extent {
@@ -58,12 +45,12 @@ fn tables() {
     let mut ample = vec![0; AMPLE];
     for index in 0..FILES {
         let file = nth_file(seed(), index);
-        let whole = second_read(&file, &mut ample);
+        let whole = beside::read(&file, &mut ample);
         let exact = (16 * whole.objects + 10 * whole.components) as usize;
         for room in [exact, exact + 7, exact.saturating_sub(1), 0] {
             let (mut ours, mut theirs) = (fresh(room), fresh(room));
             let proved = against::read(&file, &mut ours);
-            let second = second_read(&file, &mut theirs);
+            let second = beside::read(&file, &mut theirs);
             let label = match second.number {
                 0 => "accepted",
                 ROOM => "no room",
@@ -82,7 +69,7 @@ fn views() {
     for index in 0..FILES / 4 {
         let file = nth_file(seed(), index);
         let mut table = fresh(400);
-        let answer = second_read(&file, &mut table);
+        let answer = beside::read(&file, &mut table);
         for turn in 0..12 {
             let (objects, components, at) = match turn {
                 0..=3 => (answer.objects, answer.components, turn),
@@ -101,34 +88,20 @@ fn views() {
     tally.report(2);
 }
 
-/// What the second program answers, and the text then holds.
-fn second_list(text: Option<&[u8]>, room: usize) -> (Listed, Vec<u8>) {
-    let mut held = vec![7; room];
-    let answer = match text {
-        None => Listed { number: INDEX, length: 0 },
-        Some(text) if room < text.len() => Listed { number: ROOM, length: 0 },
-        Some(text) => {
-            held[..text.len()].copy_from_slice(text);
-            Listed { number: 0, length: text.len() as u64 }
-        }
-    };
-    (answer, held)
-}
-
 /// Compares the listing of this table with several rooms for its text.
 fn compare_listings(tally: &mut Tally, index: u64, file: &[u8], table: &[u64], objects: u64, components: u64) {
     let text = listing::listing(file, table, objects, components);
     let exact = text.as_ref().map_or(0, Vec::len);
     for room in [exact, exact + 3, exact.saturating_sub(1), 0] {
-        let mut ours = vec![7; room];
+        let (mut ours, mut theirs) = (vec![7; room], vec![7; room]);
         let proved = against::list(file, table, objects, components, &mut ours);
-        let second = second_list(text.as_deref(), room);
-        let label = match second.0.number {
+        let second = beside::list(text.as_deref(), &mut theirs);
+        let label = match second.number {
             0 => "listed",
             ROOM => "no room",
             _ => "INDEX",
         };
-        tally.compare(label, (proved, ours), second, || {
+        tally.compare(label, (proved, ours), (second, theirs), || {
             format!("seed {}, file {index}, room {room}: {objects} {components}", seed())
         });
     }
@@ -141,7 +114,7 @@ fn listings() {
     let mut table = vec![0; AMPLE];
     for index in 0..FILES {
         let file = nth_file(seed(), index);
-        let a = second_read(&file, &mut table);
+        let a = beside::read(&file, &mut table);
         if a.number != 0 {
             continue;
         }

@@ -2,10 +2,10 @@
 
 #![forbid(unsafe_code)]
 
+use against::beside;
 use against::tally::{seed, Tally};
-use against::Written;
-use second::generate::{Generator, RowSet};
-use second::{rows, writer};
+use second::generate::Generator;
+use second::rows;
 
 const SETS: u64 = 100_000;
 /// Room for every file that is written here: the largest manifest, and what stands around it.
@@ -13,19 +13,6 @@ const AMPLE: usize = (1 << 24) + (1 << 20);
 /// Room for a table of every file that is accepted.
 const TABLE: usize = 16 * 1024 + 10 * 16 * 1024;
 const ROOM: u64 = 24;
-
-fn second_write(set: &RowSet, out: &mut [u8]) -> Written {
-    let w = writer::write(
-        &set.rows,
-        set.objects,
-        set.components,
-        set.attributes_place,
-        set.attributes_length,
-        &set.buffer,
-        out,
-    );
-    Written { number: w.number.into(), object: w.object, component: w.component, length: w.length }
-}
 
 /// Bytes that tell whether they were touched.
 fn fresh(room: usize) -> Vec<u8> {
@@ -51,12 +38,12 @@ fn writings() {
     let mut tables = (vec![0; TABLE], vec![0; TABLE]);
     for index in 0..SETS {
         let set = generator.next_rows();
-        let whole = second_write(&set, &mut ample);
+        let whole = beside::write(&set, &mut ample);
         let exact = whole.length as usize;
         for room in [exact, exact + 7, exact.saturating_sub(1), 0] {
             let (mut ours, mut theirs) = (fresh(room), fresh(room));
             let proved = against::write(&set, &mut ours);
-            let second = second_write(&set, &mut theirs);
+            let second = beside::write(&set, &mut theirs);
             let label = match second.number {
                 0 => "written".to_string(),
                 ROOM => "no room".to_string(),

@@ -1,0 +1,38 @@
+//! What the second program answers, in the shapes of the calls for C.
+
+use crate::{Answer, Listed, Written};
+use second::generate::RowSet;
+use second::refusal::{INDEX, ROOM};
+use second::rows;
+
+pub fn read(file: &[u8], table: &mut [u64]) -> Answer {
+    let a = rows::read(file, table);
+    Answer {
+        number: a.number.into(),
+        object: a.object,
+        component: a.component,
+        objects: a.objects,
+        components: a.components,
+        start: a.manifest_start,
+        place: a.attributes_place,
+        size: a.attributes_length,
+    }
+}
+
+/// The answer for the second program's listing, which is put into `held` if that has room for it.
+pub fn list(text: Option<&[u8]>, held: &mut [u8]) -> Listed {
+    let refused = |number: u8| Listed { number: number.into(), length: 0 };
+    match text {
+        None => refused(INDEX),
+        Some(text) if held.len() < text.len() => refused(ROOM),
+        Some(text) => {
+            held[..text.len()].copy_from_slice(text);
+            Listed { number: 0, length: text.len() as u64 }
+        }
+    }
+}
+
+pub fn write(set: &RowSet, out: &mut [u8]) -> Written {
+    let w = set.write(out);
+    Written { number: w.number.into(), object: w.object, component: w.component, length: w.length }
+}
