@@ -24,6 +24,11 @@ static double each(program p, const void *input, unsigned times) {
 }
 
 void heading(const char *what, const char *unit) {
+#ifdef EMULATED
+    (void)unit;
+    printf("\n%s\n", what);
+    return;
+#endif
     printf("\n%-46s %18s %12s | %-18s %18s %12s | ratio\n", what, unit, "", "peer", unit, "");
 }
 
@@ -52,6 +57,13 @@ static void in_turns(contender *a, contender *b) {
 }
 
 void compare(const char *what, program ours, program peer, const void *input, double units, size_t bytes, double target) {
+#ifdef EMULATED
+    (void)units, (void)bytes, (void)target;
+    each(ours, input, 1);
+    each(peer, input, 1);
+    printf("%-46s %s and %s take it\n", what, ours.name, peer.name);
+    return;
+#endif
     contender a = entered(ours, input), b = entered(peer, input);
     in_turns(&a, &b);
     double ratio = a.best / b.best;

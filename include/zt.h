@@ -1,6 +1,6 @@
 /*
  * Radenvyth's reading and writing of .zt files (zTensor 1.2.0), for C99 and C++: the acceptance check, the table, the view, the listing, and the
- * writer. Link libzt.a. examples/firmware and examples/maker are whole programs over it; this is the shortest:
+ * writer. Link libzt.a, a library for x86-64 Linux. examples/firmware and examples/maker are whole programs over it; this is the shortest:
  *
  *     #include "zt.h"
  *     #include <stdio.h>

@@ -11,6 +11,12 @@ use second::{listing, view};
 const FILES: u64 = 200_000;
 /// Room for every file that is accepted.
 const AMPLE: usize = 16 * 1024 + 10 * 16 * 1024;
+/// Room for every generated file: lent to each that is refused, and must come back as it was.
+const ENOUGH: usize = 1024;
+/// Room for the listing of every generated file: lent where there is none to list.
+const LINES: usize = 4096;
+/// One refused file in so many gets all the room that a file can ask for.
+const WIDE: u64 = 500;
 const ROOM: u64 = 24;
 const INDEX: u64 = 26;
 
@@ -47,7 +53,13 @@ fn tables() {
         let file = nth_file(seed(), index);
         let whole = beside::read(&file, &mut ample);
         let exact = (16 * whole.objects + 10 * whole.components) as usize;
-        for room in [exact, exact + 7, exact.saturating_sub(1), 0] {
+        assert!(exact <= ENOUGH, "file {index} needs {exact} numbers");
+        let rooms = match whole.number {
+            0 => vec![exact, exact + 7, exact.saturating_sub(1), 0],
+            _ if index % WIDE == 0 => vec![AMPLE, ENOUGH, 0],
+            _ => vec![ENOUGH, 0],
+        };
+        for room in rooms {
             let (mut ours, mut theirs) = (fresh(room), fresh(room));
             let proved = against::read(&file, &mut ours);
             let second = beside::read(&file, &mut theirs);
@@ -91,7 +103,7 @@ fn views() {
 /// Compares the listing of this table with several rooms for its text.
 fn compare_listings(tally: &mut Tally, index: u64, file: &[u8], table: &[u64], objects: u64, components: u64) {
     let text = listing::listing(file, table, objects, components);
-    let exact = text.as_ref().map_or(0, Vec::len);
+    let exact = text.as_ref().map_or(LINES, Vec::len);
     for room in [exact, exact + 3, exact.saturating_sub(1), 0] {
         let (mut ours, mut theirs) = (vec![7; room], vec![7; room]);
         let proved = against::list(file, table, objects, components, &mut ours);

@@ -1,0 +1,135 @@
+/*
+ * The header against the library, number by number, field by field and argument by argument, on values that are all different. C99 and C++. The proofs speak of
+ * numbers, and of arguments and results in an order; that zt.h gives them the same names in the same order is shown here and nowhere else.
+ */
+#include "zt.h"
+#include <stdio.h>
+#include <string.h>
+
+static int wrong = 0;
+
+static void same(const char *what, uint64_t got, uint64_t expected) {
+    if (got == expected) return;
+    fprintf(stderr, "%s is %llu, and should be %llu\n", what, (unsigned long long)got, (unsigned long long)expected);
+    wrong = 1;
+}
+#define SAME(got, expected) same(#got, (uint64_t)(got), (uint64_t)(expected))
+
+/* The refusals, each with document 01's number. */
+static void numbers(void) {
+    SAME(ZT_ACCEPTED, 0), SAME(ZT_SHORT, 1), SAME(ZT_HEADER, 2), SAME(ZT_FOOTER, 3), SAME(ZT_BIG, 4), SAME(ZT_FIT, 5), SAME(ZT_CBOR, 6);
+    SAME(ZT_DEEP, 7), SAME(ZT_KIND, 8), SAME(ZT_KEY, 9), SAME(ZT_TEXT, 10), SAME(ZT_TWICE, 11), SAME(ZT_MISSING, 12), SAME(ZT_VERSION, 13);
+    SAME(ZT_MAJOR, 14), SAME(ZT_COUNT, 15), SAME(ZT_DTYPE, 16), SAME(ZT_ENCODING, 17), SAME(ZT_TYPE, 18), SAME(ZT_ALIGN, 19), SAME(ZT_BOUNDS, 20);
+    SAME(ZT_RANK, 21), SAME(ZT_ROLE, 22), SAME(ZT_LENGTH, 23), SAME(ZT_ROOM, 24), SAME(ZT_ROW, 25), SAME(ZT_INDEX, 26);
+}
+
+/* Rows of document 01, said here a second time: 16 numbers an object, 10 a component. */
+enum { OBJECT = 16, COMPONENT = 10, OBJECTS = 3, COMPONENTS = 7, NUMBERS = OBJECT * OBJECTS + COMPONENT * COMPONENTS };
+
+/* What the rows point at. Names are one letter; the blobs stand behind the letters. */
+static const uint8_t buffer[] = "ABCabcdefg_complex64\xA1\x61k\x01\xA2\x61k\x01\x61l\x02-0123456789012345678901234567890123456789";
+enum { NAMES = 0, PARTS = 3, FORMAT = 10, TYPE = 11, MAP = 20, MAP_LENGTH = 4, ROOT = 24, ROOT_LENGTH = 7, BLOB = 32 };
+
+/* Objects of 1, 2 and 4 components, of another format than document 01's, each component of i8 and one byte longer than the one before. */
+static void fill(uint64_t *rows) {
+    static const uint64_t owned[OBJECTS] = {1, 2, 4};
+    uint64_t *row = rows;
+    uint64_t i, j, at = 0;
+    memset(rows, 0, NUMBERS * sizeof *rows);
+    for (i = 0; i < OBJECTS; i++, row += OBJECT) {
+        row[0] = NAMES + i, row[1] = 1;        /* name */
+        row[2] = 1, row[3] = 40 + i;           /* rank and shape */
+        row[11] = FORMAT, row[12] = 1;         /* format */
+        row[15] = owned[i];
+    }
+    rows[OBJECT + 13] = MAP, rows[OBJECT + 14] = MAP_LENGTH; /* the second object's attributes */
+    for (i = 0; i < OBJECTS; i++)
+        for (j = 0; j < owned[i]; j++, at++, row += COMPONENT) {
+            row[0] = PARTS + at, row[1] = 1; /* name */
+            row[2] = 7;                      /* i8 */
+            row[5] = BLOB + at, row[6] = 11 + at;
+            row[9] = i;
+        }
+}
+
+static uint64_t rows[NUMBERS], table[NUMBERS + 1];
+static uint8_t out[4096], text[512];
+
+/* An accepted writing, reading, view and listing: every field and every argument. */
+static void accepted(void) {
+    zt_written w;
+    zt_answer a;
+    zt_range r;
+    zt_text t;
+    uint64_t start;
+    fill(rows);
+    w = zt_write(rows, NUMBERS, OBJECTS, COMPONENTS, ROOT, ROOT_LENGTH, buffer, sizeof buffer - 1, out, sizeof out);
+    SAME(w.number, ZT_ACCEPTED), SAME(w.object, 0), SAME(w.component, 0);
+    if (w.number != ZT_ACCEPTED) return;
+    start = 64 * COMPONENTS + 17; /* the last of seven blobs is 17 bytes from the seventh multiple of 64 */
+    SAME(w.length, start + 16 + (out[w.length - 16] + 256u * out[w.length - 15]));
+    SAME(zt_accept(out, w.length), ZT_ACCEPTED);
+    SAME(zt_accept(out, w.length - 1), ZT_FOOTER);
+
+    table[NUMBERS] = 5;
+    a = zt_read(out, w.length, table, NUMBERS + 1);
+    SAME(table[NUMBERS], 5);
+    SAME(a.number, ZT_ACCEPTED), SAME(a.object, 0), SAME(a.component, 0);
+    SAME(a.objects, OBJECTS), SAME(a.components, COMPONENTS), SAME(a.start, start), SAME(a.size, ROOT_LENGTH);
+    SAME(memcmp(out + a.place, buffer + ROOT, ROOT_LENGTH), 0);
+    SAME(a.place > start && a.place + a.size <= w.length - 16, 1);
+    a = zt_read(out, w.length, table, NUMBERS - 1);
+    SAME(a.number, ZT_ROOM), SAME(a.objects, 0), SAME(a.components, 0), SAME(a.start, 0), SAME(a.place, 0), SAME(a.size, 0);
+
+    r = zt_view(out, w.length, table, NUMBERS, OBJECTS, COMPONENTS, 5);
+    SAME(r.number, ZT_ACCEPTED), SAME(r.offset, 6 * 64), SAME(r.length, 16);
+    SAME(memcmp(out + r.offset, buffer + BLOB + 5, r.length), 0);
+    SAME(zt_view(out, w.length, table, NUMBERS, OBJECTS, COMPONENTS, COMPONENTS).number, ZT_INDEX);
+
+    t = zt_list(out, w.length, table, NUMBERS, OBJECTS, COMPONENTS, text, sizeof text);
+    SAME(t.number, ZT_ACCEPTED), SAME(t.length, 23 + OBJECTS * 11 + 16 + 6 * 17);
+    SAME(memcmp(text, "objects 3 components 7\nobject A _\nblob a i8 64 11\nobject B _\n", 61), 0);
+    t = zt_list(out, w.length, table, NUMBERS, OBJECTS, COMPONENTS, text, 60);
+    SAME(t.number, ZT_ROOM), SAME(t.length, 0);
+}
+
+/* Refusals whose number, object and component all differ, and are not 0. */
+static void refused(void) {
+    zt_written w;
+    zt_answer a;
+    uint64_t length;
+    fill(rows);
+    /* the third component of the third object gets a type that i8 can't have */
+    rows[OBJECT * OBJECTS + COMPONENT * 5 + 3] = TYPE, rows[OBJECT * OBJECTS + COMPONENT * 5 + 4] = 9;
+    w = zt_write(rows, NUMBERS, OBJECTS, COMPONENTS, ROOT, ROOT_LENGTH, buffer, sizeof buffer - 1, out, sizeof out);
+    SAME(w.number, ZT_TYPE), SAME(w.object, 2), SAME(w.component, 2), SAME(w.length, 0);
+    /* the second component of the third object: number 18, object 2, component 1 */
+    fill(rows);
+    rows[OBJECT * OBJECTS + COMPONENT * 4 + 3] = TYPE, rows[OBJECT * OBJECTS + COMPONENT * 4 + 4] = 9;
+    w = zt_write(rows, NUMBERS, OBJECTS, COMPONENTS, ROOT, ROOT_LENGTH, buffer, sizeof buffer - 1, out, sizeof out);
+    SAME(w.number, ZT_TYPE), SAME(w.object, 2), SAME(w.component, 1), SAME(w.length, 0);
+    /* a sound file whose fifth component's dtype is spoilt: DTYPE in object 2, component 1 */
+    fill(rows);
+    length = zt_write(rows, NUMBERS, OBJECTS, COMPONENTS, ROOT, ROOT_LENGTH, buffer, sizeof buffer - 1, out, sizeof out).length;
+    zt_read(out, length, table, NUMBERS);
+    {
+        uint64_t at = table[OBJECT * OBJECTS + COMPONENT * 4];
+        while (memcmp(out + at, "\x62i8", 3) != 0) at++;
+        out[at + 2] = '9';
+    }
+    memset(table, 0xA5, sizeof table);
+    a = zt_read(out, length, table, NUMBERS);
+    SAME(a.number, ZT_DTYPE), SAME(a.object, 2), SAME(a.component, 1);
+    SAME(a.objects, 0), SAME(a.components, 0), SAME(a.start, 0), SAME(a.place, 0), SAME(a.size, 0);
+    {
+        size_t i;
+        for (i = 0; i < NUMBERS; i++) SAME(table[i], 0xA5A5A5A5A5A5A5A5u);
+    }
+}
+
+int main(void) {
+    numbers();
+    accepted();
+    refused();
+    return wrong;
+}
