@@ -6,7 +6,7 @@
 #include <stdlib.h>
 #include <string.h>
 
-enum { OBJECTS = 1000, BLOB = 67136, ROWS = 26 * OBJECTS, BLOBS = OBJECTS * BLOB, OUT = BLOBS + (1 << 20) };
+enum { OBJECTS = 1000, BLOB = 67136, ROWS = ZT_NUMBERS(OBJECTS, OBJECTS), BLOBS = OBJECTS * BLOB, OUT = BLOBS + (1 << 20) };
 
 typedef struct {
     uint64_t rows[ROWS];
@@ -32,12 +32,18 @@ static void fill(void) {
     uint8_t *at = work.buffer;
     memcpy(at, "densedata", 9);
     for (size_t i = 0; i < OBJECTS; i++) {
-        uint64_t *object = work.rows + 16 * i, *component = work.rows + 16 * OBJECTS + 10 * i;
+        uint64_t *object = work.rows + ZT_NUMBERS(i, 0), *component = work.rows + ZT_NUMBERS(OBJECTS, i);
         char name[16];
         snprintf(name, sizeof name, "layer%03zu", i);
         memcpy(at + 9 + 8 * i, name, 8);
-        object[0] = 9 + 8 * i, object[1] = 8, object[2] = 1, object[3] = BLOB, object[11] = 0, object[12] = 5, object[15] = 1;
-        component[0] = 5, component[1] = 4, component[2] = 11, component[5] = 9 + 8 * OBJECTS + i * BLOB, component[6] = BLOB, component[9] = i;
+        object[ZT_OBJECT_NAME] = 9 + 8 * i, object[ZT_OBJECT_NAME_LENGTH] = 8;
+        object[ZT_OBJECT_RANK] = 1, object[ZT_OBJECT_SHAPE] = BLOB;
+        object[ZT_OBJECT_FORMAT] = 0, object[ZT_OBJECT_FORMAT_LENGTH] = 5;
+        object[ZT_OBJECT_COMPONENTS] = 1;
+        component[ZT_COMPONENT_NAME] = 5, component[ZT_COMPONENT_NAME_LENGTH] = 4;
+        component[ZT_COMPONENT_DTYPE] = ZT_U8;
+        component[ZT_COMPONENT_OFFSET] = 9 + 8 * OBJECTS + i * BLOB, component[ZT_COMPONENT_LENGTH] = BLOB;
+        component[ZT_COMPONENT_OWNER] = i;
     }
     for (size_t i = 0; i < BLOBS; i++) at[9 + 8 * OBJECTS + i] = (uint8_t)(i * 31);
     work.filled = 9 + 8 * OBJECTS + BLOBS;

@@ -23,8 +23,20 @@ static void numbers(void) {
     SAME(ZT_RANK, 21), SAME(ZT_ROLE, 22), SAME(ZT_LENGTH, 23), SAME(ZT_ROOM, 24), SAME(ZT_ROW, 25), SAME(ZT_INDEX, 26);
 }
 
-/* Rows of document 01, said here a second time: 16 numbers an object, 10 a component. */
-enum { OBJECT = 16, COMPONENT = 10, OBJECTS = 3, COMPONENTS = 7, NUMBERS = OBJECT * OBJECTS + COMPONENT * COMPONENTS };
+/* The columns and widths of rows, each with document 01's number, and the storage codes. */
+static void columns(void) {
+    SAME(ZT_OBJECT_NAME, 0), SAME(ZT_OBJECT_NAME_LENGTH, 1), SAME(ZT_OBJECT_RANK, 2), SAME(ZT_OBJECT_SHAPE, 3), SAME(ZT_OBJECT_FORMAT, 11);
+    SAME(ZT_OBJECT_FORMAT_LENGTH, 12), SAME(ZT_OBJECT_ATTRIBUTES, 13), SAME(ZT_OBJECT_ATTRIBUTES_LENGTH, 14), SAME(ZT_OBJECT_COMPONENTS, 15);
+    SAME(ZT_OBJECT_ROW, 16);
+    SAME(ZT_COMPONENT_NAME, 0), SAME(ZT_COMPONENT_NAME_LENGTH, 1), SAME(ZT_COMPONENT_DTYPE, 2), SAME(ZT_COMPONENT_TYPE, 3);
+    SAME(ZT_COMPONENT_TYPE_LENGTH, 4), SAME(ZT_COMPONENT_OFFSET, 5), SAME(ZT_COMPONENT_LENGTH, 6), SAME(ZT_COMPONENT_DIGEST, 7);
+    SAME(ZT_COMPONENT_DIGEST_LENGTH, 8), SAME(ZT_COMPONENT_OWNER, 9), SAME(ZT_COMPONENT_ROW, 10);
+    SAME(ZT_NUMBERS(3, 7), 118), SAME(ZT_NUMBERS_MOST, 180224);
+    SAME(ZT_F64, 0), SAME(ZT_F32, 1), SAME(ZT_F16, 2), SAME(ZT_BF16, 3), SAME(ZT_I64, 4), SAME(ZT_I32, 5), SAME(ZT_I16, 6), SAME(ZT_I8, 7);
+    SAME(ZT_U64, 8), SAME(ZT_U32, 9), SAME(ZT_U16, 10), SAME(ZT_U8, 11), SAME(ZT_BOOL, 12);
+}
+
+enum { OBJECTS = 3, COMPONENTS = 7, NUMBERS = ZT_NUMBERS(OBJECTS, COMPONENTS) };
 
 /* What the rows point at. Names are one letter; the blobs stand behind the letters. */
 static const uint8_t buffer[] = "ABCabcdefg_complex64\xA1\x61k\x01\xA2\x61k\x01\x61l\x02-0123456789012345678901234567890123456789";
@@ -36,19 +48,20 @@ static void fill(uint64_t *rows) {
     uint64_t *row = rows;
     uint64_t i, j, at = 0;
     memset(rows, 0, NUMBERS * sizeof *rows);
-    for (i = 0; i < OBJECTS; i++, row += OBJECT) {
-        row[0] = NAMES + i, row[1] = 1;        /* name */
-        row[2] = 1, row[3] = 40 + i;           /* rank and shape */
-        row[11] = FORMAT, row[12] = 1;         /* format */
-        row[15] = owned[i];
+    for (i = 0; i < OBJECTS; i++, row += ZT_OBJECT_ROW) {
+        row[ZT_OBJECT_NAME] = NAMES + i, row[ZT_OBJECT_NAME_LENGTH] = 1;
+        row[ZT_OBJECT_RANK] = 1, row[ZT_OBJECT_SHAPE] = 40 + i;
+        row[ZT_OBJECT_FORMAT] = FORMAT, row[ZT_OBJECT_FORMAT_LENGTH] = 1;
+        row[ZT_OBJECT_COMPONENTS] = owned[i];
     }
-    rows[OBJECT + 13] = MAP, rows[OBJECT + 14] = MAP_LENGTH; /* the second object's attributes */
+    /* the second object's attributes */
+    rows[ZT_OBJECT_ROW + ZT_OBJECT_ATTRIBUTES] = MAP, rows[ZT_OBJECT_ROW + ZT_OBJECT_ATTRIBUTES_LENGTH] = MAP_LENGTH;
     for (i = 0; i < OBJECTS; i++)
-        for (j = 0; j < owned[i]; j++, at++, row += COMPONENT) {
-            row[0] = PARTS + at, row[1] = 1; /* name */
-            row[2] = 7;                      /* i8 */
-            row[5] = BLOB + at, row[6] = 11 + at;
-            row[9] = i;
+        for (j = 0; j < owned[i]; j++, at++, row += ZT_COMPONENT_ROW) {
+            row[ZT_COMPONENT_NAME] = PARTS + at, row[ZT_COMPONENT_NAME_LENGTH] = 1;
+            row[ZT_COMPONENT_DTYPE] = ZT_I8;
+            row[ZT_COMPONENT_OFFSET] = BLOB + at, row[ZT_COMPONENT_LENGTH] = 11 + at;
+            row[ZT_COMPONENT_OWNER] = i;
         }
 }
 
@@ -100,12 +113,12 @@ static void refused(void) {
     uint64_t length;
     fill(rows);
     /* the third component of the third object gets a type that i8 can't have */
-    rows[OBJECT * OBJECTS + COMPONENT * 5 + 3] = TYPE, rows[OBJECT * OBJECTS + COMPONENT * 5 + 4] = 9;
+    rows[ZT_NUMBERS(OBJECTS, 5) + ZT_COMPONENT_TYPE] = TYPE, rows[ZT_NUMBERS(OBJECTS, 5) + ZT_COMPONENT_TYPE_LENGTH] = 9;
     w = zt_write(rows, NUMBERS, OBJECTS, COMPONENTS, ROOT, ROOT_LENGTH, buffer, sizeof buffer - 1, out, sizeof out);
     SAME(w.number, ZT_TYPE), SAME(w.object, 2), SAME(w.component, 2), SAME(w.length, 0);
     /* the second component of the third object: number 18, object 2, component 1 */
     fill(rows);
-    rows[OBJECT * OBJECTS + COMPONENT * 4 + 3] = TYPE, rows[OBJECT * OBJECTS + COMPONENT * 4 + 4] = 9;
+    rows[ZT_NUMBERS(OBJECTS, 4) + ZT_COMPONENT_TYPE] = TYPE, rows[ZT_NUMBERS(OBJECTS, 4) + ZT_COMPONENT_TYPE_LENGTH] = 9;
     w = zt_write(rows, NUMBERS, OBJECTS, COMPONENTS, ROOT, ROOT_LENGTH, buffer, sizeof buffer - 1, out, sizeof out);
     SAME(w.number, ZT_TYPE), SAME(w.object, 2), SAME(w.component, 1), SAME(w.length, 0);
     /* a sound file whose fifth component's dtype is spoilt: DTYPE in object 2, component 1 */
@@ -113,7 +126,7 @@ static void refused(void) {
     length = zt_write(rows, NUMBERS, OBJECTS, COMPONENTS, ROOT, ROOT_LENGTH, buffer, sizeof buffer - 1, out, sizeof out).length;
     zt_read(out, length, table, NUMBERS);
     {
-        uint64_t at = table[OBJECT * OBJECTS + COMPONENT * 4];
+        uint64_t at = table[ZT_NUMBERS(OBJECTS, 4) + ZT_COMPONENT_NAME];
         while (memcmp(out + at, "\x62i8", 3) != 0) at++;
         out[at + 2] = '9';
     }
@@ -129,6 +142,7 @@ static void refused(void) {
 
 int main(void) {
     numbers();
+    columns();
     accepted();
     refused();
     return wrong;

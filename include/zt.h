@@ -81,9 +81,61 @@ typedef struct {
 } zt_answer;
 
 /*
- * The file read into a lent table of `room` numbers: 16 for each object, then 10 for each component, as document 01 has them. Needs
- * 16 * objects + 10 * components numbers, at most 180,224, else ZT_ROOM. A refusal leaves the table as it was; numbers beyond the rows stay. The table
- * must not overlap the file, and must be aligned as uint64_t asks.
+ * A table's rows: all objects first, then all components, in manifest order. A row is so many numbers, and each of these columns is one of them, counted
+ * from the row's first. A range takes two: a place, which counts from the file's start (in rows that are written: from the buffer's), and a length in bytes;
+ * 0 and 0 means absent. A text's range is its bytes without their head, attributes' the whole CBOR item.
+ */
+enum zt_object_column {
+    ZT_OBJECT_NAME = 0, /* a text */
+    ZT_OBJECT_NAME_LENGTH = 1,
+    ZT_OBJECT_RANK = 2,  /* 0 to 8 */
+    ZT_OBJECT_SHAPE = 3, /* eight dimensions, unused ones 0 */
+    ZT_OBJECT_FORMAT = 11, /* a text */
+    ZT_OBJECT_FORMAT_LENGTH = 12,
+    ZT_OBJECT_ATTRIBUTES = 13, /* a map, or absent */
+    ZT_OBJECT_ATTRIBUTES_LENGTH = 14,
+    ZT_OBJECT_COMPONENTS = 15, /* how many components it has, 0 to 16 */
+    ZT_OBJECT_ROW = 16         /* numbers of an object's row */
+};
+
+enum zt_component_column {
+    ZT_COMPONENT_NAME = 0, /* a text */
+    ZT_COMPONENT_NAME_LENGTH = 1,
+    ZT_COMPONENT_DTYPE = 2, /* an enum zt_dtype */
+    ZT_COMPONENT_TYPE = 3,  /* a text, or absent */
+    ZT_COMPONENT_TYPE_LENGTH = 4,
+    ZT_COMPONENT_OFFSET = 5, /* the component's own bytes: where they begin, and how many they are */
+    ZT_COMPONENT_LENGTH = 6,
+    ZT_COMPONENT_DIGEST = 7, /* a text, or absent */
+    ZT_COMPONENT_DIGEST_LENGTH = 8,
+    ZT_COMPONENT_OWNER = 9, /* its object's index */
+    ZT_COMPONENT_ROW = 10   /* numbers of a component's row */
+};
+
+/* How a component's elements are stored: bytes of an element in brackets. */
+enum zt_dtype {
+    ZT_F64 = 0,  /* [8] */
+    ZT_F32 = 1,  /* [4] */
+    ZT_F16 = 2,  /* [2] */
+    ZT_BF16 = 3, /* [2] */
+    ZT_I64 = 4,  /* [8] */
+    ZT_I32 = 5,  /* [4] */
+    ZT_I16 = 6,  /* [2] */
+    ZT_I8 = 7,   /* [1] */
+    ZT_U64 = 8,  /* [8] */
+    ZT_U32 = 9,  /* [4] */
+    ZT_U16 = 10, /* [2] */
+    ZT_U8 = 11,  /* [1] */
+    ZT_BOOL = 12 /* [1] */
+};
+
+/* Numbers that the rows of so many objects and components take; and the most that any file needs, since it has at most 1,024 objects of 16 components. */
+#define ZT_NUMBERS(objects, components) (ZT_OBJECT_ROW * (objects) + ZT_COMPONENT_ROW * (components))
+#define ZT_NUMBERS_MOST ZT_NUMBERS(1024, 1024 * 16)
+
+/*
+ * The file read into a lent table of `room` numbers. Needs ZT_NUMBERS(objects, components), else ZT_ROOM. A refusal leaves the table as it was; numbers beyond
+ * the rows stay. The table must not overlap the file, and must be aligned as uint64_t asks.
  */
 zt_answer zt_read(const uint8_t *file, size_t length, uint64_t *table, size_t room);
 

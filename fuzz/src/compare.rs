@@ -2,9 +2,9 @@
 
 use crate::input::{decode, Question};
 use against::{beside, Answer};
+use second::columns::numbers;
 use second::generate::RowSet;
 use second::refusal::DEEP;
-use second::rows::{COMPONENT_ROW, OBJECT_ROW};
 use std::fmt::Debug;
 
 /// What is lent beyond the exact room, and must stay.
@@ -23,7 +23,7 @@ fn reading(file: &[u8], near: isize) -> u64 {
     // Ample: the known keys of an object and of a component are longer than their rows.
     let (answer, table) = read(file, file.len());
     assert_eq!(against::box_accept(file), answer.number, "zt_accept");
-    let exact = OBJECT_ROW * answer.objects as usize + COMPONENT_ROW * answer.components as usize;
+    let exact = numbers(answer.objects as usize, answer.components as usize);
     read(file, exact.saturating_add_signed(near));
     if answer.number == 0 {
         listing(file, &table[..exact], &answer, near);

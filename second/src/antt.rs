@@ -1,11 +1,12 @@
 //! Tables for the prover: generated files, items and writer's rows with this program's answers, in antt's words, so that the definitions are computed on the same bytes.
 
 use crate::cbor;
+use crate::columns::{numbers, COUNT, OBJECT_ROW};
 use crate::generate::{Generator, RowSet};
 use crate::listing;
 use crate::probes;
 use crate::row_probes;
-use crate::rows::{self, COMPONENT_ROW, OBJECT_ROW};
+use crate::rows;
 use crate::view;
 use crate::writer;
 use std::collections::BTreeMap;
@@ -122,7 +123,7 @@ fn of_every_answer<T>(
 /// A file read into a table that is ample, exact, or one number short.
 fn file_case((index, file): (usize, &Vec<u8>)) -> String {
     let needed = rows::read(file, &mut [BEFORE; AMPLE]);
-    let exact = OBJECT_ROW * needed.objects as usize + COMPONENT_ROW * needed.components as usize;
+    let exact = numbers(needed.objects as usize, needed.components as usize);
     let room = [AMPLE, exact, exact.saturating_sub(1)][index % 3];
     let mut table = vec![BEFORE; room];
     let answer = rows::read(file, &mut table);
@@ -170,7 +171,7 @@ fn program_case(file: &[u8]) -> String {
 /// What is asked with, or the file, whichever is longer; a component count stands for as many owners, which antt lists.
 fn set_size(set: &RowSet) -> usize {
     let objects = set.rows.chunks_exact(OBJECT_ROW).take(set.objects as usize);
-    let owners = objects.map(|row| row[OBJECT_ROW - 1] as usize).max();
+    let owners = objects.map(|row| row[COUNT] as usize).max();
     let asked = (set.rows.len() + set.buffer.len()).max(owners.unwrap_or(0));
     if asked > SIZE_LIMIT {
         return asked;

@@ -7,6 +7,7 @@ pub mod antt;
 pub mod appendix;
 pub mod cases;
 pub mod cbor;
+pub mod columns;
 pub mod compose;
 pub mod encode;
 pub mod frame;

@@ -1,27 +1,19 @@
 //! Rows on both sides of each of the writer's rules, by hand: one sound set, and its neighbours.
 
+use crate::columns::{
+    numbers, ATTRIBUTES, BLOB, COUNT, DIGEST, DTYPE, FORMAT, NAME, OWNER, RANK, TYPE,
+};
 use crate::generate::RowSet;
 
 /// Where the rows of the sound set begin: two objects, two components of the first and one of the second.
 const FIRST: usize = 0;
-const SECOND: usize = 16;
-const PARTS: [usize; 3] = [32, 42, 52];
-/// Columns of both kinds of row.
-const NAME: usize = 0;
-const RANK: usize = 2;
-const FORMAT: usize = 11;
-const ATTRIBUTES: usize = 13;
-const COUNT: usize = 15;
-const DTYPE: usize = 2;
-const TYPE: usize = 3;
-const BLOB: usize = 5;
-const DIGEST: usize = 7;
-const OWNER: usize = 9;
+const SECOND: usize = numbers(1, 0);
+const PARTS: [usize; 3] = [numbers(2, 0), numbers(2, 1), numbers(2, 2)];
 
 pub fn row_sets() -> Vec<RowSet> {
     let mut sets = vec![sound()];
     sets.extend(ranges());
-    sets.extend(numbers());
+    sets.extend(numbers_of_rows());
     sets.extend(lengths_of_rows());
     sets.extend(attributes());
     sets
@@ -89,7 +81,7 @@ fn ranges() -> Vec<RowSet> {
 }
 
 /// Ranks, codes, counts and owners, at their limits and past them.
-fn numbers() -> Vec<RowSet> {
+fn numbers_of_rows() -> Vec<RowSet> {
     let mut sets = [8, 9, u64::MAX]
         .map(|rank| with(&[(FIRST + RANK, rank)]))
         .to_vec();

@@ -1,11 +1,12 @@
 //! The table: object and component rows of 64-bit numbers, and the reader that fills them.
 
+use crate::columns::{
+    ATTRIBUTES, BLOB, COMPONENT_ROW, COUNT, DIGEST, DTYPE, FORMAT, NAME, OBJECT_ROW, OWNER, RANK,
+    SHAPE, TYPE,
+};
 use crate::judge::{self, Component, Manifest, Object, RANK_LIMIT};
 use crate::refusal::{Refusal, ROOM};
 use std::ops::Range;
-
-pub const OBJECT_ROW: usize = 16;
-pub const COMPONENT_ROW: usize = 10;
 
 /// A place and a length; 0 and 0 means absent.
 #[derive(Clone, Copy, Debug, Default, PartialEq, Eq)]
@@ -14,7 +15,7 @@ pub struct Part {
     pub length: u64,
 }
 
-/// Sixteen numbers of the table.
+/// An object's numbers in the table.
 #[derive(Clone, Copy, Debug, PartialEq, Eq)]
 pub struct ObjectRow {
     pub name: Part,
@@ -25,7 +26,7 @@ pub struct ObjectRow {
     pub components: u64,
 }
 
-/// Ten numbers of the table.
+/// A component's numbers in the table.
 #[derive(Clone, Copy, Debug, PartialEq, Eq)]
 pub struct ComponentRow {
     pub name: Part,
@@ -131,37 +132,27 @@ impl ObjectRow {
     }
 
     pub fn from_numbers(numbers: [u64; OBJECT_ROW]) -> ObjectRow {
-        let [np, nl, rank, d0, d1, d2, d3, d4, d5, d6, d7, fp, fl, ap, al, components] = numbers;
+        let mut dimensions = [0; RANK_LIMIT];
+        dimensions.copy_from_slice(&numbers[SHAPE..SHAPE + RANK_LIMIT]);
         ObjectRow {
-            name: pair(np, nl),
-            rank,
-            dimensions: [d0, d1, d2, d3, d4, d5, d6, d7],
-            format: pair(fp, fl),
-            attributes: pair(ap, al),
-            components,
+            name: range(&numbers, NAME),
+            rank: numbers[RANK],
+            dimensions,
+            format: range(&numbers, FORMAT),
+            attributes: range(&numbers, ATTRIBUTES),
+            components: numbers[COUNT],
         }
     }
 
     pub fn numbers(&self) -> [u64; OBJECT_ROW] {
-        let [d0, d1, d2, d3, d4, d5, d6, d7] = self.dimensions;
-        [
-            self.name.place,
-            self.name.length,
-            self.rank,
-            d0,
-            d1,
-            d2,
-            d3,
-            d4,
-            d5,
-            d6,
-            d7,
-            self.format.place,
-            self.format.length,
-            self.attributes.place,
-            self.attributes.length,
-            self.components,
-        ]
+        let mut numbers = [0; OBJECT_ROW];
+        put_range(&mut numbers, NAME, self.name);
+        numbers[RANK] = self.rank;
+        numbers[SHAPE..SHAPE + RANK_LIMIT].copy_from_slice(&self.dimensions);
+        put_range(&mut numbers, FORMAT, self.format);
+        put_range(&mut numbers, ATTRIBUTES, self.attributes);
+        numbers[COUNT] = self.components;
+        numbers
     }
 }
 
@@ -178,31 +169,35 @@ impl ComponentRow {
     }
 
     pub fn from_numbers(numbers: [u64; COMPONENT_ROW]) -> ComponentRow {
-        let [np, nl, dtype, tp, tl, offset, length, dp, dl, owner] = numbers;
         ComponentRow {
-            name: pair(np, nl),
-            dtype,
-            logical: pair(tp, tl),
-            blob: pair(offset, length),
-            digest: pair(dp, dl),
-            owner,
+            name: range(&numbers, NAME),
+            dtype: numbers[DTYPE],
+            logical: range(&numbers, TYPE),
+            blob: range(&numbers, BLOB),
+            digest: range(&numbers, DIGEST),
+            owner: numbers[OWNER],
         }
     }
 
     pub fn numbers(&self) -> [u64; COMPONENT_ROW] {
-        [
-            self.name.place,
-            self.name.length,
-            self.dtype,
-            self.logical.place,
-            self.logical.length,
-            self.blob.place,
-            self.blob.length,
-            self.digest.place,
-            self.digest.length,
-            self.owner,
-        ]
+        let mut numbers = [0; COMPONENT_ROW];
+        put_range(&mut numbers, NAME, self.name);
+        numbers[DTYPE] = self.dtype;
+        put_range(&mut numbers, TYPE, self.logical);
+        put_range(&mut numbers, BLOB, self.blob);
+        put_range(&mut numbers, DIGEST, self.digest);
+        numbers[OWNER] = self.owner;
+        numbers
     }
+}
+
+/// The range whose place stands in this column.
+fn range(numbers: &[u64], column: usize) -> Part {
+    pair(numbers[column], numbers[column + 1])
+}
+
+fn put_range(numbers: &mut [u64], column: usize, part: Part) {
+    numbers[column..column + 2].copy_from_slice(&[part.place, part.length]);
 }
 
 fn pair(place: u64, length: u64) -> Part {

@@ -1,7 +1,8 @@
 //! The view: the part of the file that one component's row names.
 
+use crate::columns::{COMPONENT_ROW, OBJECT_ROW};
 use crate::refusal::INDEX;
-use crate::rows::{ComponentRow, COMPONENT_ROW, OBJECT_ROW};
+use crate::rows::ComponentRow;
 
 /// The offset and length of the component at `index` among all components, or INDEX.
 pub fn view(
@@ -19,7 +20,7 @@ pub fn view(
     Ok((blob.place, blob.length))
 }
 
-/// The component's row, if all of its ten numbers lie in the table.
+/// The component's row, if all of its numbers lie in the table.
 fn row(table: &[u64], objects: u64, index: u64) -> Option<ComponentRow> {
     let start =
         u128::from(objects) * OBJECT_ROW as u128 + u128::from(index) * COMPONENT_ROW as u128;

@@ -1,6 +1,7 @@
 //! The thirteen sound files of document 01 and their neighbours.
 
 use second::cases::{self, dense_manifest, Case, NO_OBJECTS as CASE_1};
+use second::columns::{numbers, OBJECT_ROW};
 use second::compose::{component, named, root};
 use second::frame;
 use second::judge::verdict;
@@ -54,7 +55,7 @@ fn case_2_one_dense_object() {
         CASE_2_MANIFEST
     );
 
-    let mut table = [9; 30];
+    let mut table = [9; numbers(1, 1) + 4];
     let accepted = Answer {
         objects: 1,
         components: 1,
@@ -64,9 +65,9 @@ fn case_2_one_dense_object() {
     assert_eq!(read(&out, &mut table), accepted);
     let object_row = [97, 1, 1, 2, 0, 0, 0, 0, 0, 0, 0, 115, 5, 0, 0, 1];
     let component_row = [133, 4, 1, 0, 0, 64, 8, 0, 0, 0];
-    assert_eq!(table[..16], object_row);
-    assert_eq!(table[16..26], component_row);
-    assert_eq!(table[26..], [9; 4]);
+    assert_eq!(table[..OBJECT_ROW], object_row);
+    assert_eq!(table[OBJECT_ROW..numbers(1, 1)], component_row);
+    assert_eq!(table[numbers(1, 1)..], [9; 4]);
     let lines = b"objects 1 components 1\nobject w dense\nblob data f32 64 8\n";
     assert_eq!(program_text(&out), lines);
 }

@@ -1,6 +1,7 @@
 //! What the seeded generator reaches, and properties that hold of whatever it gives.
 
 use second::cbor::{self, Kind, Node, DEPTH};
+use second::columns::numbers;
 use second::encode::Item;
 use second::frame::manifest_range;
 use second::generate::{Generator, RowSet};
@@ -18,7 +19,7 @@ const MARK: u64 = 0x5555_AAAA_5555_AAAA;
 const MARK_BYTE: u8 = 0xA5;
 
 fn room(answer: &Answer) -> usize {
-    (16 * answer.objects + 10 * answer.components) as usize
+    numbers(answer.objects as usize, answer.components as usize)
 }
 
 #[test]

@@ -8,6 +8,9 @@ mod acceptance;
 
 use acceptance::many_names;
 use common::{component, judged, named, object, root, with};
+use second::columns::{
+    numbers, ATTRIBUTES, BLOB, COMPONENT_ROW, DIGEST, DTYPE, FORMAT, NAME, TYPE,
+};
 use second::compose::{data, dense};
 use second::encode::Item;
 use second::frame;
@@ -24,6 +27,10 @@ fn short_before_header_and_big_before_fit() {
     file[32..40].copy_from_slice(&u64::MAX.to_le_bytes());
     assert_eq!(read(&file, &mut []).number, 4);
 }
+
+/// Where the component's row begins after one object's, and where both end.
+const PART: usize = numbers(1, 0);
+const WHOLE: usize = numbers(1, 1);
 
 /// A file whose manifest starts at 72, and the table that reading it gives.
 fn table_of(manifest: &Item) -> (Vec<u8>, Vec<u64>) {
@@ -49,13 +56,14 @@ fn a_place_is_the_content_of_a_text_and_the_whole_of_attributes() {
     let manifest = with(manifest, "attributes", attributes());
     let (file, table) = table_of(&manifest);
     let part = |place: u64, length: u64| &file[place as usize..][..length as usize];
-    assert_eq!(part(table[0], table[1]), b"w");
-    assert_eq!(part(table[11], table[12]), b"dense");
-    assert_eq!(part(table[13], table[14]), b"\xA1\x61k\x01");
-    assert_eq!(part(table[16], table[17]), b"data");
-    assert_eq!(part(table[19], table[20]), b"t");
-    assert_eq!(part(table[23], table[24]), b"d:0");
-    let answer = read(&file, &mut vec![0; 26]);
+    let at = |column: usize| part(table[column], table[column + 1]);
+    assert_eq!(at(NAME), b"w");
+    assert_eq!(at(FORMAT), b"dense");
+    assert_eq!(at(ATTRIBUTES), b"\xA1\x61k\x01");
+    assert_eq!(at(PART + NAME), b"data");
+    assert_eq!(at(PART + TYPE), b"t");
+    assert_eq!(at(PART + DIGEST), b"d:0");
+    let answer = read(&file, &mut vec![0; WHOLE]);
     assert_eq!(
         part(answer.attributes_place, answer.attributes_length),
         b"\xA1\x61k\x01"
@@ -67,12 +75,12 @@ fn an_empty_text_that_is_present_has_a_place() {
     // 44
     let entry = with(with(data(), "type", Item::text("")), "digest", Item::null());
     let (file, table) = table_of(&root(named([("", dense(entry))])));
-    for at in [0, 19] {
+    for at in [NAME, PART + TYPE] {
         let (place, length) = (table[at], table[at + 1]);
         assert_eq!((file[place as usize - 1], length), (0x60, 0));
     }
-    assert_eq!(table[23..25], [0, 0]);
-    assert_eq!(table[13..15], [0, 0]);
+    assert_eq!(table[PART + DIGEST..][..2], [0, 0]);
+    assert_eq!(table[ATTRIBUTES..][..2], [0, 0]);
 }
 
 #[test]
@@ -98,11 +106,11 @@ fn lines_end_with_a_newline_and_empty_texts_print_as_nothing() {
 fn a_listing_answers_for_any_table() {
     let (file, table) = table_of(&root(named([("w", dense(data()))])));
     assert!(listing(&file, &table, 1, 1).is_some());
-    assert_eq!(listing(&file, &table[..25], 1, 1), None);
+    assert_eq!(listing(&file, &table[..WHOLE - 1], 1, 1), None);
     assert_eq!(listing(&file, &table, u64::MAX, 1), None);
     assert_eq!(listing(&file, &table, 1, 0), None);
     // a name, a format, a component's name, dtype and blob that aren't there
-    for column in [0, 11, 16, 18, 21] {
+    for column in [NAME, FORMAT, PART + NAME, PART + DTYPE, PART + BLOB] {
         let mut foreign = table.clone();
         foreign[column] = u64::MAX;
         assert_eq!(listing(&file, &foreign, 1, 1), None);
@@ -122,15 +130,15 @@ fn room_is_the_programs_last_check() {
 }
 
 #[test]
-fn a_view_needs_all_ten_numbers_of_its_row() {
+fn a_view_needs_all_numbers_of_its_row() {
     // 49
     let (file, table) = table_of(&root(named([("w", dense(data()))])));
-    assert_eq!(view(&file, &table[..26], 1, 1, 0), Ok((64, 8)));
-    assert_eq!(view(&file, &table[..25], 1, 1, 0), Err(26));
+    assert_eq!(view(&file, &table[..WHOLE], 1, 1, 0), Ok((64, 8)));
+    assert_eq!(view(&file, &table[..WHOLE - 1], 1, 1, 0), Err(26));
     assert_eq!(view(&file, &table, 1, 1, 1), Err(26));
     assert_eq!(view(&file, &table, 1, 0, 0), Err(26));
     for objects in [u64::MAX, 1 << 60, 1 << 63] {
-        // 16 × objects would wrap to a small number.
+        // The objects' numbers would wrap to a small number.
         assert_eq!(view(&file, &table, objects, 1, 0), Err(26));
     }
     assert_eq!(view(&file, &table, 0, u64::MAX, u64::MAX - 1), Err(26));
@@ -140,7 +148,11 @@ fn a_view_needs_all_ten_numbers_of_its_row() {
 fn a_views_range_is_tested_against_the_file() {
     // 50
     let file = [0; 100];
-    let judge = |offset, length| view(&file, &[0, 0, 0, 0, 0, offset, length, 0, 0, 0], 0, 1, 0);
+    let judge = |offset, length| {
+        let mut row = [0; COMPONENT_ROW];
+        row[BLOB..][..2].copy_from_slice(&[offset, length]);
+        view(&file, &row, 0, 1, 0)
+    };
     for (offset, length) in [(0, 100), (100, 0), (99, 1), (3, 5), (0, 0)] {
         assert_eq!(judge(offset, length), Ok((offset, length)));
     }

@@ -1,8 +1,14 @@
 //! The decided readings on the writer and on lent buffers; the item's number stands in its comment.
 
+use second::columns::{
+    numbers, ATTRIBUTES, BLOB, COMPONENT_ROW, DIGEST, FORMAT, NAME, SHAPE, TYPE,
+};
 use second::refusal::{BIG, COUNT, DEEP, ROOM, ROW, TWICE};
 use second::rows::{read, Answer, ComponentRow, ObjectRow, Part};
 use second::writer::{write, Written};
+
+/// Where the first component's row begins after one object's.
+const PART: usize = numbers(1, 0);
 
 const NONE: Part = Part {
     place: 0,
@@ -147,14 +153,14 @@ fn only_0_and_0_is_absent() {
     };
     asked.components[0].logical = empty;
     let (file, table, _) = read_back(&asked);
-    let (place, length) = (table[19] as usize, table[20]);
+    let (place, length) = (table[PART + TYPE] as usize, table[PART + TYPE + 1]);
     assert_eq!((file[place - 1], length), (0x60, 0));
-    assert_eq!(table[23..25], [0, 0]);
+    assert_eq!(table[PART + DIGEST..][..2], [0, 0]);
     asked.components[0].logical = NONE;
     asked.components[0].digest = empty;
     let (file, table, _) = read_back(&asked);
-    assert_eq!(table[19..21], [0, 0]);
-    assert_eq!(file[table[23] as usize - 1], 0x60);
+    assert_eq!(table[PART + TYPE..][..2], [0, 0]);
+    assert_eq!(file[table[PART + DIGEST] as usize - 1], 0x60);
 
     assert_eq!(changed(|asked| asked.attributes = empty), ROW_REFUSED);
     assert_eq!(
@@ -167,7 +173,8 @@ fn only_0_and_0_is_absent() {
         asked.objects[0].format = part;
         asked.components[0].name = part;
         let (_, table, _) = read_back(&asked);
-        assert_eq!((table[1], table[12], table[17]), (0, 0, 0));
+        let lengths = [NAME, FORMAT, PART + NAME].map(|column| table[column + 1]);
+        assert_eq!(lengths, [0, 0, 0]);
     }
 }
 
@@ -398,7 +405,8 @@ fn the_next_multiple_of_64_isnt_below_the_place_reached() {
         asked.component(name, Part { place: 0, length });
     }
     let (file, table, answer) = read_back(&asked);
-    let offsets: Vec<u64> = table[16..76].chunks(10).map(|row| row[5]).collect();
+    let parts = table[PART..numbers(1, 6)].chunks(COMPONENT_ROW);
+    let offsets: Vec<u64> = parts.map(|row| row[BLOB]).collect();
     assert_eq!(offsets, [64, 64, 64, 128, 192, 320]);
     assert_eq!(answer.manifest_start, 320);
     assert!(file[8..64]
@@ -427,8 +435,8 @@ fn attributes_are_copied_as_they_stand_and_texts_get_the_shortest_head() {
         part(answer.attributes_place, answer.attributes_length),
         attributes
     );
-    assert_eq!(part(table[13], table[14]), attributes);
-    assert_eq!(part(table[0] - 2, 2), b"\x78\x18");
+    assert_eq!(part(table[ATTRIBUTES], table[ATTRIBUTES + 1]), attributes);
+    assert_eq!(part(table[NAME] - 2, 2), b"\x78\x18");
 }
 
 #[test]
@@ -437,12 +445,17 @@ fn numbers_beyond_and_unused_dimensions_arent_looked_at() {
     let asked = sound();
     let expected = asked.file();
     let mut rows = asked.rows();
-    rows[3..11].fill(u64::MAX);
+    rows[SHAPE..FORMAT].fill(u64::MAX);
     rows.push(u64::MAX);
     let mut out = vec![0; expected.len()];
     assert_eq!(asked.write_rows(&rows, 1, &mut out).number, 0);
     assert_eq!(out, expected);
-    assert_eq!(asked.write_rows(&rows[..25], 1, &mut out).number, ROW);
+    assert_eq!(
+        asked
+            .write_rows(&rows[..numbers(1, 1) - 1], 1, &mut out)
+            .number,
+        ROW
+    );
     for objects in [2, usize::MAX, 1 << 60] {
         assert_eq!(asked.write_rows(&rows, objects, &mut out).number, ROW);
     }
@@ -467,10 +480,8 @@ fn a_blob_may_lie_anywhere_in_the_buffer() {
     let (file, table, _) = read_back(&asked);
     assert_eq!(&file[64..74], b"w12345678c");
     assert_eq!(&file[128..132], b"3456");
-    assert_eq!(
-        (table[21], table[22], table[31], table[32]),
-        (64, 10, 128, 4)
-    );
+    let blobs = [PART, PART + COMPONENT_ROW].map(|row| [table[row + BLOB], table[row + BLOB + 1]]);
+    assert_eq!(blobs, [[64, 10], [128, 4]]);
 }
 
 #[test]

@@ -4,6 +4,7 @@ use native.Mathlib.Omega.{arith}
 use mathlib.Core.List.{List, _∷_, map}
 use mathlib.Core.Path.{_≡_, refl, ap, _∙_}
 use lib.ListN.{drop}
+use Rattle.meaning.specs.Columns.{componentWidth}
 use Rattle.meaning.specs.Check.{Check, pass, refuse, _>>=_, _>>_, inComponent, each}
 use Rattle.meaning.specs.Asked.{eachRow, askedComponent}
 use Rattle.meaning.specs.Described.{DescribedComponent, describedComponent}
@@ -33,11 +34,11 @@ module _ {A : Type 0} (f : ℕ → A → Check (Unit {0})) (i : ℕ) (a : A) (l 
 -- `left` components' rows from the place p on, the first of them with the index j
 module _ (buffer rows : List ℕ) (j left p : ℕ) where
   abbrev from : ℕ → ℕ → ℕ → Check (Unit {0})
-  from j left p = eachComponent j (map (describedComponent buffer) (eachRow askedComponent 10 left (drop p rows)))
+  from j left p = eachComponent j (map (describedComponent buffer) (eachRow askedComponent componentWidth left (drop p rows)))
 
   pub components-end : left ≤ 0 → from j left p ≡ rules.told Fits
   unfolding eachComponent
-  components-end h = rw (no-row askedComponent 10 left (drop p rows) h) refl
+  components-end h = rw (no-row askedComponent componentWidth left (drop p rows) h) refl
 
   module _ (h : 0 < left) (r : Held) (judged : judgedComponent (describedComponent buffer (askedComponent (drop p rows))) ≡ told r) where
     abbrev one : ℕ → DescribedComponent → Check (Unit {0})
@@ -47,14 +48,14 @@ module _ (buffer rows : List ℕ) (j left p : ℕ) where
     this = describedComponent buffer (askedComponent (drop p rows))
 
     abbrev others : List DescribedComponent
-    others = map (describedComponent buffer) (eachRow askedComponent 10 (left - 1) (drop (p + 10) rows))
+    others = map (describedComponent buffer) (eachRow askedComponent componentWidth (left - 1) (drop (p + componentWidth) rows))
 
-    pub component-passes : r ≡ Right → from j left p ≡ from (j + 1) (left - 1) (p + 10)
+    pub component-passes : r ≡ Right → from j left p ≡ from (j + 1) (left - 1) (p + componentWidth)
     unfolding eachComponent
     component-passes e =
         let z : j + 1 ≡ suc j = omega arith in
-        rw (next-row-at askedComponent 10 left p rows h, z) (goes-on one j this others (ap (inComponent j) (judged ∙ ap told e)))
+        rw (next-row-at askedComponent componentWidth left p rows h, z) (goes-on one j this others (ap (inComponent j) (judged ∙ ap told e)))
 
     pub component-faulty : (n : ℕ) → r ≡ Wrong n → from j left p ≡ rules.told (Breaks n j)
     unfolding eachComponent
-    component-faulty n e = rw (next-row-at askedComponent 10 left p rows h) (stops one j this others n 0 j (ap (inComponent j) (judged ∙ ap told e)))
+    component-faulty n e = rw (next-row-at askedComponent componentWidth left p rows h) (stops one j this others n 0 j (ap (inComponent j) (judged ∙ ap told e)))

@@ -8,6 +8,7 @@ use lib.ListN.{length, take, drop, getD, length-take, length-drop}
 use lib.Seq.{getD-drop}
 use lib.Dec.{eqb}
 use borrow.Author.Tests.{ne-eqb}
+use Rattle.meaning.specs.Columns.{objectWidth, attributesColumn, attributesLengthColumn}
 use Rattle.meaning.specs.Read.{Span, Outcome, got, refused, item, noNote}
 use Rattle.meaning.specs.Asked.{AskedComponent, askedObject, eachRow, presentAt}
 use Rattle.meaning.specs.Described.{describedObject, describedObjects}
@@ -42,25 +43,25 @@ module _ (buffer : List ℕ) (place size levels : ℕ) where
 -- `left` objects' rows from the place p on, whatever their components
 module _ (buffer rows : List ℕ) (left p : ℕ) where
   abbrev anyFrom : ℕ → ℕ → List AskedComponent → Bool
-  anyFrom left p cs = anyTooDeep (describedObjects buffer (eachRow askedObject 16 left (drop p rows)) cs)
+  anyFrom left p cs = anyTooDeep (describedObjects buffer (eachRow askedObject objectWidth left (drop p rows)) cs)
 
   abbrev firstDeep : Bool
-  firstDeep = deepOption 29 (presentAt buffer (record { place = getD rows (p + 13) 0; size = getD rows (p + 14) 0 }))
+  firstDeep = deepOption 29 (presentAt buffer (record { place = getD rows (p + attributesColumn) 0; size = getD rows (p + attributesLengthColumn) 0 }))
 
   pub none-deep : left ≤ 0 → (cs : List AskedComponent) → false ≡ anyFrom left p cs
   unfolding anyTooDeep describedObjects
-  none-deep h cs = rw (no-row askedObject 16 left (drop p rows) h) refl
+  none-deep h cs = rw (no-row askedObject objectWidth left (drop p rows) h) refl
 
   module _ (h : 0 < left) (cs : List AskedComponent) where
     abbrev others : List AskedComponent
     others = drop (askedObject (drop p rows) .count) cs
 
-    first-and-others : anyFrom left p cs ≡ cond firstDeep true (anyFrom (left - 1) (p + 16) others)
+    first-and-others : anyFrom left p cs ≡ cond firstDeep true (anyFrom (left - 1) (p + objectWidth) others)
     unfolding anyTooDeep describedObjects describedObject askedObject
-    first-and-others = rw (next-row-at askedObject 16 left p rows h, getD-drop p rows 13 0, getD-drop p rows 14 0) refl
+    first-and-others = rw (next-row-at askedObject objectWidth left p rows h, getD-drop p rows attributesColumn 0, getD-drop p rows attributesLengthColumn 0) refl
 
     pub first-is-deep : true ≡ firstDeep → true ≡ anyFrom left p cs
-    first-is-deep e = sym (first-and-others ∙ ap (λ (b : Bool). cond b true (anyFrom (left - 1) (p + 16) others)) (sym e))
+    first-is-deep e = sym (first-and-others ∙ ap (λ (b : Bool). cond b true (anyFrom (left - 1) (p + objectWidth) others)) (sym e))
 
-    pub others-deep : false ≡ firstDeep → anyFrom (left - 1) (p + 16) others ≡ anyFrom left p cs
-    others-deep e = sym (first-and-others ∙ ap (λ (b : Bool). cond b true (anyFrom (left - 1) (p + 16) others)) (sym e))
+    pub others-deep : false ≡ firstDeep → anyFrom (left - 1) (p + objectWidth) others ≡ anyFrom left p cs
+    others-deep e = sym (first-and-others ∙ ap (λ (b : Bool). cond b true (anyFrom (left - 1) (p + objectWidth) others)) (sym e))

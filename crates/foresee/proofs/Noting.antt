@@ -9,6 +9,7 @@ use lib.ListN.{length, take, drop, getD, length-append, drop-of-length-le}
 use lib.Seq.{getD-drop, take-all, take-nil}
 use lib.Dec.{leb}
 use borrow.Author.Tests.{le-leb, lt-leb, leb-true}
+use Rattle.meaning.specs.Columns.{objectWidth, componentWidth, nameColumn}
 use Rattle.endian.proofs.Which.{lt-or}
 use Rattle.meaning.specs.Text.{all, utf8, distinct}
 use Rattle.meaning.specs.Refusal.{TEXT, COUNT, TWICE}
@@ -56,7 +57,7 @@ all-with-odd p (x ∷ l) a r e = rw (all-with-odd p l a r e) (by (p x))
     by false = refl
 
 abbrev nameIn : List ℕ → List ℕ → List ℕ
-nameIn buffer row = bytesAt buffer (spanAt row 0)
+nameIn buffer row = bytesAt buffer (spanAt row nameColumn)
 
 module _ (buffer rows left size : List ℕ) where
   pub none-noted : (width : ℕ) → length size ≡ length left → Noted buffer (namesOf buffer width 0 rows) left size
@@ -171,13 +172,13 @@ module _ (buffer rows left size : List ℕ) (width n : ℕ) (h : Noted buffer (n
 
 -- ---- whose names they are
 
-pub component-names : (buffer : List ℕ) (n : ℕ) (rows : List ℕ) → map (λ c. c .name) (map (describedComponent buffer) (eachRow askedComponent 10 n rows)) ≡ namesOf buffer 10 n rows
+pub component-names : (buffer : List ℕ) (n : ℕ) (rows : List ℕ) → map (λ c. c .name) (map (describedComponent buffer) (eachRow askedComponent componentWidth n rows)) ≡ namesOf buffer componentWidth n rows
 unfolding namesOf eachRow describedComponent askedComponent
 component-names buffer zero rows = refl
-component-names buffer (suc n) rows = ap {B = List (List ℕ)} (λ l. nameIn buffer rows ∷ l) (component-names buffer n (drop 10 rows))
+component-names buffer (suc n) rows = ap {B = List (List ℕ)} (λ l. nameIn buffer rows ∷ l) (component-names buffer n (drop componentWidth rows))
 
 pub object-names : (buffer : List ℕ) (n : ℕ) (rows : List ℕ) (cs : List AskedComponent)
-    → map (λ o. o .name) (describedObjects buffer (eachRow askedObject 16 n rows) cs) ≡ namesOf buffer 16 n rows
+    → map (λ o. o .name) (describedObjects buffer (eachRow askedObject objectWidth n rows) cs) ≡ namesOf buffer objectWidth n rows
 unfolding namesOf eachRow describedObjects describedObject askedObject
 object-names buffer zero rows cs = refl
-object-names buffer (suc n) rows cs = ap {B = List (List ℕ)} (λ l. nameIn buffer rows ∷ l) (object-names buffer n (drop 16 rows) (drop (askedObject rows .count) cs))
+object-names buffer (suc n) rows cs = ap {B = List (List ℕ)} (λ l. nameIn buffer rows ∷ l) (object-names buffer n (drop objectWidth rows) (drop (askedObject rows .count) cs))

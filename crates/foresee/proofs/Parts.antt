@@ -6,6 +6,7 @@ use mathlib.Core.Bool.{Bool, true, false, _&&_}
 use mathlib.Core.Path.{_≡_, refl, ap, _∙_}
 use lib.ListN.{length, take, drop, getD}
 use lib.Dec.{eqb}
+use Rattle.meaning.specs.Columns.{componentWidth, dtypeColumn, typeColumn, typeLengthColumn, offsetColumn, lengthColumn}
 use Rattle.meaning.specs.Types.{u64, typeRatio, widthOf, ratioOf, listed, logicals}
 use Rattle.meaning.specs.Format.{Part, unit, untyped, plain}
 use Rattle.meaning.specs.Read.{Span}
@@ -47,14 +48,14 @@ module _ (buffer row : List ℕ) where
   thePart = partOf (describedComponent buffer (askedComponent row))
 
   abbrev typeless : Bool
-  typeless = eqb (getD row 3 0) 0 && eqb (getD row 4 0) 0
+  typeless = eqb (getD row typeColumn 0) 0 && eqb (getD row typeLengthColumn 0) 0
 
   pub part-put : (out : List ℕ) (j a b c d : ℕ) → a ≡ position roleNames (take (getD row 1 0) (drop (getD row 0 0) buffer))
-      → b ≡ typeRatio (presentAt buffer (record { place = getD row 3 0; size = getD row 4 0 })) * widthOf (getD row 2 0)
-      → c ≡ flag (eqb (getD row 2 0) 8 && typeless) → d ≡ length (take (getD row 6 0) (drop (getD row 5 0) buffer))
+      → b ≡ typeRatio (presentAt buffer (record { place = getD row typeColumn 0; size = getD row typeLengthColumn 0 })) * widthOf (getD row dtypeColumn 0)
+      → c ≡ flag (eqb (getD row dtypeColumn 0) 8 && typeless) → d ≡ length (take (getD row lengthColumn 0) (drop (getD row offsetColumn 0) buffer))
       → putRow out j a b c d ≡ putPart out j thePart
   unfolding partOf describedComponent askedComponent unit plain u64
-  part-put out j a b c d ea eb ec ed = rw (ea, eb, ec, ed, no-type buffer (getD row 3 0) (getD row 4 0)) refl
+  part-put out j a b c d ea eb ec ed = rw (ea, eb, ec, ed, no-type buffer (getD row typeColumn 0) (getD row typeLengthColumn 0)) refl
 
 parts-snoc : (ps : List Part) (p : Part) → partRows (ps ++ p ∷ []) ≡ partRows ps ++ partRow p
 unfolding partRows partRow
@@ -63,7 +64,7 @@ parts-snoc (q ∷ ps) p = rw (parts-snoc ps p) refl
 
 -- the numbers of n components
 abbrev pub partsOf : List ℕ → ℕ → List ℕ → List Part
-partsOf buffer n rows = map partOf (map (describedComponent buffer) (eachRow askedComponent 10 n rows))
+partsOf buffer n rows = map partOf (map (describedComponent buffer) (eachRow askedComponent componentWidth n rows))
 
 pub no-parts : (buffer rows : List ℕ) → [] ≡ partRows (partsOf buffer 0 rows)
 unfolding eachRow partRows
@@ -71,15 +72,15 @@ no-parts buffer rows = refl
 
 module _ (buffer rows : List ℕ) (j : ℕ) where
   abbrev this : Part
-  this = thePart buffer (drop (10 * j) rows)
+  this = thePart buffer (drop (componentWidth * j) rows)
 
   one-part-more : partsOf buffer (j + 1) rows ≡ partsOf buffer j rows ++ this ∷ []
   unfolding eachRow
   one-part-more =
-      rw (some-rows askedComponent 10 j 1 rows, map-snoc (describedComponent buffer) (eachRow askedComponent 10 j rows) (askedComponent (drop (10 * j) rows)))
-      (map-snoc partOf (map (describedComponent buffer) (eachRow askedComponent 10 j rows)) (describedComponent buffer (askedComponent (drop (10 * j) rows))))
+      rw (some-rows askedComponent componentWidth j 1 rows, map-snoc (describedComponent buffer) (eachRow askedComponent componentWidth j rows) (askedComponent (drop (componentWidth * j) rows)))
+      (map-snoc partOf (map (describedComponent buffer) (eachRow askedComponent componentWidth j rows)) (describedComponent buffer (askedComponent (drop (componentWidth * j) rows))))
 
-  module _ (out : List ℕ) (room : length out ≡ 64) (row : List ℕ) (is : row ≡ drop (10 * j) rows) (out′ : List ℕ) (put : out′ ≡ putPart out j (thePart buffer row)) where
+  module _ (out : List ℕ) (room : length out ≡ 64) (row : List ℕ) (is : row ≡ drop (componentWidth * j) rows) (out′ : List ℕ) (put : out′ ≡ putPart out j (thePart buffer row)) where
     put-this : out′ ≡ putPart out j this
     put-this = put ∙ ap (λ (row : List ℕ). putPart out j (thePart buffer row)) is
 

@@ -4,6 +4,7 @@ use mathlib.Core.List.{List}
 use mathlib.Core.Bool.{Bool, true, false}
 use mathlib.Core.Path.{_≡_}
 use lib.ListN.{length, take}
+use Rattle.meaning.specs.Columns.{nameColumn}
 use Rattle.meaning.specs.Text.{all, utf8}
 use Rattle.meaning.specs.Read.{bytesAt}
 use Rattle.meaning.specs.Asked.{eachRow, spanAt}
@@ -11,7 +12,7 @@ use Rattle.names.specs.Names.{name, listed}
 
 -- an object's row and a component's begin with the place and length of its name
 unfoldable pub namesOf : List ℕ → ℕ → ℕ → List ℕ → List (List ℕ)
-namesOf buffer width n rows = eachRow (λ row. bytesAt buffer (spanAt row 0)) width n rows
+namesOf buffer width n rows = eachRow (λ row. bytesAt buffer (spanAt row nameColumn)) width n rows
 
 -- these names are UTF-8, and the first of them stand in two arrays, as many as there is room for
 pub record Noted (buffer : List ℕ) (names : List (List ℕ)) (left size : List ℕ) : Type 0 where

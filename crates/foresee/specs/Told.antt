@@ -4,6 +4,7 @@ use mathlib.Core.List.{List}
 use mathlib.Core.Bool.{true}
 use mathlib.Core.Path.{_≡_}
 use lib.ListN.{length}
+use Rattle.meaning.specs.Columns.{objectWidth, componentWidth}
 use Rattle.meaning.specs.Text.{all}
 use Rattle.meaning.specs.Check.{Check, pass, refuse, _>>_, fault, inObject, inComponent, each}
 use Rattle.meaning.specs.Asked.{eachRow, askedObject, askedComponent}
@@ -33,11 +34,11 @@ eachObject i os = each (λ i o. inObject i (judgedObject o)) i os >> pass tt
 
 -- the objects of n rows, with the components of so many rows
 unfoldable pub objectsOf : List ℕ → List ℕ → ℕ → List ℕ → ℕ → List DescribedObject
-objectsOf buffer rows n rest components = describedObjects buffer (eachRow askedObject 16 n rows) (eachRow askedComponent 10 components rest)
+objectsOf buffer rows n rest components = describedObjects buffer (eachRow askedObject objectWidth n rows) (eachRow askedComponent componentWidth components rest)
 
 -- rows as long as the counts say, which add up; every object's row is sound
 pub record Counted (buffer rows : List ℕ) (n : ℕ) (rest : List ℕ) (components : ℕ) : Type 0 where
-  pub enough : 16 * n ≤ length rows
-  pub enough-rest : 10 * components ≤ length rest
-  pub adds-up : counted (eachRow askedObject 16 n rows) ≡ components
-  pub sound : all (objectSound buffer) (eachRow askedObject 16 n rows) ≡ true
+  pub enough : objectWidth * n ≤ length rows
+  pub enough-rest : componentWidth * components ≤ length rest
+  pub adds-up : counted (eachRow askedObject objectWidth n rows) ≡ components
+  pub sound : all (objectSound buffer) (eachRow askedObject objectWidth n rows) ≡ true

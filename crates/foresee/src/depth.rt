@@ -5,6 +5,7 @@ ghost use mathlib.Core.Path.{_≡_};
 ghost use mathlib.Core.List.{List};
 ghost use Prim.Native.Nat.{_*_, _≤_};
 ghost use lib.ListN.{length};
+ghost use Rattle.meaning.specs.Columns.{objectWidth};
 ghost use Rattle.meaning.specs.Asked.{presentAt, eachRow, askedObject, AskedComponent};
 ghost use Rattle.meaning.specs.Described.{describedObjects};
 ghost use Rattle.readback.specs.Judged.{deepOption, anyTooDeep};
@@ -21,16 +22,21 @@ pub fn deep(buffer: &[u8], place: u64, size: u64, levels: u64) -> bool
 
 // Those of any of n objects.
 pub fn any_deep(rows: &[u64], n: usize, buffer: &[u8]) -> bool
-    requires { ⌜ 16 * n ≤ length (now rows) ⌝ }
-    ensures { λ r. ⌜ ((cs : List AskedComponent) → r ≡ anyTooDeep (describedObjects (now (buffer .entry)) (eachRow askedObject 16 n (now (rows .entry))) cs)) ⌝ }
+    requires { ⌜ objectWidth * n ≤ length (now rows) ⌝ }
+    ensures { λ r. ⌜ ((cs : List AskedComponent) → r ≡ anyTooDeep (describedObjects (now (buffer .entry)) (eachRow askedObject objectWidth n (now (rows .entry))) cs)) ⌝ }
 {
     let mut at = 0;
     let mut left = n;
     while 0 < left {
-        if deep(buffer, rows[at + 13], rows[at + 14], 29) {
+        if deep(
+            buffer,
+            rows[at + columns::ATTRIBUTES],
+            rows[at + columns::ATTRIBUTES_LENGTH],
+            29,
+        ) {
             return true;
         }
-        at += 16;
+        at += columns::OBJECT;
         left -= 1;
     }
     false

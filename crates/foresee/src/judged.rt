@@ -2,6 +2,18 @@
 use crate::named::names;
 use crate::texts::Held;
 use crate::texts::component;
+use columns::COUNT;
+use columns::DTYPE;
+use columns::FORMAT;
+use columns::FORMAT_LENGTH;
+use columns::LENGTH;
+use columns::NAME;
+use columns::NAME_LENGTH;
+use columns::OFFSET;
+use columns::RANK;
+use columns::SHAPE;
+use columns::TYPE;
+use columns::TYPE_LENGTH;
 use components::row::put_row;
 use formats::Ruled;
 use rows::absent;
@@ -12,6 +24,7 @@ ghost use Prim.Native.Nat.{_+_, _*_, _≤_};
 ghost use mathlib.Core.Bool.{_&&_};
 ghost use lib.ListN.{length, take, getD};
 ghost use lib.Dec.{eqb};
+ghost use Rattle.meaning.specs.Columns.{objectWidth, componentWidth, rankColumn, countColumn};
 ghost use Rattle.meaning.specs.Types.{typeRatio, widthOf};
 ghost use Rattle.meaning.specs.Format.{formatRules};
 ghost use Rattle.meaning.specs.Asked.{eachRow, askedObject, askedComponent, presentAt};
@@ -24,8 +37,8 @@ ghost use Rattle.foresee.specs.Parts.{putPart};
 
 // The first component at fault, of n whose rows these numbers begin with.
 fn components(rows: &[u64], n: usize, buffer: &[u8]) -> Ruled
-    requires { ⌜ 10 * n ≤ length (now rows) ⌝ }
-    ensures { λ r. ⌜ eachComponent 0 (map (describedComponent (now (buffer .entry))) (eachRow askedComponent 10 n (now (rows .entry)))) ≡ rules.told r ⌝ }
+    requires { ⌜ componentWidth * n ≤ length (now rows) ⌝ }
+    ensures { λ r. ⌜ eachComponent 0 (map (describedComponent (now (buffer .entry))) (eachRow askedComponent componentWidth n (now (rows .entry)))) ≡ rules.told r ⌝ }
 {
     let mut at = 0;
     let mut j = 0;
@@ -35,7 +48,7 @@ fn components(rows: &[u64], n: usize, buffer: &[u8]) -> Ruled
                 return Ruled::Wrong(c, j);
             }
             Held::Right => {
-                at += 10;
+                at += columns::COMPONENT;
                 j += 1;
             }
         }
@@ -67,63 +80,71 @@ fn plain(place: u64, size: u64, code: u64) -> u64
 
 // Puts what the format's rules read of component j, whose row these numbers begin with.
 fn put_part(row: &[u64], buffer: &[u8], j: usize, out: &mut [u64])
-    requires { ⌜ (10 ≤ length (now row)) × (length (now out) ≡ 64) ⌝ }
+    requires { ⌜ (componentWidth ≤ length (now row)) × (length (now out) ≡ 64) ⌝ }
     ensures { λ r. ⌜ now (out .exit) ≡ putPart (now (out .entry)) j (partOf (describedComponent (now (buffer .entry)) (askedComponent (now (row .entry))))) ⌝ }
 {
-    let role = types::role_code(part(buffer, row[0], row[1]));
-    let u = unit(buffer, row[3], row[4], row[2]);
-    let blob = part(buffer, row[5], row[6]);
+    let role = types::role_code(part(buffer, row[NAME], row[NAME_LENGTH]));
+    let u = unit(buffer, row[TYPE], row[TYPE_LENGTH], row[DTYPE]);
+    let blob = part(buffer, row[OFFSET], row[LENGTH]);
     put_row(
         out,
         j,
         role,
         u,
-        plain(row[3], row[4], row[2]),
+        plain(row[TYPE], row[TYPE_LENGTH], row[DTYPE]),
         blob.len() as u64,
     );
 }
 
 // The same for each of n components.
 fn put_parts(rows: &[u64], n: usize, buffer: &[u8], out: &mut [u64])
-    requires { ⌜ (10 * n ≤ length (now rows)) × (n ≤ 16) × (length (now out) ≡ 64) ⌝ }
-    ensures { λ r. ⌜ (length (now (out .exit)) ≡ 64) × (take (4 * n) (now (out .exit)) ≡ partRows (map partOf (map (describedComponent (now (buffer .entry))) (eachRow askedComponent 10 n (now (rows .entry)))))) ⌝ }
+    requires { ⌜ (componentWidth * n ≤ length (now rows)) × (n ≤ 16) × (length (now out) ≡ 64) ⌝ }
+    ensures { λ r. ⌜ (length (now (out .exit)) ≡ 64) × (take (4 * n) (now (out .exit)) ≡ partRows (map partOf (map (describedComponent (now (buffer .entry))) (eachRow askedComponent componentWidth n (now (rows .entry)))))) ⌝ }
 {
     let mut at = 0;
     let mut j = 0;
     while j < n {
         put_part(&rows[at..], buffer, j, out);
-        at += 10;
+        at += columns::COMPONENT;
         j += 1;
     }
 }
 
 // The rules of the format of the object whose row these numbers begin with, over its n components.
 fn ruled(row: &[u64], format: &[u8], rows: &[u64], n: usize, buffer: &[u8]) -> Ruled
-    requires { ⌜ (16 ≤ length (now row)) × (getD (now row) 2 0 ≤ 8) × (10 * n ≤ length (now rows)) × (n ≤ 16) ⌝ }
-    ensures { λ r. ⌜ formatRules (now (format .entry)) (askedObject (now (row .entry)) .shape) (map partOf (map (describedComponent (now (buffer .entry))) (eachRow askedComponent 10 n (now (rows .entry))))) ≡ rules.told r ⌝ }
+    requires { ⌜ (objectWidth ≤ length (now row)) × (getD (now row) rankColumn 0 ≤ 8) × (componentWidth * n ≤ length (now rows)) × (n ≤ 16) ⌝ }
+    ensures { λ r. ⌜ formatRules (now (format .entry)) (askedObject (now (row .entry)) .shape) (map partOf (map (describedComponent (now (buffer .entry))) (eachRow askedComponent componentWidth n (now (rows .entry))))) ≡ rules.told r ⌝ }
 {
     let mut parts = [0u64; 64];
     put_parts(rows, n, buffer, &mut parts);
     let code = types::format_code(format);
-    let end = 3 + row[2] as usize;
+    let end = SHAPE + row[RANK] as usize;
     let used = 4 * n;
-    formats::judge(code, &row[3..end], &parts[..used])
+    formats::judge(code, &row[SHAPE..end], &parts[..used])
 }
 
 // An object whose row these numbers begin with, and whose components' rows begin `rows`.
 pub fn object(row: &[u64], rows: &[u64], buffer: &[u8]) -> Ruled
-    requires { ⌜ (16 ≤ length (now row)) × (getD (now row) 2 0 ≤ 8) × (10 * getD (now row) 15 0 ≤ length (now rows)) ⌝ }
-    ensures { λ r. ⌜ judgedObject (describedObject (now (buffer .entry)) (askedObject (now (row .entry))) (eachRow askedComponent 10 (getD (now (row .entry)) 15 0) (now (rows .entry)))) ≡ rules.told r ⌝ }
+    requires { ⌜ (objectWidth ≤ length (now row)) × (getD (now row) rankColumn 0 ≤ 8) × (componentWidth * getD (now row) countColumn 0 ≤ length (now rows)) ⌝ }
+    ensures { λ r. ⌜ judgedObject (describedObject (now (buffer .entry)) (askedObject (now (row .entry))) (eachRow askedComponent componentWidth (getD (now (row .entry)) countColumn 0) (now (rows .entry)))) ≡ rules.told r ⌝ }
 {
-    let format = part(buffer, row[11], row[12]);
+    let format = part(buffer, row[FORMAT], row[FORMAT_LENGTH]);
     if !text::utf8(format) {
         return Ruled::Wrong(10, 0);
     }
-    let n = row[15] as usize;
+    let n = row[COUNT] as usize;
     let mut left = [0usize; 16];
     let mut size = [0usize; 16];
     let mut ix = [0u16; 16];
-    match names(rows, 10, n, buffer, &mut left, &mut size, &mut ix) {
+    match names(
+        rows,
+        columns::COMPONENT,
+        n,
+        buffer,
+        &mut left,
+        &mut size,
+        &mut ix,
+    ) {
         Held::Wrong(c) => Ruled::Wrong(c, 0),
         Held::Right => match components(rows, n, buffer) {
             Ruled::Wrong(c, j) => Ruled::Wrong(c, j),

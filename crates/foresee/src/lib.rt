@@ -35,10 +35,10 @@ fn each(rows: &[u64], n: usize, rest: &[u64], components: usize, buffer: &[u8]) 
                 return Foreseen::Fault(c, i, j);
             }
             Ruled::Right => {
-                let count = rows[at + 15] as usize;
-                from += 10 * count;
+                let count = rows[at + columns::COUNT] as usize;
+                from += columns::COMPONENT * count;
                 due -= count;
-                at += 16;
+                at += columns::OBJECT;
                 i += 1;
             }
         }
@@ -54,7 +54,15 @@ fn judge(rows: &[u64], n: usize, rest: &[u64], components: usize, buffer: &[u8])
     let mut left = [0usize; 1024];
     let mut size = [0usize; 1024];
     let mut ix = [0u16; 1024];
-    match named::names(rows, 16, n, buffer, &mut left, &mut size, &mut ix) {
+    match named::names(
+        rows,
+        columns::OBJECT,
+        n,
+        buffer,
+        &mut left,
+        &mut size,
+        &mut ix,
+    ) {
         Held::Wrong(c) => Foreseen::Fault(c, 0, 0),
         Held::Right => each(rows, n, rest, components, buffer),
     }
@@ -79,6 +87,6 @@ pub fn verdict(
     if depth::any_deep(rows, n, buffer) {
         return Foreseen::Fault(7, 0, 0);
     }
-    let from = 16 * n;
+    let from = columns::OBJECT * n;
     judge(rows, n, &rows[from..], components as usize, buffer)
 }

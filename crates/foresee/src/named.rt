@@ -35,7 +35,7 @@ fn note(
     let mut i = 0;
     while i < n {
         let place = rows[at];
-        let k = rows[at + 1];
+        let k = rows[at + columns::NAME_LENGTH];
         if !text::utf8(part(buffer, place, k)) {
             return false;
         }

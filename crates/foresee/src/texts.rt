@@ -1,9 +1,15 @@
 // What the reader asks of one component's texts.
+use columns::DIGEST;
+use columns::DIGEST_LENGTH;
+use columns::DTYPE;
+use columns::TYPE;
+use columns::TYPE_LENGTH;
 use rows::absent;
 use view::part;
 ghost use mathlib.Core.Path.{_≡_};
 ghost use Prim.Native.Nat.{_≤_};
 ghost use lib.ListN.{length};
+ghost use Rattle.meaning.specs.Columns.{componentWidth};
 ghost use Rattle.meaning.specs.Asked.{askedComponent, presentAt};
 ghost use Rattle.meaning.specs.Described.{describedComponent};
 ghost use Rattle.readback.specs.Judged.{judgedType, judgedText, judgedComponent};
@@ -47,11 +53,11 @@ fn digest(buffer: &[u8], place: u64, size: u64) -> Held
 
 // The component whose row these numbers begin with.
 pub fn component(row: &[u64], buffer: &[u8]) -> Held
-    requires { ⌜ 10 ≤ length (now row) ⌝ }
+    requires { ⌜ componentWidth ≤ length (now row) ⌝ }
     ensures { λ r. ⌜ judgedComponent (describedComponent (now (buffer .entry)) (askedComponent (now (row .entry)))) ≡ told r ⌝ }
 {
-    match logical(buffer, row[3], row[4], row[2]) {
+    match logical(buffer, row[TYPE], row[TYPE_LENGTH], row[DTYPE]) {
         Held::Wrong(n) => Held::Wrong(n),
-        Held::Right => digest(buffer, row[7], row[8]),
+        Held::Right => digest(buffer, row[DIGEST], row[DIGEST_LENGTH]),
     }
 }

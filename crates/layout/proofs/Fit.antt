@@ -6,6 +6,7 @@ use mathlib.Core.Bool.{Bool, true}
 use mathlib.Core.Path.{_≡_, sym, ap, _∙_, subst}
 use lib.ListN.{length, drop, length-drop}
 use borrow.Author.Tests.{leb-true}
+use Rattle.meaning.specs.Columns.{objectWidth, componentWidth}
 use Rattle.meaning.specs.Text.{all}
 use Rattle.meaning.specs.Limit.{endLimit}
 use Rattle.meaning.specs.Read.{Span}
@@ -37,7 +38,7 @@ module _ (buffer : List ℕ) where
   unfolding inside
   within s e = record { inside = leb-true (s .place + s .size) (length buffer) e }
 
-  component-fits : (row : List ℕ) → 10 ≤ length row → componentSound buffer (askedComponent row) ≡ true → ComponentRow buffer row
+  component-fits : (row : List ℕ) → componentWidth ≤ length row → componentSound buffer (askedComponent row) ≡ true → ComponentRow buffer row
   unfolding askedComponent
   component-fits row l e = record {
     long = l;
@@ -48,7 +49,7 @@ module _ (buffer : List ℕ) where
     digest = within (askedComponent row .digest) (row-of.component-digest-inside buffer (askedComponent row) e);
   }
 
-  object-fits : (row : List ℕ) → 16 ≤ length row → objectSound buffer (askedObject row) ≡ true → ObjectRow buffer row
+  object-fits : (row : List ℕ) → objectWidth ≤ length row → objectSound buffer (askedObject row) ≡ true → ObjectRow buffer row
   unfolding askedObject
   object-fits row l e = record {
     long = l;
@@ -62,14 +63,14 @@ module _ (buffer rows : List ℕ) (objects components : ℕ) (attributes : Span)
   abbrev lengths : List ℕ
   lengths = map length (blobs (described buffer (asked rows objects components attributes)))
 
-  lies : 16 * objects + 10 * components ≤ length rows
+  lies : objectWidth * objects + componentWidth * components ≤ length rows
   lies = sound-lies buffer rows objects components attributes sound
 
   module _ (low : lastEnd (placement lengths) lengths ≤ endLimit) where
-    blob-rows : ComponentRows buffer rows components (16 * objects) 8
+    blob-rows : ComponentRows buffer rows components (objectWidth * objects) 8
     blob-rows = record {
-      each = λ j h. component-fits buffer (drop (16 * objects + 10 * j) rows) (omega (arith, h, lies, length-drop (16 * objects + 10 * j) rows))
-          (each-so (componentSound buffer) askedComponent 10 components (16 * objects) rows (sound-components buffer rows objects components attributes sound) j h);
+      each = λ j h. component-fits buffer (drop (objectWidth * objects + componentWidth * j) rows) (omega (arith, h, lies, length-drop (objectWidth * objects + componentWidth * j) rows))
+          (each-so (componentSound buffer) askedComponent componentWidth components (objectWidth * objects) rows (sound-components buffer rows objects components attributes sound) j h);
       lie = lies;
       low = subst (λ (k : ℕ). k ≤ endLimit) (last-is-reached lengths ∙ ap (reached 8) (describes.blob-lengths buffer rows objects components attributes sound)) low;
     }
@@ -78,9 +79,9 @@ module _ (buffer rows : List ℕ) (objects components : ℕ) (attributes : Span)
     rows-fit = record {
       attributes = within buffer attributes (row-of.attributes-inside buffer 31 attributes (sound-attributes buffer rows objects components attributes sound));
       each = record {
-        each = λ i h. object-fits buffer (drop (0 + 16 * i) rows) (omega (arith, h, lies, length-drop (0 + 16 * i) rows))
-            (each-so (objectSound buffer) askedObject 16 objects 0 rows (sound-objects buffer rows objects components attributes sound) i h);
-        components = subst (λ (m : ℕ). ComponentRows buffer rows m (16 * objects) 8) (sym (describes.rows-counted buffer rows objects components attributes sound)) blob-rows;
+        each = λ i h. object-fits buffer (drop (0 + objectWidth * i) rows) (omega (arith, h, lies, length-drop (0 + objectWidth * i) rows))
+            (each-so (objectSound buffer) askedObject objectWidth objects 0 rows (sound-objects buffer rows objects components attributes sound) i h);
+        components = subst (λ (m : ℕ). ComponentRows buffer rows m (objectWidth * objects) 8) (sym (describes.rows-counted buffer rows objects components attributes sound)) blob-rows;
       };
       blobs = blob-rows;
     }

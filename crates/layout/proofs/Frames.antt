@@ -4,6 +4,7 @@ use native.Mathlib.Nat.{zero-add}
 use mathlib.Core.List.{List, _++_}
 use mathlib.Core.Path.{_≡_, sym, ap, _∙_, subst}
 use lib.ListN.{length, drop}
+use Rattle.meaning.specs.Columns.{objectWidth}
 use Rattle.meaning.specs.Frame.{magic}
 use Rattle.meaning.specs.Layout.{littleBytes}
 use Rattle.emit.specs.Laid.{Room, Laid}
@@ -14,10 +15,10 @@ use Rattle.layout.specs.Rows.{ComponentRows, WholeRows}
 module _ {buffer rows xs : List ℕ} {objects components place size : ℕ} (rs : WholeRows buffer rows objects components place size)
     (room : Room (wholeOf buffer rows objects components place size) 0 xs) where
   abbrev blobs : ℕ → List ℕ
-  blobs at = blobsOf buffer rows components (16 * objects) at
+  blobs at = blobsOf buffer rows components (objectWidth * objects) at
 
   abbrev manifest : List ℕ
-  manifest = manifestFrom buffer rows objects (16 * objects) place size
+  manifest = manifestFrom buffer rows objects (objectWidth * objects) place size
 
   in-order : Room (magic ++ (blobs 8 ++ (manifest ++ (littleBytes 8 (length manifest) ++ magic)))) 0 xs
   unfolding wholeOf
@@ -31,8 +32,8 @@ module _ {buffer rows xs : List ℕ} {objects components place size : ℕ} (rs :
     unfolding magic
     starts = m .past
 
-    pub blobs-from : ComponentRows buffer rows components (16 * objects) start
-    blobs-from = subst (λ (k : ℕ). ComponentRows buffer rows components (16 * objects) k) (sym starts) (rs .blobs)
+    pub blobs-from : ComponentRows buffer rows components (objectWidth * objects) start
+    blobs-from = subst (λ (k : ℕ). ComponentRows buffer rows components (objectWidth * objects) k) (sym starts) (rs .blobs)
 
     after-magic : Room (blobs start ++ (manifest ++ (littleBytes 8 (length manifest) ++ magic))) start ys
     after-magic = room-as (ap (λ (k : ℕ). blobs k ++ (manifest ++ (littleBytes 8 (length manifest) ++ magic))) (sym starts)) (room-next m in-order)

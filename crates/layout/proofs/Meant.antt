@@ -9,6 +9,7 @@ use mathlib.Core.Path.{_≡_, refl, sym, ap, _∙_, subst}
 use lib.ListN.{length, take, drop, getD, replicate, length-drop, length-map}
 use lib.Seq.{getD-drop, drop-drop, length-take-le}
 use lib.Dec.{eqb}
+use Rattle.meaning.specs.Columns.{objectWidth, componentWidth, rankColumn, shapeColumn, formatColumn, formatLengthColumn, attributesColumn, attributesLengthColumn, countColumn, dtypeColumn, typeColumn, typeLengthColumn, offsetColumn, lengthColumn, digestColumn, digestLengthColumn}
 use Rattle.meaning.specs.Text.{ascii, all}
 use Rattle.meaning.specs.Read.{joined}
 use Rattle.meaning.specs.Notes.{mapOption}
@@ -68,63 +69,63 @@ module _ (buffer : List ℕ) where
   -- ---- components
 
   -- as long as its row says
-  blob-long : (rows : List ℕ) (row : ℕ) → ComponentRow buffer (drop row rows) → getD rows (row + 6) 0 ≡ length (describedComponent buffer (askedComponent (drop row rows)) .blob)
+  blob-long : (rows : List ℕ) (row : ℕ) → ComponentRow buffer (drop row rows) → getD rows (row + lengthColumn) 0 ≡ length (describedComponent buffer (askedComponent (drop row rows)) .blob)
   unfolding describedComponent askedComponent
-  blob-long rows row c = sym (getD-drop row rows 6 0) ∙ sym (within-length (c .blob))
+  blob-long rows row c = sym (getD-drop row rows lengthColumn 0) ∙ sym (within-length (c .blob))
 
-  component-meant : (row : List ℕ) (offset : ℕ) → Within buffer (getD row 5 0) (getD row 6 0)
+  component-meant : (row : List ℕ) (offset : ℕ) → Within buffer (getD row offsetColumn 0) (getD row lengthColumn 0)
       → componentAt buffer row offset ≡ entryBytes (under (describedComponent buffer (askedComponent row) .name) (componentBytes offset (describedComponent buffer (askedComponent row))))
   unfolding componentAt optional presence entryBytes componentBytes describedComponent askedComponent presentAt
   component-meant row offset w =
       ap (λ (z : List ℕ). textBytes (range buffer (getD row 0 0) (getD row 1 0)) ++ z)
-      (sym (ap (λ (n : ℕ). mapBytes (given componentNames (some (textBytes (storageOf (getD row 2 0) .called))
-      ∷ mapOption textBytes (cond (eqb (getD row 3 0) 0 && eqb (getD row 4 0) 0) none (some (range buffer (getD row 3 0) (getD row 4 0))))
+      (sym (ap (λ (n : ℕ). mapBytes (given componentNames (some (textBytes (storageOf (getD row dtypeColumn 0) .called))
+      ∷ mapOption textBytes (cond (eqb (getD row typeColumn 0) 0 && eqb (getD row typeLengthColumn 0) 0) none (some (range buffer (getD row typeColumn 0) (getD row typeLengthColumn 0))))
       ∷ some (numberBytes offset) ∷ some (numberBytes n) ∷ none ∷ none
-      ∷ mapOption textBytes (cond (eqb (getD row 7 0) 0 && eqb (getD row 8 0) 0) none (some (range buffer (getD row 7 0) (getD row 8 0)))) ∷ []))) (within-length w)
-      ∙ component-fields (eqb (getD row 3 0) 0 && eqb (getD row 4 0) 0) (eqb (getD row 7 0) 0 && eqb (getD row 8 0) 0) (textBytes (storageOf (getD row 2 0) .called))
-      (range buffer (getD row 3 0) (getD row 4 0)) (numberBytes offset) (numberBytes (getD row 6 0)) (range buffer (getD row 7 0) (getD row 8 0))))
+      ∷ mapOption textBytes (cond (eqb (getD row digestColumn 0) 0 && eqb (getD row digestLengthColumn 0) 0) none (some (range buffer (getD row digestColumn 0) (getD row digestLengthColumn 0)))) ∷ []))) (within-length w)
+      ∙ component-fields (eqb (getD row typeColumn 0) 0 && eqb (getD row typeLengthColumn 0) 0) (eqb (getD row digestColumn 0) 0 && eqb (getD row digestLengthColumn 0) 0) (textBytes (storageOf (getD row dtypeColumn 0) .called))
+      (range buffer (getD row typeColumn 0) (getD row typeLengthColumn 0)) (numberBytes offset) (numberBytes (getD row lengthColumn 0)) (range buffer (getD row digestColumn 0) (getD row digestLengthColumn 0))))
 
   components-meant : (rows : List ℕ) (n row place : ℕ) → ComponentRows buffer rows n row place
-      → componentsOf buffer rows n row place ≡ joined (map entryBytes (entriesFrom place (map (describedComponent buffer) (eachRow askedComponent 10 n (drop row rows)))))
+      → componentsOf buffer rows n row place ≡ joined (map entryBytes (entriesFrom place (map (describedComponent buffer) (eachRow askedComponent componentWidth n (drop row rows)))))
   unfolding componentsOf entriesFrom eachRow
   components-meant rows zero row place rs = refl
   components-meant rows (suc n) row place rs =
       let some-left : 0 < suc n = omega arith in
       let e : suc n - 1 ≡ n = omega arith in
       let c : DescribedComponent = describedComponent buffer (askedComponent (drop row rows)) in
-      let l : aligned place + getD rows (row + 6) 0 ≡ aligned place + length (c .blob) = ap (λ (k : ℕ). aligned place + k) (blob-long rows row (first-component rs some-left)) in
-      ap (λ (z : List ℕ). z ++ componentsOf buffer rows n (row + 10) (aligned place + getD rows (row + 6) 0)) (component-meant (drop row rows) (aligned place) (first-component rs some-left .blob))
+      let l : aligned place + getD rows (row + lengthColumn) 0 ≡ aligned place + length (c .blob) = ap (λ (k : ℕ). aligned place + k) (blob-long rows row (first-component rs some-left)) in
+      ap (λ (z : List ℕ). z ++ componentsOf buffer rows n (row + componentWidth) (aligned place + getD rows (row + lengthColumn) 0)) (component-meant (drop row rows) (aligned place) (first-component rs some-left .blob))
       ∙ ap (λ (z : List ℕ). entryBytes (under (c .name) (componentBytes (aligned place) c)) ++ z)
-      (components-meant rows n (row + 10) (aligned place + getD rows (row + 6) 0)
-      (subst (λ (k : ℕ). ComponentRows buffer rows k (row + 10) (aligned place + getD rows (row + 6) 0)) e (next-components rs some-left))
-      ∙ ap (λ (s : List ℕ). joined (map entryBytes (entriesFrom (aligned place + getD rows (row + 6) 0) (map (describedComponent buffer) (eachRow askedComponent 10 n s))))) (sym (drop-drop 10 row rows))
-      ∙ ap (λ (k : ℕ). joined (map entryBytes (entriesFrom k (map (describedComponent buffer) (eachRow askedComponent 10 n (drop 10 (drop row rows))))))) l)
+      (components-meant rows n (row + componentWidth) (aligned place + getD rows (row + lengthColumn) 0)
+      (subst (λ (k : ℕ). ComponentRows buffer rows k (row + componentWidth) (aligned place + getD rows (row + lengthColumn) 0)) e (next-components rs some-left))
+      ∙ ap (λ (s : List ℕ). joined (map entryBytes (entriesFrom (aligned place + getD rows (row + lengthColumn) 0) (map (describedComponent buffer) (eachRow askedComponent componentWidth n s))))) (sym (drop-drop componentWidth row rows))
+      ∙ ap (λ (k : ℕ). joined (map entryBytes (entriesFrom k (map (describedComponent buffer) (eachRow askedComponent componentWidth n (drop componentWidth (drop row rows))))))) l)
 
   -- ---- blobs
 
-  blob-same : (rows : List ℕ) (row : ℕ) → range buffer (getD rows (row + 5) 0) (getD rows (row + 6) 0) ≡ describedComponent buffer (askedComponent (drop row rows)) .blob
+  blob-same : (rows : List ℕ) (row : ℕ) → range buffer (getD rows (row + offsetColumn) 0) (getD rows (row + lengthColumn) 0) ≡ describedComponent buffer (askedComponent (drop row rows)) .blob
   unfolding describedComponent askedComponent
-  blob-same rows row = ap (λ (k : ℕ). range buffer k (getD rows (row + 6) 0)) (sym (getD-drop row rows 5 0)) ∙ ap (λ (k : ℕ). range buffer (getD (drop row rows) 5 0) k) (sym (getD-drop row rows 6 0))
+  blob-same rows row = ap (λ (k : ℕ). range buffer k (getD rows (row + lengthColumn) 0)) (sym (getD-drop row rows offsetColumn 0)) ∙ ap (λ (k : ℕ). range buffer (getD (drop row rows) offsetColumn 0) k) (sym (getD-drop row rows lengthColumn 0))
 
   abbrev blobs-in : List AskedComponent → List (List ℕ)
   blobs-in cs = describes.blobsOf buffer cs
 
   blobs-meant : (rows : List ℕ) (n row place : ℕ) → ComponentRows buffer rows n row place
       → blobsOf buffer rows n row place
-      ≡ blobsFrom place (placedFrom place (map length (blobs-in (eachRow askedComponent 10 n (drop row rows))))) (blobs-in (eachRow askedComponent 10 n (drop row rows)))
+      ≡ blobsFrom place (placedFrom place (map length (blobs-in (eachRow askedComponent componentWidth n (drop row rows))))) (blobs-in (eachRow askedComponent componentWidth n (drop row rows)))
   unfolding blobsOf blobsFrom placedFrom eachRow describedComponent
   blobs-meant rows zero row place rs = refl
   blobs-meant rows (suc n) row place rs =
       let some-left : 0 < suc n = omega arith in
       let e : suc n - 1 ≡ n = omega arith in
       let b : List ℕ = describedComponent buffer (askedComponent (drop row rows)) .blob in
-      let k : ℕ = aligned place + getD rows (row + 6) 0 in
+      let k : ℕ = aligned place + getD rows (row + lengthColumn) 0 in
       let l : k ≡ aligned place + length b = ap (λ (z : ℕ). aligned place + z) (blob-long rows row (first-component rs some-left)) in
-      ap (λ (z : List ℕ). replicate (aligned place - place) 0 ++ (z ++ blobsOf buffer rows n (row + 10) k)) (blob-same rows row)
+      ap (λ (z : List ℕ). replicate (aligned place - place) 0 ++ (z ++ blobsOf buffer rows n (row + componentWidth) k)) (blob-same rows row)
       ∙ ap (λ (z : List ℕ). replicate (aligned place - place) 0 ++ (b ++ z))
-      (blobs-meant rows n (row + 10) k (subst (λ (j : ℕ). ComponentRows buffer rows j (row + 10) k) e (next-components rs some-left))
-      ∙ ap (λ (s : List ℕ). blobsFrom k (placedFrom k (map length (blobs-in (eachRow askedComponent 10 n s)))) (blobs-in (eachRow askedComponent 10 n s))) (sym (drop-drop 10 row rows))
-      ∙ ap (λ (j : ℕ). blobsFrom j (placedFrom j (map length (blobs-in (eachRow askedComponent 10 n (drop 10 (drop row rows)))))) (blobs-in (eachRow askedComponent 10 n (drop 10 (drop row rows))))) l)
+      (blobs-meant rows n (row + componentWidth) k (subst (λ (j : ℕ). ComponentRows buffer rows j (row + componentWidth) k) e (next-components rs some-left))
+      ∙ ap (λ (s : List ℕ). blobsFrom k (placedFrom k (map length (blobs-in (eachRow askedComponent componentWidth n s)))) (blobs-in (eachRow askedComponent componentWidth n s))) (sym (drop-drop componentWidth row rows))
+      ∙ ap (λ (j : ℕ). blobsFrom j (placedFrom j (map length (blobs-in (eachRow askedComponent componentWidth n (drop componentWidth (drop row rows)))))) (blobs-in (eachRow askedComponent componentWidth n (drop componentWidth (drop row rows))))) l)
       ∙ sym (append-assoc (replicate (aligned place - place) 0) b _)
 
   -- ---- objects
@@ -150,55 +151,55 @@ module _ (buffer : List ℕ) where
   module _ (rows : List ℕ) where
     module _ (row from place : ℕ) where
       abbrev count : ℕ
-      count = getD rows (row + 15) 0
+      count = getD rows (row + countColumn) 0
 
       abbrev its : List AskedComponent
-      its = eachRow askedComponent 10 count (drop from rows)
+      its = eachRow askedComponent componentWidth count (drop from rows)
 
       abbrev object : DescribedObject
       object = describedObject buffer (askedObject (drop row rows)) its
 
       components-map : ComponentRows buffer rows count from place
-          → mapBytes (entriesFrom place (map (describedComponent buffer) its)) ≡ shortestHead 5 (getD (drop row rows) 15 0) ++ componentsOf buffer rows count from place
+          → mapBytes (entriesFrom place (map (describedComponent buffer) its)) ≡ shortestHead 5 (getD (drop row rows) countColumn 0) ++ componentsOf buffer rows count from place
       unfolding mapBytes
       components-map rs =
           ap (λ (k : ℕ). shortestHead 5 k ++ joined (map entryBytes (entriesFrom place (map (describedComponent buffer) its))))
-          (entries-counted place (map (describedComponent buffer) its) ∙ length-map its (describedComponent buffer) ∙ how-many askedComponent 10 count (drop from rows) ∙ sym (getD-drop row rows 15 0))
-          ∙ ap (λ (z : List ℕ). shortestHead 5 (getD (drop row rows) 15 0) ++ z) (sym (components-meant rows count from place rs))
+          (entries-counted place (map (describedComponent buffer) its) ∙ length-map its (describedComponent buffer) ∙ how-many askedComponent componentWidth count (drop from rows) ∙ sym (getD-drop row rows countColumn 0))
+          ∙ ap (λ (z : List ℕ). shortestHead 5 (getD (drop row rows) countColumn 0) ++ z) (sym (components-meant rows count from place rs))
 
       object-meant : ComponentRows buffer rows count from place
           → objectFront buffer (drop row rows) ++ (objectRest buffer (drop row rows) ++ componentsOf buffer rows count from place) ≡ entryBytes (under (object .name) (objectFrom place object))
       unfolding objectFront objectRest optional presence entryBytes objectFrom describedObject askedObject presentAt
       object-meant rs =
           let r : List ℕ = drop row rows in
-          let t : Bool = eqb (getD r 13 0) 0 && eqb (getD r 14 0) 0 in
-          regrouped (textBytes (range buffer (getD r 0 0) (getD r 1 0))) (shortestHead 5 (3 + cond t 0 1)) (textBytes (ascii "shape")) (listBytes (take (getD r 2 0) (drop 3 r)))
-          (textBytes (ascii "format")) (textBytes (range buffer (getD r 11 0) (getD r 12 0)))
-          (cond t [] (textBytes (ascii "attributes") ++ range buffer (getD r 13 0) (getD r 14 0))) (textBytes (ascii "components")) (shortestHead 5 (getD r 15 0))
+          let t : Bool = eqb (getD r attributesColumn 0) 0 && eqb (getD r attributesLengthColumn 0) 0 in
+          regrouped (textBytes (range buffer (getD r 0 0) (getD r 1 0))) (shortestHead 5 (3 + cond t 0 1)) (textBytes (ascii "shape")) (listBytes (take (getD r rankColumn 0) (drop shapeColumn r)))
+          (textBytes (ascii "format")) (textBytes (range buffer (getD r formatColumn 0) (getD r formatLengthColumn 0)))
+          (cond t [] (textBytes (ascii "attributes") ++ range buffer (getD r attributesColumn 0) (getD r attributesLengthColumn 0))) (textBytes (ascii "components")) (shortestHead 5 (getD r countColumn 0))
           (componentsOf buffer rows count from place)
           ∙ ap (λ (z : List ℕ). textBytes (range buffer (getD r 0 0) (getD r 1 0)) ++ z)
-          (sym (object-fields t (listBytes (take (getD r 2 0) (drop 3 r))) (textBytes (range buffer (getD r 11 0) (getD r 12 0))) (range buffer (getD r 13 0) (getD r 14 0))
-          (shortestHead 5 (getD r 15 0) ++ componentsOf buffer rows count from place))
-          ∙ ap (λ (z : List ℕ). mapBytes (given objectNames (some (listBytes (take (getD r 2 0) (drop 3 r))) ∷ some (textBytes (range buffer (getD r 11 0) (getD r 12 0)))
-          ∷ cond t none (some (range buffer (getD r 13 0) (getD r 14 0))) ∷ some z ∷ []))) (sym (components-map rs)))
+          (sym (object-fields t (listBytes (take (getD r rankColumn 0) (drop shapeColumn r))) (textBytes (range buffer (getD r formatColumn 0) (getD r formatLengthColumn 0))) (range buffer (getD r attributesColumn 0) (getD r attributesLengthColumn 0))
+          (shortestHead 5 (getD r countColumn 0) ++ componentsOf buffer rows count from place))
+          ∙ ap (λ (z : List ℕ). mapBytes (given objectNames (some (listBytes (take (getD r rankColumn 0) (drop shapeColumn r))) ∷ some (textBytes (range buffer (getD r formatColumn 0) (getD r formatLengthColumn 0)))
+          ∷ cond t none (some (range buffer (getD r attributesColumn 0) (getD r attributesLengthColumn 0))) ∷ some z ∷ []))) (sym (components-map rs)))
 
     -- n objects from the place `row` on, with the components that they count from the place `from` on
     abbrev all-counted : ℕ → ℕ → ℕ
-    all-counted n row = counted (eachRow askedObject 16 n (drop row rows))
+    all-counted n row = counted (eachRow askedObject objectWidth n (drop row rows))
 
     abbrev asked-from : ℕ → ℕ → List AskedComponent
-    asked-from m from = eachRow askedComponent 10 m (drop from rows)
+    asked-from m from = eachRow askedComponent componentWidth m (drop from rows)
 
     abbrev described-from : ℕ → ℕ → ℕ → ℕ → List DescribedObject
-    described-from n m row from = describedObjects buffer (eachRow askedObject 16 n (drop row rows)) (asked-from m from)
+    described-from n m row from = describedObjects buffer (eachRow askedObject objectWidth n (drop row rows)) (asked-from m from)
 
     module _ (n row from place : ℕ) (rs : ObjectRows buffer rows (suc n) row from place)
         (sound : all (componentSound buffer) (asked-from (all-counted (suc n) row) from) ≡ true) where
       abbrev k : ℕ
-      k = getD rows (row + 15) 0
+      k = getD rows (row + countColumn) 0
 
       abbrev q : ℕ
-      q = from + 10 * k
+      q = from + componentWidth * k
 
       one-less : suc n - 1 ≡ n
       one-less = omega arith
@@ -206,42 +207,42 @@ module _ (buffer : List ℕ) where
       some-left : 0 < suc n
       some-left = omega arith
 
-      counts : all-counted (suc n) row ≡ k + all-counted n (row + 16)
-      counts = counted-next rows (suc n) row some-left ∙ ap (λ (j : ℕ). k + all-counted j (row + 16)) one-less
+      counts : all-counted (suc n) row ≡ k + all-counted n (row + objectWidth)
+      counts = counted-next rows (suc n) row some-left ∙ ap (λ (j : ℕ). k + all-counted j (row + objectWidth)) one-less
 
       few : k ≤ all-counted (suc n) row
       few = omega (arith, counts)
 
-      left-over : all-counted (suc n) row - k ≡ all-counted n (row + 16)
+      left-over : all-counted (suc n) row - k ≡ all-counted n (row + objectWidth)
       left-over = omega (arith, counts)
 
-      others-sound : all (componentSound buffer) (asked-from (all-counted n (row + 16)) q) ≡ true
+      others-sound : all (componentSound buffer) (asked-from (all-counted n (row + objectWidth)) q) ≡ true
       others-sound =
-          sym (ap (all (componentSound buffer)) (later-rows askedComponent 10 (all-counted (suc n) row) k from rows few ∙ ap (λ (j : ℕ). asked-from j q) left-over))
+          sym (ap (all (componentSound buffer)) (later-rows askedComponent componentWidth (all-counted (suc n) row) k from rows few ∙ ap (λ (j : ℕ). asked-from j q) left-over))
           ∙ all-dropped (componentSound buffer) k (asked-from (all-counted (suc n) row) from) sound
 
       first-entry : objectsFrom place (described-from (suc n) (all-counted (suc n) row) row from)
           ≡ under (object row from place .name) (objectFrom place (object row from place))
-          ∷ objectsFrom (reachedPast rows k from place) (described-from n (all-counted n (row + 16)) (row + 16) q)
+          ∷ objectsFrom (reachedPast rows k from place) (described-from n (all-counted n (row + objectWidth)) (row + objectWidth) q)
       unfolding describedObject
       first-entry =
           next-object buffer rows rows (suc n) (all-counted (suc n) row) row from place some-left few
           (own-sound buffer rows rows (suc n) (all-counted (suc n) row) row from place few sound)
           ∙ ap (λ (j : ℕ). under (object row from place .name) (objectFrom place (object row from place))
-          ∷ objectsFrom (reachedPast rows k from place) (described-from j (all-counted (suc n) row - k) (row + 16) q)) one-less
+          ∷ objectsFrom (reachedPast rows k from place) (described-from j (all-counted (suc n) row - k) (row + objectWidth) q)) one-less
           ∙ ap (λ (j : ℕ). under (object row from place .name) (objectFrom place (object row from place))
-          ∷ objectsFrom (reachedPast rows k from place) (described-from n j (row + 16) q)) left-over
+          ∷ objectsFrom (reachedPast rows k from place) (described-from n j (row + objectWidth) q)) left-over
 
-      others : ObjectRows buffer rows n (row + 16) q (reachedPast rows k from place)
-      others = subst (λ (j : ℕ). ObjectRows buffer rows j (row + 16) q (reachedPast rows k from place)) one-less (next-objects rs some-left)
+      others : ObjectRows buffer rows n (row + objectWidth) q (reachedPast rows k from place)
+      others = subst (λ (j : ℕ). ObjectRows buffer rows j (row + objectWidth) q (reachedPast rows k from place)) one-less (next-objects rs some-left)
 
       first-meant : objectsOf buffer rows (suc n) row from place
-          ≡ entryBytes (under (object row from place .name) (objectFrom place (object row from place))) ++ objectsOf buffer rows n (row + 16) q (reachedPast rows k from place)
+          ≡ entryBytes (under (object row from place .name) (objectFrom place (object row from place))) ++ objectsOf buffer rows n (row + objectWidth) q (reachedPast rows k from place)
       unfolding objectsOf
       first-meant =
           together (objectFront buffer (drop row rows)) (objectRest buffer (drop row rows)) (componentsOf buffer rows k from place)
-          (objectsOf buffer rows n (row + 16) q (reachedPast rows k from place))
-          ∙ ap (λ (z : List ℕ). z ++ objectsOf buffer rows n (row + 16) q (reachedPast rows k from place)) (object-meant row from place (its-components rs some-left))
+          (objectsOf buffer rows n (row + objectWidth) q (reachedPast rows k from place))
+          ∙ ap (λ (z : List ℕ). z ++ objectsOf buffer rows n (row + objectWidth) q (reachedPast rows k from place)) (object-meant row from place (its-components rs some-left))
         where
           together : (A B C D : List ℕ) → A ++ (B ++ (C ++ D)) ≡ (A ++ (B ++ C)) ++ D
           together A B C D = simp append-assoc
@@ -253,7 +254,7 @@ module _ (buffer : List ℕ) where
     objects-meant (suc n) row from place rs e =
         first-meant n row from place rs e
         ∙ ap (λ (z : List ℕ). entryBytes (under (object row from place .name) (objectFrom place (object row from place))) ++ z)
-        (objects-meant n (row + 16) (from + 10 * getD rows (row + 15) 0) (reachedPast rows (getD rows (row + 15) 0) from place) (others n row from place rs e)
+        (objects-meant n (row + objectWidth) (from + componentWidth * getD rows (row + countColumn) 0) (reachedPast rows (getD rows (row + countColumn) 0) from place) (others n row from place rs e)
         (others-sound n row from place rs e))
         ∙ ap (λ (es : List (Keyed (List ℕ))). joined (map entryBytes es)) (sym (first-entry n row from place rs e))
 
@@ -268,48 +269,48 @@ module _ (buffer rows : List ℕ) (objects components place size : ℕ) (sound :
   offsets = placement (map length (blobs d))
 
   abbrev cs : List AskedComponent
-  cs = eachRow askedComponent 10 components (drop (16 * objects) rows)
+  cs = eachRow askedComponent componentWidth components (drop (objectWidth * objects) rows)
 
   all-sound : all (componentSound buffer) cs ≡ true
   all-sound = sound-components buffer rows objects components (record { place = place; size = size }) sound
 
-  all-there : counted (eachRow askedObject 16 objects rows) ≡ components
+  all-there : counted (eachRow askedObject objectWidth objects rows) ≡ components
   all-there = rows-counted buffer rows objects components (record { place = place; size = size }) sound
 
-  objects-map : mapBytes (objectsFrom 8 (d .objects)) ≡ shortestHead 5 objects ++ objectsOf buffer rows objects 0 (16 * objects) 8
+  objects-map : mapBytes (objectsFrom 8 (d .objects)) ≡ shortestHead 5 objects ++ objectsOf buffer rows objects 0 (objectWidth * objects) 8
   unfolding mapBytes described asked
   objects-map =
       ap (λ (k : ℕ). shortestHead 5 k ++ joined (map entryBytes (objectsFrom 8 (d .objects))))
-      (objects-counted buffer 8 (d .objects) ∙ described-counted buffer (eachRow askedObject 16 objects rows) cs ∙ how-many askedObject 16 objects rows)
+      (objects-counted buffer 8 (d .objects) ∙ described-counted buffer (eachRow askedObject objectWidth objects rows) cs ∙ how-many askedObject objectWidth objects rows)
       ∙ ap (λ (z : List ℕ). shortestHead 5 objects ++ z)
-      (sym (objects-meant buffer rows objects 0 (16 * objects) 8 (whole .each)
-      (subst (λ (m : ℕ). all (componentSound buffer) (eachRow askedComponent 10 m (drop (16 * objects) rows)) ≡ true) (sym all-there) all-sound)
-      ∙ ap (λ (m : ℕ). joined (map entryBytes (objectsFrom 8 (describedObjects buffer (eachRow askedObject 16 objects rows) (eachRow askedComponent 10 m (drop (16 * objects) rows))))))
+      (sym (objects-meant buffer rows objects 0 (objectWidth * objects) 8 (whole .each)
+      (subst (λ (m : ℕ). all (componentSound buffer) (eachRow askedComponent componentWidth m (drop (objectWidth * objects) rows)) ≡ true) (sym all-there) all-sound)
+      ∙ ap (λ (m : ℕ). joined (map entryBytes (objectsFrom 8 (describedObjects buffer (eachRow askedObject objectWidth objects rows) (eachRow askedComponent componentWidth m (drop (objectWidth * objects) rows))))))
       all-there))
 
-  pub manifest-meant : manifestFrom buffer rows objects (16 * objects) place size ≡ manifestBytes d offsets
+  pub manifest-meant : manifestFrom buffer rows objects (objectWidth * objects) place size ≡ manifestBytes d offsets
   unfolding manifestFrom rootFront optional presence described asked presentAt
   manifest-meant =
       let t : Bool = eqb place 0 && eqb size 0 in
       joined-up (shortestHead 5 (2 + cond t 0 1)) (textBytes (ascii "version")) (textBytes (ascii "1.2.0")) (cond t [] (textBytes (ascii "attributes") ++ range buffer place size))
-      (textBytes (ascii "objects")) (shortestHead 5 objects) (objectsOf buffer rows objects 0 (16 * objects) 8)
-      ∙ sym (root-fields t (textBytes (ascii "1.2.0")) (range buffer place size) (shortestHead 5 objects ++ objectsOf buffer rows objects 0 (16 * objects) 8))
+      (textBytes (ascii "objects")) (shortestHead 5 objects) (objectsOf buffer rows objects 0 (objectWidth * objects) 8)
+      ∙ sym (root-fields t (textBytes (ascii "1.2.0")) (range buffer place size) (shortestHead 5 objects ++ objectsOf buffer rows objects 0 (objectWidth * objects) 8))
       ∙ ap (λ (z : List ℕ). mapBytes (given rootNames (some (textBytes (ascii "1.2.0")) ∷ cond t none (some (range buffer place size)) ∷ some z ∷ []))) (sym objects-map)
       ∙ sym (manifest-placed d)
     where
       joined-up : (H v w A o h E : List ℕ) → (H ++ (v ++ (w ++ (A ++ (o ++ h))))) ++ E ≡ H ++ ((v ++ w) ++ (A ++ (o ++ (h ++ E))))
       joined-up H v w A o h E = simp append-assoc
 
-  blobs-placed : blobsOf buffer rows components (16 * objects) 8 ≡ blobsFrom 8 offsets (blobs d)
+  blobs-placed : blobsOf buffer rows components (objectWidth * objects) 8 ≡ blobsFrom 8 offsets (blobs d)
   unfolding placement magic
   blobs-placed =
-      blobs-meant buffer rows components (16 * objects) 8 (whole .blobs)
+      blobs-meant buffer rows components (objectWidth * objects) 8 (whole .blobs)
       ∙ ap (λ (bs : List (List ℕ)). blobsFrom 8 (placedFrom 8 (map length bs)) bs) (sym (describes.blobs-are buffer rows objects components (record { place = place; size = size }) sound))
 
   pub whole-meant : wholeOf buffer rows objects components place size ≡ fileOf d offsets
   unfolding wholeOf fileOf closing magic
   whole-meant =
-      ap (λ (m : List ℕ). magic ++ (blobsOf buffer rows components (16 * objects) 8 ++ (m ++ (littleBytes 8 (length m) ++ magic)))) manifest-meant
+      ap (λ (m : List ℕ). magic ++ (blobsOf buffer rows components (objectWidth * objects) 8 ++ (m ++ (littleBytes 8 (length m) ++ magic)))) manifest-meant
       ∙ ap (λ (b : List ℕ). magic ++ (b ++ (manifestBytes d offsets ++ (littleBytes 8 (length (manifestBytes d offsets)) ++ magic)))) blobs-placed
       ∙ in-a-row magic (blobsFrom 8 offsets (blobs d)) (manifestBytes d offsets) (littleBytes 8 (length (manifestBytes d offsets))) magic
     where

@@ -4,6 +4,7 @@ use mathlib.Core.List.{List, _++_}
 use mathlib.Core.Path.{_≡_, refl, sym, ap, _∙_, subst}
 use lib.ListN.{length, take, drop, getD, replicate}
 use borrow.Rule.Slice.PartAt.{part-to-end}
+use Rattle.meaning.specs.Columns.{objectWidth, componentWidth, countColumn, offsetColumn, lengthColumn}
 use Rattle.meaning.specs.Placement.{aligned}
 use Rattle.emit.specs.Laid.{Room, Laid}
 use Rattle.emit.proofs.Laying.{Going, go-on, room-one}
@@ -34,18 +35,18 @@ module _ {buffer rows all xs ys : List ℕ} {at left row past : ℕ} (b : BlobsL
   room-for-gap = room-one _ (b .going) (blobs-next buffer rows left row past some)
 
   module _ {us : List ℕ} {start : ℕ} (z : Laid (replicate (aligned past - past) 0) past ys us start) where
-    after-gap : Going all at xs (range buffer (getD rows (row + 5) 0) (getD rows (row + 6) 0) ++ blobsOf buffer rows (left - 1) (row + 10) (aligned past + getD rows (row + 6) 0)) start us
+    after-gap : Going all at xs (range buffer (getD rows (row + offsetColumn) 0) (getD rows (row + lengthColumn) 0) ++ blobsOf buffer rows (left - 1) (row + componentWidth) (aligned past + getD rows (row + lengthColumn) 0)) start us
     after-gap = go-on (b .going) (blobs-next buffer rows left row past some) z
 
-    pub room-for-blob : Room (range buffer (getD rows (row + 5) 0) (getD rows (row + 6) 0)) start us
+    pub room-for-blob : Room (range buffer (getD rows (row + offsetColumn) 0) (getD rows (row + lengthColumn) 0)) start us
     room-for-blob = room-one _ after-gap refl
 
-    pub blob-turn : {zs : List ℕ} {end : ℕ} → Laid (range buffer (getD rows (row + 5) 0) (getD rows (row + 6) 0)) start us zs end → BlobsLeft buffer rows all at xs (left - 1) (row + 10) end zs
+    pub blob-turn : {zs : List ℕ} {end : ℕ} → Laid (range buffer (getD rows (row + offsetColumn) 0) (getD rows (row + lengthColumn) 0)) start us zs end → BlobsLeft buffer rows all at xs (left - 1) (row + componentWidth) end zs
     blob-turn {zs} {end} w =
-        let e : end ≡ aligned past + getD rows (row + 6) 0 = blob-end z w (first-blob (b .rest) some) in
+        let e : end ≡ aligned past + getD rows (row + lengthColumn) 0 = blob-end z w (first-blob (b .rest) some) in
         record {
-          rest = subst (λ (k : ℕ). ComponentRows buffer rows (left - 1) (row + 10) k) (sym e) (next-components (b .rest) some);
-          going = subst (λ (k : ℕ). Going all at xs (blobsOf buffer rows (left - 1) (row + 10) k) end zs) (sym e) (go-on after-gap refl w);
+          rest = subst (λ (k : ℕ). ComponentRows buffer rows (left - 1) (row + componentWidth) k) (sym e) (next-components (b .rest) some);
+          going = subst (λ (k : ℕ). Going all at xs (blobsOf buffer rows (left - 1) (row + componentWidth) k) end zs) (sym e) (go-on after-gap refl w);
         }
 
 -- ---- components: the same, and where all their blobs end
@@ -60,9 +61,9 @@ module _ {buffer rows all xs ys : List ℕ} {at final left row end past : ℕ} (
   room-for-component = room-one _ (b .going) (components-next buffer rows left row end some)
 
   pub component-turn : {zs : List ℕ} {next start : ℕ} → start ≡ aligned end → Laid (componentAt buffer (drop row rows) (aligned end)) past ys zs next
-      → ComponentsLeft buffer rows all at xs final (left - 1) (row + 10) (start + getD rows (row + 6) 0) next zs
+      → ComponentsLeft buffer rows all at xs final (left - 1) (row + componentWidth) (start + getD rows (row + lengthColumn) 0) next zs
   component-turn {zs} {next} {start} e w =
-      subst (λ (k : ℕ). ComponentsLeft buffer rows all at xs final (left - 1) (row + 10) (k + getD rows (row + 6) 0) next zs) (sym e)
+      subst (λ (k : ℕ). ComponentsLeft buffer rows all at xs final (left - 1) (row + componentWidth) (k + getD rows (row + lengthColumn) 0) next zs) (sym e)
       (record {
         rest = next-components (b .rest) some;
         going = go-on (b .going) (components-next buffer rows left row end some) w;
@@ -77,14 +78,14 @@ pub record ObjectsLeft (buffer rows all : List ℕ) (at : ℕ) (xs : List ℕ) (
 
 module _ {buffer rows all xs ys : List ℕ} {at left row from reached past : ℕ} (b : ObjectsLeft buffer rows all at xs left row from reached past ys) (some : 0 < left) where
   abbrev count : ℕ
-  count = getD rows (row + 15) 0
+  count = getD rows (row + countColumn) 0
 
   pub room-for-front : Room (objectFront buffer (drop row rows)) past ys
   room-for-front = room-one _ (b .going) (objects-next buffer rows left row from reached some)
 
   module _ {us : List ℕ} {p : ℕ} (v : Laid (objectFront buffer (drop row rows)) past ys us p) where
     after-front : Going all at xs (objectRest buffer (drop row rows) ++ (componentsOf buffer rows count from reached
-        ++ objectsOf buffer rows (left - 1) (row + 16) (from + 10 * count) (reachedPast rows count from reached))) p us
+        ++ objectsOf buffer rows (left - 1) (row + objectWidth) (from + componentWidth * count) (reachedPast rows count from reached))) p us
     after-front = go-on (b .going) (objects-next buffer rows left row from reached some) v
 
     pub room-for-rest : Room (objectRest buffer (drop row rows)) p us
@@ -95,7 +96,7 @@ module _ {buffer rows all xs ys : List ℕ} {at left row from reached past : ℕ
       room-for-components = room-one _ (go-on after-front refl w) refl
 
       pub object-turn : {zs : List ℕ} {next reached′ : ℕ} → Laid (componentsOf buffer rows count from reached) q vs zs next → reached′ ≡ reachedPast rows count from reached
-          → ObjectsLeft buffer rows all at xs (left - 1) (row + 16) (from + 10 * count) reached′ next zs
+          → ObjectsLeft buffer rows all at xs (left - 1) (row + objectWidth) (from + componentWidth * count) reached′ next zs
       object-turn {zs} {next} c e =
-          subst (λ (k : ℕ). ObjectsLeft buffer rows all at xs (left - 1) (row + 16) (from + 10 * count) k next zs) (sym e)
+          subst (λ (k : ℕ). ObjectsLeft buffer rows all at xs (left - 1) (row + objectWidth) (from + componentWidth * count) k next zs) (sym e)
           (record { rest = next-objects (b .rest) some; going = go-on (go-on after-front refl w) refl c })

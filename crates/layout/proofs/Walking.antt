@@ -5,6 +5,7 @@ use mathlib.Core.List.{List, [], _++_}
 use mathlib.Core.Path.{_≡_, refl, sym, ap, _∙_, subst}
 use lib.ListN.{length, take, drop, getD, replicate, length-drop, length-replicate}
 use lib.Seq.{getD-drop, length-take-le}
+use Rattle.meaning.specs.Columns.{objectWidth, componentWidth, countColumn, offsetColumn, lengthColumn}
 use Rattle.meaning.specs.Limit.{endLimit}
 use Rattle.meaning.specs.Placement.{aligned}
 use Rattle.meaning.specs.Asked.{eachRow, askedObject, askedComponent}
@@ -25,45 +26,45 @@ as-lent buffer rows k P h = subst (λ (T : Type 0). T) (sym (lent-both buffer ro
 
 module _ {buffer rows : List ℕ} {n row reached : ℕ} (rs : ComponentRows buffer rows n row reached) (some : 0 < n) where
   pub first-component : ComponentRow buffer (drop row rows)
-  first-component = let e : row + 10 * 0 ≡ row = omega arith in subst (λ (k : ℕ). ComponentRow buffer (drop k rows)) e (rs .each 0 some)
+  first-component = let e : row + componentWidth * 0 ≡ row = omega arith in subst (λ (k : ℕ). ComponentRow buffer (drop k rows)) e (rs .each 0 some)
 
-  pub first-long : row + 10 ≤ length rows
+  pub first-long : row + componentWidth ≤ length rows
   first-long = omega (arith, first-component .long, length-drop row rows)
 
-  pub first-blob : Within buffer (getD rows (row + 5) 0) (getD rows (row + 6) 0)
-  first-blob = record { inside = rw (← getD-drop row rows 5 0, ← getD-drop row rows 6 0) (first-component .blob .inside) }
+  pub first-blob : Within buffer (getD rows (row + offsetColumn) 0) (getD rows (row + lengthColumn) 0)
+  first-blob = record { inside = rw (← getD-drop row rows offsetColumn 0, ← getD-drop row rows lengthColumn 0) (first-component .blob .inside) }
 
-  pub next-low : aligned reached + getD rows (row + 6) 0 ≤ endLimit
-  next-low = omega (arith, rs .low, reached-next n row reached rows some, reached-above (aligned reached + getD rows (row + 6) 0) (blobSizes (eachRow askedComponent 10 (n - 1) (drop (row + 10) rows))))
+  pub next-low : aligned reached + getD rows (row + lengthColumn) 0 ≤ endLimit
+  next-low = omega (arith, rs .low, reached-next n row reached rows some, reached-above (aligned reached + getD rows (row + lengthColumn) 0) (blobSizes (eachRow askedComponent componentWidth (n - 1) (drop (row + componentWidth) rows))))
 
-  pub next-components : ComponentRows buffer rows (n - 1) (row + 10) (aligned reached + getD rows (row + 6) 0)
+  pub next-components : ComponentRows buffer rows (n - 1) (row + componentWidth) (aligned reached + getD rows (row + lengthColumn) 0)
   next-components = record {
-    each = λ j h. let e : row + 10 * suc j ≡ row + 10 + 10 * j = omega arith in
+    each = λ j h. let e : row + componentWidth * suc j ≡ row + componentWidth + componentWidth * j = omega arith in
         subst (λ (k : ℕ). ComponentRow buffer (drop k rows)) e (rs .each (suc j) (omega (arith, h)));
     lie = omega (arith, rs .lie);
     low = omega (arith, rs .low, reached-next n row reached rows some);
   }
 
 pub reached-low : {buffer rows : List ℕ} {n row reached : ℕ} → ComponentRows buffer rows n row reached → reached ≤ endLimit
-reached-low {rows = rows} {n} {row} {reached} rs = omega (arith, rs .low, reached-above reached (blobSizes (eachRow askedComponent 10 n (drop row rows))))
+reached-low {rows = rows} {n} {row} {reached} rs = omega (arith, rs .low, reached-above reached (blobSizes (eachRow askedComponent componentWidth n (drop row rows))))
 
 -- the first k of them, and the m others
 module _ {buffer rows : List ℕ} (k m : ℕ) {n row reached : ℕ} (e : n ≡ k + m) (rs : ComponentRows buffer rows n row reached) where
-  ends-together : reachedPast rows n row reached ≡ reachedPast rows m (row + 10 * k) (reachedPast rows k row reached)
+  ends-together : reachedPast rows n row reached ≡ reachedPast rows m (row + componentWidth * k) (reachedPast rows k row reached)
   ends-together =
       reached-split n row reached rows k (omega (arith, e))
-      ∙ (let f : n - k ≡ m = omega (arith, e) in ap (λ (j : ℕ). reachedPast rows j (row + 10 * k) (reachedPast rows k row reached)) f)
+      ∙ (let f : n - k ≡ m = omega (arith, e) in ap (λ (j : ℕ). reachedPast rows j (row + componentWidth * k) (reachedPast rows k row reached)) f)
 
   pub front-components : ComponentRows buffer rows k row reached
   front-components = record {
     each = λ j h. rs .each j (omega (arith, h, e));
     lie = omega (arith, rs .lie, e);
-    low = omega (arith, rs .low, ends-together, reached-above (reachedPast rows k row reached) (blobSizes (eachRow askedComponent 10 m (drop (row + 10 * k) rows))));
+    low = omega (arith, rs .low, ends-together, reached-above (reachedPast rows k row reached) (blobSizes (eachRow askedComponent componentWidth m (drop (row + componentWidth * k) rows))));
   }
 
-  pub later-components : ComponentRows buffer rows m (row + 10 * k) (reachedPast rows k row reached)
+  pub later-components : ComponentRows buffer rows m (row + componentWidth * k) (reachedPast rows k row reached)
   later-components = record {
-    each = λ j h. let f : row + 10 * (k + j) ≡ row + 10 * k + 10 * j = omega arith in
+    each = λ j h. let f : row + componentWidth * (k + j) ≡ row + componentWidth * k + componentWidth * j = omega arith in
         subst (λ (z : ℕ). ComponentRow buffer (drop z rows)) f (rs .each (k + j) (omega (arith, h, e)));
     lie = omega (arith, rs .lie, e);
     low = omega (arith, rs .low, ends-together);
@@ -72,12 +73,12 @@ module _ {buffer rows : List ℕ} (k m : ℕ) {n row reached : ℕ} (e : n ≡ k
 module _ (buffer rows : List ℕ) where
   pub blobs-next : (n row reached : ℕ) → 0 < n → blobsOf buffer rows n row reached
       ≡ replicate (aligned reached - reached) 0
-      ++ (range buffer (getD rows (row + 5) 0) (getD rows (row + 6) 0) ++ blobsOf buffer rows (n - 1) (row + 10) (aligned reached + getD rows (row + 6) 0))
+      ++ (range buffer (getD rows (row + offsetColumn) 0) (getD rows (row + lengthColumn) 0) ++ blobsOf buffer rows (n - 1) (row + componentWidth) (aligned reached + getD rows (row + lengthColumn) 0))
   unfolding blobsOf
   blobs-next zero row reached h = absurd (omega (arith, h))
   blobs-next (suc n) row reached h = let e : n ≡ suc n - 1 = omega arith in
       ap (λ (k : ℕ). replicate (aligned reached - reached) 0
-      ++ (range buffer (getD rows (row + 5) 0) (getD rows (row + 6) 0) ++ blobsOf buffer rows k (row + 10) (aligned reached + getD rows (row + 6) 0))) e
+      ++ (range buffer (getD rows (row + offsetColumn) 0) (getD rows (row + lengthColumn) 0) ++ blobsOf buffer rows k (row + componentWidth) (aligned reached + getD rows (row + lengthColumn) 0))) e
 
   pub blobs-none : (n row reached : ℕ) → n ≤ 0 → blobsOf buffer rows n row reached ≡ []
   unfolding blobsOf
@@ -85,11 +86,11 @@ module _ (buffer rows : List ℕ) where
   blobs-none (suc n) row reached h = absurd (omega (arith, h))
 
   pub components-next : (n row reached : ℕ) → 0 < n → componentsOf buffer rows n row reached
-      ≡ componentAt buffer (drop row rows) (aligned reached) ++ componentsOf buffer rows (n - 1) (row + 10) (aligned reached + getD rows (row + 6) 0)
+      ≡ componentAt buffer (drop row rows) (aligned reached) ++ componentsOf buffer rows (n - 1) (row + componentWidth) (aligned reached + getD rows (row + lengthColumn) 0)
   unfolding componentsOf
   components-next zero row reached h = absurd (omega (arith, h))
   components-next (suc n) row reached h = let e : n ≡ suc n - 1 = omega arith in
-      ap (λ (k : ℕ). componentAt buffer (drop row rows) (aligned reached) ++ componentsOf buffer rows k (row + 10) (aligned reached + getD rows (row + 6) 0)) e
+      ap (λ (k : ℕ). componentAt buffer (drop row rows) (aligned reached) ++ componentsOf buffer rows k (row + componentWidth) (aligned reached + getD rows (row + lengthColumn) 0)) e
 
   pub components-none : (n row reached : ℕ) → n ≤ 0 → componentsOf buffer rows n row reached ≡ []
   unfolding componentsOf
@@ -108,34 +109,34 @@ blob-end {buffer} {place = place} {size} {past} {start} v w h =
 
 module _ {buffer rows : List ℕ} {n row from reached : ℕ} (rs : ObjectRows buffer rows n row from reached) (some : 0 < n) where
   pub first-object : ObjectRow buffer (drop row rows)
-  first-object = let e : row + 16 * 0 ≡ row = omega arith in subst (λ (k : ℕ). ObjectRow buffer (drop k rows)) e (rs .each 0 some)
+  first-object = let e : row + objectWidth * 0 ≡ row = omega arith in subst (λ (k : ℕ). ObjectRow buffer (drop k rows)) e (rs .each 0 some)
 
-  pub object-long : row + 16 ≤ length rows
+  pub object-long : row + objectWidth ≤ length rows
   object-long = omega (arith, first-object .long, length-drop row rows)
 
-  pub its-components : ComponentRows buffer rows (getD rows (row + 15) 0) from reached
-  its-components = front-components (getD rows (row + 15) 0) (counted (eachRow askedObject 16 (n - 1) (drop (row + 16) rows))) (counted-next rows n row some) (rs .components)
+  pub its-components : ComponentRows buffer rows (getD rows (row + countColumn) 0) from reached
+  its-components = front-components (getD rows (row + countColumn) 0) (counted (eachRow askedObject objectWidth (n - 1) (drop (row + objectWidth) rows))) (counted-next rows n row some) (rs .components)
 
-  pub next-objects : ObjectRows buffer rows (n - 1) (row + 16) (from + 10 * getD rows (row + 15) 0) (reachedPast rows (getD rows (row + 15) 0) from reached)
+  pub next-objects : ObjectRows buffer rows (n - 1) (row + objectWidth) (from + componentWidth * getD rows (row + countColumn) 0) (reachedPast rows (getD rows (row + countColumn) 0) from reached)
   next-objects = record {
-    each = λ i h. let e : row + 16 * suc i ≡ row + 16 + 16 * i = omega arith in
+    each = λ i h. let e : row + objectWidth * suc i ≡ row + objectWidth + objectWidth * i = omega arith in
         subst (λ (k : ℕ). ObjectRow buffer (drop k rows)) e (rs .each (suc i) (omega (arith, h)));
-    components = later-components (getD rows (row + 15) 0) (counted (eachRow askedObject 16 (n - 1) (drop (row + 16) rows))) (counted-next rows n row some) (rs .components);
+    components = later-components (getD rows (row + countColumn) 0) (counted (eachRow askedObject objectWidth (n - 1) (drop (row + objectWidth) rows))) (counted-next rows n row some) (rs .components);
   }
 
 module _ (buffer rows : List ℕ) where
   pub objects-next : (n row from reached : ℕ) → 0 < n → objectsOf buffer rows n row from reached
       ≡ objectFront buffer (drop row rows)
       ++ (objectRest buffer (drop row rows)
-      ++ (componentsOf buffer rows (getD rows (row + 15) 0) from reached
-      ++ objectsOf buffer rows (n - 1) (row + 16) (from + 10 * getD rows (row + 15) 0) (reachedPast rows (getD rows (row + 15) 0) from reached)))
+      ++ (componentsOf buffer rows (getD rows (row + countColumn) 0) from reached
+      ++ objectsOf buffer rows (n - 1) (row + objectWidth) (from + componentWidth * getD rows (row + countColumn) 0) (reachedPast rows (getD rows (row + countColumn) 0) from reached)))
   unfolding objectsOf
   objects-next zero row from reached h = absurd (omega (arith, h))
   objects-next (suc n) row from reached h = let e : n ≡ suc n - 1 = omega arith in
       ap (λ (k : ℕ). objectFront buffer (drop row rows)
       ++ (objectRest buffer (drop row rows)
-      ++ (componentsOf buffer rows (getD rows (row + 15) 0) from reached
-      ++ objectsOf buffer rows k (row + 16) (from + 10 * getD rows (row + 15) 0) (reachedPast rows (getD rows (row + 15) 0) from reached)))) e
+      ++ (componentsOf buffer rows (getD rows (row + countColumn) 0) from reached
+      ++ objectsOf buffer rows k (row + objectWidth) (from + componentWidth * getD rows (row + countColumn) 0) (reachedPast rows (getD rows (row + countColumn) 0) from reached)))) e
 
   pub objects-none : (n row from reached : ℕ) → n ≤ 0 → objectsOf buffer rows n row from reached ≡ []
   unfolding objectsOf

@@ -4,9 +4,9 @@ use mathlib.Core.List.{List, [], _++_}
 use mathlib.Core.Bool.{cond, _&&_}
 use lib.ListN.{length, take, drop, getD, replicate}
 use lib.Dec.{eqb}
+use Rattle.meaning.specs.Columns.{objectWidth, componentWidth, rankColumn, shapeColumn, formatColumn, formatLengthColumn, attributesColumn, attributesLengthColumn, countColumn, dtypeColumn, typeColumn, typeLengthColumn, offsetColumn, lengthColumn, digestColumn, digestLengthColumn}
 use Rattle.meaning.specs.Text.{ascii}
 use Rattle.meaning.specs.Types.{storageOf}
-use Rattle.meaning.specs.Rows.{objectWidth, componentWidth}
 use Rattle.meaning.specs.Placement.{aligned}
 use Rattle.meaning.specs.Manifest.{shortestHead, numberBytes, textBytes, listBytes}
 use Rattle.meaning.specs.Layout.{littleBytes}
@@ -32,26 +32,26 @@ module _ (buffer : List ℕ) where
   unfoldable pub componentAt : List ℕ → ℕ → List ℕ
   componentAt row offset =
       textBytes (range (getD row 0 0) (getD row 1 0))
-      ++ (shortestHead 5 (3 + presence (getD row 3 0) (getD row 4 0) + presence (getD row 7 0) (getD row 8 0))
-      ++ ((textBytes (ascii "dtype") ++ textBytes (storageOf (getD row 2 0) .called))
-      ++ (optional (ascii "type") textBytes (getD row 3 0) (getD row 4 0)
+      ++ (shortestHead 5 (3 + presence (getD row typeColumn 0) (getD row typeLengthColumn 0) + presence (getD row digestColumn 0) (getD row digestLengthColumn 0))
+      ++ ((textBytes (ascii "dtype") ++ textBytes (storageOf (getD row dtypeColumn 0) .called))
+      ++ (optional (ascii "type") textBytes (getD row typeColumn 0) (getD row typeLengthColumn 0)
       ++ ((textBytes (ascii "offset") ++ numberBytes offset)
-      ++ ((textBytes (ascii "length") ++ numberBytes (getD row 6 0))
-      ++ optional (ascii "digest") textBytes (getD row 7 0) (getD row 8 0))))))
+      ++ ((textBytes (ascii "length") ++ numberBytes (getD row lengthColumn 0))
+      ++ optional (ascii "digest") textBytes (getD row digestColumn 0) (getD row digestLengthColumn 0))))))
 
   -- an object's name and shape
   unfoldable pub objectFront : List ℕ → List ℕ
   objectFront row =
       textBytes (range (getD row 0 0) (getD row 1 0))
-      ++ (shortestHead 5 (3 + presence (getD row 13 0) (getD row 14 0))
-      ++ (textBytes (ascii "shape") ++ listBytes (take (getD row 2 0) (drop 3 row))))
+      ++ (shortestHead 5 (3 + presence (getD row attributesColumn 0) (getD row attributesLengthColumn 0))
+      ++ (textBytes (ascii "shape") ++ listBytes (take (getD row rankColumn 0) (drop shapeColumn row))))
 
   -- and the rest, up to its components
   unfoldable pub objectRest : List ℕ → List ℕ
   objectRest row =
-      (textBytes (ascii "format") ++ textBytes (range (getD row 11 0) (getD row 12 0)))
-      ++ (optional (ascii "attributes") (λ bs. bs) (getD row 13 0) (getD row 14 0)
-      ++ (textBytes (ascii "components") ++ shortestHead 5 (getD row 15 0)))
+      (textBytes (ascii "format") ++ textBytes (range (getD row formatColumn 0) (getD row formatLengthColumn 0)))
+      ++ (optional (ascii "attributes") (λ bs. bs) (getD row attributesColumn 0) (getD row attributesLengthColumn 0)
+      ++ (textBytes (ascii "components") ++ shortestHead 5 (getD row countColumn 0)))
 
   -- the manifest up to its objects; the root's attributes stand at the place `place` of the buffer
   unfoldable pub rootFront : ℕ → ℕ → ℕ → List ℕ
@@ -68,12 +68,12 @@ module _ (buffer : List ℕ) where
     blobsOf zero row reached = []
     blobsOf (suc n) row reached =
         replicate (aligned reached - reached) 0
-        ++ (range (getD rows (row + 5) 0) (getD rows (row + 6) 0) ++ blobsOf n (row + componentWidth) (aligned reached + getD rows (row + 6) 0))
+        ++ (range (getD rows (row + offsetColumn) 0) (getD rows (row + lengthColumn) 0) ++ blobsOf n (row + componentWidth) (aligned reached + getD rows (row + lengthColumn) 0))
 
     unfoldable pub componentsOf : ℕ → ℕ → ℕ → List ℕ
     componentsOf zero row reached = []
     componentsOf (suc n) row reached =
-        componentAt (drop row rows) (aligned reached) ++ componentsOf n (row + componentWidth) (aligned reached + getD rows (row + 6) 0)
+        componentAt (drop row rows) (aligned reached) ++ componentsOf n (row + componentWidth) (aligned reached + getD rows (row + lengthColumn) 0)
 
 -- where n components' blobs end
 abbrev pub reachedPast : List ℕ → ℕ → ℕ → ℕ → ℕ
@@ -86,8 +86,8 @@ module _ (buffer rows : List ℕ) where
   objectsOf (suc n) row from reached =
       objectFront buffer (drop row rows)
       ++ (objectRest buffer (drop row rows)
-      ++ (componentsOf buffer rows (getD rows (row + 15) 0) from reached
-      ++ objectsOf n (row + objectWidth) (from + componentWidth * getD rows (row + 15) 0) (reachedPast rows (getD rows (row + 15) 0) from reached)))
+      ++ (componentsOf buffer rows (getD rows (row + countColumn) 0) from reached
+      ++ objectsOf n (row + objectWidth) (from + componentWidth * getD rows (row + countColumn) 0) (reachedPast rows (getD rows (row + countColumn) 0) from reached)))
 
   -- `first` is where the components' rows begin
   unfoldable pub manifestFrom : ℕ → ℕ → ℕ → ℕ → List ℕ

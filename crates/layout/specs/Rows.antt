@@ -2,8 +2,8 @@
 use Prim.Native.Nat.{ℕ, _+_, _*_, _≤_, _<_}
 use mathlib.Core.List.{List}
 use lib.ListN.{length, drop, getD}
+use Rattle.meaning.specs.Columns.{objectWidth, componentWidth, rankColumn, formatColumn, formatLengthColumn, attributesColumn, attributesLengthColumn, dtypeColumn, typeColumn, typeLengthColumn, offsetColumn, lengthColumn, digestColumn, digestLengthColumn}
 use Rattle.meaning.specs.Limit.{endLimit}
-use Rattle.meaning.specs.Rows.{objectWidth, componentWidth}
 use Rattle.meaning.specs.Asked.{eachRow, askedObject}
 use Rattle.rows.specs.Running.{counted}
 use Rattle.layout.specs.Pieces.{reachedPast}
@@ -14,17 +14,17 @@ pub record Within (buffer : List ℕ) (place size : ℕ) : Type 0 where
 pub record ComponentRow (buffer row : List ℕ) : Type 0 where
   pub long : componentWidth ≤ length row
   pub name : Within buffer (getD row 0 0) (getD row 1 0)
-  pub code : getD row 2 0 < 13
-  pub type : Within buffer (getD row 3 0) (getD row 4 0)
-  pub blob : Within buffer (getD row 5 0) (getD row 6 0)
-  pub digest : Within buffer (getD row 7 0) (getD row 8 0)
+  pub code : getD row dtypeColumn 0 < 13
+  pub type : Within buffer (getD row typeColumn 0) (getD row typeLengthColumn 0)
+  pub blob : Within buffer (getD row offsetColumn 0) (getD row lengthColumn 0)
+  pub digest : Within buffer (getD row digestColumn 0) (getD row digestLengthColumn 0)
 
 pub record ObjectRow (buffer row : List ℕ) : Type 0 where
   pub long : objectWidth ≤ length row
   pub name : Within buffer (getD row 0 0) (getD row 1 0)
-  pub rank : getD row 2 0 ≤ 8
-  pub format : Within buffer (getD row 11 0) (getD row 12 0)
-  pub attributes : Within buffer (getD row 13 0) (getD row 14 0)
+  pub rank : getD row rankColumn 0 ≤ 8
+  pub format : Within buffer (getD row formatColumn 0) (getD row formatLengthColumn 0)
+  pub attributes : Within buffer (getD row attributesColumn 0) (getD row attributesLengthColumn 0)
 
 -- n components, the first at this place, whose blobs end at most at the limit where `reached` is reached
 pub record ComponentRows (buffer rows : List ℕ) (n row reached : ℕ) : Type 0 where

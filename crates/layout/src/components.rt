@@ -5,6 +5,15 @@ use crate::fields::presence;
 use crate::fields::range_at;
 use crate::fields::storage_field;
 use crate::fields::word_at;
+use columns::DIGEST;
+use columns::DIGEST_LENGTH;
+use columns::DTYPE;
+use columns::LENGTH;
+use columns::NAME;
+use columns::NAME_LENGTH;
+use columns::OFFSET;
+use columns::TYPE;
+use columns::TYPE_LENGTH;
 use emit::head_at;
 use emit::zeros_at;
 use sizes::entries::aligned;
@@ -40,8 +49,14 @@ pub fn blobs_at(
     while 0 < left {
         let gap = aligned(past as u64) as usize - past;
         let start = zeros_at(out, past, gap);
-        past = range_at(out, start, &buffer[0..], rows[row + 5], rows[row + 6]);
-        row += 10;
+        past = range_at(
+            out,
+            start,
+            &buffer[0..],
+            rows[row + OFFSET],
+            rows[row + LENGTH],
+        );
+        row += columns::COMPONENT;
         left -= 1;
     }
     past
@@ -53,18 +68,18 @@ fn component_at(out: &mut [u8], at: usize, buffer: &[u8], row: &[u64], offset: u
     requires { ⌜ Room (is.componentAt (now buffer) (now row) offset) at (now out) ⌝ }
     ensures { λ r. ⌜ Laid (is.componentAt (now (buffer .entry)) (now (row .entry)) offset) at (now (out .entry)) (now (out .exit)) r ⌝ }
 {
-    let a = word_at(out, at, buffer, row[0], row[1]);
+    let a = word_at(out, at, buffer, row[NAME], row[NAME_LENGTH]);
     let b = head_at(
         out,
         a,
         5,
-        3 + presence(row[3], row[4]) + presence(row[7], row[8]),
+        3 + presence(row[TYPE], row[TYPE_LENGTH]) + presence(row[DIGEST], row[DIGEST_LENGTH]),
     );
-    let c = storage_field(out, b, row[2]);
-    let d = optional_word(out, c, b"type", buffer, row[3], row[4]);
+    let c = storage_field(out, b, row[DTYPE]);
+    let d = optional_word(out, c, b"type", buffer, row[TYPE], row[TYPE_LENGTH]);
     let e = number_field(out, d, b"offset", offset);
-    let f = number_field(out, e, b"length", row[6]);
-    optional_word(out, f, b"digest", buffer, row[7], row[8])
+    let f = number_field(out, e, b"length", row[LENGTH]);
+    optional_word(out, f, b"digest", buffer, row[DIGEST], row[DIGEST_LENGTH])
 }
 
 // The entries of n components, whose blobs begin after the place `reached`.
@@ -89,8 +104,8 @@ pub fn components_at(
     while 0 < left {
         let start = aligned(end);
         past = component_at(out, past, &buffer[0..], &rows[row..], start);
-        end = start + rows[row + 6];
-        row += 10;
+        end = start + rows[row + LENGTH];
+        row += columns::COMPONENT;
         left -= 1;
     }
     Past {

@@ -59,7 +59,7 @@ pub fn whole(
     requires { ⌜ Room (is.wholeOf (now buffer) (now rows) objects components place size) 0 (now out) ⌝ }
     ensures { λ r. ⌜ Laid (is.wholeOf (now (buffer .entry)) (now (rows .entry)) objects components place size) 0 (now (out .entry)) (now (out .exit)) r ⌝ }
 {
-    let first = 16 * objects as usize;
+    let first = columns::OBJECT * objects as usize;
     let start = magic_at(out, 0);
     let end = blobs_at(out, start, &buffer[0..], &rows[0..], components, first);
     let n = manifest(

@@ -4,6 +4,15 @@ use crate::fields::optional_item;
 use crate::fields::presence;
 use crate::fields::word_at;
 use crate::fields::word_field;
+use columns::ATTRIBUTES;
+use columns::ATTRIBUTES_LENGTH;
+use columns::COUNT;
+use columns::FORMAT;
+use columns::FORMAT_LENGTH;
+use columns::NAME;
+use columns::NAME_LENGTH;
+use columns::RANK;
+use columns::SHAPE;
 use emit::head_at;
 use emit::list_at;
 use emit::text_at;
@@ -17,11 +26,16 @@ fn front_at(out: &mut [u8], at: usize, buffer: &[u8], row: &[u64]) -> usize
     requires { ⌜ Room (is.objectFront (now buffer) (now row)) at (now out) ⌝ }
     ensures { λ r. ⌜ Laid (is.objectFront (now (buffer .entry)) (now (row .entry))) at (now (out .entry)) (now (out .exit)) r ⌝ }
 {
-    let a = word_at(out, at, buffer, row[0], row[1]);
-    let b = head_at(out, a, 5, 3 + presence(row[13], row[14]));
+    let a = word_at(out, at, buffer, row[NAME], row[NAME_LENGTH]);
+    let b = head_at(
+        out,
+        a,
+        5,
+        3 + presence(row[ATTRIBUTES], row[ATTRIBUTES_LENGTH]),
+    );
     let c = text_at(out, b, b"shape");
-    let end = 3 + row[2] as usize;
-    list_at(out, c, &row[3..end])
+    let end = SHAPE + row[RANK] as usize;
+    list_at(out, c, &row[SHAPE..end])
 }
 
 // The rest of it, up to its components.
@@ -30,10 +44,17 @@ fn rest_at(out: &mut [u8], at: usize, buffer: &[u8], row: &[u64]) -> usize
     requires { ⌜ Room (is.objectRest (now buffer) (now row)) at (now out) ⌝ }
     ensures { λ r. ⌜ Laid (is.objectRest (now (buffer .entry)) (now (row .entry))) at (now (out .entry)) (now (out .exit)) r ⌝ }
 {
-    let a = word_field(out, at, b"format", buffer, row[11], row[12]);
-    let b = optional_item(out, a, b"attributes", buffer, row[13], row[14]);
+    let a = word_field(out, at, b"format", buffer, row[FORMAT], row[FORMAT_LENGTH]);
+    let b = optional_item(
+        out,
+        a,
+        b"attributes",
+        buffer,
+        row[ATTRIBUTES],
+        row[ATTRIBUTES_LENGTH],
+    );
     let c = text_at(out, b, b"components");
-    head_at(out, c, 5, row[15])
+    head_at(out, c, 5, row[COUNT])
 }
 
 // The entries of n objects, the first at the rows' start, their components from the place `first` on.
@@ -55,14 +76,14 @@ pub fn objects_at(
     let mut reached: u64 = 8;
     let mut left = n;
     while 0 < left {
-        let count = rows[row + 15];
+        let count = rows[row + COUNT];
         let front = front_at(out, past, &buffer[0..], &rows[row..]);
         let rest = rest_at(out, front, &buffer[0..], &rows[row..]);
         let p = components_at(out, rest, &buffer[0..], &rows[0..], count, from, reached);
         past = p.at;
         reached = p.reached;
-        from += 10 * count as usize;
-        row += 16;
+        from += columns::COMPONENT * count as usize;
+        row += columns::OBJECT;
         left -= 1;
     }
     past

@@ -6,8 +6,8 @@ use mathlib.Core.Option.{Option, none, some}
 use lib.ListN.{take, drop, getD}
 use lib.Dec.{eqb}
 use Rattle.meaning.specs.Read.{Span, bytesAt}
-use Rattle.meaning.specs.Rows.{objectWidth, componentWidth}
-use Rattle.meaning.specs.View.{offsetColumn}
+use Rattle.meaning.specs.Columns.{objectWidth, componentWidth, nameColumn, rankColumn, shapeColumn, formatColumn, attributesColumn, countColumn}
+use Rattle.meaning.specs.Columns.{dtypeColumn, typeColumn, offsetColumn, digestColumn, ownerColumn}
 
 -- an object's row
 pub record AskedObject : Type 0 where
@@ -39,22 +39,22 @@ spanAt row column = record { place = getD row column 0; size = getD row (suc col
 -- of the row that these numbers begin with; unused dimensions aren't looked at
 unfoldable pub askedObject : List ℕ → AskedObject
 askedObject row = record {
-  name = spanAt row 0;
-  rank = getD row 2 0;
-  shape = take (getD row 2 0) (drop 3 row);
-  format = spanAt row 11;
-  attributes = spanAt row 13;
-  count = getD row 15 0;
+  name = spanAt row nameColumn;
+  rank = getD row rankColumn 0;
+  shape = take (getD row rankColumn 0) (drop shapeColumn row);
+  format = spanAt row formatColumn;
+  attributes = spanAt row attributesColumn;
+  count = getD row countColumn 0;
 }
 
 unfoldable pub askedComponent : List ℕ → AskedComponent
 askedComponent row = record {
-  name = spanAt row 0;
-  dtype = getD row 2 0;
-  type = spanAt row 3;
+  name = spanAt row nameColumn;
+  dtype = getD row dtypeColumn 0;
+  type = spanAt row typeColumn;
   blob = spanAt row offsetColumn;
-  digest = spanAt row 7;
-  owner = getD row 9 0;
+  digest = spanAt row digestColumn;
+  owner = getD row ownerColumn 0;
 }
 
 -- n rows of a width, one after the other

@@ -12,6 +12,7 @@ pub mod Types
 pub mod Format
 pub mod Judge
 pub mod Frame
+pub mod Columns
 pub mod Rows
 pub mod View
 pub mod Listing

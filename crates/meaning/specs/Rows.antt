@@ -11,13 +11,7 @@ use Rattle.meaning.specs.Limit.{rankLimit}
 use Rattle.meaning.specs.Read.{Span}
 use Rattle.meaning.specs.Model.{Word, Component, Object, Model}
 use Rattle.meaning.specs.Frame.{Reading, reading}
-
--- numbers of a row
-abbrev pub objectWidth : ℕ
-objectWidth = 16
-
-abbrev pub componentWidth : ℕ
-componentWidth = 10
+use Rattle.meaning.specs.Columns.{objectWidth, componentWidth}
 
 -- where a text's bytes stand, after the head of its item
 unfoldable pub wordSpan : Word Span → Span

@@ -10,7 +10,7 @@ use Rattle.meaning.specs.Refusal.{DEEP}
 use Rattle.meaning.specs.Limit.{depthLimit, rankLimit}
 use Rattle.meaning.specs.Read.{Span, Outcome, got, refused, item, noNote}
 use Rattle.meaning.specs.Types.{storages}
-use Rattle.meaning.specs.Rows.{objectWidth, componentWidth}
+use Rattle.meaning.specs.Columns.{objectWidth, componentWidth}
 use Rattle.meaning.specs.Asked.{AskedObject, AskedComponent, Asked, asked, presentAt}
 
 unfoldable pub beginsAsMap : List ℕ → Bool

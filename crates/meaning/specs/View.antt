@@ -7,14 +7,7 @@ use lib.Dec.{leb, ltb}
 use Rattle.meaning.specs.Check.{Check, pass, refuse, _>>=_, _>>_, _unless_}
 use Rattle.meaning.specs.Refusal.{INDEX}
 use Rattle.meaning.specs.Read.{Span, bytesAt}
-use Rattle.meaning.specs.Rows.{objectWidth, componentWidth}
-
--- columns of a component's row
-abbrev pub offsetColumn : ℕ
-offsetColumn = 5
-
-abbrev pub lengthColumn : ℕ
-lengthColumn = 6
+use Rattle.meaning.specs.Columns.{objectWidth, componentWidth, offsetColumn, lengthColumn}
 
 -- the row lies within the count and the table, and its range inside the file
 unfoldable pub viewed : List ℕ → List ℕ → ℕ → ℕ → ℕ → Check Span

@@ -7,6 +7,7 @@ use mathlib.Core.Path.{_≡_, refl, sym, ap, _∙_}
 use lib.ListN.{length, drop, getD}
 use lib.Seq.{getD-append-add, drop-append-add}
 use borrow.Author.Tests.{le-leb, lt-ltb}
+use Rattle.meaning.specs.Columns.{objectWidth, formatColumn, formatLengthColumn, countColumn, offsetColumn, lengthColumn}
 use Rattle.meaning.specs.Read.{Span}
 use Rattle.meaning.specs.Model.{Word, Component, Object}
 use Rattle.meaning.specs.Rows.{wordSpan, objectRow, componentRow}
@@ -26,8 +27,8 @@ module _ (file T : List ℕ) where
 
   -- a component's row
   module _ (q i : ℕ) (c : Component Span) (Y : List ℕ) (e : drop q T ≡ componentRow i c ++ Y) (s : ComponentStands file c) where
-    after-offset : getD T (q + 5 + 1) 0 ≡ c .length
-    after-offset = (let z : q + 5 + 1 ≡ q + 6 = omega arith in ap (λ (k : ℕ). getD T k 0) z) ∙ length-is T q i c Y e
+    after-offset : getD T (q + offsetColumn + 1) 0 ≡ c .length
+    after-offset = (let z : q + offsetColumn + 1 ≡ q + lengthColumn = omega arith in ap (λ (k : ℕ). getD T k 0) z) ∙ length-is T q i c Y e
 
     pub component-sound : componentSound file T q ≡ true
     unfolding componentSound
@@ -36,7 +37,7 @@ module _ (file T : List ℕ) where
           inside-is q (wordSpan (c .name) .place) (wordSpan (c .name) .size) (name-place T q i c Y e) (name-size T q i c Y e) (s .name .inside),
           (code-is T q i c Y e),
           lt-ltb (c .dtype) 13 (s .storage),
-          inside-is (q + 5) (c .offset) (c .length) (offset-is T q i c Y e) after-offset (s .blob),
+          inside-is (q + offsetColumn) (c .offset) (c .length) (offset-is T q i c Y e) after-offset (s .blob),
         )
         refl
 
@@ -64,22 +65,22 @@ module _ (file T : List ℕ) where
     unfolding row
     object-name-size = column T p row row-is 1
 
-    format-place : getD T (p + 11) 0 ≡ wordSpan (o .format) .place
+    format-place : getD T (p + formatColumn) 0 ≡ wordSpan (o .format) .place
     unfolding row ending
-    format-place = column T p row row-is 11 ∙ later 0
+    format-place = column T p row row-is formatColumn ∙ later 0
 
-    format-size : getD T (p + 11 + 1) 0 ≡ wordSpan (o .format) .size
+    format-size : getD T (p + formatColumn + 1) 0 ≡ wordSpan (o .format) .size
     unfolding row ending
-    format-size = (let z : p + 11 + 1 ≡ p + 12 = omega arith in ap (λ (k : ℕ). getD T k 0) z) ∙ column T p row row-is 12 ∙ later 1
+    format-size = (let z : p + formatColumn + 1 ≡ p + formatLengthColumn = omega arith in ap (λ (k : ℕ). getD T k 0) z) ∙ column T p row row-is formatLengthColumn ∙ later 1
 
     pub count-is : countAt T p ≡ length (o .components)
     unfolding row ending
-    count-is = column T p row row-is 15 ∙ later 4
+    count-is = column T p row row-is countColumn ∙ later 4
 
-    pub object-past : drop (p + 16) T ≡ X
+    pub object-past : drop (p + objectWidth) T ≡ X
     unfolding row ending
     object-past =
-        onward T p row row-is 16
+        onward T p row row-is objectWidth
         ∙ ap (λ (n : ℕ). drop (n + 5) (shape o ++ (ending o ++ X))) (sym (nine o))
         ∙ drop-append-add (shape o) (ending o ++ X) 5
 
@@ -89,11 +90,11 @@ module _ (file T : List ℕ) where
       object-sound =
           rw (
             inside-is p (wordSpan (o .name) .place) (wordSpan (o .name) .size) object-name-place object-name-size (s .name .inside),
-            inside-is (p + 11) (wordSpan (o .format) .place) (wordSpan (o .format) .size) format-place format-size (s .format .inside),
+            inside-is (p + formatColumn) (wordSpan (o .format) .place) (wordSpan (o .format) .size) format-place format-size (s .format .inside),
           )
           refl
 
       pub object-line : objectLine file T p ≡ meaning.objectLine o
       unfolding objectLine meaning.objectLine
       object-line =
-          rw (text-is p (o .name) object-name-place object-name-size (s .name), text-is (p + 11) (o .format) format-place format-size (s .format)) refl
+          rw (text-is p (o .name) object-name-place object-name-size (s .name), text-is (p + formatColumn) (o .format) format-place format-size (s .format)) refl

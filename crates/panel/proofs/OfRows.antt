@@ -7,6 +7,7 @@ use mathlib.Core.Bool.{Bool, true, _&&_}
 use mathlib.Core.Path.{_≡_, refl, ap, _∙_}
 use lib.ListN.{length, drop}
 use borrow.Author.Tests.{le-leb, eq-eqb}
+use Rattle.meaning.specs.Columns.{objectWidth, componentWidth}
 use Rattle.meaning.specs.Text.{ascii}
 use Rattle.meaning.specs.Check.{pass}
 use Rattle.meaning.specs.Read.{Span}
@@ -28,58 +29,58 @@ module _ (file T : List ℕ) where
   blobs-of i [] q Y e s = refl
   blobs-of i (c ∷ cs) q Y e s =
       let f = e ∙ append-assoc (componentRow i c) (rowsOf i cs) Y in
-      ap (λ (l : List ℕ). l ++ blobLines file T (length cs) (q + 10)) (blob-line file T q i c (rowsOf i cs ++ Y) f (s .0))
-      ∙ ap (λ (l : List ℕ). meaning.blobLine c ++ l) (blobs-of i cs (q + 10) Y (component-past T q i c (rowsOf i cs ++ Y) f) (s .1))
+      ap (λ (l : List ℕ). l ++ blobLines file T (length cs) (q + componentWidth)) (blob-line file T q i c (rowsOf i cs ++ Y) f (s .0))
+      ∙ ap (λ (l : List ℕ). meaning.blobLine c ++ l) (blobs-of i cs (q + componentWidth) Y (component-past T q i c (rowsOf i cs ++ Y) f) (s .1))
 
   blobs-past : (i : ℕ) (cs : List (Component Span)) (q : ℕ) (Y : List ℕ) → drop q T ≡ rowsOf i cs ++ Y → Each (ComponentStands file) cs
-      → drop (q + 10 * length cs) T ≡ Y
+      → drop (q + componentWidth * length cs) T ≡ Y
   unfolding rowsOf Each
-  blobs-past i [] q Y e s = (let z : q + 10 * 0 ≡ q = omega arith in ap (λ (k : ℕ). drop k T) z) ∙ e
+  blobs-past i [] q Y e s = (let z : q + componentWidth * 0 ≡ q = omega arith in ap (λ (k : ℕ). drop k T) z) ∙ e
   blobs-past i (c ∷ cs) q Y e s =
       let f = e ∙ append-assoc (componentRow i c) (rowsOf i cs) Y in
-      (let z : q + 10 * suc (length cs) ≡ q + 10 + 10 * length cs = omega arith in ap (λ (k : ℕ). drop k T) z)
-      ∙ blobs-past i cs (q + 10) Y (component-past T q i c (rowsOf i cs ++ Y) f) (s .1)
+      (let z : q + componentWidth * suc (length cs) ≡ q + componentWidth + componentWidth * length cs = omega arith in ap (λ (k : ℕ). drop k T) z)
+      ∙ blobs-past i cs (q + componentWidth) Y (component-past T q i c (rowsOf i cs ++ Y) f) (s .1)
 
   blobs-sound : (n i : ℕ) (cs : List (Component Span)) (q : ℕ) (Y : List ℕ) → drop q T ≡ rowsOf i cs ++ Y → Each (ComponentStands file) cs
-      → every (componentSound file T) 10 (length cs + n) q ≡ every (componentSound file T) 10 n (q + 10 * length cs)
+      → every (componentSound file T) componentWidth (length cs + n) q ≡ every (componentSound file T) componentWidth n (q + componentWidth * length cs)
   unfolding rowsOf Each every
   blobs-sound n i [] q Y e s =
-      ap (λ (k : ℕ). every (componentSound file T) 10 k q) (zero-add n)
-      ∙ (let z : q ≡ q + 10 * 0 = omega arith in ap (λ (k : ℕ). every (componentSound file T) 10 n k) z)
+      ap (λ (k : ℕ). every (componentSound file T) componentWidth k q) (zero-add n)
+      ∙ (let z : q ≡ q + componentWidth * 0 = omega arith in ap (λ (k : ℕ). every (componentSound file T) componentWidth n k) z)
   blobs-sound n i (c ∷ cs) q Y e s =
       let f = e ∙ append-assoc (componentRow i c) (rowsOf i cs) Y in
-      ap (λ (k : ℕ). every (componentSound file T) 10 k q) (suc-add (length cs) n)
-      ∙ ap (λ (b : Bool). b && every (componentSound file T) 10 (length cs + n) (q + 10)) (component-sound file T q i c (rowsOf i cs ++ Y) f (s .0))
-      ∙ blobs-sound n i cs (q + 10) Y (component-past T q i c (rowsOf i cs ++ Y) f) (s .1)
-      ∙ (let z : q + 10 + 10 * length cs ≡ q + 10 * suc (length cs) = omega arith in ap (λ (k : ℕ). every (componentSound file T) 10 n k) z)
+      ap (λ (k : ℕ). every (componentSound file T) componentWidth k q) (suc-add (length cs) n)
+      ∙ ap (λ (b : Bool). b && every (componentSound file T) componentWidth (length cs + n) (q + componentWidth)) (component-sound file T q i c (rowsOf i cs ++ Y) f (s .0))
+      ∙ blobs-sound n i cs (q + componentWidth) Y (component-past T q i c (rowsOf i cs ++ Y) f) (s .1)
+      ∙ (let z : q + componentWidth + componentWidth * length cs ≡ q + componentWidth * suc (length cs) = omega arith in ap (λ (k : ℕ). every (componentSound file T) componentWidth n k) z)
 
   -- ---- all objects
 
   objects-sound : (os : List (Object Span)) (p : ℕ) (X : List ℕ) → drop p T ≡ objectRows os ++ X → Each (ObjectStands file) os
-      → every (objectSound file T) 16 (length os) p ≡ true
+      → every (objectSound file T) objectWidth (length os) p ≡ true
   unfolding objectRows Each every
   objects-sound [] p X e s = refl
   objects-sound (o ∷ os) p X e s =
       let f = e ∙ append-assoc (objectRow o) (objectRows os) X in
-      ap (λ (b : Bool). b && every (objectSound file T) 16 (length os) (p + 16)) (object-sound file T p o (objectRows os ++ X) f (s .0))
-      ∙ objects-sound os (p + 16) X (object-past file T p o (objectRows os ++ X) f) (s .1)
+      ap (λ (b : Bool). b && every (objectSound file T) objectWidth (length os) (p + objectWidth)) (object-sound file T p o (objectRows os ++ X) f (s .0))
+      ∙ objects-sound os (p + objectWidth) X (object-past file T p o (objectRows os ++ X) f) (s .1)
 
   counted-of : (os : List (Object Span)) (p : ℕ) (X : List ℕ) → drop p T ≡ objectRows os ++ X → counted T (length os) p ≡ componentCount os
   unfolding objectRows counted componentCount
   counted-of [] p X e = refl
   counted-of (o ∷ os) p X e =
       let f = e ∙ append-assoc (objectRow o) (objectRows os) X in
-      ap (λ (k : ℕ). k + counted T (length os) (p + 16)) (count-is file T p o (objectRows os ++ X) f)
-      ∙ ap (λ (k : ℕ). length (o .components) + k) (counted-of os (p + 16) X (object-past file T p o (objectRows os ++ X) f))
+      ap (λ (k : ℕ). k + counted T (length os) (p + objectWidth)) (count-is file T p o (objectRows os ++ X) f)
+      ∙ ap (λ (k : ℕ). length (o .components) + k) (counted-of os (p + objectWidth) X (object-past file T p o (objectRows os ++ X) f))
 
   components-sound : (i : ℕ) (os : List (Object Span)) (q : ℕ) (Y : List ℕ) → drop q T ≡ componentRows i os ++ Y → Each (ObjectStands file) os
-      → every (componentSound file T) 10 (componentCount os) q ≡ true
+      → every (componentSound file T) componentWidth (componentCount os) q ≡ true
   unfolding componentRows Each componentCount every
   components-sound i [] q Y e s = refl
   components-sound i (o ∷ os) q Y e s =
       let f = e ∙ append-assoc (rowsOf i (o .components)) (componentRows (suc i) os) Y in
       blobs-sound (componentCount os) i (o .components) q (componentRows (suc i) os ++ Y) f (s .0 .components)
-      ∙ components-sound (suc i) os (q + 10 * length (o .components)) Y
+      ∙ components-sound (suc i) os (q + componentWidth * length (o .components)) Y
       (blobs-past i (o .components) q (componentRows (suc i) os ++ Y) f (s .0 .components)) (s .1)
 
   lines-of : (i : ℕ) (os : List (Object Span)) (p q : ℕ) (X Y : List ℕ) → drop p T ≡ objectRows os ++ X → drop q T ≡ componentRows i os ++ Y
@@ -89,14 +90,14 @@ module _ (file T : List ℕ) where
   lines-of i (o ∷ os) p q X Y e g s =
       let f = e ∙ append-assoc (objectRow o) (objectRows os) X in
       let h = g ∙ append-assoc (rowsOf i (o .components)) (componentRows (suc i) os) Y in
-      ap (λ (l : List ℕ). l ++ blobLines file T (countAt T p) q ++ objectLines file T (length os) (p + 16) (q + 10 * countAt T p))
+      ap (λ (l : List ℕ). l ++ blobLines file T (countAt T p) q ++ objectLines file T (length os) (p + objectWidth) (q + componentWidth * countAt T p))
       (object-line file T p o (objectRows os ++ X) f (s .0))
-      ∙ ap (λ (n : ℕ). meaning.objectLine o ++ blobLines file T n q ++ objectLines file T (length os) (p + 16) (q + 10 * n))
+      ∙ ap (λ (n : ℕ). meaning.objectLine o ++ blobLines file T n q ++ objectLines file T (length os) (p + objectWidth) (q + componentWidth * n))
       (count-is file T p o (objectRows os ++ X) f)
-      ∙ ap (λ (l : List ℕ). meaning.objectLine o ++ l ++ objectLines file T (length os) (p + 16) (q + 10 * length (o .components)))
+      ∙ ap (λ (l : List ℕ). meaning.objectLine o ++ l ++ objectLines file T (length os) (p + objectWidth) (q + componentWidth * length (o .components)))
       (blobs-of i (o .components) q (componentRows (suc i) os ++ Y) h (s .0 .components))
       ∙ ap (λ (l : List ℕ). meaning.objectLine o ++ meaning.blobLines (o .components) ++ l)
-      (lines-of (suc i) os (p + 16) (q + 10 * length (o .components)) X Y (object-past file T p o (objectRows os ++ X) f)
+      (lines-of (suc i) os (p + objectWidth) (q + componentWidth * length (o .components)) X Y (object-past file T p o (objectRows os ++ X) f)
       (blobs-past i (o .components) q (componentRows (suc i) os ++ Y) h (s .0 .components)) (s .1))
 
 -- ---- the whole
@@ -112,9 +113,9 @@ module _ (file rest : List ℕ) (m : Model Span) (s : Each (ObjectStands file) (
   unfolding sound T os
   all-sound =
       rw (
-        le-leb (16 * length os + 10 * componentCount os) (length T) (rows-lie m rest),
+        le-leb (objectWidth * length os + componentWidth * componentCount os) (length T) (rows-lie m rest),
         objects-sound file T os 0 (componentRows 0 os ++ rest) (objects-at m rest) s,
-        components-sound file T 0 os (16 * length os) rest (components-at m rest) s,
+        components-sound file T 0 os (objectWidth * length os) rest (components-at m rest) s,
         eq-eqb (counted T (length os) 0) (componentCount os) (counted-of file T os 0 (componentRows 0 os ++ rest) (objects-at m rest)),
       )
       refl
@@ -124,4 +125,4 @@ module _ (file rest : List ℕ) (m : Model Span) (s : Each (ObjectStands file) (
   listed-of-rows =
       all-listed file T (length os) (componentCount os) all-sound
       ∙ ap (λ (l : List ℕ). pass (meaning.line (ascii "objects") (meaning.decimal (length os) ∷ ascii "components" ∷ meaning.decimal (componentCount os) ∷ []) ++ l))
-      (lines-of file T 0 os 0 (16 * length os) (componentRows 0 os ++ rest) rest (objects-at m rest) (components-at m rest) s)
+      (lines-of file T 0 os 0 (objectWidth * length os) (componentRows 0 os ++ rest) rest (objects-at m rest) (components-at m rest) s)

@@ -8,6 +8,7 @@ use lib.ListN.{length, take, drop, getD}
 use lib.Dec.{leb, eqb}
 use borrow.Author.Tests.{le-leb, lt-leb, lt-ltb, le-ltb, eq-eqb, ne-eqb, leb-true, eqb-true, eqb-false}
 use borrow.Rule.Slice.PartAt.{part-to-end}
+use Rattle.meaning.specs.Columns.{objectWidth, componentWidth, formatColumn, dtypeColumn, offsetColumn}
 use Rattle.types.proofs.Tagged.{both-left, both-right}
 use Rattle.panel.specs.Lines.{countAt, counted, rangeInside, componentSound, objectSound, every, sound}
 
@@ -15,18 +16,6 @@ use Rattle.panel.specs.Lines.{countAt, counted, rangeInside, componentSo
 module _ (file table : List ℕ) where
   pub lent {ℓ} : {A : Type ℓ} (f : List ℕ → List ℕ → A) → f (take (length file - 0) (drop 0 file)) (take (length table - 0) (drop 0 table)) ≡ f file table
   lent f = ap (λ (s : List ℕ). f s (take (length table - 0) (drop 0 table))) (part-to-end file 0) ∙ ap (f file) (part-to-end table 0)
-
--- ---- room for all rows
-
-module _ (n objects components : ℕ) where
-  pub objects-past : n / 16 < objects → false ≡ leb (16 * objects + 10 * components) n
-  objects-past h = sym (lt-leb (16 * objects + 10 * components) n (omega (arith, h)))
-
-  pub components-past : objects ≤ n / 16 → (n - 16 * objects) / 10 < components → false ≡ leb (16 * objects + 10 * components) n
-  components-past g h = sym (lt-leb (16 * objects + 10 * components) n (omega (arith, g, h)))
-
-  pub rows-fit : objects ≤ n / 16 → components ≤ (n - 16 * objects) / 10 → true ≡ leb (16 * objects + 10 * components) n
-  rows-fit g h = sym (le-leb (16 * objects + 10 * components) n (omega (arith, g, h)))
 
 -- ---- one row
 
@@ -49,19 +38,19 @@ module _ (file table : List ℕ) where
     unfolding componentSound
     name-outside a = rw (← a) refl
 
-    pub no-storage : true ≡ rangeInside file table row → 13 ≤ getD table (row + 2) 0 → false ≡ componentSound file table row
+    pub no-storage : true ≡ rangeInside file table row → 13 ≤ getD table (row + dtypeColumn) 0 → false ≡ componentSound file table row
     unfolding componentSound
-    no-storage a b = rw (← a, le-ltb (getD table (row + 2) 0) 13 b) refl
+    no-storage a b = rw (← a, le-ltb (getD table (row + dtypeColumn) 0) 13 b) refl
 
-    pub by-range : true ≡ rangeInside file table row → getD table (row + 2) 0 < 13 → rangeInside file table (row + 5) ≡ componentSound file table row
+    pub by-range : true ≡ rangeInside file table row → getD table (row + dtypeColumn) 0 < 13 → rangeInside file table (row + offsetColumn) ≡ componentSound file table row
     unfolding componentSound
-    by-range a b = rw (← a, lt-ltb (getD table (row + 2) 0) 13 b) refl
+    by-range a b = rw (← a, lt-ltb (getD table (row + dtypeColumn) 0) 13 b) refl
 
     pub object-outside : false ≡ rangeInside file table row → false ≡ objectSound file table row
     unfolding objectSound
     object-outside a = rw (← a) refl
 
-    pub by-format : true ≡ rangeInside file table row → rangeInside file table (row + 11) ≡ objectSound file table row
+    pub by-format : true ≡ rangeInside file table row → rangeInside file table (row + formatColumn) ≡ objectSound file table row
     unfolding objectSound
     by-format a = rw (← a) refl
 
@@ -86,10 +75,10 @@ every-none p width (suc m) row h = absurd (omega (arith, h))
 
 -- ---- the objects' components
 
-pub counted-next : (table : List ℕ) (n row : ℕ) → 0 < n → counted table n row ≡ countAt table row + counted table (n - 1) (row + 16)
+pub counted-next : (table : List ℕ) (n row : ℕ) → 0 < n → counted table n row ≡ countAt table row + counted table (n - 1) (row + objectWidth)
 unfolding counted
 counted-next table zero row h = absurd (omega (arith, h))
-counted-next table (suc m) row h = let e : m ≡ suc m - 1 = omega arith in ap (λ (k : ℕ). countAt table row + counted table k (row + 16)) e
+counted-next table (suc m) row h = let e : m ≡ suc m - 1 = omega arith in ap (λ (k : ℕ). countAt table row + counted table k (row + objectWidth)) e
 
 pub counted-none : (table : List ℕ) (n row : ℕ) → n ≤ 0 → counted table n row ≡ 0
 unfolding counted
@@ -107,35 +96,35 @@ all-due all due components e = by (eqb due 0) refl
 -- ---- all of it
 
 module _ (file table : List ℕ) (objects components : ℕ) where
-  pub not-held : false ≡ leb (16 * objects + 10 * components) (length table) → false ≡ sound file table objects components
+  pub not-held : false ≡ leb (objectWidth * objects + componentWidth * components) (length table) → false ≡ sound file table objects components
   unfolding sound
   not-held a = rw (← a) refl
 
-  module _ (held : true ≡ leb (16 * objects + 10 * components) (length table)) where
-    pub rows-lie : 16 * objects + 10 * components ≤ length table
-    rows-lie = leb-true (16 * objects + 10 * components) (length table) (sym held)
+  module _ (held : true ≡ leb (objectWidth * objects + componentWidth * components) (length table)) where
+    pub rows-lie : objectWidth * objects + componentWidth * components ≤ length table
+    rows-lie = leb-true (objectWidth * objects + componentWidth * components) (length table) (sym held)
 
-    pub odd-object : false ≡ every (objectSound file table) 16 objects 0 → false ≡ sound file table objects components
+    pub odd-object : false ≡ every (objectSound file table) objectWidth objects 0 → false ≡ sound file table objects components
     unfolding sound
     odd-object b = rw (← held, ← b) refl
 
-    module _ (os : true ≡ every (objectSound file table) 16 objects 0) where
-      pub odd-component : false ≡ every (componentSound file table) 10 components (16 * objects) → false ≡ sound file table objects components
+    module _ (os : true ≡ every (objectSound file table) objectWidth objects 0) where
+      pub odd-component : false ≡ every (componentSound file table) componentWidth components (objectWidth * objects) → false ≡ sound file table objects components
       unfolding sound
       odd-component c = rw (← held, ← os, ← c) refl
 
-      pub by-counts : true ≡ every (componentSound file table) 10 components (16 * objects) → eqb (counted table objects 0) components ≡ sound file table objects components
+      pub by-counts : true ≡ every (componentSound file table) componentWidth components (objectWidth * objects) → eqb (counted table objects 0) components ≡ sound file table objects components
       unfolding sound
       by-counts c = rw (← held, ← os, ← c) refl
 
   -- what the lines may rely on
   module _ (all-sound : sound file table objects components ≡ true) where
-    pub sound-lies : 16 * objects + 10 * components ≤ length table
+    pub sound-lies : objectWidth * objects + componentWidth * components ≤ length table
     unfolding sound
     sound-lies =
-        leb-true (16 * objects + 10 * components) (length table)
-        (both-left _ (every (objectSound file table) 16 objects 0)
-        (both-left _ (every (componentSound file table) 10 components (16 * objects))
+        leb-true (objectWidth * objects + componentWidth * components) (length table)
+        (both-left _ (every (objectSound file table) objectWidth objects 0)
+        (both-left _ (every (componentSound file table) componentWidth components (objectWidth * objects))
         (both-left _ (eqb (counted table objects 0) components) all-sound)))
 
     pub sound-counts : counted table objects 0 ≡ components
@@ -143,15 +132,15 @@ module _ (file table : List ℕ) (objects components : ℕ) where
     sound-counts =
         eqb-true (counted table objects 0) components
         (both-right
-        (leb (16 * objects + 10 * components) (length table)
-        && every (objectSound file table) 16 objects 0
-        && every (componentSound file table) 10 components (16 * objects))
+        (leb (objectWidth * objects + componentWidth * components) (length table)
+        && every (objectSound file table) objectWidth objects 0
+        && every (componentSound file table) componentWidth components (objectWidth * objects))
         (eqb (counted table objects 0) components)
         all-sound)
 
     -- asked of the table as it is lent whole
-    pub lines-lie : (16 * objects ≤ length (take (length table - 0) (drop 0 table)))
-        × (16 * objects + 10 * counted (take (length table - 0) (drop 0 table)) objects 0 ≤ length (take (length table - 0) (drop 0 table)))
+    pub lines-lie : (objectWidth * objects ≤ length (take (length table - 0) (drop 0 table)))
+        × (objectWidth * objects + componentWidth * counted (take (length table - 0) (drop 0 table)) objects 0 ≤ length (take (length table - 0) (drop 0 table)))
     lines-lie =
-        subst (λ (t : List ℕ). (16 * objects ≤ length t) × (16 * objects + 10 * counted t objects 0 ≤ length t)) (sym (part-to-end table 0))
+        subst (λ (t : List ℕ). (objectWidth * objects ≤ length t) × (objectWidth * objects + componentWidth * counted t objects 0 ≤ length t)) (sym (part-to-end table 0))
         (omega (arith, sound-lies), omega (arith, sound-lies, sound-counts))

@@ -4,16 +4,16 @@ use mathlib.Core.List.{List, [], _∷_, _++_}
 use mathlib.Core.Bool.{Bool, true, _&&_}
 use lib.ListN.{length, take, drop, getD}
 use lib.Dec.{eqb, leb, ltb}
+use Rattle.meaning.specs.Columns.{objectWidth, componentWidth, formatColumn, countColumn, dtypeColumn, offsetColumn, lengthColumn}
 use Rattle.meaning.specs.Check.{Check, pass, refuse, _>>=_, _>>_, _unless_}
 use Rattle.meaning.specs.Refusal.{INDEX}
 use Rattle.meaning.specs.Text.{ascii}
 use Rattle.meaning.specs.Types.{storageOf}
-use Rattle.meaning.specs.Rows.{objectWidth, componentWidth}
 use Rattle.meaning.specs.Listing.{line, shownText, decimal}
 
 -- how many components an object has
 abbrev pub countAt : List ℕ → ℕ → ℕ
-countAt table row = getD table (row + 15) 0
+countAt table row = getD table (row + countColumn) 0
 
 -- and n objects, the first at this row
 unfoldable pub counted : List ℕ → ℕ → ℕ → ℕ
@@ -30,12 +30,12 @@ module _ (file table : List ℕ) where
 
   -- a component's row: name, dtype, offset and length
   unfoldable pub componentSound : ℕ → Bool
-  componentSound row = rangeInside row && ltb (getD table (row + 2) 0) 13 && rangeInside (row + 5)
+  componentSound row = rangeInside row && ltb (getD table (row + dtypeColumn) 0) 13 && rangeInside (row + offsetColumn)
 
   unfoldable pub blobLine : ℕ → List ℕ
   blobLine row =
       line (ascii "blob")
-      (shownText (textAt row) ∷ storageOf (getD table (row + 2) 0) .called ∷ decimal (getD table (row + 5) 0) ∷ decimal (getD table (row + 6) 0) ∷ [])
+      (shownText (textAt row) ∷ storageOf (getD table (row + dtypeColumn) 0) .called ∷ decimal (getD table (row + offsetColumn) 0) ∷ decimal (getD table (row + lengthColumn) 0) ∷ [])
 
   -- n components, the first at this row
   unfoldable pub blobLines : ℕ → ℕ → List ℕ
@@ -44,10 +44,10 @@ module _ (file table : List ℕ) where
 
   -- an object's row: name and format
   unfoldable pub objectSound : ℕ → Bool
-  objectSound row = rangeInside row && rangeInside (row + 11)
+  objectSound row = rangeInside row && rangeInside (row + formatColumn)
 
   unfoldable pub objectLine : ℕ → List ℕ
-  objectLine row = line (ascii "object") (shownText (textAt row) ∷ shownText (textAt (row + 11)) ∷ [])
+  objectLine row = line (ascii "object") (shownText (textAt row) ∷ shownText (textAt (row + formatColumn)) ∷ [])
 
   -- n objects, the first at this row, and its components from the row `from` on: blobs follow their object
   unfoldable pub objectLines : ℕ → ℕ → ℕ → List ℕ

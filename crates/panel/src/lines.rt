@@ -5,12 +5,20 @@ use crate::put::blank_text;
 use crate::put::byte;
 use crate::put::placed;
 use crate::put::word;
+use columns::COUNT;
+use columns::DTYPE;
+use columns::FORMAT;
+use columns::FORMAT_LENGTH;
+use columns::LENGTH;
+use columns::NAME_LENGTH;
+use columns::OFFSET;
 use view::part;
 ghost use mathlib.Core.Path.{_≡_};
 ghost use mathlib.Core.List.{[], _∷_};
 ghost use mathlib.Core.Bool.{true};
 ghost use Prim.Native.Nat.{_+_, _*_, _≤_};
 ghost use lib.ListN.{length};
+ghost use Rattle.meaning.specs.Columns.{objectWidth, componentWidth};
 ghost use Rattle.meaning.specs.Text.{ascii};
 ghost use Rattle.meaning.specs.Types.{storageOf};
 ghost use Rattle.meaning.specs.Listing.{line, shownText, decimal};
@@ -50,15 +58,15 @@ fn blob_words(name: &[u8], code: u64, offset: u64, size: u64, out: &mut [u8], at
 
 // The component whose row begins at `row`.
 fn blob(file: &[u8], table: &[u64], row: usize, out: &mut [u8], at: usize) -> usize
-    requires { ⌜ row + 10 ≤ length (now table) ⌝ }
+    requires { ⌜ row + componentWidth ≤ length (now table) ⌝ }
     ensures { λ r. ⌜ Wrote (is.blobLine (now (file .entry)) (now (table .entry)) row) at (now (out .entry)) (now (out .exit)) r ⌝ }
 {
-    let name = part(&file[0..], table[row], table[row + 1]);
+    let name = part(&file[0..], table[row], table[row + NAME_LENGTH]);
     blob_words(
         name,
-        table[row + 2],
-        table[row + 5],
-        table[row + 6],
+        table[row + DTYPE],
+        table[row + OFFSET],
+        table[row + LENGTH],
         out,
         at,
     )
@@ -66,7 +74,7 @@ fn blob(file: &[u8], table: &[u64], row: usize, out: &mut [u8], at: usize) -> us
 
 // n components, the first at the row `from`.
 fn blobs(file: &[u8], table: &[u64], n: u64, from: usize, out: &mut [u8], at: usize) -> usize
-    requires { ⌜ from + 10 * n ≤ length (now table) ⌝ }
+    requires { ⌜ from + componentWidth * n ≤ length (now table) ⌝ }
     ensures { λ r. ⌜ Wrote (is.blobLines (now (file .entry)) (now (table .entry)) n from) at (now (out .entry)) (now (out .exit)) r ⌝ }
 {
     let mut past = at;
@@ -74,7 +82,7 @@ fn blobs(file: &[u8], table: &[u64], n: u64, from: usize, out: &mut [u8], at: us
     let mut left = n;
     while 0 < left {
         past = blob(&file[0..], &table[0..], row, out, past);
-        row += 10;
+        row += columns::COMPONENT;
         left -= 1;
     }
     placed(past)
@@ -91,17 +99,17 @@ fn object_words(name: &[u8], format: &[u8], out: &mut [u8], at: usize) -> usize
 
 // The object whose row begins at `row`.
 fn object(file: &[u8], table: &[u64], row: usize, out: &mut [u8], at: usize) -> usize
-    requires { ⌜ row + 16 ≤ length (now table) ⌝ }
+    requires { ⌜ row + objectWidth ≤ length (now table) ⌝ }
     ensures { λ r. ⌜ Wrote (is.objectLine (now (file .entry)) (now (table .entry)) row) at (now (out .entry)) (now (out .exit)) r ⌝ }
 {
-    let name = part(&file[0..], table[row], table[row + 1]);
-    let format = part(&file[0..], table[row + 11], table[row + 12]);
+    let name = part(&file[0..], table[row], table[row + NAME_LENGTH]);
+    let format = part(&file[0..], table[row + FORMAT], table[row + FORMAT_LENGTH]);
     object_words(name, format, out, at)
 }
 
 // n objects, the first at the table's start, and their components from the row `first` on.
 fn objects_of(file: &[u8], table: &[u64], n: u64, first: usize, out: &mut [u8], at: usize) -> usize
-    requires { ⌜ (16 * n ≤ length (now table)) × (first + 10 * is.counted (now table) n 0 ≤ length (now table)) ⌝ }
+    requires { ⌜ (objectWidth * n ≤ length (now table)) × (first + componentWidth * is.counted (now table) n 0 ≤ length (now table)) ⌝ }
     ensures { λ r. ⌜ Wrote (is.objectLines (now (file .entry)) (now (table .entry)) n 0 first) at (now (out .entry)) (now (out .exit)) r ⌝ }
 {
     let mut past = at;
@@ -109,11 +117,11 @@ fn objects_of(file: &[u8], table: &[u64], n: u64, first: usize, out: &mut [u8], 
     let mut from = first;
     let mut left = n;
     while 0 < left {
-        let count = table[row + 15];
+        let count = table[row + COUNT];
         let next = object(&file[0..], &table[0..], row, out, past);
         past = blobs(&file[0..], &table[0..], count, from, out, next);
-        from += 10 * count as usize;
-        row += 16;
+        from += columns::COMPONENT * count as usize;
+        row += columns::OBJECT;
         left -= 1;
     }
     placed(past)
@@ -128,7 +136,7 @@ pub fn whole(file: &[u8], table: &[u64], objects: u64, components: u64, out: &mu
         &file[0..],
         &table[0..],
         objects,
-        16 * objects as usize,
+        columns::OBJECT * objects as usize,
         out,
         at,
     )

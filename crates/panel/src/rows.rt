@@ -1,23 +1,14 @@
 // Can a table with these counts be listed? Its rows lie in it, and what they say of the file in the file.
+use columns::COUNT;
+use columns::DTYPE;
+use columns::FORMAT;
+use columns::OFFSET;
 ghost use mathlib.Core.Path.{_≡_};
 ghost use Prim.Native.Nat.{_+_, _*_, _≤_};
 ghost use lib.ListN.{length};
-ghost use lib.Dec.{leb, eqb};
+ghost use lib.Dec.{eqb};
+ghost use Rattle.meaning.specs.Columns.{objectWidth, componentWidth};
 ghost use Rattle.panel.specs.Lines as is;
-
-// n numbers hold all rows. Compared by division, so that no product wraps.
-fn holds(n: usize, objects: u64, components: u64) -> bool
-    ensures { λ r. ⌜ r ≡ leb (16 * objects + 10 * components) n ⌝ }
-{
-    let room = n as u64;
-    if room / 16 < objects {
-        return false;
-    }
-    if (room - 16 * objects) / 10 < components {
-        return false;
-    }
-    true
-}
 
 // The place and the length that stand at the column i are inside the file.
 fn inside(file: &[u8], table: &[u64], i: usize) -> bool
@@ -36,12 +27,12 @@ fn inside(file: &[u8], table: &[u64], i: usize) -> bool
 }
 
 fn sound_component(file: &[u8], table: &[u64], row: usize) -> bool
-    requires { ⌜ row + 10 ≤ length (now table) ⌝ }
+    requires { ⌜ row + componentWidth ≤ length (now table) ⌝ }
     ensures { λ r. ⌜ r ≡ is.componentSound (now (file .entry)) (now (table .entry)) row ⌝ }
 {
     if inside(&file[0..], &table[0..], row) {
-        if table[row + 2] < 13 {
-            return inside(&file[0..], &table[0..], row + 5);
+        if table[row + DTYPE] < 13 {
+            return inside(&file[0..], &table[0..], row + OFFSET);
         }
         return false;
     }
@@ -49,14 +40,14 @@ fn sound_component(file: &[u8], table: &[u64], row: usize) -> bool
 }
 
 fn sound_components(file: &[u8], table: &[u64], n: u64, first: usize) -> bool
-    requires { ⌜ first + 10 * n ≤ length (now table) ⌝ }
-    ensures { λ r. ⌜ r ≡ is.every (is.componentSound (now (file .entry)) (now (table .entry))) 10 n first ⌝ }
+    requires { ⌜ first + componentWidth * n ≤ length (now table) ⌝ }
+    ensures { λ r. ⌜ r ≡ is.every (is.componentSound (now (file .entry)) (now (table .entry))) componentWidth n first ⌝ }
 {
     let mut row = first;
     let mut left = n;
     while 0 < left {
         if sound_component(&file[0..], &table[0..], row) {
-            row += 10;
+            row += columns::COMPONENT;
             left -= 1;
             continue;
         }
@@ -66,24 +57,24 @@ fn sound_components(file: &[u8], table: &[u64], n: u64, first: usize) -> bool
 }
 
 fn sound_object(file: &[u8], table: &[u64], row: usize) -> bool
-    requires { ⌜ row + 16 ≤ length (now table) ⌝ }
+    requires { ⌜ row + objectWidth ≤ length (now table) ⌝ }
     ensures { λ r. ⌜ r ≡ is.objectSound (now (file .entry)) (now (table .entry)) row ⌝ }
 {
     if inside(&file[0..], &table[0..], row) {
-        return inside(&file[0..], &table[0..], row + 11);
+        return inside(&file[0..], &table[0..], row + FORMAT);
     }
     false
 }
 
 fn sound_objects(file: &[u8], table: &[u64], n: u64) -> bool
-    requires { ⌜ 16 * n ≤ length (now table) ⌝ }
-    ensures { λ r. ⌜ r ≡ is.every (is.objectSound (now (file .entry)) (now (table .entry))) 16 n 0 ⌝ }
+    requires { ⌜ objectWidth * n ≤ length (now table) ⌝ }
+    ensures { λ r. ⌜ r ≡ is.every (is.objectSound (now (file .entry)) (now (table .entry))) objectWidth n 0 ⌝ }
 {
     let mut row = 0;
     let mut left = n;
     while 0 < left {
         if sound_object(&file[0..], &table[0..], row) {
-            row += 16;
+            row += columns::OBJECT;
             left -= 1;
             continue;
         }
@@ -94,19 +85,19 @@ fn sound_objects(file: &[u8], table: &[u64], n: u64) -> bool
 
 // The objects have as many components as there are.
 fn shared_out(table: &[u64], n: u64, components: u64) -> bool
-    requires { ⌜ 16 * n ≤ length (now table) ⌝ }
+    requires { ⌜ objectWidth * n ≤ length (now table) ⌝ }
     ensures { λ r. ⌜ r ≡ eqb (is.counted (now (table .entry)) n 0) components ⌝ }
 {
     let mut row = 0;
     let mut left = n;
     let mut due = components;
     while 0 < left {
-        let count = table[row + 15];
+        let count = table[row + COUNT];
         if due < count {
             return false;
         }
         due -= count;
-        row += 16;
+        row += columns::OBJECT;
         left -= 1;
     }
     due == 0
@@ -115,9 +106,14 @@ fn shared_out(table: &[u64], n: u64, components: u64) -> bool
 pub fn sound(file: &[u8], table: &[u64], objects: u64, components: u64) -> bool
     ensures { λ r. ⌜ r ≡ is.sound (now (file .entry)) (now (table .entry)) objects components ⌝ }
 {
-    if holds(table.len(), objects, components) {
+    if columns::holds(table.len(), objects, components) {
         if sound_objects(&file[0..], &table[0..], objects) {
-            if sound_components(&file[0..], &table[0..], components, 16 * objects as usize) {
+            if sound_components(
+                &file[0..],
+                &table[0..],
+                components,
+                columns::OBJECT * objects as usize,
+            ) {
                 return shared_out(&table[0..], objects, components);
             }
             return false;

@@ -5,10 +5,11 @@ use mathlib.Core.List.{List, [], _∷_, _++_, map, append-assoc}
 use mathlib.Core.Path.{_≡_, refl, ap, sym, _∙_}
 use lib.ListN.{length, take, drop, getD, replicate, length-append, length-replicate}
 use lib.Seq.{take-at, drop-drop, take-append-le, take-take, drop-append-add, getD-append-add, length-take-le}
+use Rattle.meaning.specs.Columns.{objectWidth, componentWidth}
 use Rattle.meaning.specs.Limit.{rankLimit}
 use Rattle.meaning.specs.Read.{Span}
 use Rattle.meaning.specs.Model.{Component, Object, Model}
-use Rattle.meaning.specs.Rows.{objectWidth, componentWidth, wordSpan, attributesSpan, dimensions, objectRow, componentRow, objectRows, rowsOf, componentRows, rows, componentCount}
+use Rattle.meaning.specs.Rows.{wordSpan, attributesSpan, dimensions, objectRow, componentRow, objectRows, rowsOf, componentRows, rows, componentCount}
 use Rattle.meaning.specs.Asked.{AskedComponent, askedObject, askedComponent, eachRow, asked}
 use Rattle.readback.specs.Every.{Every}
 use Rattle.readback.specs.Spelled.{askedOf, askedOfObject, askedOfAll, askedOfModel}
@@ -47,7 +48,7 @@ object-asked o R h =
 
 -- past the row
 object-past : (o : Object Span) (R : List ℕ) → drop objectWidth (objectRow o ++ R) ≡ R
-object-past o R = ap (drop 16) (object-row-is o R) ∙ past (dimensions (o .shape)) (ending o R) (dimensions-length (o .shape))
+object-past o R = ap (drop objectWidth) (object-row-is o R) ∙ past (dimensions (o .shape)) (ending o R) (dimensions-length (o .shape))
   where
     past : (D E : List ℕ) → length D ≡ 8 → drop 13 (D ++ E) ≡ drop 5 E
     past D E h = let k : 13 ≡ length D + 5 = omega arith in rw k (drop-append-add D E 5)
@@ -110,7 +111,7 @@ rows-asked m R h =
 
 -- ---- how many numbers they are
 
-object-length : (o : Object Span) → length (objectRow o) ≡ 16
+object-length : (o : Object Span) → length (objectRow o) ≡ objectWidth
 unfolding objectRow
 object-length o = omega (arith, length-append (length (o .shape) ∷ dimensions (o .shape)) (ending o []), dimensions-length (o .shape))
 

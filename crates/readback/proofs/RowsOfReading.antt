@@ -8,6 +8,7 @@ use mathlib.Core.Path.{_≡_, refl, ap, ap₂, _∙_}
 use lib.ListN.{length, replicate, length-append, length-map}
 use lib.Seq.{take-at, drop-at}
 use borrow.Author.Tests.{le-leb, lt-ltb, eq-eqb, ne-eqb}
+use Rattle.meaning.specs.Columns.{objectWidth, componentWidth}
 use Rattle.meaning.specs.Limit.{rankLimit}
 use Rattle.meaning.specs.Text.{all, same}
 use Rattle.meaning.specs.Tree.{Node, noteOf}
@@ -16,7 +17,7 @@ use Rattle.meaning.specs.Notes.{mapOption}
 use Rattle.meaning.specs.Model.{Word, Component, Object, Model}
 use Rattle.meaning.specs.Types.{storages}
 use Rattle.meaning.specs.Judge.{lettersOf}
-use Rattle.meaning.specs.Rows.{wordSpan, optionalSpan, attributesSpan, rows, componentCount, objectWidth, componentWidth}
+use Rattle.meaning.specs.Rows.{wordSpan, optionalSpan, attributesSpan, rows, componentCount}
 use Rattle.meaning.specs.Asked.{AskedComponent, asked, presentAt}
 use Rattle.meaning.specs.Sound.{rootLevels, objectLevels, absentOr, owners, inside, attributesSound, objectSound, componentSound, askedSound, rowsSound}
 use Rattle.meaning.specs.Check.{pass}

@@ -7,12 +7,12 @@ use mathlib.Core.Path.{_≡_, refl, ap, ap₂, sym, _∙_, subst}
 use lib.Dec.{eqb, leb}
 use lib.ListN.{length, take, drop, replicate, length-append, length-take, length-drop, length-replicate, length-map, take-append-drop}
 use borrow.Author.Tests.{leb-true}
+use Rattle.meaning.specs.Columns.{objectWidth, componentWidth}
 use Rattle.meaning.specs.Refusal.{ROW, BIG, COUNT, ROOM}
 use Rattle.meaning.specs.Limit.{manifestLimit, endLimit}
 use Rattle.meaning.specs.Check.{Check, pass, refuse, _>>_, _unless_}
 use Rattle.meaning.specs.Text.{same}
 use Rattle.meaning.specs.Read.{Span, bytesAt}
-use Rattle.meaning.specs.Rows.{objectWidth, componentWidth}
 use Rattle.meaning.specs.Asked.{AskedObject, AskedComponent, askedComponent, asked}
 use Rattle.meaning.specs.Sound.{owners, inside, componentSound, rowsSound}
 use Rattle.meaning.specs.Placement.{placement, lastEnd}

@@ -8,11 +8,11 @@ use mathlib.Core.Path.{_≡_, refl, ap}
 use lib.Dec.{eqb, leb, ltb}
 use lib.ListN.{length, take, drop, getD, length-take, length-map}
 use borrow.Author.Tests.{leb-true, ltb-true}
+use Rattle.meaning.specs.Columns.{objectWidth, componentWidth}
 use Rattle.meaning.specs.Limit.{rankLimit}
 use Rattle.meaning.specs.Text.{all, same}
 use Rattle.meaning.specs.Read.{Span, bytesAt}
 use Rattle.meaning.specs.Types.{storages}
-use Rattle.meaning.specs.Rows.{objectWidth, componentWidth}
 use Rattle.meaning.specs.Asked.{AskedObject, AskedComponent, Asked, askedObject, askedComponent, eachRow, asked, presentAt}
 use Rattle.meaning.specs.Sound.{aMap, rootLevels, objectLevels, absentOr, owners, inside, attributesSound, objectSound, componentSound, askedSound, rowsSound}
 use Rattle.meaning.specs.Described.{describedComponent, describedObject, describedObjects, described}

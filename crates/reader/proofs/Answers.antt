@@ -10,6 +10,7 @@ use lib.Seq.{length-take-le}
 use lib.Dec.{leb}
 use borrow.Author.Tests.{leb-true, leb-false, le-leb, lt-leb}
 use borrow.Rule.Slice.PartAt.{part-to-end}
+use Rattle.meaning.specs.Columns.{objectWidth, componentWidth}
 use Rattle.meaning.specs.Tree.{Node, Pair, noteOf, mapP}
 use Rattle.meaning.specs.Read as spans
 use Rattle.meaning.specs.Check.{Check, pass, refuse, _>>=_, _>>_, _unless_, required, optional}
@@ -47,16 +48,6 @@ use Rattle.reader.specs.declared.into.Answer.{Answer}
 use Rattle.reader.specs.Verdict.{manifestReading, Accepted, ManifestIs}
 use Rattle.reader.specs.Answer.{refused, read, answered, AttributesIs, Filled}
 use Rattle.reader.proofs.Frames.{framed, inside, manifest-read}
-
--- ---------------------------------------------------------------- the room, by division
-
-pub no-objects-fit : (room objects components : ℕ) → room / 16 < objects → false ≡ leb (16 * objects + 10 * components) room
-no-objects-fit room objects components l = sym (lt-leb (16 * objects + 10 * components) room (omega arith))
-
-pub components-fit : (room objects components : ℕ) → objects ≤ room / 16 → (b : Bool) → leb components ((room - 16 * objects) / 10) ≡ b → b ≡ leb (16 * objects + 10 * components) room
-components-fit room objects components l true e = let z = leb-true components ((room - 16 * objects) / 10) e in sym (le-leb (16 * objects + 10 * components) room (omega arith))
-components-fit room objects components l false e =
-    let z = leb-false components ((room - 16 * objects) / 10) e in sym (lt-leb (16 * objects + 10 * components) room (omega arith))
 
 -- ---------------------------------------------------------------- the attributes
 
@@ -149,7 +140,7 @@ module _ (start : ℕ) (m : List ℕ) (before : List ℕ) where
   manifest-refuses n o c e = (rw e refl, rw e refl)
 
   module _ (objects components left at : ℕ) (a : Accepted (start + length m) start m objects components left at) where
-    room-is : roomFor (mapModel (spanOf (start + length m)) (a .model)) ≡ 16 * objects + 10 * components
+    room-is : roomFor (mapModel (spanOf (start + length m)) (a .model)) ≡ objectWidth * objects + componentWidth * components
     unfolding roomFor
     room-is =
         let x = length-map (a .model .objects) (mapObject (spanOf (start + length m))) in
@@ -157,11 +148,11 @@ module _ (start : ℕ) (m : List ℕ) (before : List ℕ) where
         let z = a .objects-are in let w = a .components-are in
         omega arith
 
-    pub no-room : false ≡ leb (16 * objects + 10 * components) (length before) → Filled start m before (refused 24 0 0) before
+    pub no-room : false ≡ leb (objectWidth * objects + componentWidth * components) (length before) → Filled start m before (refused 24 0 0) before
     unfolding answer tableAfter roomy
     no-room e = let r = a .is in let i = room-is in (rw (r, i, ← e) refl, rw (r, i, ← e) refl)
 
-    module _ (room : length m < FAULT) (fits : true ≡ leb (16 * objects + 10 * components) (length before)) where
+    module _ (room : length m < FAULT) (fits : true ≡ leb (objectWidth * objects + componentWidth * components) (length before)) where
       parts : Parts start (a .tree) (a .model)
       parts = parts-of start (a .tree) (a .model) (a .judged)
 
@@ -178,7 +169,7 @@ module _ (start : ℕ) (m : List ℕ) (before : List ℕ) where
 
       enough : roomFor (a .model) ≤ length before
       unfolding roomFor
-      enough = let x = leb-true (16 * objects + 10 * components) (length before) (sym fits) in let z = a .objects-are in let w = a .components-are in omega arith
+      enough = let x = leb-true (objectWidth * objects + componentWidth * components) (length before) (sym fits) in let z = a .objects-are in let w = a .components-are in omega arith
 
       reading-is : (manifestReading (start + length m) start m >>= roomy (length before)) ≡ pass (record { start = start; model = mapModel (spanOf (start + length m)) (a .model) })
       unfolding roomy
@@ -194,12 +185,12 @@ module _ (start : ℕ) (m : List ℕ) (before : List ℕ) where
           let v : s .size ≡ attributesSpan (mapOption (mapP (spanOf (start + length m))) (a .model .attributes)) .size = ap (λ (s : spans.Span). s .size) z in
           rw (x, y, u, v) refl
 
-      pub written : (place : ℕ) → place ≡ length m - at → (after : List ℕ) → Written (Here m place) start (start + length m) (16 * objects) before after
+      pub written : (place : ℕ) → place ≡ length m - at → (after : List ℕ) → Written (Here m place) start (start + length m) (objectWidth * objects) before after
           → (s : Span) → AttributesIs m left (start + length m) s → Filled start m before (read objects components start s) after
       unfolding tableAfter
       written place here after w s h =
           let o = objects-read place here in
-          let from : 16 * objects ≡ 16 * length (a .model .objects) = ap (λ n. 16 * n) (a .objects-are) in (
+          let from : objectWidth * objects ≡ objectWidth * length (a .model .objects) = ap (λ n. objectWidth * n) (a .objects-are) in (
             answer-is s h ∙ ap answered (sym reading-is),
             w (parts .objects) (o .0) (o .1) (a .model) (parts .objects-judged) from enough ∙ ap (tableAfter before) (sym reading-is),
           )
@@ -214,11 +205,11 @@ module _ (start : ℕ) (m before : List ℕ) (x : Told) (h : (end : ℕ) → Man
   filled-not n o c e r is = subst (λ r. Filled start m before r before) (sym is) (manifest-refuses start m before n o c (told-there (No n o c) e))
 
   module _ (objects components left at : ℕ) (e : x ≡ Yes objects components left at) where
-    pub filled-no-room : false ≡ leb (16 * objects + 10 * components) (length before) → (r : Answer) → r ≡ refused 24 0 0 → Filled start m before r before
+    pub filled-no-room : false ≡ leb (objectWidth * objects + componentWidth * components) (length before) → (r : Answer) → r ≡ refused 24 0 0 → Filled start m before r before
     filled-no-room f r is = subst (λ r. Filled start m before r before) (sym is) (no-room start m before objects components left at (told-there (Yes objects components left at) e) f)
 
-    pub filled-so : length m < FAULT → true ≡ leb (16 * objects + 10 * components) (length before) → (place : ℕ) → place ≡ length m - at → (after : List ℕ)
-        → Written (Here m place) start (start + length m) (16 * objects) before after → (s : Span) → AttributesIs (Here m 0) left (start + length m) s → Filled start m before (read objects components start s) after
+    pub filled-so : length m < FAULT → true ≡ leb (objectWidth * objects + componentWidth * components) (length before) → (place : ℕ) → place ≡ length m - at → (after : List ℕ)
+        → Written (Here m place) start (start + length m) (objectWidth * objects) before after → (s : Span) → AttributesIs (Here m 0) left (start + length m) s → Filled start m before (read objects components start s) after
     filled-so room f place here after w s a =
         written start m before objects components left at (told-there (Yes objects components left at) e) room f place here after w s (subst (λ u. AttributesIs u left (start + length m) s) (part-to-end m 0) a)
 

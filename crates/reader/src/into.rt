@@ -9,6 +9,7 @@ ghost use mathlib.Core.Path.{_≡_};
 ghost use Prim.Native.Nat.{_+_, _*_, _<_};
 ghost use lib.ListN.{length};
 ghost use lib.Dec.{leb};
+ghost use Rattle.meaning.specs.Columns.{objectWidth, componentWidth};
 ghost use Rattle.meaning.specs.Check.{refuse};
 ghost use Rattle.meaning.specs.Rows.{readInto, tableAfter};
 ghost use Rattle.cbor.specs.Ending.{FAULT};
@@ -42,15 +43,11 @@ fn refused(number: u64, object: u64, component: u64) -> Answer
     }
 }
 
-// Room for so many objects and components, by division: no product can wrap.
+// Room for the rows of so many objects and components.
 fn fits(room: usize, objects: usize, components: usize) -> bool
-    ensures { λ r. ⌜ r ≡ leb (16 * objects + 10 * components) room ⌝ }
+    ensures { λ r. ⌜ r ≡ leb (objectWidth * objects + componentWidth * components) room ⌝ }
 {
-    if room / 16 < objects {
-        return false;
-    }
-    let left = room - 16 * objects;
-    components <= left / 10
+    columns::holds(room, objects as u64, components as u64)
 }
 
 // The root's attributes, which have `left` bytes left in m, in a file where m ends at `end`.
@@ -75,7 +72,7 @@ fn fill(m: &[u8], start: usize, t: &mut [u64]) -> Answer
             }
             let end = start + m.len();
             let place = place_of(m.len(), at);
-            table::write(&m[place..], start as u64, end, 16 * objects, t);
+            table::write(&m[place..], start as u64, end, columns::OBJECT * objects, t);
             let a = attributes(&m[0..], left, end);
             Answer {
                 number: 0,

@@ -7,6 +7,7 @@ use mathlib.Core.Path.{_≡_, refl, sym, ap, _∙_}
 use lib.ListN.{length, take, drop, getD, replicate, length-append, length-drop, length-replicate, length-map}
 use lib.Seq.{getD-drop}
 use lib.Dec.{eqb}
+use Rattle.meaning.specs.Columns.{objectWidth, componentWidth, countColumn}
 use Rattle.meaning.specs.Text.{same, all}
 use Rattle.meaning.specs.Read.{Span, bytesAt}
 use Rattle.meaning.specs.Asked.{AskedObject, AskedComponent, eachRow, askedObject, askedComponent, asked}
@@ -28,36 +29,36 @@ module _ (buffer os cs : List ℕ) (left due p q : ℕ) where
   described-from left due p q = describedObjects buffer (objectsAt left p os) (componentsAt due q cs)
 
   abbrev count : ℕ
-  count = getD os (p + 15) 0
+  count = getD os (p + countColumn) 0
 
   pub described-none : left ≤ 0 → described-from left due p q ≡ []
   unfolding describedObjects
-  described-none h = ap (λ (l : List AskedObject). describedObjects buffer l (componentsAt due q cs)) (no-row askedObject 16 left (drop p os) h)
+  described-none h = ap (λ (l : List AskedObject). describedObjects buffer l (componentsAt due q cs)) (no-row askedObject objectWidth left (drop p os) h)
 
   counts : askedObject (drop p os) .count ≡ count
   unfolding askedObject
-  counts = getD-drop p os 15 0
+  counts = getD-drop p os countColumn 0
 
   pub described-next : 0 < left → count ≤ due
       → described-from left due p q
       ≡ describedObject buffer (askedObject (drop p os)) (componentsAt count q cs)
-      ∷ described-from (left - 1) (due - count) (p + 16) (q + 10 * count)
+      ∷ described-from (left - 1) (due - count) (p + objectWidth) (q + componentWidth * count)
   unfolding describedObjects
   described-next h k =
-      rw (next-row-at askedObject 16 left p os h, counts, first-rows askedComponent 10 due count q cs k, later-rows askedComponent 10 due count q cs k) refl
+      rw (next-row-at askedObject objectWidth left p os h, counts, first-rows askedComponent componentWidth due count q cs k, later-rows askedComponent componentWidth due count q cs k) refl
 
 -- ---- how many components are counted
 
 pub counted-none : (os : List ℕ) (left p : ℕ) → left ≤ 0 → counted (objectsAt left p os) ≡ 0
 unfolding counted
-counted-none os left p h = ap counted (no-row askedObject 16 left (drop p os) h)
+counted-none os left p h = ap counted (no-row askedObject objectWidth left (drop p os) h)
 
 pub counted-next : (os : List ℕ) (left p : ℕ) → 0 < left
-    → counted (objectsAt left p os) ≡ getD os (p + 15) 0 + counted (objectsAt (left - 1) (p + 16) os)
+    → counted (objectsAt left p os) ≡ getD os (p + countColumn) 0 + counted (objectsAt (left - 1) (p + objectWidth) os)
 unfolding counted askedObject
 counted-next os left p h =
-    ap counted (next-row-at askedObject 16 left p os h)
-    ∙ ap (λ (k : ℕ). k + counted (objectsAt (left - 1) (p + 16) os)) (getD-drop p os 15 0)
+    ap counted (next-row-at askedObject objectWidth left p os h)
+    ∙ ap (λ (k : ℕ). k + counted (objectsAt (left - 1) (p + objectWidth) os)) (getD-drop p os countColumn 0)
 
 same-length : (xs ys : List ℕ) → same xs ys ≡ true → length xs ≡ length ys
 same-length [] [] e = refl
@@ -108,16 +109,16 @@ module _ (buffer : List ℕ) where
 
 module _ (buffer rows : List ℕ) (objects components : ℕ) (attributes : Span) (sound : rowsSound buffer rows objects components attributes ≡ true) where
   abbrev Cs : List AskedComponent
-  Cs = componentsAt components (16 * objects) rows
+  Cs = componentsAt components (objectWidth * objects) rows
 
-  pub rows-counted : counted (eachRow askedObject 16 objects rows) ≡ components
+  pub rows-counted : counted (eachRow askedObject objectWidth objects rows) ≡ components
   rows-counted =
-      counts-match 0 (eachRow askedObject 16 objects rows) Cs (sound-order buffer rows objects components attributes sound)
-      ∙ how-many askedComponent 10 components (drop (16 * objects) rows)
+      counts-match 0 (eachRow askedObject objectWidth objects rows) Cs (sound-order buffer rows objects components attributes sound)
+      ∙ how-many askedComponent componentWidth components (drop (objectWidth * objects) rows)
 
   pub blobs-are : blobs (described buffer (asked rows objects components attributes)) ≡ blobsOf buffer Cs
   unfolding described asked
-  blobs-are = blobs-in buffer (eachRow askedObject 16 objects rows) Cs (rows-counted ∙ sym (how-many askedComponent 10 components (drop (16 * objects) rows)))
+  blobs-are = blobs-in buffer (eachRow askedObject objectWidth objects rows) Cs (rows-counted ∙ sym (how-many askedComponent componentWidth components (drop (objectWidth * objects) rows)))
 
   pub blob-lengths : map length (blobs (described buffer (asked rows objects components attributes))) ≡ blobSizes Cs
   blob-lengths = ap (map length) blobs-are ∙ lengths-of buffer Cs ∙ blobs-as-long buffer Cs (sound-components buffer rows objects components attributes sound)

@@ -7,6 +7,7 @@ use mathlib.Core.Path.{_≡_, refl, sym, ap, _∙_}
 use lib.ListN.{length, take, drop, getD}
 use lib.Dec.{leb, eqb}
 use borrow.Author.Tests.{le-leb, lt-leb, lt-ltb, le-ltb, eq-eqb, ne-eqb}
+use Rattle.meaning.specs.Columns.{rankColumn, formatColumn, formatLengthColumn, attributesColumn, attributesLengthColumn, dtypeColumn, typeColumn, typeLengthColumn, offsetColumn, lengthColumn, digestColumn, digestLengthColumn}
 use Rattle.meaning.specs.Types.{storages}
 use Rattle.meaning.specs.Read.{Span, Outcome, got, refused, item, noNote}
 use Rattle.meaning.specs.Asked.{askedObject, askedComponent, presentAt}
@@ -14,20 +15,13 @@ use Rattle.meaning.specs.Sound.{beginsAsMap, fillsOrDeep, aMap, absentOr, insid
 use Rattle.cbor.specs.Ending.{FAULT, code, ending}
 use Rattle.rows.proofs.Both.{same-test, same-equality}
 
--- ---- ranges and room
+-- ---- ranges
 
 pub begins-past : (n place size : ℕ) → n < place → false ≡ leb (place + size) n
 begins-past n place size h = sym (lt-leb (place + size) n (omega (arith, h)))
 
 pub by-size : (n place size : ℕ) → place ≤ n → leb size (n - place) ≡ leb (place + size) n
 by-size n place size h = same-test size (n - place) (place + size) n (λ a. omega (arith, h, a)) (λ a. omega (arith, h, a))
-
-module _ (n objects components : ℕ) where
-  pub objects-past : n / 16 < objects → false ≡ leb (16 * objects + 10 * components) n
-  objects-past h = sym (lt-leb (16 * objects + 10 * components) n (omega (arith, h)))
-
-  pub by-components : objects ≤ n / 16 → leb components ((n - 16 * objects) / 10) ≡ leb (16 * objects + 10 * components) n
-  by-components h = same-test components ((n - 16 * objects) / 10) (16 * objects + 10 * components) n (λ a. omega (arith, h, a)) (λ a. omega (arith, h, a))
 
 -- ---- one map
 
@@ -111,38 +105,38 @@ module _ (buffer row : List ℕ) where
   object-name e = rw e refl
 
   module _ (name : lie 0 1 ≡ true) where
-    pub object-rank : 8 < getD row 2 0 → false ≡ objectSound buffer (askedObject row)
+    pub object-rank : 8 < getD row rankColumn 0 → false ≡ objectSound buffer (askedObject row)
     unfolding objectSound askedObject inside
-    object-rank e = rw (name, lt-leb (getD row 2 0) 8 e) refl
+    object-rank e = rw (name, lt-leb (getD row rankColumn 0) 8 e) refl
 
-    module _ (rank : getD row 2 0 ≤ 8) where
-      pub object-format : lie 11 12 ≡ false → false ≡ objectSound buffer (askedObject row)
+    module _ (rank : getD row rankColumn 0 ≤ 8) where
+      pub object-format : lie formatColumn formatLengthColumn ≡ false → false ≡ objectSound buffer (askedObject row)
       unfolding objectSound askedObject inside
-      object-format e = rw (name, le-leb (getD row 2 0) 8 rank, e) refl
+      object-format e = rw (name, le-leb (getD row rankColumn 0) 8 rank, e) refl
 
-      pub object-attributes : lie 11 12 ≡ true → attributesSound buffer 29 (record { place = getD row 13 0; size = getD row 14 0 }) ≡ objectSound buffer (askedObject row)
+      pub object-attributes : lie formatColumn formatLengthColumn ≡ true → attributesSound buffer 29 (record { place = getD row attributesColumn 0; size = getD row attributesLengthColumn 0 }) ≡ objectSound buffer (askedObject row)
       unfolding objectSound askedObject inside
-      object-attributes e = rw (name, le-leb (getD row 2 0) 8 rank, e) refl
+      object-attributes e = rw (name, le-leb (getD row rankColumn 0) 8 rank, e) refl
 
   pub component-name : lie 0 1 ≡ false → false ≡ componentSound buffer (askedComponent row)
   unfolding componentSound askedComponent inside
   component-name e = rw e refl
 
   module _ (name : lie 0 1 ≡ true) where
-    pub component-code : 12 < getD row 2 0 → false ≡ componentSound buffer (askedComponent row)
+    pub component-code : 12 < getD row dtypeColumn 0 → false ≡ componentSound buffer (askedComponent row)
     unfolding componentSound askedComponent inside storages
-    component-code e = rw (name, le-ltb (getD row 2 0) 13 (omega (arith, e))) refl
+    component-code e = rw (name, le-ltb (getD row dtypeColumn 0) 13 (omega (arith, e))) refl
 
-    module _ (known : getD row 2 0 ≤ 12) where
-      pub component-type : lie 3 4 ≡ false → false ≡ componentSound buffer (askedComponent row)
+    module _ (known : getD row dtypeColumn 0 ≤ 12) where
+      pub component-type : lie typeColumn typeLengthColumn ≡ false → false ≡ componentSound buffer (askedComponent row)
       unfolding componentSound askedComponent inside storages
-      component-type e = rw (name, lt-ltb (getD row 2 0) 13 (omega (arith, known)), e) refl
+      component-type e = rw (name, lt-ltb (getD row dtypeColumn 0) 13 (omega (arith, known)), e) refl
 
-      module _ (type : lie 3 4 ≡ true) where
-        pub component-blob : lie 5 6 ≡ false → false ≡ componentSound buffer (askedComponent row)
+      module _ (type : lie typeColumn typeLengthColumn ≡ true) where
+        pub component-blob : lie offsetColumn lengthColumn ≡ false → false ≡ componentSound buffer (askedComponent row)
         unfolding componentSound askedComponent inside storages
-        component-blob e = rw (name, lt-ltb (getD row 2 0) 13 (omega (arith, known)), type, e) refl
+        component-blob e = rw (name, lt-ltb (getD row dtypeColumn 0) 13 (omega (arith, known)), type, e) refl
 
-        pub component-digest : lie 5 6 ≡ true → lie 7 8 ≡ componentSound buffer (askedComponent row)
+        pub component-digest : lie offsetColumn lengthColumn ≡ true → lie digestColumn digestLengthColumn ≡ componentSound buffer (askedComponent row)
         unfolding componentSound askedComponent inside storages
-        component-digest e = rw (name, lt-ltb (getD row 2 0) 13 (omega (arith, known)), type, e) refl
+        component-digest e = rw (name, lt-ltb (getD row dtypeColumn 0) 13 (omega (arith, known)), type, e) refl

@@ -8,6 +8,7 @@ use lib.ListN.{length, drop, getD, replicate, length-append, length-replicate, l
 use lib.Seq.{getD-drop}
 use lib.Dec.{eqb}
 use borrow.Author.Tests.{eq-eqb, ne-eqb}
+use Rattle.meaning.specs.Columns.{objectWidth, componentWidth, countColumn, ownerColumn}
 use Rattle.meaning.specs.Text.{same}
 use Rattle.meaning.specs.Asked.{AskedObject, AskedComponent, eachRow, askedObject, askedComponent}
 use Rattle.meaning.specs.Sound.{owners}
@@ -40,8 +41,8 @@ owners-joined : (as′ bs : List AskedComponent) → ownersIn (as′ ++ bs) ≡ 
 owners-joined [] bs = refl
 owners-joined (a ∷ as′) bs = ap (λ (l : List ℕ). a .owner ∷ l) (owners-joined as′ bs)
 
-owners-counted : (n : ℕ) (s : List ℕ) → length (ownersIn (eachRow askedComponent 10 n s)) ≡ n
-owners-counted n s = length-map (eachRow askedComponent 10 n s) (λ c. c .owner) ∙ how-many askedComponent 10 n s
+owners-counted : (n : ℕ) (s : List ℕ) → length (ownersIn (eachRow askedComponent componentWidth n s)) ≡ n
+owners-counted n s = length-map (eachRow askedComponent componentWidth n s) (λ c. c .owner) ∙ how-many askedComponent componentWidth n s
 
 -- ---- one owner's components
 
@@ -62,18 +63,18 @@ module _ (i n at : ℕ) (rows : List ℕ) where
       by (suc m) h = absurd (omega (arith, h))
 
   module _ (h : 0 < n) where
-    owned-first : owned n at ≡ eqb i (getD rows (at + 9) 0) && owned (n - 1) (at + 10)
+    owned-first : owned n at ≡ eqb i (getD rows (at + ownerColumn) 0) && owned (n - 1) (at + componentWidth)
     unfolding askedComponent
     owned-first =
         ap (λ (l : List ℕ). same l (ownersIn (componentsAt n at rows))) (repeated n i h)
-        ∙ ap (λ (l : List AskedComponent). same (i ∷ replicate (n - 1) i) (ownersIn l)) (next-row-at askedComponent 10 n at rows h)
-        ∙ ap (λ (k : ℕ). eqb i k && owned (n - 1) (at + 10)) (getD-drop at rows 9 0)
+        ∙ ap (λ (l : List AskedComponent). same (i ∷ replicate (n - 1) i) (ownersIn l)) (next-row-at askedComponent componentWidth n at rows h)
+        ∙ ap (λ (k : ℕ). eqb i k && owned (n - 1) (at + componentWidth)) (getD-drop at rows ownerColumn 0)
 
-    pub owned-by-it : getD rows (at + 9) 0 ≡ i → owned n at ≡ owned (n - 1) (at + 10)
-    owned-by-it e = owned-first ∙ ap (λ (b : Bool). b && owned (n - 1) (at + 10)) (eq-eqb i (getD rows (at + 9) 0) (sym e))
+    pub owned-by-it : getD rows (at + ownerColumn) 0 ≡ i → owned n at ≡ owned (n - 1) (at + componentWidth)
+    owned-by-it e = owned-first ∙ ap (λ (b : Bool). b && owned (n - 1) (at + componentWidth)) (eq-eqb i (getD rows (at + ownerColumn) 0) (sym e))
 
-    pub owned-by-another : (getD rows (at + 9) 0 ≡ i → ⊥) → owned n at ≡ false
-    owned-by-another e = owned-first ∙ ap (λ (b : Bool). b && owned (n - 1) (at + 10)) (ne-eqb i (getD rows (at + 9) 0) (λ z. e (sym z)))
+    pub owned-by-another : (getD rows (at + ownerColumn) 0 ≡ i → ⊥) → owned n at ≡ false
+    owned-by-another e = owned-first ∙ ap (λ (b : Bool). b && owned (n - 1) (at + componentWidth)) (ne-eqb i (getD rows (at + ownerColumn) 0) (λ z. e (sym z)))
 
 -- ---- all objects' components
 
@@ -82,24 +83,24 @@ module _ (i left row due from : ℕ) (os cs : List ℕ) where
   order i left row due from = same (owners i (objectsAt left row os)) (ownersIn (componentsAt due from cs))
 
   abbrev count : ℕ
-  count = getD os (row + 15) 0
+  count = getD os (row + countColumn) 0
 
   pub none-due : left ≤ 0 → eqb due 0 ≡ order i left row due from
   unfolding owners
   none-due h =
-      by due (componentsAt due from cs) (how-many askedComponent 10 due (drop from cs))
-      ∙ sym (ap (λ (l : List AskedObject). same (owners i l) (ownersIn (componentsAt due from cs))) (no-row askedObject 16 left (drop row os) h))
+      by due (componentsAt due from cs) (how-many askedComponent componentWidth due (drop from cs))
+      ∙ sym (ap (λ (l : List AskedObject). same (owners i l) (ownersIn (componentsAt due from cs))) (no-row askedObject objectWidth left (drop row os) h))
     where
       by : (k : ℕ) (l : List AskedComponent) → length l ≡ k → eqb k 0 ≡ same (owners i []) (ownersIn l)
       by k [] e = eq-eqb k 0 (sym e)
       by k (c ∷ l) e = ne-eqb k 0 (λ z. omega (arith, e, z))
 
   module _ (h : 0 < left) where
-    first-owner : owners i (objectsAt left row os) ≡ replicate count i ++ owners (suc i) (objectsAt (left - 1) (row + 16) os)
+    first-owner : owners i (objectsAt left row os) ≡ replicate count i ++ owners (suc i) (objectsAt (left - 1) (row + objectWidth) os)
     unfolding owners askedObject
     first-owner =
-        ap (owners i) (next-row-at askedObject 16 left row os h)
-        ∙ ap (λ (k : ℕ). replicate k i ++ owners (suc i) (objectsAt (left - 1) (row + 16) os)) (getD-drop row os 15 0)
+        ap (owners i) (next-row-at askedObject objectWidth left row os h)
+        ∙ ap (λ (k : ℕ). replicate k i ++ owners (suc i) (objectsAt (left - 1) (row + objectWidth) os)) (getD-drop row os countColumn 0)
 
     pub too-many : due < count → order i left row due from ≡ false
     too-many d =
@@ -109,28 +110,28 @@ module _ (i left row due from : ℕ) (os cs : List ℕ) where
           d,
           owners-counted due (drop from cs),
           ap length first-owner,
-          length-append (replicate count i) (owners (suc i) (objectsAt (left - 1) (row + 16) os)),
+          length-append (replicate count i) (owners (suc i) (objectsAt (left - 1) (row + objectWidth) os)),
           length-replicate {A = ℕ} count i,
         ))
 
     module _ (d : count ≤ due) where
-      parted : order i left row due from ≡ owned i 0 0 cs count from && order (suc i) (left - 1) (row + 16) (due - count) (from + 10 * count)
+      parted : order i left row due from ≡ owned i 0 0 cs count from && order (suc i) (left - 1) (row + objectWidth) (due - count) (from + componentWidth * count)
       parted =
           ap (λ (l : List ℕ). same l (ownersIn (componentsAt due from cs))) first-owner
-          ∙ ap (λ (l : List AskedComponent). same (replicate count i ++ owners (suc i) (objectsAt (left - 1) (row + 16) os)) (ownersIn l))
-          (split-rows askedComponent 10 due count from cs d)
-          ∙ ap (same (replicate count i ++ owners (suc i) (objectsAt (left - 1) (row + 16) os)))
-          (owners-joined (componentsAt count from cs) (componentsAt (due - count) (from + 10 * count) cs))
+          ∙ ap (λ (l : List AskedComponent). same (replicate count i ++ owners (suc i) (objectsAt (left - 1) (row + objectWidth) os)) (ownersIn l))
+          (split-rows askedComponent componentWidth due count from cs d)
+          ∙ ap (same (replicate count i ++ owners (suc i) (objectsAt (left - 1) (row + objectWidth) os)))
+          (owners-joined (componentsAt count from cs) (componentsAt (due - count) (from + componentWidth * count) cs))
           ∙ same-joined (replicate count i) (ownersIn (componentsAt count from cs))
-          (owners (suc i) (objectsAt (left - 1) (row + 16) os))
-          (ownersIn (componentsAt (due - count) (from + 10 * count) cs))
+          (owners (suc i) (objectsAt (left - 1) (row + objectWidth) os))
+          (ownersIn (componentsAt (due - count) (from + componentWidth * count) cs))
           (length-replicate {A = ℕ} count i ∙ sym (owners-counted count (drop from cs)))
 
-      pub order-goes : owned i 0 0 cs count from ≡ true → order i left row due from ≡ order (i + 1) (left - 1) (row + 16) (due - count) (from + 10 * count)
+      pub order-goes : owned i 0 0 cs count from ≡ true → order i left row due from ≡ order (i + 1) (left - 1) (row + objectWidth) (due - count) (from + componentWidth * count)
       order-goes e =
           parted
-          ∙ ap (λ (b : Bool). b && order (suc i) (left - 1) (row + 16) (due - count) (from + 10 * count)) e
-          ∙ (let z : suc i ≡ i + 1 = omega arith in ap (λ (k : ℕ). order k (left - 1) (row + 16) (due - count) (from + 10 * count)) z)
+          ∙ ap (λ (b : Bool). b && order (suc i) (left - 1) (row + objectWidth) (due - count) (from + componentWidth * count)) e
+          ∙ (let z : suc i ≡ i + 1 = omega arith in ap (λ (k : ℕ). order k (left - 1) (row + objectWidth) (due - count) (from + componentWidth * count)) z)
 
       pub order-stops : owned i 0 0 cs count from ≡ false → order i left row due from ≡ false
-      order-stops e = parted ∙ ap (λ (b : Bool). b && order (suc i) (left - 1) (row + 16) (due - count) (from + 10 * count)) e
+      order-stops e = parted ∙ ap (λ (b : Bool). b && order (suc i) (left - 1) (row + objectWidth) (due - count) (from + componentWidth * count)) e

@@ -6,6 +6,7 @@ use mathlib.Core.Option.{some}
 use mathlib.Core.Path.{_≡_, refl, ap, _∙_}
 use lib.ListN.{length, take, drop, getD}
 use lib.Seq.{getD-drop}
+use Rattle.meaning.specs.Columns.{componentWidth, lengthColumn}
 use Rattle.meaning.specs.Text.{ascii}
 use Rattle.meaning.specs.Field.{rootNames}
 use Rattle.meaning.specs.Frame.{magic}
@@ -95,24 +96,24 @@ manifest-placed d = rw (objects-placed 8 (d .objects)) refl
 module _ (n at place : ℕ) (rows : List ℕ) where
   pub reached-none : n ≤ 0 → reached place (blobSizes (componentsAt n at rows)) ≡ place
   unfolding reached
-  reached-none h = ap (λ (l : List AskedComponent). reached place (blobSizes l)) (no-row askedComponent 10 n (drop at rows) h)
+  reached-none h = ap (λ (l : List AskedComponent). reached place (blobSizes l)) (no-row askedComponent componentWidth n (drop at rows) h)
 
   pub reached-next : 0 < n
       → reached place (blobSizes (componentsAt n at rows))
-      ≡ reached (aligned place + getD rows (at + 6) 0) (blobSizes (componentsAt (n - 1) (at + 10) rows))
+      ≡ reached (aligned place + getD rows (at + lengthColumn) 0) (blobSizes (componentsAt (n - 1) (at + componentWidth) rows))
   unfolding reached askedComponent
   reached-next h =
-      ap (λ (l : List AskedComponent). reached place (blobSizes l)) (next-row-at askedComponent 10 n at rows h)
-      ∙ ap (λ (k : ℕ). reached (aligned place + k) (blobSizes (componentsAt (n - 1) (at + 10) rows))) (getD-drop at rows 6 0)
+      ap (λ (l : List AskedComponent). reached place (blobSizes l)) (next-row-at askedComponent componentWidth n at rows h)
+      ∙ ap (λ (k : ℕ). reached (aligned place + k) (blobSizes (componentsAt (n - 1) (at + componentWidth) rows))) (getD-drop at rows lengthColumn 0)
 
   -- k of them, then the others
   pub reached-split : (k : ℕ) → k ≤ n
       → reached place (blobSizes (componentsAt n at rows))
-      ≡ reached (reached place (blobSizes (componentsAt k at rows))) (blobSizes (componentsAt (n - k) (at + 10 * k) rows))
+      ≡ reached (reached place (blobSizes (componentsAt k at rows))) (blobSizes (componentsAt (n - k) (at + componentWidth * k) rows))
   reached-split k h =
-      ap (λ (l : List AskedComponent). reached place (blobSizes l)) (split-rows askedComponent 10 n k at rows h)
-      ∙ ap (reached place) (sizes-joined (componentsAt k at rows) (componentsAt (n - k) (at + 10 * k) rows))
-      ∙ reached-joined place (blobSizes (componentsAt k at rows)) (blobSizes (componentsAt (n - k) (at + 10 * k) rows))
+      ap (λ (l : List AskedComponent). reached place (blobSizes l)) (split-rows askedComponent componentWidth n k at rows h)
+      ∙ ap (reached place) (sizes-joined (componentsAt k at rows) (componentsAt (n - k) (at + componentWidth * k) rows))
+      ∙ reached-joined place (blobSizes (componentsAt k at rows)) (blobSizes (componentsAt (n - k) (at + componentWidth * k) rows))
     where
       sizes-joined : (cs ds : List AskedComponent) → blobSizes (cs ++ ds) ≡ blobSizes cs ++ blobSizes ds
       sizes-joined [] ds = refl

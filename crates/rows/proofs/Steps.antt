@@ -5,6 +5,7 @@ use mathlib.Core.Bool.{true}
 use mathlib.Core.Path.{_≡_, sym, ap, _∙_}
 use lib.ListN.{drop, getD}
 use lib.Seq.{getD-drop}
+use Rattle.meaning.specs.Columns.{objectWidth, componentWidth, countColumn, lengthColumn}
 use Rattle.meaning.specs.Text.{all}
 use Rattle.meaning.specs.Read.{bytesAt}
 use Rattle.meaning.specs.Asked.{AskedComponent, askedObject, askedComponent}
@@ -26,7 +27,7 @@ module _ (buffer rows : List ℕ) (n at p : ℕ) where
 
   pub no-entry : n ≤ 0 → entries-at n at p ≡ []
   unfolding entriesFrom
-  no-entry h = ap (λ (l : List AskedComponent). entriesFrom p (map (describedComponent buffer) l)) (no-row askedComponent 10 n (drop at rows) h)
+  no-entry h = ap (λ (l : List AskedComponent). entriesFrom p (map (describedComponent buffer) l)) (no-row askedComponent componentWidth n (drop at rows) h)
 
   abbrev here : AskedComponent
   here = askedComponent (drop at rows)
@@ -34,12 +35,12 @@ module _ (buffer rows : List ℕ) (n at p : ℕ) where
   pub next-entry : 0 < n → componentSound buffer here ≡ true
       → entries-at n at p
       ≡ under (bytesAt buffer (here .name)) (componentBytes (aligned p) (describedComponent buffer here))
-      ∷ entries-at (n - 1) (at + 10) (aligned p + getD rows (at + 6) 0)
+      ∷ entries-at (n - 1) (at + componentWidth) (aligned p + getD rows (at + lengthColumn) 0)
   unfolding entriesFrom describedComponent askedComponent
   next-entry h e =
-      ap (λ (l : List AskedComponent). entriesFrom p (map (describedComponent buffer) l)) (next-row-at askedComponent 10 n at rows h)
-      ∙ ap (λ (k : ℕ). under (bytesAt buffer (here .name)) (componentBytes (aligned p) (describedComponent buffer here)) ∷ entries-at (n - 1) (at + 10) (aligned p + k))
-      (as-long buffer (here .blob) (component-blob-inside buffer here e) ∙ getD-drop at rows 6 0)
+      ap (λ (l : List AskedComponent). entriesFrom p (map (describedComponent buffer) l)) (next-row-at askedComponent componentWidth n at rows h)
+      ∙ ap (λ (k : ℕ). under (bytesAt buffer (here .name)) (componentBytes (aligned p) (describedComponent buffer here)) ∷ entries-at (n - 1) (at + componentWidth) (aligned p + k))
+      (as-long buffer (here .blob) (component-blob-inside buffer here e) ∙ getD-drop at rows lengthColumn 0)
 
 -- ---- objects: `left` of them from the place `row` on in os, `due` components from the place `from` on in cs, where blobs have reached the place p
 
@@ -48,7 +49,7 @@ module _ (buffer os cs : List ℕ) (left due row from p : ℕ) where
   objects-at left due row from p = objectsFrom p (describedObjects buffer (objectsAt left row os) (componentsAt due from cs))
 
   abbrev count : ℕ
-  count = getD os (row + 15) 0
+  count = getD os (row + countColumn) 0
 
   abbrev own : List AskedComponent
   own = componentsAt count from cs
@@ -60,15 +61,15 @@ module _ (buffer os cs : List ℕ) (left due row from p : ℕ) where
   pub next-object : 0 < left → count ≤ due → all (componentSound buffer) own ≡ true
       → objects-at left due row from p
       ≡ under (bytesAt buffer (askedObject (drop row os) .name)) (objectFrom p (describedObject buffer (askedObject (drop row os)) own))
-      ∷ objects-at (left - 1) (due - count) (row + 16) (from + 10 * count) (reached p (blobSizes own))
+      ∷ objects-at (left - 1) (due - count) (row + objectWidth) (from + componentWidth * count) (reached p (blobSizes own))
   unfolding objectsFrom describedObject
   next-object h k e =
       ap (objectsFrom p) (described-next buffer os cs left due row from h k)
       ∙ ap (λ (ls : List ℕ). under (bytesAt buffer (askedObject (drop row os) .name)) (objectFrom p (describedObject buffer (askedObject (drop row os)) own))
-      ∷ objects-at (left - 1) (due - count) (row + 16) (from + 10 * count) (reached p ls))
+      ∷ objects-at (left - 1) (due - count) (row + objectWidth) (from + componentWidth * count) (reached p ls))
       (blobs-as-long buffer own e)
 
   -- of all that are due, an object's own are sound
   pub own-sound : count ≤ due → all (componentSound buffer) (componentsAt due from cs) ≡ true → all (componentSound buffer) own ≡ true
   own-sound k e =
-      sym (ap (all (componentSound buffer)) (first-rows askedComponent 10 due count from cs k)) ∙ all-taken (componentSound buffer) count (componentsAt due from cs) e
+      sym (ap (all (componentSound buffer)) (first-rows askedComponent componentWidth due count from cs k)) ∙ all-taken (componentSound buffer) count (componentsAt due from cs) e

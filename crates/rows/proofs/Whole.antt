@@ -6,6 +6,7 @@ use mathlib.Core.Path.{_≡_, refl}
 use lib.ListN.{length}
 use lib.Dec.{leb}
 use borrow.Author.Tests.{leb-true}
+use Rattle.meaning.specs.Columns.{objectWidth, componentWidth}
 use Rattle.meaning.specs.Text.{same, all}
 use Rattle.meaning.specs.Read.{Span}
 use Rattle.meaning.specs.Asked.{AskedObject, AskedComponent, eachRow, askedObject, asked}
@@ -16,21 +17,21 @@ use Rattle.rows.proofs.Both.{both-left, both-right}
 
 module _ (buffer rows : List ℕ) (objects components : ℕ) (attributes : Span) where
   abbrev Os : List AskedObject
-  Os = eachRow askedObject 16 objects rows
+  Os = eachRow askedObject objectWidth objects rows
 
   abbrev Cs : List AskedComponent
-  Cs = componentsAt components (16 * objects) rows
+  Cs = componentsAt components (objectWidth * objects) rows
 
   abbrev verdict : Bool
   verdict = rowsSound buffer rows objects components attributes
 
-  pub not-held : leb (16 * objects + 10 * components) (length rows) ≡ false → false ≡ verdict
+  pub not-held : leb (objectWidth * objects + componentWidth * components) (length rows) ≡ false → false ≡ verdict
   unfolding rowsSound
   not-held e = rw e refl
 
-  module _ (held : leb (16 * objects + 10 * components) (length rows) ≡ true) where
-    pub rows-lie : 16 * objects + 10 * components ≤ length rows
-    rows-lie = leb-true (16 * objects + 10 * components) (length rows) held
+  module _ (held : leb (objectWidth * objects + componentWidth * components) (length rows) ≡ true) where
+    pub rows-lie : objectWidth * objects + componentWidth * components ≤ length rows
+    rows-lie = leb-true (objectWidth * objects + componentWidth * components) (length rows) held
 
     pub out-of-order : same (owners 0 Os) (ownersIn Cs) ≡ false → false ≡ verdict
     unfolding rowsSound askedSound asked
@@ -52,13 +53,13 @@ module _ (buffer rows : List ℕ) (objects components : ℕ) (attributes : Span)
 
   -- what sound rows give
   module _ (sound : rowsSound buffer rows objects components attributes ≡ true) where
-    pub sound-lies : 16 * objects + 10 * components ≤ length rows
+    pub sound-lies : objectWidth * objects + componentWidth * components ≤ length rows
     unfolding rowsSound
     sound-lies = rows-lie (both-left _ (askedSound buffer (asked rows objects components attributes)) sound)
 
     judged : same (owners 0 Os) (ownersIn Cs) && attributesSound buffer 31 attributes && all (objectSound buffer) Os && all (componentSound buffer) Cs ≡ true
     unfolding rowsSound askedSound asked
-    judged = both-right (leb (16 * objects + 10 * components) (length rows)) _ sound
+    judged = both-right (leb (objectWidth * objects + componentWidth * components) (length rows)) _ sound
 
     before-components : same (owners 0 Os) (ownersIn Cs) && attributesSound buffer 31 attributes && all (objectSound buffer) Os ≡ true
     before-components = both-left _ (all (componentSound buffer) Cs) judged

@@ -1,9 +1,24 @@
 // What is asked of each row by itself, and of attributes: ranges inside the buffer, rank and code, exactly one map.
 use crate::absent;
+use columns::ATTRIBUTES;
+use columns::ATTRIBUTES_LENGTH;
+use columns::DIGEST;
+use columns::DIGEST_LENGTH;
+use columns::DTYPE;
+use columns::FORMAT;
+use columns::FORMAT_LENGTH;
+use columns::LENGTH;
+use columns::NAME;
+use columns::NAME_LENGTH;
+use columns::OFFSET;
+use columns::RANK;
+use columns::TYPE;
+use columns::TYPE_LENGTH;
 ghost use mathlib.Core.Path.{_≡_};
 ghost use Prim.Native.Nat.{_+_, _*_, _≤_};
 ghost use lib.ListN.{length};
 ghost use lib.Dec.{leb};
+ghost use Rattle.meaning.specs.Columns.{objectWidth, componentWidth};
 ghost use Rattle.meaning.specs.Text.{all};
 ghost use Rattle.meaning.specs.Asked.{eachRow, askedObject, askedComponent};
 ghost use Rattle.meaning.specs.Sound as is;
@@ -53,32 +68,32 @@ pub fn attributes(buffer: &[u8], place: u64, size: u64, levels: u64) -> bool
 
 // The object whose row these numbers begin with.
 fn object(buffer: &[u8], row: &[u64]) -> bool
-    requires { ⌜ 16 ≤ length (now row) ⌝ }
+    requires { ⌜ objectWidth ≤ length (now row) ⌝ }
     ensures { λ r. ⌜ r ≡ is.objectSound (now (buffer .entry)) (askedObject (now (row .entry))) ⌝ }
 {
     let n = buffer.len();
-    if !inside(n, row[0], row[1]) {
+    if !inside(n, row[NAME], row[NAME_LENGTH]) {
         return false;
     }
-    if 8 < row[2] {
+    if 8 < row[RANK] {
         return false;
     }
-    if !inside(n, row[11], row[12]) {
+    if !inside(n, row[FORMAT], row[FORMAT_LENGTH]) {
         return false;
     }
-    attributes(&buffer[0..], row[13], row[14], 29)
+    attributes(&buffer[0..], row[ATTRIBUTES], row[ATTRIBUTES_LENGTH], 29)
 }
 
 // Each of n objects.
 pub fn objects(buffer: &[u8], rows: &[u64], n: u64) -> bool
-    requires { ⌜ 16 * n ≤ length (now rows) ⌝ }
-    ensures { λ r. ⌜ r ≡ all (is.objectSound (now (buffer .entry))) (eachRow askedObject 16 n (now (rows .entry))) ⌝ }
+    requires { ⌜ objectWidth * n ≤ length (now rows) ⌝ }
+    ensures { λ r. ⌜ r ≡ all (is.objectSound (now (buffer .entry))) (eachRow askedObject objectWidth n (now (rows .entry))) ⌝ }
 {
     let mut at = 0;
     let mut left = n;
     while 0 < left {
         if object(&buffer[0..], &rows[at..]) {
-            at += 16;
+            at += columns::OBJECT;
             left -= 1;
             continue;
         }
@@ -89,35 +104,35 @@ pub fn objects(buffer: &[u8], rows: &[u64], n: u64) -> bool
 
 // The component whose row these numbers begin with.
 fn component(buffer: &[u8], row: &[u64]) -> bool
-    requires { ⌜ 10 ≤ length (now row) ⌝ }
+    requires { ⌜ componentWidth ≤ length (now row) ⌝ }
     ensures { λ r. ⌜ r ≡ is.componentSound (now (buffer .entry)) (askedComponent (now (row .entry))) ⌝ }
 {
     let n = buffer.len();
-    if !inside(n, row[0], row[1]) {
+    if !inside(n, row[NAME], row[NAME_LENGTH]) {
         return false;
     }
-    if 12 < row[2] {
+    if 12 < row[DTYPE] {
         return false;
     }
-    if !inside(n, row[3], row[4]) {
+    if !inside(n, row[TYPE], row[TYPE_LENGTH]) {
         return false;
     }
-    if !inside(n, row[5], row[6]) {
+    if !inside(n, row[OFFSET], row[LENGTH]) {
         return false;
     }
-    inside(n, row[7], row[8])
+    inside(n, row[DIGEST], row[DIGEST_LENGTH])
 }
 
 // Each of n components.
 pub fn components(buffer: &[u8], rows: &[u64], n: u64) -> bool
-    requires { ⌜ 10 * n ≤ length (now rows) ⌝ }
-    ensures { λ r. ⌜ r ≡ all (is.componentSound (now (buffer .entry))) (eachRow askedComponent 10 n (now (rows .entry))) ⌝ }
+    requires { ⌜ componentWidth * n ≤ length (now rows) ⌝ }
+    ensures { λ r. ⌜ r ≡ all (is.componentSound (now (buffer .entry))) (eachRow askedComponent componentWidth n (now (rows .entry))) ⌝ }
 {
     let mut at = 0;
     let mut left = n;
     while 0 < left {
         if component(&buffer[0..], &rows[at..]) {
-            at += 10;
+            at += columns::COMPONENT;
             left -= 1;
             continue;
         }

@@ -3,9 +3,8 @@ mod judge;
 mod owned;
 
 ghost use mathlib.Core.Path.{_≡_};
-ghost use Prim.Native.Nat.{_+_, _*_};
 ghost use mathlib.Core.Bool.{_&&_};
-ghost use lib.Dec.{leb, eqb};
+ghost use lib.Dec.{eqb};
 ghost use Rattle.meaning.specs.Sound as is;
 
 // A range at 0 and 0 is absent.
@@ -18,17 +17,6 @@ pub fn absent(place: u64, size: u64) -> bool
     size == 0
 }
 
-// n numbers hold all rows. Compared by division, so that no product wraps.
-fn holds(n: usize, objects: u64, components: u64) -> bool
-    ensures { λ r. ⌜ r ≡ leb (16 * objects + 10 * components) n ⌝ }
-{
-    let room = n as u64;
-    if room / 16 < objects {
-        return false;
-    }
-    components <= (room - 16 * objects) / 10
-}
-
 pub fn sound(
     rows: &[u64],
     objects: u64,
@@ -39,10 +27,10 @@ pub fn sound(
 ) -> bool
     ensures { λ r. ⌜ r ≡ is.rowsSound (now (buffer .entry)) (now (rows .entry)) objects components (record { place = place; size = size }) ⌝ }
 {
-    if !holds(rows.len(), objects, components) {
+    if !columns::holds(rows.len(), objects, components) {
         return false;
     }
-    let first = (16 * objects) as usize;
+    let first = (columns::OBJECT_64 * objects) as usize;
     if !owned::in_order(&rows[0..], &rows[first..], objects, components) {
         return false;
     }

@@ -2,6 +2,7 @@
 ghost use mathlib.Core.Path.{_≡_};
 ghost use Prim.Native.Nat.{_+_, _*_, _≤_};
 ghost use lib.ListN.{length, replicate};
+ghost use Rattle.meaning.specs.Columns.{objectWidth, componentWidth};
 ghost use Rattle.meaning.specs.Text.{same};
 ghost use Rattle.meaning.specs.Asked.{eachRow, askedObject, askedComponent};
 ghost use Rattle.meaning.specs.Sound as is;
@@ -9,16 +10,16 @@ ghost use Rattle.rows.specs.Owner.{ownersIn};
 
 // The first n components are owned by i.
 fn by(i: u64, rows: &[u64], n: u64) -> bool
-    requires { ⌜ 10 * n ≤ length (now rows) ⌝ }
-    ensures { λ r. ⌜ r ≡ same (replicate n i) (ownersIn (eachRow askedComponent 10 n (now (rows .entry)))) ⌝ }
+    requires { ⌜ componentWidth * n ≤ length (now rows) ⌝ }
+    ensures { λ r. ⌜ r ≡ same (replicate n i) (ownersIn (eachRow askedComponent componentWidth n (now (rows .entry)))) ⌝ }
 {
     let mut at = 0;
     let mut left = n;
     while 0 < left {
-        if rows[at + 9] != i {
+        if rows[at + columns::OWNER] != i {
             return false;
         }
-        at += 10;
+        at += columns::COMPONENT;
         left -= 1;
     }
     true
@@ -26,23 +27,23 @@ fn by(i: u64, rows: &[u64], n: u64) -> bool
 
 // Of n objects and as many components as are due.
 pub fn in_order(objects: &[u64], components: &[u64], n: u64, all: u64) -> bool
-    requires { ⌜ 16 * n ≤ length (now objects) ⌝ }
-    requires { ⌜ 10 * all ≤ length (now components) ⌝ }
-    ensures { λ r. ⌜ r ≡ same (is.owners 0 (eachRow askedObject 16 n (now (objects .entry)))) (ownersIn (eachRow askedComponent 10 all (now (components .entry)))) ⌝ }
+    requires { ⌜ objectWidth * n ≤ length (now objects) ⌝ }
+    requires { ⌜ componentWidth * all ≤ length (now components) ⌝ }
+    ensures { λ r. ⌜ r ≡ same (is.owners 0 (eachRow askedObject objectWidth n (now (objects .entry)))) (ownersIn (eachRow askedComponent componentWidth all (now (components .entry)))) ⌝ }
 {
     let mut i = 0;
     let mut row = 0;
     let mut from = 0;
     let mut due = all;
     while i < n {
-        let count = objects[row + 15];
+        let count = objects[row + columns::COUNT];
         if due < count {
             return false;
         }
         if by(i, &components[from..], count) {
             i += 1;
-            row += 16;
-            from += (10 * count) as usize;
+            row += columns::OBJECT;
+            from += (columns::COMPONENT_64 * count) as usize;
             due -= count;
             continue;
         }

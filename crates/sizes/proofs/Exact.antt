@@ -8,6 +8,7 @@ use lib.ListN.{length, take, drop, getD, length-map, length-take, length-drop}
 use lib.Seq.{length-take-le}
 use lib.Dec.{ltb}
 use borrow.Author.Tests.{ltb-true, le-leb, lt-ltb}
+use Rattle.meaning.specs.Columns.{objectWidth, componentWidth, rankColumn, shapeColumn}
 use Rattle.meaning.specs.Text.{all}
 use Rattle.meaning.specs.Read.{Span, bytesAt}
 use Rattle.meaning.specs.Limit.{endLimit}
@@ -84,14 +85,14 @@ module _ (buffer : List ℕ) where
   short-row : (row : List ℕ) → objectSound buffer (askedObject row) ≡ true → short (askedObject row) ≡ true
   unfolding askedObject
   short-row row e =
-      lt-ltb (length (take (getD row 2 0) (drop 3 row))) 24 (omega (arith, object-rank-small buffer (askedObject row) e, length-take (getD row 2 0) (drop 3 row)))
+      lt-ltb (length (take (getD row rankColumn 0) (drop shapeColumn row))) 24 (omega (arith, object-rank-small buffer (askedObject row) e, length-take (getD row rankColumn 0) (drop shapeColumn row)))
 
-  short-rows : (n : ℕ) (rows : List ℕ) → all (objectSound buffer) (eachRow askedObject 16 n rows) ≡ true → all short (eachRow askedObject 16 n rows) ≡ true
+  short-rows : (n : ℕ) (rows : List ℕ) → all (objectSound buffer) (eachRow askedObject objectWidth n rows) ≡ true → all short (eachRow askedObject objectWidth n rows) ≡ true
   unfolding eachRow
   short-rows zero rows e = refl
   short-rows (suc n) rows e =
-      rw (short-row rows (both-left _ (all (objectSound buffer) (objectsAt n 16 rows)) e))
-      (short-rows n (drop 16 rows) (both-right (objectSound buffer (askedObject rows)) _ e))
+      rw (short-row rows (both-left _ (all (objectSound buffer) (objectsAt n objectWidth rows)) e))
+      (short-rows n (drop objectWidth rows) (both-right (objectSound buffer (askedObject rows)) _ e))
 
   object-length : (n : ℕ) (o : AskedObject) (cs : List AskedComponent) → objectSound buffer o ≡ true → short o ≡ true → all (componentSound buffer) cs ≡ true
       → textSize (length (bytesAt buffer (o .name))) + length (objectFrom n (describedObject buffer o cs)) ≡ objectSize o + headSize (length cs) + componentsSize n cs
@@ -138,10 +139,10 @@ module _ (buffer rows : List ℕ) (objects components : ℕ) (attributes : Span)
   d = described buffer a
 
   abbrev Os : List AskedObject
-  Os = eachRow askedObject 16 objects rows
+  Os = eachRow askedObject objectWidth objects rows
 
   abbrev Cs : List AskedComponent
-  Cs = componentsAt components (16 * objects) rows
+  Cs = componentsAt components (objectWidth * objects) rows
 
   pub end-is : endOf d ≡ reached 8 (blobSizes Cs)
   end-is = last-is-reached (lengthsOf d) ∙ ap (reached 8) (blob-lengths buffer rows objects components attributes sound)
@@ -156,7 +157,7 @@ module _ (buffer rows : List ℕ) (objects components : ℕ) (attributes : Span)
         copied-field buffer 11 attributes (attributes-inside buffer 31 attributes (sound-attributes buffer rows objects components attributes sound)),
         map-length (objectsFrom 8 (describedObjects buffer Os Cs)),
         ap headSize (objects-many buffer 8 Os Cs),
-        objects-length buffer 8 Os Cs (rows-counted buffer rows objects components attributes sound ∙ sym (how-many askedComponent 10 components (drop (16 * objects) rows)))
+        objects-length buffer 8 Os Cs (rows-counted buffer rows objects components attributes sound ∙ sym (how-many askedComponent componentWidth components (drop (objectWidth * objects) rows)))
             all-objects (short-rows buffer objects rows all-objects) (sound-components buffer rows objects components attributes sound),
       )
 
@@ -178,16 +179,16 @@ module _ (buffer rows : List ℕ) (objects components : ℕ) (attributes : Span)
 -- ---- what is measured
 
 module _ (rows : List ℕ) (objects components : ℕ) (m : Measurable rows objects components) where
-  pub all-fit : Fits rows (drop (16 * objects) rows) objects 0 0 8
+  pub all-fit : Fits rows (drop (objectWidth * objects) rows) objects 0 0 8
   all-fit = record {
     objects = omega (arith, m .lie);
-    components = omega (arith, m .lie, m .counts, length-drop (16 * objects) rows);
+    components = omega (arith, m .lie, m .counts, length-drop (objectWidth * objects) rows);
     ranks = m .ranks;
     ends = rw (m .counts) (m .ends);
   }
 
   pub manifest-sum : (attributes : Span) (t h p : ℕ) → t ≡ capped (optionalCopy 11 attributes) → h ≡ headSize objects
-      → p ≡ capped (objectsSizeIn rows (drop (16 * objects) rows) objects)
+      → p ≡ capped (objectsSizeIn rows (drop (objectWidth * objects) rows) objects)
       → capped (23 + t + h + p) ≡ capped (manifestSize (asked rows objects components attributes))
   unfolding manifestSize asked
   manifest-sum attributes t h p e f g =
@@ -196,6 +197,6 @@ module _ (rows : List ℕ) (objects components : ℕ) (m : Measurable rows objec
         e,
         f,
         g,
-        ap headSize (how-many askedObject 16 objects rows),
-        ap (λ (k : ℕ). objectsSize 8 (eachRow askedObject 16 objects rows) (componentsAt k (16 * objects) rows)) (m .counts),
+        ap headSize (how-many askedObject objectWidth objects rows),
+        ap (λ (k : ℕ). objectsSize 8 (eachRow askedObject objectWidth objects rows) (componentsAt k (objectWidth * objects) rows)) (m .counts),
       )

@@ -8,6 +8,7 @@ use lib.ListN.{length, take, drop, getD, List·getD-eq-default, length-drop}
 use lib.Seq.{getD-drop, drop-drop}
 use lib.Dec.{eqb}
 use borrow.Author.Tests.{leb-true}
+use Rattle.meaning.specs.Columns.{objectWidth, componentWidth, rankColumn, shapeColumn, formatLengthColumn, attributesColumn, attributesLengthColumn, countColumn, dtypeColumn, typeColumn, typeLengthColumn, lengthColumn, digestColumn, digestLengthColumn}
 use Rattle.meaning.specs.Limit.{manifestLimit, endLimit}
 use Rattle.meaning.specs.Read.{Span}
 use Rattle.meaning.specs.Types.{Storage, storages, storageOf}
@@ -87,26 +88,26 @@ next-dimension (suc n) [] h k = absurd (omega (arith, k))
 next-dimension (suc n) (x ∷ s) h k = let e : n ≡ suc n - 1 = omega arith in ap (λ (j : ℕ). x ∷ take j s) e
 
 module _ (row : List ℕ) (rank : ℕ) where
-  pub all-dimensions : dimensionsSize (take rank (drop 3 row)) ≡ 0 + dimensionsSize (take (rank - 0) (drop (0 + 3) row))
-  all-dimensions = let a : rank ≡ rank - 0 = omega arith in omega (arith, ap (λ (k : ℕ). dimensionsSize (take k (drop 3 row))) a)
+  pub all-dimensions : dimensionsSize (take rank (drop shapeColumn row)) ≡ 0 + dimensionsSize (take (rank - 0) (drop (0 + shapeColumn) row))
+  all-dimensions = let a : rank ≡ rank - 0 = omega arith in omega (arith, ap (λ (k : ℕ). dimensionsSize (take k (drop shapeColumn row))) a)
 
 module _ (row : List ℕ) (rank i : ℕ) where
-  pub dimensions-none : rank ≤ i → dimensionsSize (take (rank - i) (drop (i + 3) row)) ≡ 0
+  pub dimensions-none : rank ≤ i → dimensionsSize (take (rank - i) (drop (i + shapeColumn) row)) ≡ 0
   unfolding dimensionsSize
-  dimensions-none h = ap dimensionsSize (no-dimension (rank - i) (drop (i + 3) row) (omega (arith, h)))
+  dimensions-none h = ap dimensionsSize (no-dimension (rank - i) (drop (i + shapeColumn) row) (omega (arith, h)))
 
-  pub dimensions-next : i < rank → rank ≤ 8 → 16 ≤ length row
-      → dimensionsSize (take (rank - i) (drop (i + 3) row)) ≡ headSize (getD row (i + 3) 0) + dimensionsSize (take (rank - (i + 1)) (drop (i + 1 + 3) row))
+  pub dimensions-next : i < rank → rank ≤ 8 → objectWidth ≤ length row
+      → dimensionsSize (take (rank - i) (drop (i + shapeColumn) row)) ≡ headSize (getD row (i + shapeColumn) 0) + dimensionsSize (take (rank - (i + 1)) (drop (i + 1 + shapeColumn) row))
   unfolding dimensionsSize
   dimensions-next h k l =
       let a : rank - i - 1 ≡ rank - (i + 1) = omega (arith, h) in
-      let b : i + 3 + 1 ≡ i + 1 + 3 = omega arith in
-      let d : i + 3 + 0 ≡ i + 3 = omega arith in
+      let b : i + shapeColumn + 1 ≡ i + 1 + shapeColumn = omega arith in
+      let d : i + shapeColumn + 0 ≡ i + shapeColumn = omega arith in
       ap dimensionsSize
-      (next-dimension (rank - i) (drop (i + 3) row) (omega (arith, h)) (omega (arith, l, h, k, length-drop (i + 3) row))
-      ∙ ap (λ (x : ℕ). x ∷ take (rank - i - 1) (drop 1 (drop (i + 3) row))) (getD-drop (i + 3) row 0 0 ∙ ap (λ (j : ℕ). getD row j 0) d)
-      ∙ ap (λ (s : List ℕ). getD row (i + 3) 0 ∷ take (rank - i - 1) s) (drop-drop 1 (i + 3) row ∙ ap (λ (j : ℕ). drop j row) b)
-      ∙ ap (λ (j : ℕ). getD row (i + 3) 0 ∷ take j (drop (i + 1 + 3) row)) a)
+      (next-dimension (rank - i) (drop (i + shapeColumn) row) (omega (arith, h)) (omega (arith, l, h, k, length-drop (i + shapeColumn) row))
+      ∙ ap (λ (x : ℕ). x ∷ take (rank - i - 1) (drop 1 (drop (i + shapeColumn) row))) (getD-drop (i + shapeColumn) row 0 0 ∙ ap (λ (j : ℕ). getD row j 0) d)
+      ∙ ap (λ (s : List ℕ). getD row (i + shapeColumn) 0 ∷ take (rank - i - 1) s) (drop-drop 1 (i + shapeColumn) row ∙ ap (λ (j : ℕ). drop j row) b)
+      ∙ ap (λ (j : ℕ). getD row (i + shapeColumn) 0 ∷ take j (drop (i + 1 + shapeColumn) row)) a)
 
 -- ---- ends
 
@@ -117,28 +118,28 @@ aligned-in-time n h = omega (arith, h)
 -- ---- entries
 
 pub component-sum : (row : List ℕ) (offset t a b f : ℕ) → t ≡ capped (textSize (getD row 1 0))
-    → a ≡ capped (optionalText 5 (record { place = getD row 3 0; size = getD row 4 0 }))
-    → b ≡ capped (optionalText 7 (record { place = getD row 7 0; size = getD row 8 0 }))
-    → f ≡ fixedSize (getD row 2 0) offset (getD row 6 0) → capped (t + a + b + f) ≡ capped (componentSize offset (askedComponent row))
+    → a ≡ capped (optionalText 5 (record { place = getD row typeColumn 0; size = getD row typeLengthColumn 0 }))
+    → b ≡ capped (optionalText 7 (record { place = getD row digestColumn 0; size = getD row digestLengthColumn 0 }))
+    → f ≡ fixedSize (getD row dtypeColumn 0) offset (getD row lengthColumn 0) → capped (t + a + b + f) ≡ capped (componentSize offset (askedComponent row))
 unfolding componentSize askedComponent
 component-sum row offset t a b f e g h k = omega (arith, e, g, h, k)
 
 module _ (n at place : ℕ) (rows : List ℕ) where
   pub components-none : n ≤ 0 → componentsSize place (componentsAt n at rows) ≡ 0
   unfolding componentsSize
-  components-none h = ap (componentsSize place) (no-row askedComponent 10 n (drop at rows) h)
+  components-none h = ap (componentsSize place) (no-row askedComponent componentWidth n (drop at rows) h)
 
   pub components-next : 0 < n
       → componentsSize place (componentsAt n at rows)
-      ≡ componentSize (aligned place) (askedComponent (drop at rows)) + componentsSize (aligned place + getD rows (at + 6) 0) (componentsAt (n - 1) (at + 10) rows)
+      ≡ componentSize (aligned place) (askedComponent (drop at rows)) + componentsSize (aligned place + getD rows (at + lengthColumn) 0) (componentsAt (n - 1) (at + componentWidth) rows)
   unfolding componentsSize askedComponent
   components-next h =
-      ap (componentsSize place) (next-row-at askedComponent 10 n at rows h)
-      ∙ ap (λ (k : ℕ). componentSize (aligned place) (askedComponent (drop at rows)) + componentsSize (aligned place + k) (componentsAt (n - 1) (at + 10) rows))
-      (getD-drop at rows 6 0)
+      ap (componentsSize place) (next-row-at askedComponent componentWidth n at rows h)
+      ∙ ap (λ (k : ℕ). componentSize (aligned place) (askedComponent (drop at rows)) + componentsSize (aligned place + k) (componentsAt (n - 1) (at + componentWidth) rows))
+      (getD-drop at rows lengthColumn 0)
 
-pub object-sum : (row : List ℕ) (t u d a : ℕ) → t ≡ capped (textSize (getD row 1 0)) → u ≡ capped (textSize (getD row 12 0))
-    → d ≡ dimensionsSize (take (getD row 2 0) (drop 3 row)) → a ≡ capped (optionalCopy 11 (record { place = getD row 13 0; size = getD row 14 0 }))
+pub object-sum : (row : List ℕ) (t u d a : ℕ) → t ≡ capped (textSize (getD row 1 0)) → u ≡ capped (textSize (getD row formatLengthColumn 0))
+    → d ≡ dimensionsSize (take (getD row rankColumn 0) (drop shapeColumn row)) → a ≡ capped (optionalCopy 11 (record { place = getD row attributesColumn 0; size = getD row attributesLengthColumn 0 }))
     → capped (t + u + 26 + d + a) ≡ capped (objectSize (askedObject row))
 unfolding objectSize askedObject
 object-sum row t u d a e f g h = omega (arith, e, f, g, h)
@@ -150,51 +151,51 @@ module _ (os cs : List ℕ) (left row from end : ℕ) where
   due left row = counted (objectsAt left row os)
 
   abbrev count : ℕ
-  count = getD os (row + 15) 0
+  count = getD os (row + countColumn) 0
 
   pub objects-none : left ≤ 0 → objectsSize end (objectsAt left row os) (componentsAt (due left row) from cs) ≡ 0
   unfolding objectsSize
-  objects-none h = ap (λ (l : List AskedObject). objectsSize end l (componentsAt (due left row) from cs)) (no-row askedObject 16 left (drop row os) h)
+  objects-none h = ap (λ (l : List AskedObject). objectsSize end l (componentsAt (due left row) from cs)) (no-row askedObject objectWidth left (drop row os) h)
 
   module _ (some : 0 < left) where
-    due-next : due left row ≡ count + due (left - 1) (row + 16)
+    due-next : due left row ≡ count + due (left - 1) (row + objectWidth)
     due-next = counted-next os left row some
 
     counts : askedObject (drop row os) .count ≡ count
     unfolding askedObject
-    counts = getD-drop row os 15 0
+    counts = getD-drop row os countColumn 0
 
-    later : due left row - count ≡ due (left - 1) (row + 16)
+    later : due left row - count ≡ due (left - 1) (row + objectWidth)
     later = omega (arith, due-next)
 
     pub objects-next : objectsSize end (objectsAt left row os) (componentsAt (due left row) from cs)
         ≡ objectSize (askedObject (drop row os)) + headSize count + componentsSize end (componentsAt count from cs)
-        + objectsSize (reached end (blobSizes (componentsAt count from cs))) (objectsAt (left - 1) (row + 16) os)
-        (componentsAt (due (left - 1) (row + 16)) (from + 10 * count) cs)
+        + objectsSize (reached end (blobSizes (componentsAt count from cs))) (objectsAt (left - 1) (row + objectWidth) os)
+        (componentsAt (due (left - 1) (row + objectWidth)) (from + componentWidth * count) cs)
     unfolding objectsSize
     objects-next =
         let in-all : count ≤ due left row = omega (arith, due-next) in
-        ap (λ (l : List AskedObject). objectsSize end l (componentsAt (due left row) from cs)) (next-row-at askedObject 16 left row os some)
-        ∙ rw (counts, first-rows askedComponent 10 (due left row) count from cs in-all, later-rows askedComponent 10 (due left row) count from cs in-all, later) refl
+        ap (λ (l : List AskedObject). objectsSize end l (componentsAt (due left row) from cs)) (next-row-at askedObject objectWidth left row os some)
+        ∙ rw (counts, first-rows askedComponent componentWidth (due left row) count from cs in-all, later-rows askedComponent componentWidth (due left row) count from cs in-all, later) refl
 
     module _ (fits : Fits os cs left row from end) where
-      pub rank-small : getD (drop row os) 2 0 ≤ 8
+      pub rank-small : getD (drop row os) rankColumn 0 ≤ 8
       unfolding shaped askedObject
-      rank-small = leb-true (getD (drop row os) 2 0) 8 (first-so shaped askedObject 16 left row os some (fits .ranks))
+      rank-small = leb-true (getD (drop row os) rankColumn 0) 8 (first-so shaped askedObject objectWidth left row os some (fits .ranks))
 
-      pub components-there : from + 10 * count ≤ length cs
+      pub components-there : from + componentWidth * count ≤ length cs
       components-there = omega (arith, due-next, fits .components)
 
-      split : reached (reached end (blobSizes (componentsAt count from cs))) (blobSizes (componentsAt (due (left - 1) (row + 16)) (from + 10 * count) cs)) ≤ endLimit
+      split : reached (reached end (blobSizes (componentsAt count from cs))) (blobSizes (componentsAt (due (left - 1) (row + objectWidth)) (from + componentWidth * count) cs)) ≤ endLimit
       split =
           let in-all : count ≤ due left row = omega (arith, due-next) in
           let e = reached-split (due left row) from end cs count in-all in
-          let f = ap (λ (k : ℕ). reached (reached end (blobSizes (componentsAt count from cs))) (blobSizes (componentsAt k (from + 10 * count) cs))) later in
+          let f = ap (λ (k : ℕ). reached (reached end (blobSizes (componentsAt count from cs))) (blobSizes (componentsAt k (from + componentWidth * count) cs))) later in
           omega (arith, e, f, fits .ends)
 
       pub ends-in-time : reached end (blobSizes (componentsAt count from cs)) ≤ endLimit
       ends-in-time =
-          omega (arith, split, reached-above (reached end (blobSizes (componentsAt count from cs))) (blobSizes (componentsAt (due (left - 1) (row + 16)) (from + 10 * count) cs)))
+          omega (arith, split, reached-above (reached end (blobSizes (componentsAt count from cs))) (blobSizes (componentsAt (due (left - 1) (row + objectWidth)) (from + componentWidth * count) cs)))
 
       pub begins-in-time : end ≤ endLimit
       begins-in-time = omega (arith, ends-in-time, reached-above end (blobSizes (componentsAt count from cs)))
@@ -202,10 +203,10 @@ module _ (os cs : List ℕ) (left row from end : ℕ) where
       pub exact : (r : ℕ) → r ≡ cappedEnd (reached end (blobSizes (componentsAt count from cs))) → r ≡ reached end (blobSizes (componentsAt count from cs))
       exact r e = omega (arith, e, ends-in-time)
 
-      pub fits-next : (r : ℕ) → r ≡ cappedEnd (reached end (blobSizes (componentsAt count from cs))) → Fits os cs (left - 1) (row + 16) (from + 10 * count) r
+      pub fits-next : (r : ℕ) → r ≡ cappedEnd (reached end (blobSizes (componentsAt count from cs))) → Fits os cs (left - 1) (row + objectWidth) (from + componentWidth * count) r
       fits-next r e = record {
         objects = omega (arith, some, fits .objects);
         components = omega (arith, due-next, fits .components);
-        ranks = others-so shaped askedObject 16 left row os some (fits .ranks);
+        ranks = others-so shaped askedObject objectWidth left row os some (fits .ranks);
         ends = rw (exact r e) split;
       }

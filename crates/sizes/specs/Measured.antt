@@ -5,6 +5,7 @@ use mathlib.Core.Bool.{Bool, true}
 use mathlib.Core.Path.{_≡_}
 use lib.ListN.{length}
 use lib.Dec.{leb}
+use Rattle.meaning.specs.Columns.{objectWidth, componentWidth}
 use Rattle.meaning.specs.Text.{all}
 use Rattle.meaning.specs.Limit.{rankLimit, endLimit}
 use Rattle.meaning.specs.Read.{Span}
@@ -22,17 +23,17 @@ shaped o = leb (o .rank) rankLimit
 
 -- `left` objects from the place `row` on in os, their components from the place `from` on in cs, where blobs have reached the place `end`
 pub record Fits (os cs : List ℕ) (left row from end : ℕ) : Type 0 where
-  pub objects : row + 16 * left ≤ length os
-  pub components : from + 10 * counted (objectsAt left row os) ≤ length cs
+  pub objects : row + objectWidth * left ≤ length os
+  pub components : from + componentWidth * counted (objectsAt left row os) ≤ length cs
   pub ranks : all shaped (objectsAt left row os) ≡ true
   pub ends : reached end (blobSizes (componentsAt (counted (objectsAt left row os)) from cs)) ≤ endLimit
 
 -- all rows, and the last blob ends in time
 pub record Measurable (rows : List ℕ) (objects components : ℕ) : Type 0 where
-  pub lie : 16 * objects + 10 * components ≤ length rows
-  pub counts : counted (eachRow askedObject 16 objects rows) ≡ components
-  pub ranks : all shaped (eachRow askedObject 16 objects rows) ≡ true
-  pub ends : reached 8 (blobSizes (componentsAt components (16 * objects) rows)) ≤ endLimit
+  pub lie : objectWidth * objects + componentWidth * components ≤ length rows
+  pub counts : counted (eachRow askedObject objectWidth objects rows) ≡ components
+  pub ranks : all shaped (eachRow askedObject objectWidth objects rows) ≡ true
+  pub ends : reached 8 (blobSizes (componentsAt components (objectWidth * objects) rows)) ≤ endLimit
 
 -- what the writer's definitions say of a description: its last blob's end, and how long its manifest gets
 abbrev pub lengthsOf : Described → List ℕ

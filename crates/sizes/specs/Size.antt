@@ -4,6 +4,7 @@ use mathlib.Core.List.{List, [], _∷_}
 use mathlib.Core.Bool.{cond, _&&_}
 use lib.ListN.{length, take, drop}
 use lib.Dec.{ltb, eqb}
+use Rattle.meaning.specs.Columns.{objectWidth, componentWidth}
 use Rattle.meaning.specs.Limit.{manifestLimit, endLimit}
 use Rattle.meaning.specs.Read.{Span}
 use Rattle.meaning.specs.Types.{storageOf}
@@ -66,7 +67,7 @@ objectsSize n (o ∷ os) cs =
 
 -- n objects' rows, and the rows of as many components as they count
 abbrev pub objectsSizeIn : List ℕ → List ℕ → ℕ → ℕ
-objectsSizeIn os cs n = objectsSize 8 (eachRow askedObject 16 n os) (eachRow askedComponent 10 (counted (eachRow askedObject 16 n os)) cs)
+objectsSizeIn os cs n = objectsSize 8 (eachRow askedObject objectWidth n os) (eachRow askedComponent componentWidth (counted (eachRow askedObject objectWidth n os)) cs)
 
 -- version takes 14 bytes with its key, the key of objects 8
 unfoldable pub manifestSize : Asked → ℕ

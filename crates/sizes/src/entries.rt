@@ -6,9 +6,21 @@ use crate::piece::dimensions;
 use crate::piece::head;
 use crate::piece::optional_text;
 use crate::piece::text;
+use columns::ATTRIBUTES;
+use columns::ATTRIBUTES_LENGTH;
+use columns::COUNT;
+use columns::DIGEST;
+use columns::DIGEST_LENGTH;
+use columns::DTYPE;
+use columns::FORMAT_LENGTH;
+use columns::LENGTH;
+use columns::NAME_LENGTH;
+use columns::TYPE;
+use columns::TYPE_LENGTH;
 ghost use mathlib.Core.Path.{_≡_};
 ghost use Prim.Native.Nat.{_+_, _*_, _≤_, _<_};
 ghost use lib.ListN.{length, getD};
+ghost use Rattle.meaning.specs.Columns.{objectWidth, componentWidth, rankColumn};
 ghost use Rattle.meaning.specs.Limit.{endLimit};
 ghost use Rattle.meaning.specs.Placement as placement;
 ghost use Rattle.meaning.specs.Asked.{eachRow, askedObject, askedComponent};
@@ -28,21 +40,21 @@ pub fn aligned(n: u64) -> u64
 
 // Where the last of n components' blobs ends, from the place `start` on, or 2^40 + 1. Ends only grow, so the first above stops the count.
 pub fn end(rows: &[u64], n: u64, start: u64) -> u64
-    requires { ⌜ 10 * n ≤ length (now rows) ⌝ }
+    requires { ⌜ componentWidth * n ≤ length (now rows) ⌝ }
     requires { ⌜ start ≤ endLimit ⌝ }
-    ensures { λ r. ⌜ r ≡ is.cappedEnd (reached start (blobSizes (eachRow askedComponent 10 n (now (rows .entry))))) ⌝ }
+    ensures { λ r. ⌜ r ≡ is.cappedEnd (reached start (blobSizes (eachRow askedComponent componentWidth n (now (rows .entry))))) ⌝ }
 {
     let mut at = 0;
     let mut left = n;
     let mut place = start;
     while 0 < left {
         let offset = aligned(place);
-        let size = rows[at + 6];
+        let size = rows[at + LENGTH];
         if LAST - offset < size {
             return LAST + 1;
         }
         place = offset + size;
-        at += 10;
+        at += columns::COMPONENT;
         left -= 1;
     }
     place
@@ -57,18 +69,20 @@ fn fixed(dtype: u64, offset: u64, size: u64) -> u64
 
 // The component whose row these numbers begin with.
 fn component(row: &[u64], offset: u64) -> u64
-    requires { ⌜ 10 ≤ length (now row) ⌝ }
+    requires { ⌜ componentWidth ≤ length (now row) ⌝ }
     ensures { λ r. ⌜ r ≡ is.capped (is.componentSize offset (askedComponent (now (row .entry)))) ⌝ }
 {
-    let texts = text(row[1]) + optional_text(5, row[3], row[4]) + optional_text(7, row[7], row[8]);
-    capped(texts + fixed(row[2], offset, row[6]))
+    let texts = text(row[NAME_LENGTH])
+        + optional_text(5, row[TYPE], row[TYPE_LENGTH])
+        + optional_text(7, row[DIGEST], row[DIGEST_LENGTH]);
+    capped(texts + fixed(row[DTYPE], offset, row[LENGTH]))
 }
 
 // n components, from the place `start` on.
 fn components(rows: &[u64], n: u64, start: u64) -> u64
-    requires { ⌜ 10 * n ≤ length (now rows) ⌝ }
-    requires { ⌜ reached start (blobSizes (eachRow askedComponent 10 n (now rows))) ≤ endLimit ⌝ }
-    ensures { λ r. ⌜ r ≡ is.capped (is.componentsSize start (eachRow askedComponent 10 n (now (rows .entry)))) ⌝ }
+    requires { ⌜ componentWidth * n ≤ length (now rows) ⌝ }
+    requires { ⌜ reached start (blobSizes (eachRow askedComponent componentWidth n (now rows))) ≤ endLimit ⌝ }
+    ensures { λ r. ⌜ r ≡ is.capped (is.componentsSize start (eachRow askedComponent componentWidth n (now (rows .entry)))) ⌝ }
 {
     let mut at = 0;
     let mut left = n;
@@ -78,8 +92,8 @@ fn components(rows: &[u64], n: u64, start: u64) -> u64
         let offset = aligned(place);
         let size = component(&rows[at..], offset);
         total = capped(total + size);
-        place = offset + rows[at + 6];
-        at += 10;
+        place = offset + rows[at + LENGTH];
+        at += columns::COMPONENT;
         left -= 1;
     }
     total
@@ -87,12 +101,12 @@ fn components(rows: &[u64], n: u64, start: u64) -> u64
 
 // The object whose row these numbers begin with, without its components.
 fn object(row: &[u64]) -> u64
-    requires { ⌜ 16 ≤ length (now row) ⌝ }
-    requires { ⌜ getD (now row) 2 0 ≤ 8 ⌝ }
+    requires { ⌜ objectWidth ≤ length (now row) ⌝ }
+    requires { ⌜ getD (now row) rankColumn 0 ≤ 8 ⌝ }
     ensures { λ r. ⌜ r ≡ is.capped (is.objectSize (askedObject (now (row .entry)))) ⌝ }
 {
-    let texts = text(row[1]) + text(row[12]);
-    capped(texts + 26 + dimensions(&row[0..]) + attributes(row[13], row[14]))
+    let texts = text(row[NAME_LENGTH]) + text(row[FORMAT_LENGTH]);
+    capped(texts + 26 + dimensions(&row[0..]) + attributes(row[ATTRIBUTES], row[ATTRIBUTES_LENGTH]))
 }
 
 // n objects, their components in order.
@@ -106,12 +120,12 @@ pub fn objects(rows: &[u64], parts: &[u64], n: u64) -> u64
     let mut place = 8;
     let mut total = 0;
     while 0 < left {
-        let count = rows[row + 15];
+        let count = rows[row + COUNT];
         let own = object(&rows[row..]) + head(count);
         total = capped(total + own + components(&parts[from..], count, place));
         place = end(&parts[from..], count, place);
-        row += 16;
-        from += (10 * count) as usize;
+        row += columns::OBJECT;
+        from += (columns::COMPONENT_64 * count) as usize;
         left -= 1;
     }
     total

@@ -4,14 +4,15 @@ pub mod piece;
 
 ghost use Prim.Native.Nat.{_+_, _*_, _≤_};
 ghost use lib.ListN.{length};
+ghost use Rattle.meaning.specs.Columns.{objectWidth, componentWidth};
 ghost use Rattle.sizes.specs.Measured as is;
 
 // Where the last blob ends, or 2^40 + 1.
 pub fn last_end(rows: &[u64], objects: u64, components: u64) -> u64
-    requires { ⌜ 16 * objects + 10 * components ≤ length (now rows) ⌝ }
+    requires { ⌜ objectWidth * objects + componentWidth * components ≤ length (now rows) ⌝ }
     ensures { λ r. ⌜ is.EndIs (now (rows .entry)) objects components r ⌝ }
 {
-    let first = (16 * objects) as usize;
+    let first = (columns::OBJECT_64 * objects) as usize;
     entries::end(&rows[first..], components, 8)
 }
 
@@ -20,7 +21,7 @@ pub fn manifest(rows: &[u64], objects: u64, components: u64, place: u64, size: u
     requires { ⌜ is.Measurable (now rows) objects components ⌝ }
     ensures { λ r. ⌜ is.ManifestIs (now (rows .entry)) objects components (record { place = place; size = size }) r ⌝ }
 {
-    let first = (16 * objects) as usize;
+    let first = (columns::OBJECT_64 * objects) as usize;
     let held = entries::objects(&rows[0..], &rows[first..], objects);
     piece::capped(23 + piece::attributes(place, size) + piece::head(objects) + held)
 }

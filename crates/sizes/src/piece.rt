@@ -2,6 +2,7 @@
 ghost use mathlib.Core.Path.{_≡_};
 ghost use Prim.Native.Nat.{_+_, _*_, _≤_, _<_};
 ghost use lib.ListN.{length, drop, take, getD};
+ghost use Rattle.meaning.specs.Columns.{objectWidth, rankColumn, shapeColumn};
 ghost use Rattle.meaning.specs.Types.{storageOf};
 ghost use Rattle.sizes.specs.Size as is;
 
@@ -82,15 +83,15 @@ pub fn called(dtype: u64) -> u64
 
 // The shape of the object whose row these numbers begin with, without the head of its list.
 pub fn dimensions(row: &[u64]) -> u64
-    requires { ⌜ 16 ≤ length (now row) ⌝ }
-    requires { ⌜ getD (now row) 2 0 ≤ 8 ⌝ }
-    ensures { λ r. ⌜ (r ≡ is.dimensionsSize (take (getD (now (row .entry)) 2 0) (drop 3 (now (row .entry))))) × (r ≤ 72) ⌝ }
+    requires { ⌜ objectWidth ≤ length (now row) ⌝ }
+    requires { ⌜ getD (now row) rankColumn 0 ≤ 8 ⌝ }
+    ensures { λ r. ⌜ (r ≡ is.dimensionsSize (take (getD (now (row .entry)) rankColumn 0) (drop shapeColumn (now (row .entry))))) × (r ≤ 72) ⌝ }
 {
-    let rank = row[2] as usize;
+    let rank = row[columns::RANK] as usize;
     let mut i = 0;
     let mut total = 0;
     while i < rank {
-        total += head(row[i + 3]);
+        total += head(row[i + columns::SHAPE]);
         i += 1;
     }
     total

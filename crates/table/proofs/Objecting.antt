@@ -8,6 +8,7 @@ use mathlib.Core.Path.{_≡_, refl, ap, ap₂, sym, _∙_, subst}
 use lib.ListN.{length, drop, length-append, length-map}
 use lib.Seq.{sets, sets-eq}
 use borrow.Rule.Slice.PartAt.{part-to-end}
+use Rattle.meaning.specs.Columns.{objectWidth, componentWidth}
 use Rattle.meaning.specs.Tree.{Pair}
 use Rattle.meaning.specs.Check.{Check, pass, refuse, inObject}
 use Rattle.meaning.specs.Read.{Span}
@@ -16,7 +17,7 @@ use Rattle.meaning.specs.Model.{Object}
 use Rattle.meaning.specs.Notes.{mapObject, mapComponent}
 use Rattle.meaning.specs.Field.{names}
 use Rattle.meaning.specs.Judge.{object, objectsOf}
-use Rattle.meaning.specs.Rows.{objectWidth, componentWidth, objectRow, objectRows, rowsOf, componentRows, componentCount, rows, roomFor}
+use Rattle.meaning.specs.Rows.{objectRow, objectRows, rowsOf, componentRows, componentCount, rows, roomFor}
 use Rattle.cbor.specs.Ending.{FAULT, code, itemEnd}
 use Rattle.endian.proofs.Which.{lt-or}
 use Rattle.walk.specs.Reading.{Ends, Reads}
@@ -117,7 +118,7 @@ none-laid start end from before = record {
 
 module _ (start end from : ℕ) (before s : List ℕ) (place k n row row′ next next′ : ℕ) (after after′ : List ℕ) (kept : length after ≡ length before)
     (put : WholePut (Here s place) (Here s (place + k)) start end n row next after next′ after′) (room : ℕ) (roomy : room ≡ length after′) (kept′ : length after′ ≡ length after)
-    (further : row + 16 ≤ room → row′ ≡ row + 16) where
+    (further : row + objectWidth ≤ room → row′ ≡ row + objectWidth) where
   pub one-more-laid : (done : List (Pair Ends)) (p : Pair Ends) (q r : List ℕ) → Reads 30 (drop place s) (p .key) q → Reads 30 (drop (place + k) s) (p .value) r
       → ObjectsLaid start end from before n row next after done → ObjectsLaid start end from before (n + 1) row′ next′ after′ (done ++ p ∷ [])
   one-more-laid done p q r key value laid = record {
@@ -134,7 +135,7 @@ module _ (start end from : ℕ) (before s : List ℕ) (place k n row row′ next
         let a : Reads 30 (Here s place) (p .key) q = subst (λ u. Reads 30 u (p .key) q) (sym (part-to-end s place)) key in
         let b : Reads 30 (Here s (place + k)) (p .value) r = subst (λ u. Reads 30 u (p .value) r) (sym (part-to-end s (place + k))) value in
         let whole = put p 29 q r a b (l .name) (l .name-is) (l .last) (in-object (length done) (object start (l .name)) (l .last) (l .last-is)) (omega arith) (omega arith) in
-        let on : row′ ≡ row + 16 = further (omega arith) in
+        let on : row′ ≡ row + objectWidth = further (omega arith) in
         let next-so = whole .next-is in
         let O = objectIn end (l .last) in
         let A = objectsIn end (l .front) in

@@ -6,13 +6,14 @@ use mathlib.Core.Path.{_≡_, refl, ap, ap₂, sym, _∙_, subst}
 use lib.ListN.{length, drop, length-append}
 use lib.Seq.{sets}
 use borrow.Rule.Slice.PartAt.{part-to-end}
+use Rattle.meaning.specs.Columns.{componentWidth}
 use Rattle.meaning.specs.Tree.{Pair}
 use Rattle.meaning.specs.Check.{Check, pass, refuse, inComponent}
 use Rattle.meaning.specs.Read.{Span}
 use Rattle.meaning.specs.Model.{Component}
 use Rattle.meaning.specs.Notes.{mapComponent}
 use Rattle.meaning.specs.Judge.{component, componentsOf}
-use Rattle.meaning.specs.Rows.{componentRow, componentWidth, rowsOf}
+use Rattle.meaning.specs.Rows.{componentRow, rowsOf}
 use Rattle.meaning.specs.Field.{names}
 use Rattle.meaning.specs.Limit.{componentLimit}
 use Rattle.walk.specs.Reading.{Ends, Reads}
@@ -78,7 +79,7 @@ none-rowed start end owner from before = record {
 
 module _ (start end owner from : ℕ) (before : List ℕ) (s : List ℕ) (at k : ℕ) (count next next′ : ℕ) (after after′ : List ℕ) (kept : length after ≡ length before) (v : Judged)
     (judged : ComponentIs (Here s (at + k)) start v) (put : RowPut (Here s at) (Here s (at + k)) v end owner next after after′) (room : ℕ) (roomy : room ≡ length after′) (kept′ : length after′ ≡ length after)
-    (further : next + 10 ≤ room → next′ ≡ next + 10) where
+    (further : next + componentWidth ≤ room → next′ ≡ next + componentWidth) where
   pub one-more-rowed : (done : List (Pair Ends)) (p : Pair Ends) (q r : List ℕ) → Reads 28 (drop at s) (p .key) q → Reads 28 (drop (at + k) s) (p .value) r
       → Rowed start end owner from before count next after done → Rowed start end owner from before (count + 1) next′ after′ (done ++ p ∷ [])
   one-more-rowed done p q r key value rowed = record {
@@ -92,7 +93,7 @@ module _ (start end owner from : ℕ) (before : List ℕ) (s : List ℕ) (at k :
         let b : Reads 28 (Here s (at + k)) (p .value) r = subst (λ u. Reads 28 u (p .value) r) (sym (part-to-end s (at + k))) value in
         let row : after′ ≡ sets after next (rowIn end owner (l .last)) =
         put start judged p 27 q r a b (l .name) (l .name-is) (l .last) (in-component (length done) (component start (l .name)) (l .last) (l .last-is)) in
-        let on : next′ ≡ next + 10 = further (omega arith) in
+        let on : next′ ≡ next + componentWidth = further (omega arith) in
         record {
           next-is = omega arith;
           after-is =

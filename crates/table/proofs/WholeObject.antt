@@ -6,13 +6,14 @@ use mathlib.Core.Path.{_≡_, refl, ap, sym, _∙_, subst}
 use lib.ListN.{length, drop, replicate, length-append, length-replicate}
 use lib.Seq.{sets, length-take-le}
 use borrow.Rule.Slice.PartAt.{part-to-end}
+use Rattle.meaning.specs.Columns.{objectWidth}
 use Rattle.meaning.specs.Check.{pass, refuse}
 use Rattle.meaning.specs.Read.{Span}
 use Rattle.meaning.specs.Model.{Object}
 use Rattle.meaning.specs.Notes.{mapObject}
 use Rattle.meaning.specs.Field.{objectFields, fields, objectNames}
 use Rattle.meaning.specs.Judge.{object}
-use Rattle.meaning.specs.Rows.{objectRow, objectWidth, dimensions}
+use Rattle.meaning.specs.Rows.{objectRow, dimensions}
 use Rattle.walk.specs.Places.{MapIs}
 use Rattle.walk.specs.declared.Opening.{Opening}
 use Rattle.walk.specs.declared.Opening.the-variants.{NotOpen, Opened}

@@ -4,13 +4,14 @@ use mathlib.Core.List.{List, _++_, map}
 use mathlib.Core.Path.{_≡_}
 use lib.ListN.{length, drop}
 use lib.Seq.{sets}
+use Rattle.meaning.specs.Columns.{objectWidth, componentWidth}
 use Rattle.meaning.specs.Tree.{Node, Pair}
 use Rattle.meaning.specs.Check.{Check, pass, inObject}
 use Rattle.meaning.specs.Model.{Named, Object, Model}
 use Rattle.meaning.specs.Notes.{mapObject, mapModel}
 use Rattle.meaning.specs.Field.{nameOf}
 use Rattle.meaning.specs.Judge.{object, objectsOf}
-use Rattle.meaning.specs.Rows.{objectWidth, componentWidth, objectRows, componentRows, componentCount, rows, roomFor}
+use Rattle.meaning.specs.Rows.{objectRows, componentRows, componentCount, rows, roomFor}
 use Rattle.walk.specs.Reading.{Ends, Reads}
 use Rattle.walk.proofs.Passed.{AllPassed}
 use Rattle.table.specs.Spans.{spanOf}

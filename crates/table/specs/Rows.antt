@@ -4,12 +4,13 @@ use mathlib.Core.List.{List, map}
 use mathlib.Core.Path.{_≡_}
 use lib.ListN.{length}
 use lib.Seq.{sets}
+use Rattle.meaning.specs.Columns.{componentWidth}
 use Rattle.meaning.specs.Tree.{Node, Pair}
 use Rattle.meaning.specs.Check.{Check, pass, inComponent}
 use Rattle.meaning.specs.Model.{Named, Component}
 use Rattle.meaning.specs.Notes.{mapComponent}
 use Rattle.meaning.specs.Judge.{component, componentsOf}
-use Rattle.meaning.specs.Rows.{componentWidth, rowsOf}
+use Rattle.meaning.specs.Rows.{rowsOf}
 use Rattle.walk.specs.Reading.{Ends, Reads}
 use Rattle.walk.proofs.Passed.{AllPassed}
 use Rattle.table.specs.Spans.{spanOf}

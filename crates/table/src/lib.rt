@@ -77,7 +77,7 @@ fn pass_objects(s: &[u8], start: u64, end: usize, mode: u64, count: u64, from: u
                     return;
                 }
                 next = w.next;
-                row = ahead(row, 16, t.len());
+                row = ahead(row, columns::OBJECT, t.len());
                 n += 1;
                 at = v + w.end;
                 due -= 2;

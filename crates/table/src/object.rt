@@ -13,6 +13,11 @@ ghost use lib.Seq.{sets};
 ghost use Rattle.table.specs.Spans.{spanned};
 ghost use Rattle.table.specs.Object as is;
 
+// Columns of the third and of the eighth dimension.
+const THIRD: usize = columns::SHAPE + 2;
+
+const EIGHTH: usize = columns::SHAPE + 7;
+
 // Unused dimensions are 0.
 fn clear(d: &mut [u64], rank: usize)
     ensures { λ r. ⌜ is.Cleared rank (now (d .entry)) (now (d .exit)) ⌝ }
@@ -55,17 +60,17 @@ fn put_sixteen(
 {
     if i < t.len() {
         five(t, i, name.place, name.size, rank, d[0], d[1]);
-        five(t, i + 5, d[2], d[3], d[4], d[5], d[6]);
+        five(t, i + THIRD, d[2], d[3], d[4], d[5], d[6]);
         five(
             t,
-            i + 10,
+            i + EIGHTH,
             d[7],
             format.place,
             format.size,
             attributes.place,
             attributes.size,
         );
-        put(t, i + 15, count);
+        put(t, i + columns::COUNT, count);
     }
 }
 

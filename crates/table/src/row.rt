@@ -25,7 +25,15 @@ fn put_ten(
 {
     if i < t.len() {
         five(t, i, name.place, name.size, code, kind.place, kind.size);
-        five(t, i + 5, offset, length, digest.place, digest.size, owner);
+        five(
+            t,
+            i + columns::OFFSET,
+            offset,
+            length,
+            digest.place,
+            digest.size,
+            owner,
+        );
     }
 }
 

@@ -61,7 +61,7 @@ fn entries(
                 }
                 let judged = w.verdict;
                 put_row(&s[at..], &s[v..], judged, end, owner, next, t);
-                next = ahead(next, 10, t.len());
+                next = ahead(next, columns::COMPONENT, t.len());
                 n += 1;
                 at = v + w.end;
                 due -= 2;

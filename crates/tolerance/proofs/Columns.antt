@@ -6,15 +6,23 @@ use mathlib.Core.Bool.{false}
 use mathlib.Core.Path.{_≡_, refl, sym, subst, _∙_}
 use lib.ListN.{drop, getD}
 use lib.Seq.{getD-drop}
+use Rattle.meaning.specs.Columns.{objectWidth, componentWidth, nameColumn, formatColumn, attributesColumn, attributesLengthColumn, typeColumn, digestColumn}
 use Rattle.meaning.specs.Text.{filter}
 use Rattle.tolerance.specs.Alike.{Field, number, textSpan, mapSpan, objectFields, componentFields, mayDiffer, FieldsAlike}
 
+-- n columns, the first of them k
+columnsFrom : ℕ → ℕ → List ℕ
+columnsFrom k zero = []
+columnsFrom k (suc n) = k ∷ columnsFrom (suc k) n
+
 -- an object's row: the places of its name and format, and the place and length of its attributes
-pub object-columns : filter (mayDiffer objectFields) (0 ∷ 1 ∷ 2 ∷ 3 ∷ 4 ∷ 5 ∷ 6 ∷ 7 ∷ 8 ∷ 9 ∷ 10 ∷ 11 ∷ 12 ∷ 13 ∷ 14 ∷ 15 ∷ []) ≡ 0 ∷ 11 ∷ 13 ∷ 14 ∷ []
+pub object-columns : filter (mayDiffer objectFields) (columnsFrom 0 objectWidth) ≡ nameColumn ∷ formatColumn ∷ attributesColumn ∷ attributesLengthColumn ∷ []
+unfolding columnsFrom
 object-columns = refl
 
 -- a component's row: the places of its name, type and digest
-pub component-columns : filter (mayDiffer componentFields) (0 ∷ 1 ∷ 2 ∷ 3 ∷ 4 ∷ 5 ∷ 6 ∷ 7 ∷ 8 ∷ 9 ∷ []) ≡ 0 ∷ 3 ∷ 7 ∷ []
+pub component-columns : filter (mayDiffer componentFields) (columnsFrom 0 componentWidth) ≡ nameColumn ∷ typeColumn ∷ digestColumn ∷ []
+unfolding columnsFrom
 component-columns = refl
 
 -- what holds of a column further on

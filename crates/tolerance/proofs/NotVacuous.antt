@@ -5,6 +5,7 @@ use native.Mathlib.Omega.{arith}
 use mathlib.Core.List.{List, [], _∷_, _++_}
 use mathlib.Core.Path.{_≡_, refl, ap, sym, subst}
 use lib.ListN.{replicate}
+use Rattle.meaning.specs.Columns.{rankColumn}
 use Rattle.meaning.specs.Computed.{computed}
 use Rattle.meaning.specs.Drop.{isUnknown, plainVersion, known, inMap, inText, onValue, onField, dropComponent, dropObject, dropRoot}
 use Rattle.tolerance.specs.Manifests.{parsed, SameOnceDropped}
@@ -56,7 +57,7 @@ unfolding computed
 other-is-told-apart (refused r) = let a : 0 ≡ r .number = ap (λ x. x .number) (r .first) in let b = r .not-accepted in omega (arith, a, b)
 other-is-told-apart (accepted b) =
     let a : 1 ≡ b .objects = ap (λ x. x .objects) (b .first) in
-    let ranks : _≡_ {A = ℕ} 1 2 = same-columns plain other (tableFields 1 (b .components)) (afterwards plain table) (afterwards other table) 2
+    let ranks : _≡_ {A = ℕ} 1 2 = same-columns plain other (tableFields 1 (b .components)) (afterwards plain table) (afterwards other table) rankColumn
     (subst (λ (n : ℕ). FieldsAlike plain other (tableFields n (b .components)) (afterwards plain table) (afterwards other table)) (sym a) (b .rows)) refl in
     omega (arith, ranks)
 

@@ -1,14 +1,15 @@
 -- Answers and tables that are alike: the same numbers, but for places of texts and spans of attributes, where each file has the same text or the same map.
-use Prim.Native.Nat.{ℕ, zero, suc, _+_, _*_, _≤_}
+use Prim.Native.Nat.{ℕ, zero, suc, _+_, _-_, _*_, _≤_}
 use mathlib.Core.List.{List, [], _∷_, _++_}
 use mathlib.Core.Bool.{Bool, true, false}
 use mathlib.Core.Option.{Option, none, some}
 use mathlib.Core.Path.{_≡_}
 use lib.ListN.{length, drop, getD, replicate}
+use Rattle.meaning.specs.Columns.{objectWidth, componentWidth, rankColumn, formatColumn}
 use Rattle.meaning.specs.Tree.{Node, Pairs, dict}
 use Rattle.meaning.specs.Check.{refuse}
 use Rattle.meaning.specs.Read.{Span, bytesAt, got, item, noNote}
-use Rattle.meaning.specs.Rows.{Answer, answer, tableAfter, readInto, objectWidth, componentWidth}
+use Rattle.meaning.specs.Rows.{Answer, answer, tableAfter, readInto}
 
 -- ---------------------------------------------------------------- what stands in a file
 
@@ -50,11 +51,11 @@ MapAt file levels s (some t) = OneMap file levels s t
 pub data Field : Type 0 where
   number textSpan mapSpan : Field
 
--- name 0 and 1, rank 2, dimensions 3 to 10, format 11 and 12, attributes 13 and 14, number of components 15
+-- name; rank and dimensions; format, attributes, number of components
 abbrev pub objectFields : List Field
-objectFields = textSpan ∷ replicate 9 number ++ textSpan ∷ mapSpan ∷ number ∷ []
+objectFields = textSpan ∷ replicate (formatColumn - rankColumn) number ++ textSpan ∷ mapSpan ∷ number ∷ []
 
--- name 0 and 1, storage 2, type 3 and 4, offset 5, length 6, digest 7 and 8, object 9
+-- name, storage, type, offset, length, digest, owner
 abbrev pub componentFields : List Field
 componentFields = textSpan ∷ number ∷ textSpan ∷ number ∷ number ∷ textSpan ∷ number ∷ []
 

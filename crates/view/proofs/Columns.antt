@@ -6,6 +6,7 @@ use mathlib.Core.List.{List, [], _∷_, _++_, append-assoc}
 use mathlib.Core.Path.{_≡_, refl, sym, ap, _∙_}
 use lib.ListN.{length, drop, getD, replicate, length-append}
 use lib.Seq.{getD-drop, drop-drop, length-take-le, drop-at}
+use Rattle.meaning.specs.Columns.{objectWidth, componentWidth, dtypeColumn, offsetColumn, lengthColumn}
 use Rattle.meaning.specs.Read.{Span}
 use Rattle.meaning.specs.Model.{Component, Object, Model}
 use Rattle.meaning.specs.Rows.{wordSpan, attributesSpan, dimensions, objectRow, componentRow, objectRows, rowsOf, componentRows, rows, componentCount}
@@ -35,7 +36,7 @@ module _ (o : Object Span) where
       ap suc (length-take-le 8 (o .shape ++ replicate 8 0)
       (let z : length (o .shape ++ replicate 8 0) ≡ length (o .shape) + 8 = length-append (o .shape) (replicate 8 0) in omega (arith, z)))
 
-  pub object-width : length (objectRow o) ≡ 16
+  pub object-width : length (objectRow o) ≡ objectWidth
   unfolding objectRow shape ending
   object-width = ap (λ (n : ℕ). suc (suc n)) (length-append shape ending ∙ ap (λ (n : ℕ). n + 5) nine)
 
@@ -49,49 +50,49 @@ module _ (T : List ℕ) (q i : ℕ) (c : Component Span) (Y : List ℕ) (e : dro
   unfolding componentRow
   name-size = column T q (componentRow i c ++ Y) e 1
 
-  pub code-is : getD T (q + 2) 0 ≡ c .dtype
+  pub code-is : getD T (q + dtypeColumn) 0 ≡ c .dtype
   unfolding componentRow
-  code-is = column T q (componentRow i c ++ Y) e 2
+  code-is = column T q (componentRow i c ++ Y) e dtypeColumn
 
-  pub offset-is : getD T (q + 5) 0 ≡ c .offset
+  pub offset-is : getD T (q + offsetColumn) 0 ≡ c .offset
   unfolding componentRow
-  offset-is = column T q (componentRow i c ++ Y) e 5
+  offset-is = column T q (componentRow i c ++ Y) e offsetColumn
 
-  pub length-is : getD T (q + 6) 0 ≡ c .length
+  pub length-is : getD T (q + lengthColumn) 0 ≡ c .length
   unfolding componentRow
-  length-is = column T q (componentRow i c ++ Y) e 6
+  length-is = column T q (componentRow i c ++ Y) e lengthColumn
 
-  pub component-past : drop (q + 10) T ≡ Y
+  pub component-past : drop (q + componentWidth) T ≡ Y
   unfolding componentRow
-  component-past = onward T q (componentRow i c ++ Y) e 10
+  component-past = onward T q (componentRow i c ++ Y) e componentWidth
 
 -- ---- how many numbers they take
 
-pub objects-width : (os : List (Object Span)) → length (objectRows os) ≡ 16 * length os
+pub objects-width : (os : List (Object Span)) → length (objectRows os) ≡ objectWidth * length os
 unfolding objectRows
 objects-width [] = refl
 objects-width (o ∷ os) =
     let a : length (objectRow o ++ objectRows os) ≡ length (objectRow o) + length (objectRows os) = length-append (objectRow o) (objectRows os) in
-    let b : length (objectRow o) ≡ 16 = object-width o in
-    let c : length (objectRows os) ≡ 16 * length os = objects-width os in
+    let b : length (objectRow o) ≡ objectWidth = object-width o in
+    let c : length (objectRows os) ≡ objectWidth * length os = objects-width os in
     omega (arith, a, b, c)
 
-pub blobs-width : (i : ℕ) (cs : List (Component Span)) → length (rowsOf i cs) ≡ 10 * length cs
+pub blobs-width : (i : ℕ) (cs : List (Component Span)) → length (rowsOf i cs) ≡ componentWidth * length cs
 unfolding rowsOf componentRow
 blobs-width i [] = refl
 blobs-width i (c ∷ cs) =
-    let a : length (componentRow i c ++ rowsOf i cs) ≡ 10 + length (rowsOf i cs) = length-append (componentRow i c) (rowsOf i cs) in
-    let b : length (rowsOf i cs) ≡ 10 * length cs = blobs-width i cs in
+    let a : length (componentRow i c ++ rowsOf i cs) ≡ componentWidth + length (rowsOf i cs) = length-append (componentRow i c) (rowsOf i cs) in
+    let b : length (rowsOf i cs) ≡ componentWidth * length cs = blobs-width i cs in
     omega (arith, a, b)
 
-pub components-width : (i : ℕ) (os : List (Object Span)) → length (componentRows i os) ≡ 10 * componentCount os
+pub components-width : (i : ℕ) (os : List (Object Span)) → length (componentRows i os) ≡ componentWidth * componentCount os
 unfolding componentRows componentCount
 components-width i [] = refl
 components-width i (o ∷ os) =
     let a : length (rowsOf i (o .components) ++ componentRows (suc i) os) ≡ length (rowsOf i (o .components)) + length (componentRows (suc i) os) =
     length-append (rowsOf i (o .components)) (componentRows (suc i) os) in
-    let b : length (rowsOf i (o .components)) ≡ 10 * length (o .components) = blobs-width i (o .components) in
-    let c : length (componentRows (suc i) os) ≡ 10 * componentCount os = components-width (suc i) os in
+    let b : length (rowsOf i (o .components)) ≡ componentWidth * length (o .components) = blobs-width i (o .components) in
+    let c : length (componentRows (suc i) os) ≡ componentWidth * componentCount os = components-width (suc i) os in
     omega (arith, a, b, c)
 
 -- a table that begins with a model's rows
@@ -100,12 +101,12 @@ module _ (m : Model Span) (rest : List ℕ) where
   unfolding rows
   objects-at = append-assoc (objectRows (m .objects)) (componentRows 0 (m .objects)) rest
 
-  pub components-at : drop (16 * length (m .objects)) (rows m ++ rest) ≡ componentRows 0 (m .objects) ++ rest
+  pub components-at : drop (objectWidth * length (m .objects)) (rows m ++ rest) ≡ componentRows 0 (m .objects) ++ rest
   components-at =
-      ap (drop (16 * length (m .objects))) objects-at
-      ∙ drop-at (objectRows (m .objects)) (componentRows 0 (m .objects) ++ rest) (16 * length (m .objects)) (objects-width (m .objects))
+      ap (drop (objectWidth * length (m .objects))) objects-at
+      ∙ drop-at (objectRows (m .objects)) (componentRows 0 (m .objects) ++ rest) (objectWidth * length (m .objects)) (objects-width (m .objects))
 
-  pub rows-lie : 16 * length (m .objects) + 10 * componentCount (m .objects) ≤ length (rows m ++ rest)
+  pub rows-lie : objectWidth * length (m .objects) + componentWidth * componentCount (m .objects) ≤ length (rows m ++ rest)
   rows-lie =
       let a : length (rows m ++ rest) ≡ length (objectRows (m .objects)) + length (componentRows 0 (m .objects) ++ rest) =
       ap length objects-at ∙ length-append (objectRows (m .objects)) (componentRows 0 (m .objects) ++ rest) in

@@ -8,6 +8,7 @@ use lib.ListN.{length, take, drop, getD}
 use lib.Dec.{leb, ltb}
 use borrow.Rule.Slice.PartAt.{part-to-end}
 use borrow.Author.Tests.{le-leb, lt-leb, le-ltb, lt-ltb, leb-true}
+use Rattle.meaning.specs.Columns.{objectWidth, componentWidth, offsetColumn, lengthColumn}
 use Rattle.meaning.specs.Check.{Check, pass, refuse, _>>=_, _>>_, _unless_}
 use Rattle.meaning.specs.Read.{Span}
 use Rattle.meaning.specs.View.{viewed, partAt, view}
@@ -53,34 +54,34 @@ module _ (room objects components index : ℕ) where
   unfolding found
   not-counted a = rw (le-ltb index components a) refl
 
-  pub objects-past : index < components → room / 16 < objects → found room objects components index ≡ Nowhere
+  pub objects-past : index < components → room / objectWidth < objects → found room objects components index ≡ Nowhere
   unfolding found
-  objects-past a b = rw (lt-ltb index components a, lt-leb (16 * objects + 10 * index + 10) room (omega (arith, b))) refl
+  objects-past a b = rw (lt-ltb index components a, lt-leb (objectWidth * objects + componentWidth * index + componentWidth) room (omega (arith, b))) refl
 
-  pub row-past : index < components → objects ≤ room / 16 → (room - 16 * objects) / 10 ≤ index → found room objects components index ≡ Nowhere
+  pub row-past : index < components → objects ≤ room / objectWidth → (room - objectWidth * objects) / componentWidth ≤ index → found room objects components index ≡ Nowhere
   unfolding found
-  row-past a b d = rw (lt-ltb index components a, lt-leb (16 * objects + 10 * index + 10) room (omega (arith, b, d))) refl
+  row-past a b d = rw (lt-ltb index components a, lt-leb (objectWidth * objects + componentWidth * index + componentWidth) room (omega (arith, b, d))) refl
 
-  pub row-lies : index < components → objects ≤ room / 16 → index < (room - 16 * objects) / 10
-      → found room objects components index ≡ At (16 * objects + 10 * index)
+  pub row-lies : index < components → objects ≤ room / objectWidth → index < (room - objectWidth * objects) / componentWidth
+      → found room objects components index ≡ At (objectWidth * objects + componentWidth * index)
   unfolding found
-  row-lies a b d = rw (lt-ltb index components a, le-leb (16 * objects + 10 * index + 10) room (omega (arith, b, d))) refl
+  row-lies a b d = rw (lt-ltb index components a, le-leb (objectWidth * objects + componentWidth * index + componentWidth) room (omega (arith, b, d))) refl
 
 -- all ten numbers of a row stand in the table
 pub RowFits : ℕ → Row → Type 0
 RowFits room Nowhere = Unit {0}
-RowFits room (At row) = row + 10 ≤ room
+RowFits room (At row) = row + componentWidth ≤ room
 
 pub found-fits : (room objects components index : ℕ) → RowFits room (found room objects components index)
 unfolding found RowFits
-found-fits room objects components index = by (ltb index components) (leb (16 * objects + 10 * index + 10) room) refl
+found-fits room objects components index = by (ltb index components) (leb (objectWidth * objects + componentWidth * index + componentWidth) room) refl
   where
-    by : (b d : Bool) → leb (16 * objects + 10 * index + 10) room ≡ d → RowFits room (cond (b && d) (At (16 * objects + 10 * index)) Nowhere)
-    by true true e = leb-true (16 * objects + 10 * index + 10) room e
+    by : (b d : Bool) → leb (objectWidth * objects + componentWidth * index + componentWidth) room ≡ d → RowFits room (cond (b && d) (At (objectWidth * objects + componentWidth * index)) Nowhere)
+    by true true e = leb-true (objectWidth * objects + componentWidth * index + componentWidth) room e
     by true false e = tt
     by false d e = tt
 
-pub at-fits : (room objects components index row : ℕ) → found room objects components index ≡ At row → row + 10 ≤ room
+pub at-fits : (room objects components index row : ℕ) → found room objects components index ≡ At row → row + componentWidth ≤ room
 unfolding RowFits
 at-fits room objects components index row e = subst (RowFits room) e (found-fits room objects components index)
 
@@ -88,19 +89,19 @@ at-fits room objects components index row e = subst (RowFits room) e (found-fits
 
 unfoldable pub extentAt : List ℕ → List ℕ → Row → Extent
 extentAt file table Nowhere = nowhere
-extentAt file table (At row) = within (length file) (getD table (row + 5) 0) (getD table (row + 6) 0)
+extentAt file table (At row) = within (length file) (getD table (row + offsetColumn) 0) (getD table (row + lengthColumn) 0)
 
 module _ (file table : List ℕ) (objects components index : ℕ) where
   row : ℕ
-  row = 16 * objects + 10 * index
+  row = objectWidth * objects + componentWidth * index
 
   place : ℕ
-  place = getD table (row + 5) 0
+  place = getD table (row + offsetColumn) 0
 
   size : ℕ
-  size = getD table (row + 6) 0
+  size = getD table (row + lengthColumn) 0
 
-  by : (b d : Bool) → ltb index components && leb (row + 10) (length table) ≡ b → leb (place + size) (length file) ≡ d
+  by : (b d : Bool) → ltb index components && leb (row + componentWidth) (length table) ≡ b → leb (place + size) (length file) ≡ d
       → told (viewed file table objects components index) ≡ extentAt file table (found (length table) objects components index)
   unfolding viewed found within extentAt nowhere row place size
   by true true e f = rw (e, f) refl
@@ -108,12 +109,12 @@ module _ (file table : List ℕ) (objects components index : ℕ) where
   by false d e f = rw e refl
 
   pub told-is : told (viewed file table objects components index) ≡ extentAt file table (found (length table) objects components index)
-  told-is = by (ltb index components && leb (row + 10) (length table)) (leb (place + size) (length file)) refl refl
+  told-is = by (ltb index components && leb (row + componentWidth) (length table)) (leb (place + size) (length file)) refl refl
 
 pub extent-fits : (file table : List ℕ) (r : Row) → extentAt file table r .offset + extentAt file table r .length ≤ length file
 unfolding extentAt nowhere
 extent-fits file table Nowhere = omega arith
-extent-fits file table (At row) = within-fits (length file) (getD table (row + 5) 0) (getD table (row + 6) 0)
+extent-fits file table (At row) = within-fits (length file) (getD table (row + offsetColumn) 0) (getD table (row + lengthColumn) 0)
 
 pub part-of : (file : List ℕ) (v : Check Span) → take (told v .length) (drop (told v .offset) file) ≡ partAt file v
 unfolding partAt

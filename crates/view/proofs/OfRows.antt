@@ -6,6 +6,7 @@ use mathlib.Core.Option.{some}
 use mathlib.Core.Path.{_≡_, refl, ap, _∙_}
 use lib.ListN.{length, take, drop, getElem?, length-append}
 use borrow.Author.Tests.{lt-ltb, le-leb}
+use Rattle.meaning.specs.Columns.{objectWidth, componentWidth}
 use Rattle.meaning.specs.Check.{pass}
 use Rattle.meaning.specs.Read.{Span}
 use Rattle.meaning.specs.Model.{Component, Object, Model}
@@ -17,7 +18,7 @@ use Rattle.view.proofs.Columns.{offset-is, length-is, component-past, c
 module _ (T : List ℕ) (c : Component Span) where
   -- the row of c begins j rows after the place q
   Begins : ℕ → ℕ → Type 0
-  Begins q j = (i : ℕ) × (Y : List ℕ) × (drop (q + 10 * j) T ≡ componentRow i c ++ Y)
+  Begins q j = (i : ℕ) × (Y : List ℕ) × (drop (q + componentWidth * j) T ≡ componentRow i c ++ Y)
 
   -- among the components of one object, or further on
   in-object : (i : ℕ) (cs more : List (Component Span)) (q j : ℕ) (Z : List ℕ) → drop q T ≡ rowsOf i cs ++ Z
@@ -29,13 +30,13 @@ module _ (T : List ℕ) (c : Component Span) where
       let same : b ≡ c = cc in (
         i,
         rowsOf i cs ++ Z,
-        (let z : q + 10 * 0 ≡ q = omega arith in ap (λ (k : ℕ). drop k T) z)
+        (let z : q + componentWidth * 0 ≡ q = omega arith in ap (λ (k : ℕ). drop k T) z)
             ∙ e ∙ append-assoc (componentRow i b) (rowsOf i cs) Z ∙ ap (λ (a : Component Span). componentRow i a ++ (rowsOf i cs ++ Z)) same,
       )
   in-object i (b ∷ cs) more q (suc j) Z e further g =
       let f = e ∙ append-assoc (componentRow i b) (rowsOf i cs) Z in
-      let r = in-object i cs more (q + 10) j Z (component-past T q i b (rowsOf i cs ++ Z) f) further g in
-      (r .0, r .1, (let z : q + 10 * suc j ≡ q + 10 + 10 * j = omega arith in ap (λ (k : ℕ). drop k T) z) ∙ r .2)
+      let r = in-object i cs more (q + componentWidth) j Z (component-past T q i b (rowsOf i cs ++ Z) f) further g in
+      (r .0, r .1, (let z : q + componentWidth * suc j ≡ q + componentWidth + componentWidth * j = omega arith in ap (λ (k : ℕ). drop k T) z) ∙ r .2)
 
   in-objects : (i : ℕ) (os : List (Object Span)) (q j : ℕ) (Z : List ℕ) → drop q T ≡ componentRows i os ++ Z → getElem? (allComponents os) j ≡ some c → Begins q j
   unfolding componentRows allComponents
@@ -65,17 +66,17 @@ module _ (file rest : List ℕ) (m : Model Span) (j : ℕ) (c : Component Span) 
   T = rows m ++ rest
 
   row : ℕ
-  row = 16 * length os + 10 * j
+  row = objectWidth * length os + componentWidth * j
 
-  begins : Begins T c (16 * length os) j
+  begins : Begins T c (objectWidth * length os) j
   unfolding T os
-  begins = in-objects T c 0 os (16 * length os) j rest (components-at m rest) there
+  begins = in-objects T c 0 os (objectWidth * length os) j rest (components-at m rest) there
 
   below : j < componentCount os
   unfolding os
   below = let h : j < length (allComponents os) = found-below (allComponents os) j c there in omega (arith, h, all-counted os)
 
-  room : row + 10 ≤ length T
+  room : row + componentWidth ≤ length T
   unfolding row T os
   room = omega (arith, rows-lie m rest, below)
 
@@ -85,7 +86,7 @@ module _ (file rest : List ℕ) (m : Model Span) (j : ℕ) (c : Component Span) 
       let b = begins in
       rw (
         lt-ltb j (componentCount os) below,
-        le-leb (row + 10) (length T) room,
+        le-leb (row + componentWidth) (length T) room,
         offset-is T row (b .0) c (b .1) (b .2),
         length-is T row (b .0) c (b .1) (b .2),
         le-leb (c .offset + c .length) (length file) inside,

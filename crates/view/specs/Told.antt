@@ -2,10 +2,10 @@
 use Prim.Native.Nat.{ℕ, _+_, _*_}
 use mathlib.Core.Bool.{cond, _&&_}
 use lib.Dec.{leb, ltb}
+use Rattle.meaning.specs.Columns.{objectWidth, componentWidth}
 use Rattle.meaning.specs.Check.{Check, pass, refuse}
 use Rattle.meaning.specs.Refusal.{INDEX}
 use Rattle.meaning.specs.Read.{Span}
-use Rattle.meaning.specs.Rows.{objectWidth, componentWidth}
 use Rattle.view.specs.declared.Extent.{Extent}
 use Rattle.view.specs.declared.Row.{Row}
 use Rattle.view.specs.declared.Row.the-variants.{Nowhere, At}

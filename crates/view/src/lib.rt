@@ -29,14 +29,14 @@ fn row_of(n: usize, objects: u64, components: u64, index: u64) -> Row
         return Row::Nowhere;
     }
     let room = n as u64;
-    if room / 16 < objects {
+    if room / columns::OBJECT_64 < objects {
         return Row::Nowhere;
     }
-    let first = 16 * objects;
-    if (room - first) / 10 <= index {
+    let first = columns::OBJECT_64 * objects;
+    if (room - first) / columns::COMPONENT_64 <= index {
         return Row::Nowhere;
     }
-    Row::At((first + 10 * index) as usize)
+    Row::At((first + columns::COMPONENT_64 * index) as usize)
 }
 
 // A range of this place and size, in a file of n bytes.
@@ -75,7 +75,11 @@ pub fn range(file: &[u8], table: &[u64], objects: u64, components: u64, index: u
             offset: 0,
             length: 0,
         },
-        Row::At(at) => inside(file.len(), table[at + 5], table[at + 6]),
+        Row::At(at) => inside(
+            file.len(),
+            table[at + columns::OFFSET],
+            table[at + columns::LENGTH],
+        ),
     }
 }
 

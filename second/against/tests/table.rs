@@ -6,11 +6,11 @@ use against::beside;
 use against::tally::{seed, Tally};
 use against::Extent;
 use second::generate::nth_file;
-use second::{listing, view};
+use second::{columns, listing, view};
 
 const FILES: u64 = 200_000;
 /// Room for every file that is accepted.
-const AMPLE: usize = 16 * 1024 + 10 * 16 * 1024;
+const AMPLE: usize = columns::MOST;
 /// Room for nearly every generated file: lent to each that is refused, and must come back as it was.
 const ENOUGH: usize = 1024;
 /// Room for the listing of every generated file: lent where there is none to list.
@@ -37,7 +37,7 @@ fn hostile(state: &mut u64, near: u64) -> u64 {
     *state = state.wrapping_mul(6364136223846793005).wrapping_add(1442695040888963407);
     match *state >> 61 {
         0 => u64::MAX - (*state >> 32 & 3),
-        1 => u64::MAX / 16 + (*state >> 32 & 3),
+        1 => u64::MAX / columns::OBJECT_ROW as u64 + (*state >> 32 & 3),
         2 => near.wrapping_sub(1),
         3 => near + 1,
         4 => near,
@@ -52,7 +52,7 @@ fn tables() {
     for index in 0..FILES {
         let file = nth_file(seed(), index);
         let whole = beside::read(&file, &mut ample);
-        let exact = (16 * whole.objects + 10 * whole.components) as usize;
+        let exact = columns::numbers(whole.objects as usize, whole.components as usize);
         let rooms = match whole.number {
             0 => vec![exact, exact + 7, exact.saturating_sub(1), 0],
             _ if index % WIDE == 0 => vec![AMPLE, ENOUGH, 0],
@@ -129,7 +129,7 @@ fn listings() {
         if a.number != 0 {
             continue;
         }
-        let room = (16 * a.objects + 10 * a.components) as usize;
+        let room = columns::numbers(a.objects as usize, a.components as usize);
         compare_listings(&mut tally, index, &file, &table[..room], a.objects, a.components);
         // a row that is none of this file's, then counts that aren't
         let mut foreign = table[..room].to_vec();

@@ -5,7 +5,7 @@
 use against::beside;
 use against::tally::{seed, Tally};
 use second::generate::Generator;
-use second::rows;
+use second::{columns, rows};
 
 const SETS: u64 = 100_000;
 /// Room for every file that is written here: the largest manifest, and what stands around it.
@@ -13,7 +13,7 @@ const AMPLE: usize = (1 << 24) + (1 << 20);
 /// Room for nearly every file that is written here, lent where a set is refused: the output must come back as it was.
 const ENOUGH: usize = 1 << 16;
 /// Room for a table of every file that is accepted.
-const TABLE: usize = 16 * 1024 + 10 * 16 * 1024;
+const TABLE: usize = columns::MOST;
 const ROOM: u64 = 24;
 
 /// Bytes that tell whether they were touched.
@@ -25,7 +25,7 @@ fn fresh(room: usize) -> Vec<u8> {
 fn read_back(tally: &mut Tally, index: u64, file: &[u8], table: (&mut [u64], &mut [u64])) {
     let proved = against::read(file, table.0);
     let second = rows::read(file, table.1);
-    let used = (16 * second.objects + 10 * second.components) as usize;
+    let used = columns::numbers(second.objects as usize, second.components as usize);
     let proved = (proved.number, proved.objects, proved.components, &table.0[..used]);
     let second = (u64::from(second.number), second.objects, second.components, &table.1[..used]);
     tally.compare("read back", proved, second, || format!("row set {index}"));

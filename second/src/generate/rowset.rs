@@ -5,17 +5,18 @@ use super::plan::{ComponentPlan, ObjectPlan, Plan};
 use super::rng::Rng;
 use super::RowSet;
 use crate::cbor::DEPTH;
+use crate::columns::{self, COMPONENT_ROW, OBJECT_ROW};
 use crate::encode::Item;
 use crate::frame::SIZE_LIMIT;
 use crate::judge::RANK_LIMIT;
 use crate::refusal::{COUNT, LENGTH, RANK, ROLE, TEXT, TWICE, TYPE};
-use crate::rows::{ComponentRow, ObjectRow, Part, COMPONENT_ROW, OBJECT_ROW};
+use crate::rows::{ComponentRow, ObjectRow, Part};
 use crate::types::DTYPES;
 use crate::writer::END_LIMIT;
 
 /// Where the two numbers of each range stand in an object's and a component's row.
-const OBJECT_RANGES: [usize; 3] = [0, 11, 13];
-const COMPONENT_RANGES: [usize; 4] = [0, 3, 5, 7];
+const OBJECT_RANGES: [usize; 3] = [columns::NAME, columns::FORMAT, columns::ATTRIBUTES];
+const COMPONENT_RANGES: [usize; 4] = [columns::NAME, columns::TYPE, columns::BLOB, columns::DIGEST];
 
 /// Rows: sound, spoiled for the reader's refusals, or unsound.
 pub fn rows(rng: &mut Rng) -> RowSet {
@@ -119,7 +120,7 @@ fn at_size_limit(rng: &mut Rng) -> RowSet {
     set.buffer.resize((place + last) as usize, b'f');
     for (at, row) in set.rows.chunks_exact_mut(OBJECT_ROW).enumerate() {
         let length = if at == OBJECTS - 1 { last } else { SHARED };
-        row[OBJECT_RANGES[1]..][..2].copy_from_slice(&[place, length]);
+        row[columns::FORMAT..][..2].copy_from_slice(&[place, length]);
     }
     set
 }
@@ -268,16 +269,16 @@ fn damage(rng: &mut Rng, set: &mut RowSet) {
     let odd_range = odd_range(rng, set.buffer.len() as u64);
     let way = rng.index(12);
     match (way, rng.pick_mut(object_rows), rng.pick_mut(component_rows)) {
-        (0, Some(object), _) => object[2] = *rng.pick(&[8, 9, 1 << 32, u64::MAX]),
-        (1, Some(object), _) => object[15] = near(rng, object[15]),
+        (0, Some(object), _) => object[columns::RANK] = *rng.pick(&[8, 9, 1 << 32, u64::MAX]),
+        (1, Some(object), _) => object[columns::COUNT] = near(rng, object[columns::COUNT]),
         (2 | 3, Some(object), _) => {
             let at = *rng.pick(&OBJECT_RANGES);
             object[at..at + 2].copy_from_slice(&odd_range);
         }
         (4, _, Some(component)) => {
-            component[2] = *rng.pick(&[DTYPES.len() as u64, 12, 1 << 32, u64::MAX]);
+            component[columns::DTYPE] = *rng.pick(&[DTYPES.len() as u64, 12, 1 << 32, u64::MAX]);
         }
-        (5, _, Some(component)) => component[9] = near(rng, component[9]),
+        (5, _, Some(component)) => component[columns::OWNER] = near(rng, component[columns::OWNER]),
         (6 | 7, _, Some(component)) => {
             let at = *rng.pick(&COMPONENT_RANGES);
             component[at..at + 2].copy_from_slice(&odd_range);

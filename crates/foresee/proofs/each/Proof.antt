@@ -1,5 +1,6 @@
 -- `foresee::each` meets its contract: the invariant says what the rows that are left give.
 use lib.ListN.{length, drop, getD}
+use Rattle.meaning.specs.Columns.{objectWidth, componentWidth, countColumn}
 use Rattle.foresee.proofs.Objects as law
 use Rattle.foresee.specs.Told.{eachObject, objectsOf}
 use Rattle.rows.proofs.EachRow.{others-so}
@@ -16,8 +17,8 @@ use Rattle.foresee.proofs.each.Statement.{statement}
 use Rattle.foresee.proofs.each.Tie as tie
 
 abbrev Inv-loop : tie.InvT-loop
-Inv-loop rows n rest components buffer at₀ from₀ due₀ i₀ at from due i = (at + 16 * (n - i) ≤ length rows) × (from + 10 * due ≤ length rest) × (counted (eachRow askedObject 16 (n - i) (drop at rows)) ≡ due)
-    × (all (objectSound buffer) (eachRow askedObject 16 (n - i) (drop at rows)) ≡ true)
+Inv-loop rows n rest components buffer at₀ from₀ due₀ i₀ at from due i = (at + objectWidth * (n - i) ≤ length rows) × (from + componentWidth * due ≤ length rest) × (counted (eachRow askedObject objectWidth (n - i) (drop at rows)) ≡ due)
+    × (all (objectSound buffer) (eachRow askedObject objectWidth (n - i) (drop at rows)) ≡ true)
     × (eachObject 0 (objectsOf buffer rows n rest components) ≡ eachObject i (objectsOf buffer (drop at rows) (n - i) (drop from rest) due))
 
 abbrev μ-loop : tie.MeasureT-loop
@@ -29,7 +30,7 @@ each-spec =
     (tie.spec
     Inv-loop
     μ-loop
-    (λ c. (search needs, search needs, subst (λ (k : ℕ). counted (eachRow askedObject 16 k (c .before .before .before .args .rows .now)) ≡ (c .before .before .before .args .components)) (omega arith) ((c .before .before .before .pre .adds-up)), subst (λ (k : ℕ). all (objectSound (c .before .before .before .args .buffer .now)) (eachRow askedObject 16 k (c .before .before .before .args .rows .now)) ≡ true) (omega arith) ((c .before .before .before .pre .sound)), (let z : (c .before .before .before .args .n) ≡ (c .before .before .before .args .n) - 0 = omega arith in ap (λ (k : ℕ). eachObject 0 (objectsOf (c .before .before .before .args .buffer .now) (c .before .before .before .args .rows .now) k (c .before .before .before .args .rest .now) (c .before .before .before .args .components))) z)))
+    (λ c. (search needs, search needs, subst (λ (k : ℕ). counted (eachRow askedObject objectWidth k (c .before .before .before .args .rows .now)) ≡ (c .before .before .before .args .components)) (omega arith) ((c .before .before .before .pre .adds-up)), subst (λ (k : ℕ). all (objectSound (c .before .before .before .args .buffer .now)) (eachRow askedObject objectWidth k (c .before .before .before .args .rows .now)) ≡ true) (omega arith) ((c .before .before .before .pre .sound)), (let z : (c .before .before .before .args .n) ≡ (c .before .before .before .args .n) - 0 = omega arith in ap (λ (k : ℕ). eachObject 0 (objectsOf (c .before .before .before .args .buffer .now) (c .before .before .before .args .rows .now) k (c .before .before .before .args .rest .now) (c .before .before .before .args .components))) z)))
     (λ c. search needs)
     (λ c. search needs)
     (λ c. search needs)
@@ -51,5 +52,5 @@ each-spec =
     (λ c. search needs)
     (λ c. search needs)
     (λ c. search needs)
-    (λ c. (let z : (c .before .before .before .before .before .before .before .before .before .before .before .args .n) - (c .before .before .before .before .before .before .before .loop .i) - 1 ≡ (c .before .before .before .before .before .before .before .before .before .before .before .args .n) - ((c .before .before .before .before .before .before .before .loop .i) + 1) = omega arith in let count = getD (c .before .before .before .before .before .before .before .before .before .before .before .args .rows .now) ((c .before .before .before .before .before .before .before .loop .at) + 15) 0 in let few = law.few-enough (c .before .before .before .before .before .before .before .before .before .before .before .args .buffer .now) (c .before .before .before .before .before .before .before .before .before .before .before .args .rows .now) (c .before .before .before .before .before .before .before .before .before .before .before .args .rest .now) (c .before .before .before .before .before .before .before .loop .i) ((c .before .before .before .before .before .before .before .before .before .before .before .args .n) - (c .before .before .before .before .before .before .before .loop .i)) (c .before .before .before .before .before .before .before .loop .due) (c .before .before .before .before .before .before .before .loop .at) (c .before .before .before .before .before .before .before .loop .from) (omega (arith, (c .before .before .before .before .before .before .loop-test .taken))) (c .before .before .before .before .before .before .before .loop .inv .2) in (search needs, omega (arith, few), subst (λ (k : ℕ). counted (eachRow askedObject 16 k (drop ((c .before .before .before .before .before .before .before .loop .at) + 16) (c .before .before .before .before .before .before .before .before .before .before .before .args .rows .now))) ≡ (c .before .before .before .before .before .before .before .loop .due) - count) z (law.others-add-up (c .before .before .before .before .before .before .before .before .before .before .before .args .buffer .now) (c .before .before .before .before .before .before .before .before .before .before .before .args .rows .now) (c .before .before .before .before .before .before .before .before .before .before .before .args .rest .now) (c .before .before .before .before .before .before .before .loop .i) ((c .before .before .before .before .before .before .before .before .before .before .before .args .n) - (c .before .before .before .before .before .before .before .loop .i)) (c .before .before .before .before .before .before .before .loop .due) (c .before .before .before .before .before .before .before .loop .at) (c .before .before .before .before .before .before .before .loop .from) (omega (arith, (c .before .before .before .before .before .before .loop-test .taken))) (c .before .before .before .before .before .before .before .loop .inv .2)), subst (λ (k : ℕ). all (objectSound (c .before .before .before .before .before .before .before .before .before .before .before .args .buffer .now)) (eachRow askedObject 16 k (drop ((c .before .before .before .before .before .before .before .loop .at) + 16) (c .before .before .before .before .before .before .before .before .before .before .before .args .rows .now))) ≡ true) z (others-so (objectSound (c .before .before .before .before .before .before .before .before .before .before .before .args .buffer .now)) askedObject 16 ((c .before .before .before .before .before .before .before .before .before .before .before .args .n) - (c .before .before .before .before .before .before .before .loop .i)) (c .before .before .before .before .before .before .before .loop .at) (c .before .before .before .before .before .before .before .before .before .before .before .args .rows .now) (omega (arith, (c .before .before .before .before .before .before .loop-test .taken))) (c .before .before .before .before .before .before .before .loop .inv .3)), (c .before .before .before .before .before .before .before .loop .inv .4) ∙ law.object-passes (c .before .before .before .before .before .before .before .before .before .before .before .args .buffer .now) (c .before .before .before .before .before .before .before .before .before .before .before .args .rows .now) (c .before .before .before .before .before .before .before .before .before .before .before .args .rest .now) (c .before .before .before .before .before .before .before .loop .i) ((c .before .before .before .before .before .before .before .before .before .before .before .args .n) - (c .before .before .before .before .before .before .before .loop .i)) (c .before .before .before .before .before .before .before .loop .due) (c .before .before .before .before .before .before .before .loop .at) (c .before .before .before .before .before .before .before .loop .from) (omega (arith, (c .before .before .before .before .before .before .loop-test .taken))) (c .before .before .before .before .before .before .before .loop .inv .2) (c .before .before .before .object .result) (c .before .before .before .object .ensures) (c .before .enum-told .given .1) ∙ ap (λ (k : ℕ). eachObject ((c .before .before .before .before .before .before .before .loop .i) + 1) (objectsOf (c .before .before .before .before .before .before .before .before .before .before .before .args .buffer .now) (drop ((c .before .before .before .before .before .before .before .loop .at) + 16) (c .before .before .before .before .before .before .before .before .before .before .before .args .rows .now)) k (drop ((c .before .before .before .before .before .before .before .loop .from) + 10 * count) (c .before .before .before .before .before .before .before .before .before .before .before .args .rest .now)) ((c .before .before .before .before .before .before .before .loop .due) - count))) z)))
+    (λ c. (let z : (c .before .before .before .before .before .before .before .before .before .before .before .args .n) - (c .before .before .before .before .before .before .before .loop .i) - 1 ≡ (c .before .before .before .before .before .before .before .before .before .before .before .args .n) - ((c .before .before .before .before .before .before .before .loop .i) + 1) = omega arith in let count = getD (c .before .before .before .before .before .before .before .before .before .before .before .args .rows .now) ((c .before .before .before .before .before .before .before .loop .at) + countColumn) 0 in let few = law.few-enough (c .before .before .before .before .before .before .before .before .before .before .before .args .buffer .now) (c .before .before .before .before .before .before .before .before .before .before .before .args .rows .now) (c .before .before .before .before .before .before .before .before .before .before .before .args .rest .now) (c .before .before .before .before .before .before .before .loop .i) ((c .before .before .before .before .before .before .before .before .before .before .before .args .n) - (c .before .before .before .before .before .before .before .loop .i)) (c .before .before .before .before .before .before .before .loop .due) (c .before .before .before .before .before .before .before .loop .at) (c .before .before .before .before .before .before .before .loop .from) (omega (arith, (c .before .before .before .before .before .before .loop-test .taken))) (c .before .before .before .before .before .before .before .loop .inv .2) in (search needs, omega (arith, few), subst (λ (k : ℕ). counted (eachRow askedObject objectWidth k (drop ((c .before .before .before .before .before .before .before .loop .at) + objectWidth) (c .before .before .before .before .before .before .before .before .before .before .before .args .rows .now))) ≡ (c .before .before .before .before .before .before .before .loop .due) - count) z (law.others-add-up (c .before .before .before .before .before .before .before .before .before .before .before .args .buffer .now) (c .before .before .before .before .before .before .before .before .before .before .before .args .rows .now) (c .before .before .before .before .before .before .before .before .before .before .before .args .rest .now) (c .before .before .before .before .before .before .before .loop .i) ((c .before .before .before .before .before .before .before .before .before .before .before .args .n) - (c .before .before .before .before .before .before .before .loop .i)) (c .before .before .before .before .before .before .before .loop .due) (c .before .before .before .before .before .before .before .loop .at) (c .before .before .before .before .before .before .before .loop .from) (omega (arith, (c .before .before .before .before .before .before .loop-test .taken))) (c .before .before .before .before .before .before .before .loop .inv .2)), subst (λ (k : ℕ). all (objectSound (c .before .before .before .before .before .before .before .before .before .before .before .args .buffer .now)) (eachRow askedObject objectWidth k (drop ((c .before .before .before .before .before .before .before .loop .at) + objectWidth) (c .before .before .before .before .before .before .before .before .before .before .before .args .rows .now))) ≡ true) z (others-so (objectSound (c .before .before .before .before .before .before .before .before .before .before .before .args .buffer .now)) askedObject objectWidth ((c .before .before .before .before .before .before .before .before .before .before .before .args .n) - (c .before .before .before .before .before .before .before .loop .i)) (c .before .before .before .before .before .before .before .loop .at) (c .before .before .before .before .before .before .before .before .before .before .before .args .rows .now) (omega (arith, (c .before .before .before .before .before .before .loop-test .taken))) (c .before .before .before .before .before .before .before .loop .inv .3)), (c .before .before .before .before .before .before .before .loop .inv .4) ∙ law.object-passes (c .before .before .before .before .before .before .before .before .before .before .before .args .buffer .now) (c .before .before .before .before .before .before .before .before .before .before .before .args .rows .now) (c .before .before .before .before .before .before .before .before .before .before .before .args .rest .now) (c .before .before .before .before .before .before .before .loop .i) ((c .before .before .before .before .before .before .before .before .before .before .before .args .n) - (c .before .before .before .before .before .before .before .loop .i)) (c .before .before .before .before .before .before .before .loop .due) (c .before .before .before .before .before .before .before .loop .at) (c .before .before .before .before .before .before .before .loop .from) (omega (arith, (c .before .before .before .before .before .before .loop-test .taken))) (c .before .before .before .before .before .before .before .loop .inv .2) (c .before .before .before .object .result) (c .before .before .before .object .ensures) (c .before .enum-told .given .1) ∙ ap (λ (k : ℕ). eachObject ((c .before .before .before .before .before .before .before .loop .i) + 1) (objectsOf (c .before .before .before .before .before .before .before .before .before .before .before .args .buffer .now) (drop ((c .before .before .before .before .before .before .before .loop .at) + objectWidth) (c .before .before .before .before .before .before .before .before .before .before .before .args .rows .now)) k (drop ((c .before .before .before .before .before .before .before .loop .from) + componentWidth * count) (c .before .before .before .before .before .before .before .before .before .before .before .args .rest .now)) ((c .before .before .before .before .before .before .before .loop .due) - count))) z)))
     (λ c. (c .before .loop .inv .4) ∙ law.objects-end (c .before .before .before .before .before .args .buffer .now) (c .before .before .before .before .before .args .rows .now) (c .before .before .before .before .before .args .rest .now) (c .before .loop .i) ((c .before .before .before .before .before .args .n) - (c .before .loop .i)) (c .before .loop .due) (c .before .loop .at) (c .before .loop .from) (omega (arith, (c .loop-test .left)))))

@@ -1,4 +1,5 @@
 -- `foresee::depth::any_deep` meets its contract: the invariant says that an answer for the rows that are left is one for all, whatever their components.
+use Rattle.meaning.specs.Columns.{objectWidth}
 use Rattle.foresee.proofs.DeepLaws as law
 use Rattle.readback.specs.Judged.{anyTooDeep}
 use Rattle.meaning.specs.Described.{describedObjects}
@@ -13,8 +14,8 @@ use Rattle.foresee.proofs.depth.any_deep.Statement.{statement}
 use Rattle.foresee.proofs.depth.any_deep.Tie as tie
 
 abbrev Inv-loop : tie.InvT-loop
-Inv-loop rows n buffer at₀ left₀ at left = (at + 16 * left ≤ length rows) × ((r : Bool) → ((cs : List AskedComponent) → r ≡ anyTooDeep (describedObjects buffer (eachRow askedObject 16 left (drop at rows)) cs))
-    → (cs : List AskedComponent) → r ≡ anyTooDeep (describedObjects buffer (eachRow askedObject 16 n rows) cs))
+Inv-loop rows n buffer at₀ left₀ at left = (at + objectWidth * left ≤ length rows) × ((r : Bool) → ((cs : List AskedComponent) → r ≡ anyTooDeep (describedObjects buffer (eachRow askedObject objectWidth left (drop at rows)) cs))
+    → (cs : List AskedComponent) → r ≡ anyTooDeep (describedObjects buffer (eachRow askedObject objectWidth n rows) cs))
 
 abbrev μ-loop : tie.MeasureT-loop
 μ-loop rows n buffer at₀ left₀ at left = left

@@ -1,4 +1,5 @@
 -- `foresee::judged::components` meets its contract: the invariant says what the rows that are left give.
+use Rattle.meaning.specs.Columns.{componentWidth}
 use Rattle.foresee.proofs.Components as law
 use Rattle.foresee.specs.Told.{eachComponent}
 use Rattle.readback.specs.Judged.{judgedComponent}
@@ -15,8 +16,8 @@ use Rattle.foresee.proofs.judged.components.Statement.{statement}
 use Rattle.foresee.proofs.judged.components.Tie as tie
 
 abbrev Inv-loop : tie.InvT-loop
-Inv-loop rows n buffer at₀ j₀ at j = (at + 10 * (n - j) ≤ length rows)
-    × (eachComponent 0 (map (describedComponent buffer) (eachRow askedComponent 10 n rows)) ≡ eachComponent j (map (describedComponent buffer) (eachRow askedComponent 10 (n - j) (drop at rows))))
+Inv-loop rows n buffer at₀ j₀ at j = (at + componentWidth * (n - j) ≤ length rows)
+    × (eachComponent 0 (map (describedComponent buffer) (eachRow askedComponent componentWidth n rows)) ≡ eachComponent j (map (describedComponent buffer) (eachRow askedComponent componentWidth (n - j) (drop at rows))))
 
 abbrev μ-loop : tie.MeasureT-loop
 μ-loop rows n buffer at₀ j₀ at j = n - j
@@ -27,7 +28,7 @@ components-spec =
     (tie.spec
     Inv-loop
     μ-loop
-    (λ c. (search needs, (let z : (c .before .before .args .n) ≡ (c .before .before .args .n) - 0 = omega arith in ap (λ (k : ℕ). eachComponent 0 (map (describedComponent (c .before .before .args .buffer .now)) (eachRow askedComponent 10 k (c .before .before .args .rows .now)))) z)))
+    (λ c. (search needs, (let z : (c .before .before .args .n) ≡ (c .before .before .args .n) - 0 = omega arith in ap (λ (k : ℕ). eachComponent 0 (map (describedComponent (c .before .before .args .buffer .now)) (eachRow askedComponent componentWidth k (c .before .before .args .rows .now)))) z)))
     (λ c. search needs)
     (λ c. search needs)
     (λ c. search needs)
@@ -39,5 +40,5 @@ components-spec =
     (λ c. search needs)
     (λ c. search needs)
     (λ c. search needs)
-    (λ c. (search needs, (c .before .before .before .before .before .loop .inv .1) ∙ law.component-passes (c .before .before .before .before .before .before .before .before .args .buffer .now) (c .before .before .before .before .before .before .before .before .args .rows .now) (c .before .before .before .before .before .loop .j) ((c .before .before .before .before .before .before .before .before .args .n) - (c .before .before .before .before .before .loop .j)) (c .before .before .before .before .before .loop .at) (omega (arith, (c .before .before .before .before .loop-test .taken))) (c .before .before .component .result) (sym (ap (λ (s : List ℕ). judgedComponent (describedComponent (c .before .before .before .before .before .before .before .before .args .buffer .now) (askedComponent s))) (part-to-end (c .before .before .before .before .before .before .before .before .args .rows .now) (c .before .before .before .before .before .loop .at))) ∙ (c .before .before .component .ensures)) (c .enum-told .given .1) ∙ (let z : (c .before .before .before .before .before .before .before .before .args .n) - (c .before .before .before .before .before .loop .j) - 1 ≡ (c .before .before .before .before .before .before .before .before .args .n) - ((c .before .before .before .before .before .loop .j) + 1) = omega arith in ap (λ (k : ℕ). eachComponent ((c .before .before .before .before .before .loop .j) + 1) (map (describedComponent (c .before .before .before .before .before .before .before .before .args .buffer .now)) (eachRow askedComponent 10 k (drop ((c .before .before .before .before .before .loop .at) + 10) (c .before .before .before .before .before .before .before .before .args .rows .now))))) z)))
+    (λ c. (search needs, (c .before .before .before .before .before .loop .inv .1) ∙ law.component-passes (c .before .before .before .before .before .before .before .before .args .buffer .now) (c .before .before .before .before .before .before .before .before .args .rows .now) (c .before .before .before .before .before .loop .j) ((c .before .before .before .before .before .before .before .before .args .n) - (c .before .before .before .before .before .loop .j)) (c .before .before .before .before .before .loop .at) (omega (arith, (c .before .before .before .before .loop-test .taken))) (c .before .before .component .result) (sym (ap (λ (s : List ℕ). judgedComponent (describedComponent (c .before .before .before .before .before .before .before .before .args .buffer .now) (askedComponent s))) (part-to-end (c .before .before .before .before .before .before .before .before .args .rows .now) (c .before .before .before .before .before .loop .at))) ∙ (c .before .before .component .ensures)) (c .enum-told .given .1) ∙ (let z : (c .before .before .before .before .before .before .before .before .args .n) - (c .before .before .before .before .before .loop .j) - 1 ≡ (c .before .before .before .before .before .before .before .before .args .n) - ((c .before .before .before .before .before .loop .j) + 1) = omega arith in ap (λ (k : ℕ). eachComponent ((c .before .before .before .before .before .loop .j) + 1) (map (describedComponent (c .before .before .before .before .before .before .before .before .args .buffer .now)) (eachRow askedComponent componentWidth k (drop ((c .before .before .before .before .before .loop .at) + componentWidth) (c .before .before .before .before .before .before .before .before .args .rows .now))))) z)))
     (λ c. (c .before .loop .inv .1) ∙ law.components-end (c .before .before .before .before .args .buffer .now) (c .before .before .before .before .args .rows .now) (c .before .loop .j) ((c .before .before .before .before .args .n) - (c .before .loop .j)) (c .before .loop .at) (omega (arith, (c .loop-test .left)))))

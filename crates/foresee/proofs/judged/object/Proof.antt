@@ -1,4 +1,5 @@
 -- `foresee::judged::object` meets its contract: a law for each branch.
+use Rattle.meaning.specs.Columns.{countColumn}
 use Rattle.foresee.proofs.Objects as law
 use Rattle.foresee.proofs.Parts.{partsOf}
 use Rattle.meaning.specs.Format.{formatRules}
@@ -21,7 +22,7 @@ object-spec =
     (λ c. search needs)
     (λ c κs. search needs)
     (λ c κs. search needs)
-    (λ c. law.odd-format (c .before .before .before .before .before .before .before .before .args .buffer .now) (c .before .before .before .before .before .before .before .before .args .row .now) (c .before .before .before .before .before .before .before .before .args .rows .now) (getD (c .before .before .before .before .before .before .before .before .args .row .now) 15 0) (sym (ap utf8 (c .before .before .part .ensures)) ∙ sym (c .before .utf8 .ensures) ∙ not-true _ (c .if1 .taken)))
+    (λ c. law.odd-format (c .before .before .before .before .before .before .before .before .args .buffer .now) (c .before .before .before .before .before .before .before .before .args .row .now) (c .before .before .before .before .before .before .before .before .args .rows .now) (getD (c .before .before .before .before .before .before .before .before .args .row .now) countColumn 0) (sym (ap utf8 (c .before .before .part .ensures)) ∙ sym (c .before .utf8 .ensures) ∙ not-true _ (c .if1 .taken)))
     (λ c. search needs)
     (λ c. search needs)
     (λ c. search needs)
@@ -32,7 +33,7 @@ object-spec =
     (λ c κs. search needs)
     (λ c. search needs)
     (λ c. search needs)
-    (λ c κs. (search needs, search needs, search needs, law.few-components (c .before .before .before .before .before .before .before .before .before .before .before .before .before .before .before .before .before .before .before .before .before .args .buffer .now) (c .before .before .before .before .before .before .before .before .before .before .before .before .before .before .before .before .before .before .before .before .before .args .row .now) (c .before .before .before .before .before .before .before .before .before .before .before .before .before .before .before .before .before .before .before .before .before .args .rows .now) (getD (c .before .before .before .before .before .before .before .before .before .before .before .before .before .before .before .before .before .before .before .before .before .args .row .now) 15 0) (sym (ap utf8 (c .before .before .before .before .before .before .before .before .before .before .before .before .before .before .before .part .ensures)) ∙ sym (c .before .before .before .before .before .before .before .before .before .before .before .before .before .before .utf8 .ensures) ∙ not-false _ (c .before .before .before .before .before .before .before .before .before .before .before .before .before .if1 .left)) (c .before .before .before .before .before .before .before .before .names .result) (c .before .before .before .before .before .before .before .before .names .ensures) (c .before .before .before .enum-told .given .1)))
-    (λ c. law.odd-names (c .before .before .before .before .before .before .before .before .before .before .before .before .before .before .before .before .before .before .before .args .buffer .now) (c .before .before .before .before .before .before .before .before .before .before .before .before .before .before .before .before .before .before .before .args .row .now) (c .before .before .before .before .before .before .before .before .before .before .before .before .before .before .before .before .before .before .before .args .rows .now) (getD (c .before .before .before .before .before .before .before .before .before .before .before .before .before .before .before .before .before .before .before .args .row .now) 15 0) (sym (ap utf8 (c .before .before .before .before .before .before .before .before .before .before .before .before .before .part .ensures)) ∙ sym (c .before .before .before .before .before .before .before .before .before .before .before .before .utf8 .ensures) ∙ not-false _ (c .before .before .before .before .before .before .before .before .before .before .before .if1 .left)) (c .before .before .before .before .before .before .names .result) (c .before .before .before .before .before .before .names .ensures) _ (c .before .c .given .1))
-    (λ c. law.odd-component (c .before .before .before .before .before .before .before .before .before .before .before .before .before .before .before .before .before .before .before .before .before .before .args .buffer .now) (c .before .before .before .before .before .before .before .before .before .before .before .before .before .before .before .before .before .before .before .before .before .before .args .row .now) (c .before .before .before .before .before .before .before .before .before .before .before .before .before .before .before .before .before .before .before .before .before .before .args .rows .now) (getD (c .before .before .before .before .before .before .before .before .before .before .before .before .before .before .before .before .before .before .before .before .before .before .args .row .now) 15 0) (sym (ap utf8 (c .before .before .before .before .before .before .before .before .before .before .before .before .before .before .before .before .part .ensures)) ∙ sym (c .before .before .before .before .before .before .before .before .before .before .before .before .before .before .before .utf8 .ensures) ∙ not-false _ (c .before .before .before .before .before .before .before .before .before .before .before .before .before .before .if1 .left)) (c .before .before .before .before .before .before .before .before .before .names .result) (c .before .before .before .before .before .before .before .before .before .names .ensures) (c .before .before .before .before .enum-told .given .1) (c .before .before .before .components .result) (c .before .before .before .components .ensures) _ _ (c .before .c2 .given .1))
-    (λ c. law.by-format (c .before .before .before .before .before .before .before .before .before .before .before .before .before .before .before .before .before .before .before .before .before .before .args .buffer .now) (c .before .before .before .before .before .before .before .before .before .before .before .before .before .before .before .before .before .before .before .before .before .before .args .row .now) (c .before .before .before .before .before .before .before .before .before .before .before .before .before .before .before .before .before .before .before .before .before .before .args .rows .now) (getD (c .before .before .before .before .before .before .before .before .before .before .before .before .before .before .before .before .before .before .before .before .before .before .args .row .now) 15 0) (sym (ap utf8 (c .before .before .before .before .before .before .before .before .before .before .before .before .before .before .before .before .part .ensures)) ∙ sym (c .before .before .before .before .before .before .before .before .before .before .before .before .before .before .before .utf8 .ensures) ∙ not-false _ (c .before .before .before .before .before .before .before .before .before .before .before .before .before .before .if1 .left)) (c .before .before .before .before .before .before .before .before .before .names .result) (c .before .before .before .before .before .before .before .before .before .names .ensures) (c .before .before .before .before .enum-told .given .1) (c .before .before .before .components .result) (c .before .before .before .components .ensures) (c .before .enum-told2 .given .1) ∙ sym (ap (λ (f : List ℕ). formatRules f (askedObject ((c .before .before .before .before .before .before .before .before .before .before .before .before .before .before .before .before .before .before .before .before .before .before .args .row .now)) .shape) (partsOf (c .before .before .before .before .before .before .before .before .before .before .before .before .before .before .before .before .before .before .before .before .before .before .args .buffer .now) (getD (c .before .before .before .before .before .before .before .before .before .before .before .before .before .before .before .before .before .before .before .before .before .before .args .row .now) 15 0) (c .before .before .before .before .before .before .before .before .before .before .before .before .before .before .before .before .before .before .before .before .before .before .args .rows .now))) (c .before .before .before .before .before .before .before .before .before .before .before .before .before .before .before .before .part .ensures)) ∙ (c .ruled .ensures)))
+    (λ c κs. (search needs, search needs, search needs, law.few-components (c .before .before .before .before .before .before .before .before .before .before .before .before .before .before .before .before .before .before .before .before .before .args .buffer .now) (c .before .before .before .before .before .before .before .before .before .before .before .before .before .before .before .before .before .before .before .before .before .args .row .now) (c .before .before .before .before .before .before .before .before .before .before .before .before .before .before .before .before .before .before .before .before .before .args .rows .now) (getD (c .before .before .before .before .before .before .before .before .before .before .before .before .before .before .before .before .before .before .before .before .before .args .row .now) countColumn 0) (sym (ap utf8 (c .before .before .before .before .before .before .before .before .before .before .before .before .before .before .before .part .ensures)) ∙ sym (c .before .before .before .before .before .before .before .before .before .before .before .before .before .before .utf8 .ensures) ∙ not-false _ (c .before .before .before .before .before .before .before .before .before .before .before .before .before .if1 .left)) (c .before .before .before .before .before .before .before .before .names .result) (c .before .before .before .before .before .before .before .before .names .ensures) (c .before .before .before .enum-told .given .1)))
+    (λ c. law.odd-names (c .before .before .before .before .before .before .before .before .before .before .before .before .before .before .before .before .before .before .before .args .buffer .now) (c .before .before .before .before .before .before .before .before .before .before .before .before .before .before .before .before .before .before .before .args .row .now) (c .before .before .before .before .before .before .before .before .before .before .before .before .before .before .before .before .before .before .before .args .rows .now) (getD (c .before .before .before .before .before .before .before .before .before .before .before .before .before .before .before .before .before .before .before .args .row .now) countColumn 0) (sym (ap utf8 (c .before .before .before .before .before .before .before .before .before .before .before .before .before .part .ensures)) ∙ sym (c .before .before .before .before .before .before .before .before .before .before .before .before .utf8 .ensures) ∙ not-false _ (c .before .before .before .before .before .before .before .before .before .before .before .if1 .left)) (c .before .before .before .before .before .before .names .result) (c .before .before .before .before .before .before .names .ensures) _ (c .before .c .given .1))
+    (λ c. law.odd-component (c .before .before .before .before .before .before .before .before .before .before .before .before .before .before .before .before .before .before .before .before .before .before .args .buffer .now) (c .before .before .before .before .before .before .before .before .before .before .before .before .before .before .before .before .before .before .before .before .before .before .args .row .now) (c .before .before .before .before .before .before .before .before .before .before .before .before .before .before .before .before .before .before .before .before .before .before .args .rows .now) (getD (c .before .before .before .before .before .before .before .before .before .before .before .before .before .before .before .before .before .before .before .before .before .before .args .row .now) countColumn 0) (sym (ap utf8 (c .before .before .before .before .before .before .before .before .before .before .before .before .before .before .before .before .part .ensures)) ∙ sym (c .before .before .before .before .before .before .before .before .before .before .before .before .before .before .before .utf8 .ensures) ∙ not-false _ (c .before .before .before .before .before .before .before .before .before .before .before .before .before .before .if1 .left)) (c .before .before .before .before .before .before .before .before .before .names .result) (c .before .before .before .before .before .before .before .before .before .names .ensures) (c .before .before .before .before .enum-told .given .1) (c .before .before .before .components .result) (c .before .before .before .components .ensures) _ _ (c .before .c2 .given .1))
+    (λ c. law.by-format (c .before .before .before .before .before .before .before .before .before .before .before .before .before .before .before .before .before .before .before .before .before .before .args .buffer .now) (c .before .before .before .before .before .before .before .before .before .before .before .before .before .before .before .before .before .before .before .before .before .before .args .row .now) (c .before .before .before .before .before .before .before .before .before .before .before .before .before .before .before .before .before .before .before .before .before .before .args .rows .now) (getD (c .before .before .before .before .before .before .before .before .before .before .before .before .before .before .before .before .before .before .before .before .before .before .args .row .now) countColumn 0) (sym (ap utf8 (c .before .before .before .before .before .before .before .before .before .before .before .before .before .before .before .before .part .ensures)) ∙ sym (c .before .before .before .before .before .before .before .before .before .before .before .before .before .before .before .utf8 .ensures) ∙ not-false _ (c .before .before .before .before .before .before .before .before .before .before .before .before .before .before .if1 .left)) (c .before .before .before .before .before .before .before .before .before .names .result) (c .before .before .before .before .before .before .before .before .before .names .ensures) (c .before .before .before .before .enum-told .given .1) (c .before .before .before .components .result) (c .before .before .before .components .ensures) (c .before .enum-told2 .given .1) ∙ sym (ap (λ (f : List ℕ). formatRules f (askedObject ((c .before .before .before .before .before .before .before .before .before .before .before .before .before .before .before .before .before .before .before .before .before .before .args .row .now)) .shape) (partsOf (c .before .before .before .before .before .before .before .before .before .before .before .before .before .before .before .before .before .before .before .before .before .before .args .buffer .now) (getD (c .before .before .before .before .before .before .before .before .before .before .before .before .before .before .before .before .before .before .before .before .before .before .args .row .now) countColumn 0) (c .before .before .before .before .before .before .before .before .before .before .before .before .before .before .before .before .before .before .before .before .before .before .args .rows .now))) (c .before .before .before .before .before .before .before .before .before .before .before .before .before .before .before .before .part .ensures)) ∙ (c .ruled .ensures)))

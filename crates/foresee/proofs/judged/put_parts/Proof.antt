@@ -1,4 +1,5 @@
 -- `foresee::judged::put_parts` meets its contract: the invariant says which rows were put.
+use Rattle.meaning.specs.Columns.{componentWidth}
 use Rattle.foresee.proofs.Parts.{partsOf}
 use Rattle.foresee.proofs.Parts as law
 use Rattle.formats.specs.Parts.{partRows}
@@ -12,7 +13,7 @@ use Rattle.foresee.proofs.judged.put_parts.Statement.{statement}
 use Rattle.foresee.proofs.judged.put_parts.Tie as tie
 
 abbrev Inv-loop : tie.InvT-loop
-Inv-loop rows n buffer out₀ at₀ j₀ out at j = (at ≡ 10 * j) × (j ≤ n) × (length out ≡ 64) × (take (4 * j) out ≡ partRows (partsOf buffer j rows))
+Inv-loop rows n buffer out₀ at₀ j₀ out at j = (at ≡ componentWidth * j) × (j ≤ n) × (length out ≡ 64) × (take (4 * j) out ≡ partRows (partsOf buffer j rows))
 
 abbrev μ-loop : tie.MeasureT-loop
 μ-loop rows n buffer out₀ at₀ j₀ out at j = n - j

@@ -4,6 +4,7 @@ use Prim.Native.Nat.{_+_}
 use lib.ListN.{getD, take, drop}
 use native.Mathlib.Omega.{arith}
 use mathlib.Core.Path.{sym}
+use Rattle.meaning.specs.Columns.{offsetColumn, lengthColumn}
 use Rattle.emit.proofs.Laying as laying
 use Rattle.layout.specs.Rows.{Within}
 use Rattle.layout.proofs.Walking as walking
@@ -38,10 +39,10 @@ blobs-at-spec =
     (λ c. let l = walking.first-long (c .before .before .before .before .before .before .before .before .before .loop .inv .rest) (c .before .before .before .before .before .before .before .before .loop-test .taken) in let g = (c .before .before .before .before .before .before .before .before .before .before .before .before .before .good) in omega arith)
     (λ c. let l = walking.first-long (c .before .before .before .before .before .before .before .before .before .loop .inv .rest) (c .before .before .before .before .before .before .before .before .loop-test .taken) in let g = (c .before .before .before .before .before .before .before .before .before .before .before .before .before .good) in omega arith)
     (λ c. omega (arith, walking.first-long (c .before .before .before .before .before .before .before .before .before .before .loop .inv .rest) (c .before .before .before .before .before .before .before .before .before .loop-test .taken)))
-    (λ c κs. (turns.as-whole (c .before .before .before .before .before .before .before .before .before .before .before .before .before .before .args .buffer .now) (λ b. Within b (getD (c .before .before .before .before .before .before .before .before .before .before .before .before .before .before .args .rows .now) ((c .before .before .before .before .before .before .before .before .before .before .loop .row) + 5) 0) (getD (c .before .before .before .before .before .before .before .before .before .before .before .before .before .before .args .rows .now) ((c .before .before .before .before .before .before .before .before .before .before .loop .row) + 6) 0)) (walking.first-blob (c .before .before .before .before .before .before .before .before .before .before .loop .inv .rest) (c .before .before .before .before .before .before .before .before .before .loop-test .taken)), laying.room-as (sym (turns.whole (c .before .before .before .before .before .before .before .before .before .before .before .before .before .before .args .buffer .now) (λ b. take (getD (c .before .before .before .before .before .before .before .before .before .before .before .before .before .before .args .rows .now) ((c .before .before .before .before .before .before .before .before .before .before .loop .row) + 6) 0) (drop (getD (c .before .before .before .before .before .before .before .before .before .before .before .before .before .before .args .rows .now) ((c .before .before .before .before .before .before .before .before .before .before .loop .row) + 5) 0) b)))) (turns.room-for-blob (c .before .before .before .before .before .before .before .before .before .before .loop .inv) (c .before .before .before .before .before .before .before .before .before .loop-test .taken) (laying.as-bytes (turns.gap _ (c .before .before .before .before .before .before .before .before .aligned .ensures)) (c .before .before .before .before .before .before .zeros-at .ensures)))))
+    (λ c κs. (turns.as-whole (c .before .before .before .before .before .before .before .before .before .before .before .before .before .before .args .buffer .now) (λ b. Within b (getD (c .before .before .before .before .before .before .before .before .before .before .before .before .before .before .args .rows .now) ((c .before .before .before .before .before .before .before .before .before .before .loop .row) + offsetColumn) 0) (getD (c .before .before .before .before .before .before .before .before .before .before .before .before .before .before .args .rows .now) ((c .before .before .before .before .before .before .before .before .before .before .loop .row) + lengthColumn) 0)) (walking.first-blob (c .before .before .before .before .before .before .before .before .before .before .loop .inv .rest) (c .before .before .before .before .before .before .before .before .before .loop-test .taken)), laying.room-as (sym (turns.whole (c .before .before .before .before .before .before .before .before .before .before .before .before .before .before .args .buffer .now) (λ b. take (getD (c .before .before .before .before .before .before .before .before .before .before .before .before .before .before .args .rows .now) ((c .before .before .before .before .before .before .before .before .before .before .loop .row) + lengthColumn) 0) (drop (getD (c .before .before .before .before .before .before .before .before .before .before .before .before .before .before .args .rows .now) ((c .before .before .before .before .before .before .before .before .before .before .loop .row) + offsetColumn) 0) b)))) (turns.room-for-blob (c .before .before .before .before .before .before .before .before .before .before .loop .inv) (c .before .before .before .before .before .before .before .before .before .loop-test .taken) (laying.as-bytes (turns.gap _ (c .before .before .before .before .before .before .before .before .aligned .ensures)) (c .before .before .before .before .before .before .zeros-at .ensures)))))
     (λ c. omega (arith, walking.first-long (c .before .before .before .before .before .before .before .before .before .before .before .before .before .loop .inv .rest) (c .before .before .before .before .before .before .before .before .before .before .before .before .loop-test .taken), (c .before .before .before .before .before .before .before .before .before .before .before .before .before .before .before .before .before .good)))
     (λ c. search needs)
     (λ c. search needs)
-    (λ c. turns.blob-turn (c .before .before .before .before .before .before .before .before .before .before .before .before .before .loop .inv) (c .before .before .before .before .before .before .before .before .before .before .before .before .loop-test .taken) (laying.as-bytes (turns.gap _ (c .before .before .before .before .before .before .before .before .before .before .before .aligned .ensures)) (c .before .before .before .before .before .before .before .before .before .zeros-at .ensures)) (laying.as-bytes (turns.whole (c .before .before .before .before .before .before .before .before .before .before .before .before .before .before .before .before .before .args .buffer .now) (λ b. take (getD (c .before .before .before .before .before .before .before .before .before .before .before .before .before .before .before .before .before .args .rows .now) ((c .before .before .before .before .before .before .before .before .before .before .before .before .before .loop .row) + 6) 0) (drop (getD (c .before .before .before .before .before .before .before .before .before .before .before .before .before .before .before .before .before .args .rows .now) ((c .before .before .before .before .before .before .before .before .before .before .before .before .before .loop .row) + 5) 0) b))) (c .before .before .range-at .ensures)))
+    (λ c. turns.blob-turn (c .before .before .before .before .before .before .before .before .before .before .before .before .before .loop .inv) (c .before .before .before .before .before .before .before .before .before .before .before .before .loop-test .taken) (laying.as-bytes (turns.gap _ (c .before .before .before .before .before .before .before .before .before .before .before .aligned .ensures)) (c .before .before .before .before .before .before .before .before .before .zeros-at .ensures)) (laying.as-bytes (turns.whole (c .before .before .before .before .before .before .before .before .before .before .before .before .before .before .before .before .before .args .buffer .now) (λ b. take (getD (c .before .before .before .before .before .before .before .before .before .before .before .before .before .before .before .before .before .args .rows .now) ((c .before .before .before .before .before .before .before .before .before .before .before .before .before .loop .row) + lengthColumn) 0) (drop (getD (c .before .before .before .before .before .before .before .before .before .before .before .before .before .before .before .before .before .args .rows .now) ((c .before .before .before .before .before .before .before .before .before .before .before .before .before .loop .row) + offsetColumn) 0) b))) (c .before .before .range-at .ensures)))
     (λ c. laying.same-so-far (c .before .loop .inv .going))
     (λ c. laying.all-laid (c .before .loop .inv .going) (walking.blobs-none _ _ _ _ _ (c .loop-test .left))))

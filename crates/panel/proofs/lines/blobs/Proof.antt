@@ -1,6 +1,7 @@
 -- `panel::lines::blobs` meets its contract: the invariant says what is still to be written. Assumes nothing.
 use Prim.Native.Nat.{_+_, _*_, _≤_}
 use lib.ListN.{length}
+use Rattle.meaning.specs.Columns.{componentWidth}
 use Rattle.panel.specs.Lines.{blobLine, blobLines}
 use Rattle.panel.proofs.Writing as writing
 use Rattle.panel.proofs.Following as following
@@ -10,7 +11,7 @@ use Rattle.panel.proofs.lines.blobs.Statement.{statement}
 use Rattle.panel.proofs.lines.blobs.Tie as tie
 
 abbrev Inv-loop : tie.InvT-loop
-Inv-loop file table n from out₀ at past₀ row₀ left₀ out past row left = (row + 10 * left ≤ length table) × writing.Rest (blobLines file table n from) at out₀ (blobLines file table left row) past out
+Inv-loop file table n from out₀ at past₀ row₀ left₀ out past row left = (row + componentWidth * left ≤ length table) × writing.Rest (blobLines file table n from) at out₀ (blobLines file table left row) past out
 
 abbrev μ-loop : tie.MeasureT-loop
 μ-loop file table n from out₀ at past₀ row₀ left₀ out past row left = left

@@ -2,6 +2,7 @@
 use Prim.Native.Nat.{_+_, _*_, _≤_}
 use native.Mathlib.Omega.{arith}
 use lib.ListN.{length}
+use Rattle.meaning.specs.Columns.{objectWidth, componentWidth}
 use Rattle.panel.specs.Lines.{countAt, counted, blobLines, objectLine, objectLines}
 use Rattle.panel.proofs.Writing as writing
 use Rattle.panel.proofs.Following as following
@@ -11,7 +12,7 @@ use Rattle.panel.proofs.lines.objects_of.Statement.{statement}
 use Rattle.panel.proofs.lines.objects_of.Tie as tie
 
 abbrev Inv-loop : tie.InvT-loop
-Inv-loop file table n first out₀ at past₀ row₀ from₀ left₀ out past row from left = (row + 16 * left ≤ length table) × (from + 10 * counted table left row ≤ length table) × writing.Rest (objectLines file table n 0 first) at out₀ (objectLines file table left row from) past out
+Inv-loop file table n first out₀ at past₀ row₀ from₀ left₀ out past row from left = (row + objectWidth * left ≤ length table) × (from + componentWidth * counted table left row ≤ length table) × writing.Rest (objectLines file table n 0 first) at out₀ (objectLines file table left row from) past out
 
 abbrev μ-loop : tie.MeasureT-loop
 μ-loop file table n first out₀ at past₀ row₀ from₀ left₀ out past row from left = left

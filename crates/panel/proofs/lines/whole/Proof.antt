@@ -1,4 +1,5 @@
 -- `panel::lines::whole` meets its contract: a law for each branch. Assumes nothing.
+use Rattle.meaning.specs.Columns.{objectWidth}
 use Rattle.panel.proofs.Sound as rows
 use Rattle.panel.proofs.Writing as writing
 use Rattle.panel.specs.Lines.{text, objectLines}
@@ -22,4 +23,4 @@ whole-spec =
     (λ c. omega (arith, rows.sound-lies (c .before .before .before .before .before .before .before .before .before .args .file .now) (c .before .before .before .before .before .before .before .before .before .args .table .now) (c .before .before .before .before .before .before .before .before .before .args .objects) (c .before .before .before .before .before .before .before .before .before .args .components) (c .before .before .before .before .before .before .before .before .before .pre)))
     (λ c κs. rows.lines-lie (c .before .before .before .before .before .before .before .before .before .before .args .file .now) (c .before .before .before .before .before .before .before .before .before .before .args .table .now) (c .before .before .before .before .before .before .before .before .before .before .args .objects) (c .before .before .before .before .before .before .before .before .before .before .args .components) (c .before .before .before .before .before .before .before .before .before .before .pre))
     (λ c. search needs)
-    (λ c. unfold text in writing.then (c .before .before .before .before .before .before .before .before .heading .ensures) (writing.as-bytes (rows.lent (c .before .before .before .before .before .before .before .before .before .before .before .before .before .args .file .now) (c .before .before .before .before .before .before .before .before .before .before .before .before .before .args .table .now) (λ f t. objectLines f t (c .before .before .before .before .before .before .before .before .before .before .before .before .before .args .objects) 0 (16 * (c .before .before .before .before .before .before .before .before .before .before .before .before .before .args .objects)))) (c .before .before .objects-of .ensures))))
+    (λ c. unfold text in writing.then (c .before .before .before .before .before .before .before .before .heading .ensures) (writing.as-bytes (rows.lent (c .before .before .before .before .before .before .before .before .before .before .before .before .before .args .file .now) (c .before .before .before .before .before .before .before .before .before .before .before .before .before .args .table .now) (λ f t. objectLines f t (c .before .before .before .before .before .before .before .before .before .before .before .before .before .args .objects) 0 (objectWidth * (c .before .before .before .before .before .before .before .before .before .before .before .before .before .args .objects)))) (c .before .before .objects-of .ensures))))

@@ -4,6 +4,7 @@ use native.Mathlib.Omega.{arith}
 use mathlib.Core.Path.{_≡_, sym}
 use lib.ListN.{length}
 use borrow.Author.Tests.{ne-eqb}
+use Rattle.meaning.specs.Columns.{objectWidth}
 use Rattle.panel.specs.Lines.{counted}
 use Rattle.panel.proofs.Sound as rows
 use borrow.Author.Needs.{needs}
@@ -11,7 +12,7 @@ use Rattle.panel.proofs.rows.shared_out.Statement.{statement}
 use Rattle.panel.proofs.rows.shared_out.Tie as tie
 
 abbrev Inv-loop : tie.InvT-loop
-Inv-loop table n components row₀ left₀ due₀ row left due = (row + 16 * left ≤ length table) × (counted table n 0 + due ≡ components + counted table left row)
+Inv-loop table n components row₀ left₀ due₀ row left due = (row + objectWidth * left ≤ length table) × (counted table n 0 + due ≡ components + counted table left row)
 
 abbrev μ-loop : tie.MeasureT-loop
 μ-loop table n components row₀ left₀ due₀ row left due = left

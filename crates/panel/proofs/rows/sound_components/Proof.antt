@@ -2,6 +2,7 @@
 use Prim.Native.Nat.{_+_, _*_, _≤_}
 use mathlib.Core.Path.{_≡_, refl, sym, _∙_}
 use lib.ListN.{length}
+use Rattle.meaning.specs.Columns.{componentWidth}
 use Rattle.panel.specs.Lines.{componentSound, every}
 use Rattle.panel.proofs.Sound as rows
 use borrow.Author.Needs.{needs}
@@ -9,7 +10,7 @@ use Rattle.panel.proofs.rows.sound_components.Statement.{statement}
 use Rattle.panel.proofs.rows.sound_components.Tie as tie
 
 abbrev Inv-loop : tie.InvT-loop
-Inv-loop file table n first row₀ left₀ row left = (row + 10 * left ≤ length table) × (every (componentSound file table) 10 n first ≡ every (componentSound file table) 10 left row)
+Inv-loop file table n first row₀ left₀ row left = (row + componentWidth * left ≤ length table) × (every (componentSound file table) componentWidth n first ≡ every (componentSound file table) componentWidth left row)
 
 abbrev μ-loop : tie.MeasureT-loop
 μ-loop file table n first row₀ left₀ row left = left
@@ -31,6 +32,6 @@ sound-components-spec =
     (λ c. search needs)
     (λ c. search needs)
     (λ c. search needs)
-    (λ c. (search needs, (c .before .before .before .before .before .loop .inv .1) ∙ rows.every-goes (componentSound (c .before .before .before .before .before .before .before .before .args .file .now) (c .before .before .before .before .before .before .before .before .args .table .now)) 10 (c .before .before .before .before .before .loop .left) (c .before .before .before .before .before .loop .row) (c .before .before .before .before .loop-test .taken) (sym (c .if1 .taken) ∙ (c .before .sound-component .ensures) ∙ rows.lent (c .before .before .before .before .before .before .before .before .args .file .now) (c .before .before .before .before .before .before .before .before .args .table .now) (λ f t. componentSound f t (c .before .before .before .before .before .loop .row)))))
-    (λ c. sym ((c .before .before .before .before .before .loop .inv .1) ∙ rows.every-stops (componentSound (c .before .before .before .before .before .before .before .before .args .file .now) (c .before .before .before .before .before .before .before .before .args .table .now)) 10 (c .before .before .before .before .before .loop .left) (c .before .before .before .before .before .loop .row) (c .before .before .before .before .loop-test .taken) (sym (c .if1 .left) ∙ (c .before .sound-component .ensures) ∙ rows.lent (c .before .before .before .before .before .before .before .before .args .file .now) (c .before .before .before .before .before .before .before .before .args .table .now) (λ f t. componentSound f t (c .before .before .before .before .before .loop .row)))))
-    (λ c. sym ((c .before .loop .inv .1) ∙ rows.every-none (componentSound (c .before .before .before .before .args .file .now) (c .before .before .before .before .args .table .now)) 10 (c .before .loop .left) (c .before .loop .row) (c .loop-test .left))))
+    (λ c. (search needs, (c .before .before .before .before .before .loop .inv .1) ∙ rows.every-goes (componentSound (c .before .before .before .before .before .before .before .before .args .file .now) (c .before .before .before .before .before .before .before .before .args .table .now)) componentWidth (c .before .before .before .before .before .loop .left) (c .before .before .before .before .before .loop .row) (c .before .before .before .before .loop-test .taken) (sym (c .if1 .taken) ∙ (c .before .sound-component .ensures) ∙ rows.lent (c .before .before .before .before .before .before .before .before .args .file .now) (c .before .before .before .before .before .before .before .before .args .table .now) (λ f t. componentSound f t (c .before .before .before .before .before .loop .row)))))
+    (λ c. sym ((c .before .before .before .before .before .loop .inv .1) ∙ rows.every-stops (componentSound (c .before .before .before .before .before .before .before .before .args .file .now) (c .before .before .before .before .before .before .before .before .args .table .now)) componentWidth (c .before .before .before .before .before .loop .left) (c .before .before .before .before .before .loop .row) (c .before .before .before .before .loop-test .taken) (sym (c .if1 .left) ∙ (c .before .sound-component .ensures) ∙ rows.lent (c .before .before .before .before .before .before .before .before .args .file .now) (c .before .before .before .before .before .before .before .before .args .table .now) (λ f t. componentSound f t (c .before .before .before .before .before .loop .row)))))
+    (λ c. sym ((c .before .loop .inv .1) ∙ rows.every-none (componentSound (c .before .before .before .before .args .file .now) (c .before .before .before .before .args .table .now)) componentWidth (c .before .loop .left) (c .before .loop .row) (c .loop-test .left))))

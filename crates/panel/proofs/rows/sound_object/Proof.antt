@@ -1,4 +1,5 @@
 -- `panel::rows::sound_object` meets its contract: a law for each branch. Assumes nothing.
+use Rattle.meaning.specs.Columns.{formatColumn}
 use Rattle.panel.proofs.Sound as rows
 use Rattle.panel.specs.Lines.{rangeInside}
 use mathlib.Core.Path.{sym, _∙_}
@@ -26,5 +27,5 @@ sound-object-spec =
     (λ c. search needs)
     (λ c. search needs)
     (λ c κs. search needs)
-    (λ c. (c .inside2 .ensures) ∙ rows.lent (c .before .before .before .before .before .before .before .before .before .args .file .now) (c .before .before .before .before .before .before .before .before .before .args .table .now) (λ f t. rangeInside f t ((c .before .before .before .before .before .before .before .before .before .args .row) + 11)) ∙ rows.by-format (c .before .before .before .before .before .before .before .before .before .args .file .now) (c .before .before .before .before .before .before .before .before .before .args .table .now) (c .before .before .before .before .before .before .before .before .before .args .row) (sym (c .before .before .before .if1 .taken) ∙ (c .before .before .before .before .inside .ensures) ∙ rows.lent (c .before .before .before .before .before .before .before .before .before .args .file .now) (c .before .before .before .before .before .before .before .before .before .args .table .now) (λ f t. rangeInside f t (c .before .before .before .before .before .before .before .before .before .args .row))))
+    (λ c. (c .inside2 .ensures) ∙ rows.lent (c .before .before .before .before .before .before .before .before .before .args .file .now) (c .before .before .before .before .before .before .before .before .before .args .table .now) (λ f t. rangeInside f t ((c .before .before .before .before .before .before .before .before .before .args .row) + formatColumn)) ∙ rows.by-format (c .before .before .before .before .before .before .before .before .before .args .file .now) (c .before .before .before .before .before .before .before .before .before .args .table .now) (c .before .before .before .before .before .before .before .before .before .args .row) (sym (c .before .before .before .if1 .taken) ∙ (c .before .before .before .before .inside .ensures) ∙ rows.lent (c .before .before .before .before .before .before .before .before .before .args .file .now) (c .before .before .before .before .before .before .before .before .before .args .table .now) (λ f t. rangeInside f t (c .before .before .before .before .before .before .before .before .before .args .row))))
     (λ c. rows.object-outside (c .before .before .before .before .before .before .args .file .now) (c .before .before .before .before .before .before .args .table .now) (c .before .before .before .before .before .before .args .row) (sym (c .if1 .left) ∙ (c .before .inside .ensures) ∙ rows.lent (c .before .before .before .before .before .before .args .file .now) (c .before .before .before .before .before .before .args .table .now) (λ f t. rangeInside f t (c .before .before .before .before .before .before .args .row)))))

@@ -2,6 +2,7 @@
 use Prim.Native.Nat.{_+_, _*_, _≤_}
 use mathlib.Core.Path.{_≡_, refl, sym, _∙_}
 use lib.ListN.{length}
+use Rattle.meaning.specs.Columns.{objectWidth}
 use Rattle.panel.specs.Lines.{objectSound, every}
 use Rattle.panel.proofs.Sound as rows
 use borrow.Author.Needs.{needs}
@@ -9,7 +10,7 @@ use Rattle.panel.proofs.rows.sound_objects.Statement.{statement}
 use Rattle.panel.proofs.rows.sound_objects.Tie as tie
 
 abbrev Inv-loop : tie.InvT-loop
-Inv-loop file table n row₀ left₀ row left = (row + 16 * left ≤ length table) × (every (objectSound file table) 16 n 0 ≡ every (objectSound file table) 16 left row)
+Inv-loop file table n row₀ left₀ row left = (row + objectWidth * left ≤ length table) × (every (objectSound file table) objectWidth n 0 ≡ every (objectSound file table) objectWidth left row)
 
 abbrev μ-loop : tie.MeasureT-loop
 μ-loop file table n row₀ left₀ row left = left
@@ -31,6 +32,6 @@ sound-objects-spec =
     (λ c. search needs)
     (λ c. search needs)
     (λ c. search needs)
-    (λ c. (search needs, (c .before .before .before .before .before .loop .inv .1) ∙ rows.every-goes (objectSound (c .before .before .before .before .before .before .before .before .args .file .now) (c .before .before .before .before .before .before .before .before .args .table .now)) 16 (c .before .before .before .before .before .loop .left) (c .before .before .before .before .before .loop .row) (c .before .before .before .before .loop-test .taken) (sym (c .if1 .taken) ∙ (c .before .sound-object .ensures) ∙ rows.lent (c .before .before .before .before .before .before .before .before .args .file .now) (c .before .before .before .before .before .before .before .before .args .table .now) (λ f t. objectSound f t (c .before .before .before .before .before .loop .row)))))
-    (λ c. sym ((c .before .before .before .before .before .loop .inv .1) ∙ rows.every-stops (objectSound (c .before .before .before .before .before .before .before .before .args .file .now) (c .before .before .before .before .before .before .before .before .args .table .now)) 16 (c .before .before .before .before .before .loop .left) (c .before .before .before .before .before .loop .row) (c .before .before .before .before .loop-test .taken) (sym (c .if1 .left) ∙ (c .before .sound-object .ensures) ∙ rows.lent (c .before .before .before .before .before .before .before .before .args .file .now) (c .before .before .before .before .before .before .before .before .args .table .now) (λ f t. objectSound f t (c .before .before .before .before .before .loop .row)))))
-    (λ c. sym ((c .before .loop .inv .1) ∙ rows.every-none (objectSound (c .before .before .before .before .args .file .now) (c .before .before .before .before .args .table .now)) 16 (c .before .loop .left) (c .before .loop .row) (c .loop-test .left))))
+    (λ c. (search needs, (c .before .before .before .before .before .loop .inv .1) ∙ rows.every-goes (objectSound (c .before .before .before .before .before .before .before .before .args .file .now) (c .before .before .before .before .before .before .before .before .args .table .now)) objectWidth (c .before .before .before .before .before .loop .left) (c .before .before .before .before .before .loop .row) (c .before .before .before .before .loop-test .taken) (sym (c .if1 .taken) ∙ (c .before .sound-object .ensures) ∙ rows.lent (c .before .before .before .before .before .before .before .before .args .file .now) (c .before .before .before .before .before .before .before .before .args .table .now) (λ f t. objectSound f t (c .before .before .before .before .before .loop .row)))))
+    (λ c. sym ((c .before .before .before .before .before .loop .inv .1) ∙ rows.every-stops (objectSound (c .before .before .before .before .before .before .before .before .args .file .now) (c .before .before .before .before .before .before .before .before .args .table .now)) objectWidth (c .before .before .before .before .before .loop .left) (c .before .before .before .before .before .loop .row) (c .before .before .before .before .loop-test .taken) (sym (c .if1 .left) ∙ (c .before .sound-object .ensures) ∙ rows.lent (c .before .before .before .before .before .before .before .before .args .file .now) (c .before .before .before .before .before .before .before .before .args .table .now) (λ f t. objectSound f t (c .before .before .before .before .before .loop .row)))))
+    (λ c. sym ((c .before .loop .inv .1) ∙ rows.every-none (objectSound (c .before .before .before .before .args .file .now) (c .before .before .before .before .args .table .now)) objectWidth (c .before .loop .left) (c .before .loop .row) (c .loop-test .left))))

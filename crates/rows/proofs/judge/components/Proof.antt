@@ -1,4 +1,5 @@
 -- `rows::judge::components` meets its contract: the invariant says what the rows that are left give.
+use Rattle.meaning.specs.Columns.{componentWidth}
 use Rattle.rows.proofs.Lent.{lent-both}
 use mathlib.Core.Path.{_≡_, refl, sym, _∙_}
 use lib.ListN.{length, drop}
@@ -12,7 +13,7 @@ use Rattle.rows.proofs.judge.components.Statement.{statement}
 use Rattle.rows.proofs.judge.components.Tie as tie
 
 abbrev Inv-loop : tie.InvT-loop
-Inv-loop buffer rows n at₀ left₀ at left = (at + 10 * left ≤ length rows) × (all (componentSound buffer) (eachRow askedComponent 10 n rows) ≡ all (componentSound buffer) (eachRow askedComponent 10 left (drop at rows)))
+Inv-loop buffer rows n at₀ left₀ at left = (at + componentWidth * left ≤ length rows) × (all (componentSound buffer) (eachRow askedComponent componentWidth n rows) ≡ all (componentSound buffer) (eachRow askedComponent componentWidth left (drop at rows)))
 
 abbrev μ-loop : tie.MeasureT-loop
 μ-loop buffer rows n at₀ left₀ at left = left
@@ -35,6 +36,6 @@ components-spec =
     (λ c. search needs)
     (λ c. search needs)
     (λ c. search needs)
-    (λ c. (search needs, (c .before .before .before .before .before .loop .inv .1) ∙ law.all-go (componentSound ((c .before .before .before .before .before .before .before .before .args .buffer .now))) askedComponent 10 ((c .before .before .before .before .before .loop .left)) ((c .before .before .before .before .before .loop .at)) ((c .before .before .before .before .before .before .before .before .args .rows .now)) ((c .before .before .before .before .loop-test .taken)) (sym (lent-both ((c .before .before .before .before .before .before .before .before .args .buffer .now)) ((c .before .before .before .before .before .before .before .before .args .rows .now)) ((c .before .before .before .before .before .loop .at)) (λ b r. componentSound b (askedComponent r))) ∙ sym ((c .before .component .ensures)) ∙ (c .if1 .taken))))
-    (λ c. sym ((c .before .before .before .before .before .loop .inv .1) ∙ law.all-stop (componentSound ((c .before .before .before .before .before .before .before .before .args .buffer .now))) askedComponent 10 ((c .before .before .before .before .before .loop .left)) ((c .before .before .before .before .before .loop .at)) ((c .before .before .before .before .before .before .before .before .args .rows .now)) ((c .before .before .before .before .loop-test .taken)) (sym (lent-both ((c .before .before .before .before .before .before .before .before .args .buffer .now)) ((c .before .before .before .before .before .before .before .before .args .rows .now)) ((c .before .before .before .before .before .loop .at)) (λ b r. componentSound b (askedComponent r))) ∙ sym ((c .before .component .ensures)) ∙ (c .if1 .left))))
-    (λ c. sym ((c .before .loop .inv .1) ∙ law.all-of-none (componentSound ((c .before .before .before .before .args .buffer .now))) askedComponent 10 ((c .before .loop .left)) ((c .before .loop .at)) ((c .before .before .before .before .args .rows .now)) ((c .loop-test .left)))))
+    (λ c. (search needs, (c .before .before .before .before .before .loop .inv .1) ∙ law.all-go (componentSound ((c .before .before .before .before .before .before .before .before .args .buffer .now))) askedComponent componentWidth ((c .before .before .before .before .before .loop .left)) ((c .before .before .before .before .before .loop .at)) ((c .before .before .before .before .before .before .before .before .args .rows .now)) ((c .before .before .before .before .loop-test .taken)) (sym (lent-both ((c .before .before .before .before .before .before .before .before .args .buffer .now)) ((c .before .before .before .before .before .before .before .before .args .rows .now)) ((c .before .before .before .before .before .loop .at)) (λ b r. componentSound b (askedComponent r))) ∙ sym ((c .before .component .ensures)) ∙ (c .if1 .taken))))
+    (λ c. sym ((c .before .before .before .before .before .loop .inv .1) ∙ law.all-stop (componentSound ((c .before .before .before .before .before .before .before .before .args .buffer .now))) askedComponent componentWidth ((c .before .before .before .before .before .loop .left)) ((c .before .before .before .before .before .loop .at)) ((c .before .before .before .before .before .before .before .before .args .rows .now)) ((c .before .before .before .before .loop-test .taken)) (sym (lent-both ((c .before .before .before .before .before .before .before .before .args .buffer .now)) ((c .before .before .before .before .before .before .before .before .args .rows .now)) ((c .before .before .before .before .before .loop .at)) (λ b r. componentSound b (askedComponent r))) ∙ sym ((c .before .component .ensures)) ∙ (c .if1 .left))))
+    (λ c. sym ((c .before .loop .inv .1) ∙ law.all-of-none (componentSound ((c .before .before .before .before .args .buffer .now))) askedComponent componentWidth ((c .before .loop .left)) ((c .before .loop .at)) ((c .before .before .before .before .args .rows .now)) ((c .loop-test .left)))))

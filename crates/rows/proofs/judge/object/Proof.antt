@@ -5,6 +5,7 @@ use mathlib.Core.Path.{ap, sym, _∙_}
 use lib.ListN.{getD}
 use mathlib.Core.List.{List}
 use Prim.Native.Nat.{ℕ}
+use Rattle.meaning.specs.Columns.{attributesColumn, attributesLengthColumn}
 use Rattle.meaning.specs.Sound.{attributesSound}
 use Rattle.rows.proofs.Judged as law
 use borrow.Author.Needs.{needs}
@@ -31,4 +32,4 @@ object-spec =
     (λ c. search needs)
     (λ c. search needs)
     (λ c κs. search needs)
-    (λ c. (c .attributes .ensures) ∙ ap (λ (b : List ℕ). attributesSound b 29 (record { place = getD ((c .before .before .before .before .before .before .before .before .before .before .before .before .before .before .before .before .args .row .now)) 13 0; size = getD ((c .before .before .before .before .before .before .before .before .before .before .before .before .before .before .before .before .args .row .now)) 14 0 })) (part-to-end ((c .before .before .before .before .before .before .before .before .before .before .before .before .before .before .before .before .args .buffer .now)) 0) ∙ law.object-attributes ((c .before .before .before .before .before .before .before .before .before .before .before .before .before .before .before .before .args .buffer .now)) ((c .before .before .before .before .before .before .before .before .before .before .before .before .before .before .before .before .args .row .now)) (sym ((c .before .before .before .before .before .before .before .before .before .before .before .inside .ensures)) ∙ not-false _ ((c .before .before .before .before .before .before .before .before .before .before .if1 .left))) ((c .before .before .before .before .before .before .before .before .if2 .left)) (sym ((c .before .before .before .before .before .inside2 .ensures)) ∙ not-false _ ((c .before .before .before .before .if3 .left)))))
+    (λ c. (c .attributes .ensures) ∙ ap (λ (b : List ℕ). attributesSound b 29 (record { place = getD ((c .before .before .before .before .before .before .before .before .before .before .before .before .before .before .before .before .args .row .now)) attributesColumn 0; size = getD ((c .before .before .before .before .before .before .before .before .before .before .before .before .before .before .before .before .args .row .now)) attributesLengthColumn 0 })) (part-to-end ((c .before .before .before .before .before .before .before .before .before .before .before .before .before .before .before .before .args .buffer .now)) 0) ∙ law.object-attributes ((c .before .before .before .before .before .before .before .before .before .before .before .before .before .before .before .before .args .buffer .now)) ((c .before .before .before .before .before .before .before .before .before .before .before .before .before .before .before .before .args .row .now)) (sym ((c .before .before .before .before .before .before .before .before .before .before .before .inside .ensures)) ∙ not-false _ ((c .before .before .before .before .before .before .before .before .before .before .if1 .left))) ((c .before .before .before .before .before .before .before .before .if2 .left)) (sym ((c .before .before .before .before .before .inside2 .ensures)) ∙ not-false _ ((c .before .before .before .before .if3 .left)))))

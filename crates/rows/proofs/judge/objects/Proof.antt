@@ -1,4 +1,5 @@
 -- `rows::judge::objects` meets its contract: the invariant says what the rows that are left give.
+use Rattle.meaning.specs.Columns.{objectWidth}
 use Rattle.rows.proofs.Lent.{lent-both}
 use mathlib.Core.Path.{_≡_, refl, sym, _∙_}
 use lib.ListN.{length, drop}
@@ -12,7 +13,7 @@ use Rattle.rows.proofs.judge.objects.Statement.{statement}
 use Rattle.rows.proofs.judge.objects.Tie as tie
 
 abbrev Inv-loop : tie.InvT-loop
-Inv-loop buffer rows n at₀ left₀ at left = (at + 16 * left ≤ length rows) × (all (objectSound buffer) (eachRow askedObject 16 n rows) ≡ all (objectSound buffer) (eachRow askedObject 16 left (drop at rows)))
+Inv-loop buffer rows n at₀ left₀ at left = (at + objectWidth * left ≤ length rows) × (all (objectSound buffer) (eachRow askedObject objectWidth n rows) ≡ all (objectSound buffer) (eachRow askedObject objectWidth left (drop at rows)))
 
 abbrev μ-loop : tie.MeasureT-loop
 μ-loop buffer rows n at₀ left₀ at left = left
@@ -35,6 +36,6 @@ objects-spec =
     (λ c. search needs)
     (λ c. search needs)
     (λ c. search needs)
-    (λ c. (search needs, (c .before .before .before .before .before .loop .inv .1) ∙ law.all-go (objectSound ((c .before .before .before .before .before .before .before .before .args .buffer .now))) askedObject 16 ((c .before .before .before .before .before .loop .left)) ((c .before .before .before .before .before .loop .at)) ((c .before .before .before .before .before .before .before .before .args .rows .now)) ((c .before .before .before .before .loop-test .taken)) (sym (lent-both ((c .before .before .before .before .before .before .before .before .args .buffer .now)) ((c .before .before .before .before .before .before .before .before .args .rows .now)) ((c .before .before .before .before .before .loop .at)) (λ b r. objectSound b (askedObject r))) ∙ sym ((c .before .object .ensures)) ∙ (c .if1 .taken))))
-    (λ c. sym ((c .before .before .before .before .before .loop .inv .1) ∙ law.all-stop (objectSound ((c .before .before .before .before .before .before .before .before .args .buffer .now))) askedObject 16 ((c .before .before .before .before .before .loop .left)) ((c .before .before .before .before .before .loop .at)) ((c .before .before .before .before .before .before .before .before .args .rows .now)) ((c .before .before .before .before .loop-test .taken)) (sym (lent-both ((c .before .before .before .before .before .before .before .before .args .buffer .now)) ((c .before .before .before .before .before .before .before .before .args .rows .now)) ((c .before .before .before .before .before .loop .at)) (λ b r. objectSound b (askedObject r))) ∙ sym ((c .before .object .ensures)) ∙ (c .if1 .left))))
-    (λ c. sym ((c .before .loop .inv .1) ∙ law.all-of-none (objectSound ((c .before .before .before .before .args .buffer .now))) askedObject 16 ((c .before .loop .left)) ((c .before .loop .at)) ((c .before .before .before .before .args .rows .now)) ((c .loop-test .left)))))
+    (λ c. (search needs, (c .before .before .before .before .before .loop .inv .1) ∙ law.all-go (objectSound ((c .before .before .before .before .before .before .before .before .args .buffer .now))) askedObject objectWidth ((c .before .before .before .before .before .loop .left)) ((c .before .before .before .before .before .loop .at)) ((c .before .before .before .before .before .before .before .before .args .rows .now)) ((c .before .before .before .before .loop-test .taken)) (sym (lent-both ((c .before .before .before .before .before .before .before .before .args .buffer .now)) ((c .before .before .before .before .before .before .before .before .args .rows .now)) ((c .before .before .before .before .before .loop .at)) (λ b r. objectSound b (askedObject r))) ∙ sym ((c .before .object .ensures)) ∙ (c .if1 .taken))))
+    (λ c. sym ((c .before .before .before .before .before .loop .inv .1) ∙ law.all-stop (objectSound ((c .before .before .before .before .before .before .before .before .args .buffer .now))) askedObject objectWidth ((c .before .before .before .before .before .loop .left)) ((c .before .before .before .before .before .loop .at)) ((c .before .before .before .before .before .before .before .before .args .rows .now)) ((c .before .before .before .before .loop-test .taken)) (sym (lent-both ((c .before .before .before .before .before .before .before .before .args .buffer .now)) ((c .before .before .before .before .before .before .before .before .args .rows .now)) ((c .before .before .before .before .before .loop .at)) (λ b r. objectSound b (askedObject r))) ∙ sym ((c .before .object .ensures)) ∙ (c .if1 .left))))
+    (λ c. sym ((c .before .loop .inv .1) ∙ law.all-of-none (objectSound ((c .before .before .before .before .args .buffer .now))) askedObject objectWidth ((c .before .loop .left)) ((c .before .loop .at)) ((c .before .before .before .before .args .rows .now)) ((c .loop-test .left)))))

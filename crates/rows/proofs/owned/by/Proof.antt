@@ -2,6 +2,7 @@
 use mathlib.Core.Path.{_≡_, refl, sym, _∙_}
 use lib.ListN.{length, drop, replicate}
 use Prim.Native.Nat.{_+_, _*_, _≤_}
+use Rattle.meaning.specs.Columns.{componentWidth}
 use Rattle.meaning.specs.Asked.{eachRow, askedComponent}
 use Rattle.meaning.specs.Text.{same}
 use Rattle.rows.specs.Owner.{ownersIn}
@@ -11,7 +12,7 @@ use Rattle.rows.proofs.owned.by.Statement.{statement}
 use Rattle.rows.proofs.owned.by.Tie as tie
 
 abbrev Inv-loop : tie.InvT-loop
-Inv-loop i rows n at₀ left₀ at left = (at + 10 * left ≤ length rows) × (same (replicate n i) (ownersIn (eachRow askedComponent 10 n rows)) ≡ same (replicate left i) (ownersIn (eachRow askedComponent 10 left (drop at rows))))
+Inv-loop i rows n at₀ left₀ at left = (at + componentWidth * left ≤ length rows) × (same (replicate n i) (ownersIn (eachRow askedComponent componentWidth n rows)) ≡ same (replicate left i) (ownersIn (eachRow askedComponent componentWidth left (drop at rows))))
 
 abbrev μ-loop : tie.MeasureT-loop
 μ-loop i rows n at₀ left₀ at left = left

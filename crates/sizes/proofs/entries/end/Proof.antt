@@ -3,6 +3,7 @@ use mathlib.Core.Path.{_≡_, refl, ap, sym, _∙_}
 use native.Mathlib.Omega.{arith}
 use lib.ListN.{length, drop, getD}
 use Prim.Native.Nat.{ℕ, _+_, _-_, _*_, _≤_}
+use Rattle.meaning.specs.Columns.{componentWidth, lengthColumn}
 use Rattle.meaning.specs.Placement as placement
 use Rattle.meaning.specs.Limit.{endLimit}
 use Rattle.meaning.specs.Asked.{eachRow, askedComponent}
@@ -14,7 +15,7 @@ use Rattle.sizes.proofs.entries.end.Statement.{statement}
 use Rattle.sizes.proofs.entries.end.Tie as tie
 
 abbrev Inv-loop : tie.InvT-loop
-Inv-loop rows n start at₀ left₀ place₀ at left place = (at + 10 * left ≤ length rows) × (place ≤ endLimit) × (reached start (blobSizes (eachRow askedComponent 10 n rows)) ≡ reached place (blobSizes (eachRow askedComponent 10 left (drop at rows))))
+Inv-loop rows n start at₀ left₀ place₀ at left place = (at + componentWidth * left ≤ length rows) × (place ≤ endLimit) × (reached start (blobSizes (eachRow askedComponent componentWidth n rows)) ≡ reached place (blobSizes (eachRow askedComponent componentWidth left (drop at rows))))
 
 abbrev μ-loop : tie.MeasureT-loop
 μ-loop rows n start at₀ left₀ place₀ at left place = left
@@ -32,10 +33,10 @@ end-spec =
     (λ c. search needs)
     (λ c. omega (arith, law.aligned-in-time ((c .before .before .before .loop .place)) ((c .before .before .before .loop .inv .1)), (c .before .aligned .ensures)))
     (λ c. search needs)
-    (λ c. omega (arith, (c .before .before .before .before .loop .inv .2), (c .before .before .aligned .ensures), (c .if1 .taken), running.reached-next ((c .before .before .before .before .loop .left)) ((c .before .before .before .before .loop .at)) ((c .before .before .before .before .loop .place)) ((c .before .before .before .before .before .before .args .rows .now)) ((c .before .before .before .loop-test .taken)), running.reached-above (placement.aligned ((c .before .before .before .before .loop .place)) + getD ((c .before .before .before .before .before .before .args .rows .now)) ((c .before .before .before .before .loop .at) + 6) 0) (blobSizes (eachRow askedComponent 10 ((c .before .before .before .before .loop .left) - 1) (drop ((c .before .before .before .before .loop .at) + 10) ((c .before .before .before .before .before .before .args .rows .now)))))))
+    (λ c. omega (arith, (c .before .before .before .before .loop .inv .2), (c .before .before .aligned .ensures), (c .if1 .taken), running.reached-next ((c .before .before .before .before .loop .left)) ((c .before .before .before .before .loop .at)) ((c .before .before .before .before .loop .place)) ((c .before .before .before .before .before .before .args .rows .now)) ((c .before .before .before .loop-test .taken)), running.reached-above (placement.aligned ((c .before .before .before .before .loop .place)) + getD ((c .before .before .before .before .before .before .args .rows .now)) ((c .before .before .before .before .loop .at) + lengthColumn) 0) (blobSizes (eachRow askedComponent componentWidth ((c .before .before .before .before .loop .left) - 1) (drop ((c .before .before .before .before .loop .at) + componentWidth) ((c .before .before .before .before .before .before .args .rows .now)))))))
     (λ c. omega (arith, (c .if1 .left), law.aligned-in-time ((c .before .before .before .before .loop .place)) ((c .before .before .before .before .loop .inv .1)), (c .before .before .aligned .ensures)))
     (λ c. search needs)
     (λ c. search needs)
     (λ c. search needs)
-    (λ c. (search needs, omega (arith, (c .if1 .left), law.aligned-in-time ((c .before .before .before .before .loop .place)) ((c .before .before .before .before .loop .inv .1)), (c .before .before .aligned .ensures)), (c .before .before .before .before .loop .inv .2) ∙ running.reached-next ((c .before .before .before .before .loop .left)) ((c .before .before .before .before .loop .at)) ((c .before .before .before .before .loop .place)) ((c .before .before .before .before .before .before .args .rows .now)) ((c .before .before .before .loop-test .taken)) ∙ ap (λ (k : ℕ). reached (k + getD ((c .before .before .before .before .before .before .args .rows .now)) ((c .before .before .before .before .loop .at) + 6) 0) (blobSizes (eachRow askedComponent 10 ((c .before .before .before .before .loop .left) - 1) (drop ((c .before .before .before .before .loop .at) + 10) ((c .before .before .before .before .before .before .args .rows .now)))))) (sym ((c .before .before .aligned .ensures)))))
+    (λ c. (search needs, omega (arith, (c .if1 .left), law.aligned-in-time ((c .before .before .before .before .loop .place)) ((c .before .before .before .before .loop .inv .1)), (c .before .before .aligned .ensures)), (c .before .before .before .before .loop .inv .2) ∙ running.reached-next ((c .before .before .before .before .loop .left)) ((c .before .before .before .before .loop .at)) ((c .before .before .before .before .loop .place)) ((c .before .before .before .before .before .before .args .rows .now)) ((c .before .before .before .loop-test .taken)) ∙ ap (λ (k : ℕ). reached (k + getD ((c .before .before .before .before .before .before .args .rows .now)) ((c .before .before .before .before .loop .at) + lengthColumn) 0) (blobSizes (eachRow askedComponent componentWidth ((c .before .before .before .before .loop .left) - 1) (drop ((c .before .before .before .before .loop .at) + componentWidth) ((c .before .before .before .before .before .before .args .rows .now)))))) (sym ((c .before .before .aligned .ensures)))))
     (λ c. omega (arith, (c .before .loop .inv .1), (c .before .loop .inv .2), running.reached-none ((c .before .loop .left)) ((c .before .loop .at)) ((c .before .loop .place)) ((c .before .before .before .args .rows .now)) ((c .loop-test .left)))))

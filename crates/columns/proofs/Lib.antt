@@ -1,0 +1,2 @@
+-- Laws behind columns' proofs.
+pub mod Room
