@@ -26,6 +26,20 @@ static void numbers(void) {
 /* Rows of document 01, said here a second time: 16 numbers an object, 10 a component. */
 enum { OBJECT = 16, COMPONENT = 10, OBJECTS = 3, COMPONENTS = 7, NUMBERS = OBJECT * OBJECTS + COMPONENT * COMPONENTS };
 
+/* Columns, limits and codes, each with document 01's number; what zt.h calls them is used by the command and the examples. */
+static void columns(void) {
+    SAME(ZT_OBJECT_WIDTH, OBJECT), SAME(ZT_OBJECT_NAME, 0), SAME(ZT_OBJECT_NAME_LENGTH, 1), SAME(ZT_OBJECT_RANK, 2), SAME(ZT_OBJECT_SHAPE, 3);
+    SAME(ZT_OBJECT_FORMAT, 11), SAME(ZT_OBJECT_FORMAT_LENGTH, 12), SAME(ZT_OBJECT_ATTRIBUTES, 13), SAME(ZT_OBJECT_ATTRIBUTES_LENGTH, 14);
+    SAME(ZT_OBJECT_COMPONENTS, 15);
+    SAME(ZT_COMPONENT_WIDTH, COMPONENT), SAME(ZT_COMPONENT_NAME, 0), SAME(ZT_COMPONENT_NAME_LENGTH, 1), SAME(ZT_COMPONENT_DTYPE, 2);
+    SAME(ZT_COMPONENT_TYPE, 3), SAME(ZT_COMPONENT_TYPE_LENGTH, 4), SAME(ZT_COMPONENT_OFFSET, 5), SAME(ZT_COMPONENT_LENGTH, 6);
+    SAME(ZT_COMPONENT_DIGEST, 7), SAME(ZT_COMPONENT_DIGEST_LENGTH, 8), SAME(ZT_COMPONENT_OWNER, 9);
+    SAME(ZT_F64, 0), SAME(ZT_F32, 1), SAME(ZT_F16, 2), SAME(ZT_BF16, 3), SAME(ZT_I64, 4), SAME(ZT_I32, 5), SAME(ZT_I16, 6), SAME(ZT_I8, 7);
+    SAME(ZT_U64, 8), SAME(ZT_U32, 9), SAME(ZT_U16, 10), SAME(ZT_U8, 11), SAME(ZT_BOOL, 12);
+    SAME(ZT_OBJECTS_MOST, 1024), SAME(ZT_COMPONENTS_MOST, 16), SAME(ZT_RANK_MOST, 8), SAME(ZT_MANIFEST_MOST, 16777216);
+    SAME(ZT_TABLE_MOST, OBJECT * 1024 + COMPONENT * 16 * 1024);
+}
+
 /* What the rows point at. Names are one letter; the blobs stand behind the letters. */
 static const uint8_t buffer[] = "ABCabcdefg_complex64\xA1\x61k\x01\xA2\x61k\x01\x61l\x02-0123456789012345678901234567890123456789";
 enum { NAMES = 0, PARTS = 3, FORMAT = 10, TYPE = 11, MAP = 20, MAP_LENGTH = 4, ROOT = 24, ROOT_LENGTH = 7, BLOB = 32 };
@@ -129,6 +143,7 @@ static void refused(void) {
 
 int main(void) {
     numbers();
+    columns();
     accepted();
     refused();
     return wrong;
