@@ -104,7 +104,8 @@ static void handle(int signal_number, void (*handler)(int)) {
 int main(int count, char **words) {
     int status, printed;
     hold_descriptors();
-    handle(SIGPIPE, SIG_IGN); /* a closed pipe is an error of write, and said */
+    handle(SIGPIPE, SIG_IGN); /* a closed pipe, or a file at the size that a shell allows, is an error of a write, and said */
+    handle(SIGXFSZ, SIG_IGN);
     handle(SIGBUS, unmapped);
     handle(SIGINT, ended);
     handle(SIGTERM, ended);
