@@ -5,7 +5,7 @@
 #include "zt.h"
 #include <stdlib.h>
 
-enum { OBJECTS = 1000, ROOM = ZT_NUMBERS_MOST, TEXT = 1 << 20 };
+enum { OBJECTS = 1000, ROOM = ZT_TABLE_MOST, TEXT = 1 << 20 };
 
 static uint64_t table[ROOM];
 static uint8_t lines[TEXT];

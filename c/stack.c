@@ -10,7 +10,7 @@
 #include <string.h>
 #include <sys/mman.h>
 
-enum { STACK = 1 << 17, ROOM = ZT_NUMBERS_MOST, TEXT = 1 << 24 };
+enum { STACK = 1 << 17, ROOM = ZT_TABLE_MOST, TEXT = 1 << 24 };
 
 static uint64_t table[ROOM];
 static uint8_t text[TEXT], out[2 * TEXT];

@@ -1,17 +1,23 @@
 /*
  * Radenvyth's reading and writing of .zt files (zTensor 1.2.0), for C99 and C++: the acceptance check, the table, the view, the listing, and the
- * writer. Link libzt.a, a library for x86-64 Linux. examples/firmware and examples/maker are whole programs over it; this is the shortest:
+ * writer. Link libzt.a or libzt.so, libraries for x86-64 Linux. examples/firmware and examples/maker are whole programs over it, zt(3) is its manual page; this
+ * is the shortest program, which refuses to judge what doesn't fit:
  *
  *     #include "zt.h"
  *     #include <stdio.h>
  *
- *     static uint8_t file[65536];
+ *     static uint8_t file[65536 + 1];
  *
  *     int main(void) {
  *         size_t length = fread(file, 1, sizeof file, stdin);
+ *         if (ferror(stdin) || length == sizeof file) {
+ *             fputs("can't be read, or over 65,536 bytes\n", stderr);
+ *             return 2;
+ *         }
  *         uint64_t refusal = zt_accept(file, length);
  *         if (refusal == ZT_ACCEPTED) puts("accepted");
  *         else printf("refused %d\n", (int)refusal);
+ *         return refusal != ZT_ACCEPTED;
  *     }
  */
 #ifndef ZT_H
@@ -23,6 +29,12 @@
 #ifdef __cplusplus
 extern "C" {
 #endif
+
+/* The version of this header; zt_library_version() says the library's. Neither is the file format's version, which is 1.2.0. */
+#define ZT_LIBRARY_VERSION "1.0.0"
+#define ZT_LIBRARY_VERSION_MAJOR 1
+#define ZT_LIBRARY_VERSION_MINOR 0
+#define ZT_LIBRARY_VERSION_PATCH 0
 
 /* Document 01's refusal numbers, with its words. A file has the first fault in 01's order. */
 enum zt_refusal {
@@ -61,11 +73,83 @@ enum zt_refusal {
  */
 #define ZT_STACK 32768
 
+/* Document 01's limits, and how many numbers the largest table has. */
+#define ZT_OBJECTS_MOST 1024
+#define ZT_COMPONENTS_MOST 16 /* of one object */
+#define ZT_RANK_MOST 8
+#define ZT_MANIFEST_MOST 16777216
+#define ZT_TABLE_MOST ZT_NUMBERS(ZT_OBJECTS_MOST, ZT_OBJECTS_MOST * ZT_COMPONENTS_MOST)
+
+/*
+ * A table: a row of ZT_OBJECT_WIDTH numbers for each object, then one of ZT_COMPONENT_WIDTH for each component, both in the manifest's order, so the row
+ * of component i begins at table + ZT_NUMBERS(objects, i). A text is a place in the file and a length: an object's name is
+ * the row[ZT_OBJECT_NAME_LENGTH] bytes from file + row[ZT_OBJECT_NAME]. Names are UTF-8 without a zero at their end, and may hold any character, so compare
+ * lengths, then bytes; no name stands twice among the objects, nor among one object's components. Attributes are the bytes of one CBOR map. Where an optional
+ * text or map is absent, both its numbers are 0.
+ */
+#define ZT_OBJECT_WIDTH 16
+#define ZT_COMPONENT_WIDTH 10
+/* The numbers that the rows of so many objects and components take. */
+#define ZT_NUMBERS(objects, components) (ZT_OBJECT_WIDTH * (objects) + ZT_COMPONENT_WIDTH * (components))
+
+/* The columns of an object's row. */
+enum zt_object_column {
+    ZT_OBJECT_NAME = 0,
+    ZT_OBJECT_NAME_LENGTH = 1,
+    ZT_OBJECT_RANK = 2,
+    ZT_OBJECT_SHAPE = 3, /* the first of eight dimensions; those from the rank on are 0 */
+    ZT_OBJECT_FORMAT = 11,
+    ZT_OBJECT_FORMAT_LENGTH = 12,
+    ZT_OBJECT_ATTRIBUTES = 13,
+    ZT_OBJECT_ATTRIBUTES_LENGTH = 14,
+    ZT_OBJECT_COMPONENTS = 15 /* how many it has */
+};
+
+/* The columns of a component's row. */
+enum zt_component_column {
+    ZT_COMPONENT_NAME = 0,
+    ZT_COMPONENT_NAME_LENGTH = 1,
+    ZT_COMPONENT_DTYPE = 2, /* a zt_dtype */
+    ZT_COMPONENT_TYPE = 3,  /* the logical type, a text */
+    ZT_COMPONENT_TYPE_LENGTH = 4,
+    ZT_COMPONENT_OFFSET = 5, /* its bytes in the file: zt_view answers these two, where they lie inside the file */
+    ZT_COMPONENT_LENGTH = 6,
+    ZT_COMPONENT_DIGEST = 7, /* a text, whose truth isn't checked */
+    ZT_COMPONENT_DIGEST_LENGTH = 8,
+    ZT_COMPONENT_OWNER = 9 /* the index of its object */
+};
+
+/* Storage codes. */
+enum zt_dtype {
+    ZT_F64 = 0,
+    ZT_F32 = 1,
+    ZT_F16 = 2,
+    ZT_BF16 = 3,
+    ZT_I64 = 4,
+    ZT_I32 = 5,
+    ZT_I16 = 6,
+    ZT_I8 = 7,
+    ZT_U64 = 8,
+    ZT_U32 = 9,
+    ZT_U16 = 10,
+    ZT_U8 = 11,
+    ZT_BOOL = 12
+};
+
 /*
  * Of every call here: it ends and answers, whatever the bytes, numbers and counts are. Only what is lent is touched: file[0] to file[length - 1], which
  * need no alignment, and a table or text as far as its room. A pointer may be null where its length or room is 0, and must point to that many bytes or
  * numbers else. What is lent to be written must not overlap what is read. No memory is allocated, nothing is kept from one call to the next, and calls may
  * run at the same time, also on the same file.
+ *
+ * What is lent must not change during a call, by another thread or process, and the file not between zt_read and the calls that go by its table. A mapped
+ * file that someone cuts ends the caller with SIGBUS: lock it, copy it, or have files replaced by rename only, as the command zt does
+ * (examples/firmware takes a lock).
+ *
+ * Of C the library calls memcpy, memmove, memset, memcmp and bcmp at most; it has no data that is written to and needs no start-up code. It is for x86-64, with
+ * the System V calling convention, and its code is position independent.
+ *
+ * Indices of objects and components start at 0, and 0 also stands for none: only the number tells whether a refusal belongs to an object at all (1 to 7 don't).
  */
 
 /* Whether these bytes are a sound .zt file: ZT_ACCEPTED, or the first refusal, ZT_SHORT to ZT_LENGTH. Never ZT_ROOM, since nothing is written. */
@@ -74,68 +158,15 @@ uint64_t zt_accept(const uint8_t *file, size_t length);
 /* What zt_read answers. All but the first three are 0 on refusal. */
 typedef struct {
     uint64_t number;            /* ZT_ACCEPTED or the refusal */
-    uint64_t object, component; /* where it is, 0 where there is none */
+    uint64_t object, component; /* where it is, from 0 on; 0 also where there is none. The component's index is in its object */
     uint64_t objects, components;
     uint64_t start;             /* the manifest start */
     uint64_t place, size;       /* the root's attributes, 0 and 0 if absent */
 } zt_answer;
 
 /*
- * A table's rows: all objects first, then all components, in manifest order. A row is so many numbers, and each of these columns is one of them, counted
- * from the row's first. A range takes two: a place, which counts from the file's start (in rows that are written: from the buffer's), and a length in bytes;
- * 0 and 0 means absent. A text's range is its bytes without their head, attributes' the whole CBOR item.
- */
-enum zt_object_column {
-    ZT_OBJECT_NAME = 0, /* a text */
-    ZT_OBJECT_NAME_LENGTH = 1,
-    ZT_OBJECT_RANK = 2,  /* 0 to 8 */
-    ZT_OBJECT_SHAPE = 3, /* eight dimensions, unused ones 0 */
-    ZT_OBJECT_FORMAT = 11, /* a text */
-    ZT_OBJECT_FORMAT_LENGTH = 12,
-    ZT_OBJECT_ATTRIBUTES = 13, /* a map, or absent */
-    ZT_OBJECT_ATTRIBUTES_LENGTH = 14,
-    ZT_OBJECT_COMPONENTS = 15, /* how many components it has, 0 to 16 */
-    ZT_OBJECT_ROW = 16         /* numbers of an object's row */
-};
-
-enum zt_component_column {
-    ZT_COMPONENT_NAME = 0, /* a text */
-    ZT_COMPONENT_NAME_LENGTH = 1,
-    ZT_COMPONENT_DTYPE = 2, /* an enum zt_dtype */
-    ZT_COMPONENT_TYPE = 3,  /* a text, or absent */
-    ZT_COMPONENT_TYPE_LENGTH = 4,
-    ZT_COMPONENT_OFFSET = 5, /* the component's own bytes: where they begin, and how many they are */
-    ZT_COMPONENT_LENGTH = 6,
-    ZT_COMPONENT_DIGEST = 7, /* a text, or absent */
-    ZT_COMPONENT_DIGEST_LENGTH = 8,
-    ZT_COMPONENT_OWNER = 9, /* its object's index */
-    ZT_COMPONENT_ROW = 10   /* numbers of a component's row */
-};
-
-/* How a component's elements are stored: bytes of an element in brackets. */
-enum zt_dtype {
-    ZT_F64 = 0,  /* [8] */
-    ZT_F32 = 1,  /* [4] */
-    ZT_F16 = 2,  /* [2] */
-    ZT_BF16 = 3, /* [2] */
-    ZT_I64 = 4,  /* [8] */
-    ZT_I32 = 5,  /* [4] */
-    ZT_I16 = 6,  /* [2] */
-    ZT_I8 = 7,   /* [1] */
-    ZT_U64 = 8,  /* [8] */
-    ZT_U32 = 9,  /* [4] */
-    ZT_U16 = 10, /* [2] */
-    ZT_U8 = 11,  /* [1] */
-    ZT_BOOL = 12 /* [1] */
-};
-
-/* Numbers that the rows of so many objects and components take; and the most that any file needs, since it has at most 1,024 objects of 16 components. */
-#define ZT_NUMBERS(objects, components) (ZT_OBJECT_ROW * (objects) + ZT_COMPONENT_ROW * (components))
-#define ZT_NUMBERS_MOST ZT_NUMBERS(1024, 1024 * 16)
-
-/*
- * The file read into a lent table of `room` numbers. Needs ZT_NUMBERS(objects, components), else ZT_ROOM. A refusal leaves the table as it was; numbers beyond
- * the rows stay. The table must not overlap the file, and must be aligned as uint64_t asks.
+ * The file read into a lent table of `room` numbers. Needs ZT_NUMBERS(objects, components), at most ZT_TABLE_MOST, else ZT_ROOM. A refusal leaves the
+ * table as it was; numbers beyond the rows stay. The table must not overlap the file, and must be aligned as uint64_t asks.
  */
 zt_answer zt_read(const uint8_t *file, size_t length, uint64_t *table, size_t room);
 
@@ -155,6 +186,10 @@ typedef struct {
 /*
  * The listing, by a table that zt_read filled, put into a lent text of `text_room` bytes. ZT_ROOM, if that is too little, and ZT_INDEX, for a table that
  * is none of this file's, leave the text as it was; bytes beyond the listing stay. The text must overlap neither the file nor the table.
+ *
+ * A listing is never longer than 3 bytes for each byte of the manifest, whose length is `length - 16 - start`, so at most 3 * ZT_MANIFEST_MOST: a byte of a
+ * text is printed as 3 at most, and the words around texts are shorter than three times what the manifest has around them. Worked out from the format, and
+ * seen in the tests, not proved.
  */
 zt_text zt_list(const uint8_t *file, size_t length, const uint64_t *table, size_t room, uint64_t objects, uint64_t components, uint8_t *text,
                 size_t text_room);
@@ -172,6 +207,15 @@ typedef struct {
  */
 zt_written zt_write(const uint64_t *rows, size_t numbers, uint64_t objects, uint64_t components, uint64_t attributes_place, uint64_t attributes_length,
                     const uint8_t *buffer, size_t buffer_length, uint8_t *out, size_t out_room);
+
+/*
+ * Words about numbers: plain C, library/words.c, no part of what is proved. The installed libraries hold it; beside the archive that `rt staticlib zt` writes,
+ * compile it too. Each text ends with a zero, is never null, and stays.
+ */
+const char *zt_library_version(void);          /* the library's version, "1.0.0" */
+const char *zt_refusal_name(uint64_t number);  /* "ACCEPTED", "SHORT" .. as above; "UNKNOWN" for a number that is none */
+const char *zt_refusal_words(uint64_t number); /* the words above */
+const char *zt_dtype_name(uint64_t code);      /* "f64" .. "bool"; "unknown" for a code over 12 */
 
 #ifdef __cplusplus
 }

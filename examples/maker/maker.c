@@ -3,7 +3,7 @@
  * the file. Exit status 0: written and read back; 1: refused; 2: the path can't be written.
  *
  *     rt staticlib zt
- *     gcc -std=gnu99 -Wall -Wextra -Werror -Iinclude -o maker examples/maker/maker.c target/staticlib/libzt.a
+ *     host/cc -std=gnu99 -Wall -Wextra -Werror -Iinclude -o maker examples/maker/maker.c target/staticlib/libzt.a
  */
 #include "zt.h"
 #include <inttypes.h>

@@ -1,0 +1,27 @@
+/* A command's words: options, which may stand before and after its operands, and operands; "--" ends the options, "-" is an operand. */
+#ifndef ARGUMENTS_H
+#define ARGUMENTS_H
+
+/* The options there are; a command names those that it takes. */
+enum option { TAKES_JSON = 1, TAKES_OUTPUT = 2, NEEDS_OUTPUT = 4, TAKES_ESCAPED = 8 };
+
+typedef struct {
+    int json, escaped, help;
+    const char *output; /* null if none was named */
+    int count;
+    const char **operands;
+} arguments;
+
+typedef struct {
+    const char *name, *operands, *summary;
+    int options;
+    int least, most; /* operands; a most of 0 is no limit */
+    int (*run)(const arguments *given);
+} command;
+
+/* DONE; or TROUBLE, which was said. Operands are gathered at the front of `words`. */
+int arguments_read(arguments *into, const command *of, int count, const char **words);
+
+/* How a command is called: its name, operands and options. */
+void print_usage(const command *of);
+#endif

@@ -1,0 +1,45 @@
+/* zt copy: a file read, and its rows written anew by zt_write; unknown fields are gone, blobs stand in order with no more than the gaps that 64 asks for. */
+#include "commands.h"
+#include "model.h"
+#include "whole.h"
+
+/*
+ * A length that the new file can't pass: 24 of frame, each component with up to 63 zeros before it, and the manifest. That is no longer than the old one, but for
+ * offsets that may take 8 bytes more each, the version, which may be 2 longer, and the head of a map of objects, one. No more than SIZE_MAX.
+ */
+static size_t room_for(const model *of) {
+    size_t room = 24 + 16 + (size_t)manifest_length(of);
+    for (uint64_t i = 0; i < of->answer.components; i++) {
+        size_t blob = (size_t)component_row(of, i)[ZT_COMPONENT_LENGTH] + 63 + 8;
+        if (room > SIZE_MAX - blob) return SIZE_MAX;
+        room += blob;
+    }
+    return room;
+}
+
+static zt_written write_to(const model *of, uint8_t *at, size_t room) {
+    return zt_write(of->table, ZT_TABLE_MOST, of->answer.objects, of->answer.components, of->answer.place, of->answer.size, of->file.at, of->file.length, at,
+                    room);
+}
+
+/* What is refused for another reason than room is so before any room is asked for. */
+static int copied(const model *of, const char *output) {
+    zt_written written = write_to(of, NULL, 0);
+    whole file;
+    int status;
+    if (written.number != ZT_ROOM) return say_refused(of->file.path, (fault){written.number, written.object, written.component});
+    if (whole_open(&file, output, room_for(of)) != DONE) return TROUBLE;
+    written = write_to(of, file.at, file.room);
+    status = written.number == ZT_ACCEPTED ? input_unchanged(&of->file) : trouble(of->file.path, zt_refusal_words(written.number));
+    if (status == DONE) return whole_keep(&file, (size_t)written.length);
+    whole_drop(&file);
+    return status;
+}
+
+int copy_file(const arguments *given) {
+    model of;
+    int status = model_open_sound(&of, given->operands[0], 0);
+    if (status != DONE) return status;
+    status = copied(&of, given->output);
+    return model_close(&of, status);
+}

@@ -1,0 +1,116 @@
+/* zt COMMAND ..: the list of commands, and what every one of them shares. */
+#include "commands.h"
+#include "stream.h"
+#include "whole.h"
+#include "zt.h"
+#include <fcntl.h>
+#include <signal.h>
+#include <stdlib.h>
+#include <string.h>
+#include <unistd.h>
+
+static const command commands[] = {
+    {"check", "FILE..", "whether each file is sound, a line a file", TAKES_JSON, 1, 0, check_files},
+    {"list", "FILE", "the listing: objects and their components", TAKES_JSON, 1, 1, list_file},
+    {"show", "FILE", "formats, shapes, dtypes, types, places, digests, in columns", TAKES_JSON, 1, 1, show_file},
+    {"map", "FILE", "a bar of the file's bytes, and what they belong to", TAKES_JSON, 1, 1, map_file},
+    {"get", "FILE OBJECT COMPONENT", "one component's bytes", TAKES_OUTPUT | TAKES_ESCAPED, 3, 3, get_component},
+    {"copy", "FILE", "the file read and written anew, unknown fields gone", TAKES_OUTPUT | NEEDS_OUTPUT, 1, 1, copy_file},
+};
+enum { COMMANDS = sizeof commands / sizeof *commands };
+
+static int print_help(void) {
+    for (int i = 0; i < COMMANDS; i++) {
+        print_usage(commands + i);
+        print_words(&out, "\n        ");
+        print_words(&out, commands[i].summary);
+        print_words(&out, "\n");
+    }
+    print_words(&out, "zt --help, zt COMMAND --help, zt --version\n\n"
+                      "FILE may be - for standard input. --json prints JSON; --escaped takes names as listings print them; -o NEW writes a file,\n"
+                      "which appears whole or not at all, - for standard output; -- ends options.\n"
+                      "Status: 0 sound or done, 1 refused, 2 usage, trouble with a file, or no room.\n");
+    return DONE;
+}
+
+static int print_version(void) {
+    print_words(&out, "zt ");
+    print_words(&out, zt_library_version());
+    print_words(&out, "\n");
+    return DONE;
+}
+
+/* For the shell's completion. */
+static int print_names(void) {
+    for (int i = 0; i < COMMANDS; i++) {
+        print_words(&out, commands[i].name);
+        print_words(&out, "\n");
+    }
+    return DONE;
+}
+
+static int run(const command *of, int count, const char **words) {
+    arguments given;
+    int status = arguments_read(&given, of, count, words);
+    if (status != DONE) return status;
+    if (!given.help) return of->run(&given);
+    print_usage(of);
+    print_words(&out, "\n        ");
+    print_words(&out, of->summary);
+    print_words(&out, "\n");
+    return DONE;
+}
+
+static int run_words(int count, const char **words) {
+    if (count < 2) return trouble(NULL, "a command is missing; zt --help lists them");
+    if (strcmp(words[1], "--help") == 0) return print_help();
+    if (strcmp(words[1], "--version") == 0) return print_version();
+    if (strcmp(words[1], "--commands") == 0) return print_names();
+    for (int i = 0; i < COMMANDS; i++)
+        if (strcmp(words[1], commands[i].name) == 0) return run(commands + i, count - 2, words + 2);
+    return trouble(words[1], "no such command; zt --help lists them");
+}
+
+/* A descriptor that is closed would become the next file opened, and what is printed would go there: take its place with one that answers nothing. */
+static void hold_descriptors(void) {
+    for (int i = 0; i < 3; i++)
+        if (fcntl(i, F_GETFD) < 0 && open("/dev/null", i == STDIN_FILENO ? O_WRONLY : O_RDONLY) != i) _exit(TROUBLE);
+}
+
+static void ended(int signal_number) {
+    whole_remove();
+    signal(signal_number, SIG_DFL);
+    raise(signal_number);
+}
+
+/* A mapped file was cut under us, or the disk had no room after all. */
+static void unmapped(int signal_number) {
+    static const char words[] = "zt: a file was cut while it was read, or its disk has no room\n";
+    (void)signal_number;
+    whole_remove();
+    if (write(STDERR_FILENO, words, sizeof words - 1) < 0) _exit(TROUBLE);
+    _exit(TROUBLE);
+}
+
+static void handle(int signal_number, void (*handler)(int)) {
+    struct sigaction old, action;
+    memset(&action, 0, sizeof action);
+    action.sa_handler = handler;
+    sigemptyset(&action.sa_mask);
+    /* What was ignored when we were started, as nohup does, stays so. */
+    if (sigaction(signal_number, NULL, &old) == 0 && old.sa_handler != SIG_IGN) sigaction(signal_number, &action, NULL);
+}
+
+int main(int count, char **words) {
+    int status, printed;
+    hold_descriptors();
+    handle(SIGPIPE, SIG_IGN); /* a closed pipe, or a file at the size that a shell allows, is an error of a write, and said */
+    handle(SIGXFSZ, SIG_IGN);
+    handle(SIGBUS, unmapped);
+    handle(SIGINT, ended);
+    handle(SIGTERM, ended);
+    handle(SIGHUP, ended);
+    status = run_words(count, (const char **)words);
+    printed = finish_output();
+    return printed > status ? printed : status;
+}

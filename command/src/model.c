@@ -1,0 +1,55 @@
+/* Reading a file by zt_read, and what stands in its rows. */
+#include "model.h"
+#include "json.h"
+#include <errno.h>
+#include <stdlib.h>
+
+int model_open(model *of, const char *path) {
+    if (input_open(&of->file, path) != DONE) return TROUBLE;
+    of->table = malloc(ZT_TABLE_MOST * sizeof *of->table);
+    if (!of->table) {
+        input_close(&of->file);
+        return trouble_of(path, ENOMEM);
+    }
+    of->answer = zt_read(of->file.at, of->file.length, of->table, ZT_TABLE_MOST);
+    return DONE;
+}
+
+int model_open_sound(model *of, const char *path, int json) {
+    int status = model_open(of, path);
+    if (status != DONE || of->answer.number == ZT_ACCEPTED) return status;
+    if (json) {
+        print_words(&out, "{");
+        json_verdict(path, fault_of(of));
+        print_words(&out, "}\n");
+    } else {
+        say_refused(path, fault_of(of));
+    }
+    return model_close(of, REFUSED);
+}
+
+int model_close(model *of, int status) {
+    if (status != TROUBLE) status = input_unchanged(&of->file) == DONE ? status : TROUBLE;
+    free(of->table);
+    input_close(&of->file);
+    return status;
+}
+
+fault fault_of(const model *of) { return (fault){of->answer.number, of->answer.object, of->answer.component}; }
+
+const uint64_t *object_row(const model *of, uint64_t object) { return of->table + ZT_OBJECT_WIDTH * object; }
+
+const uint64_t *component_row(const model *of, uint64_t component) {
+    return of->table + ZT_OBJECT_WIDTH * of->answer.objects + ZT_COMPONENT_WIDTH * component;
+}
+
+static text text_at(const model *of, uint64_t place, uint64_t length) {
+    return (text){of->file.at + place, (size_t)length, place != 0 || length != 0};
+}
+
+text text_of(const model *of, const uint64_t *place) { return text_at(of, place[0], place[1]); }
+
+text attributes_of(const model *of) { return text_at(of, of->answer.place, of->answer.size); }
+
+/* The frame behind the manifest, its size and the footer, takes 16 bytes. */
+uint64_t manifest_length(const model *of) { return of->file.length - 16 - of->answer.start; }

@@ -1,0 +1,46 @@
+/* What is said of a refusal: number, name, indices and words, for people and as JSON. */
+#include "json.h"
+#include "refusal.h"
+#include <string.h>
+
+void print_refused(stream *to, fault what) {
+    print_words(to, "refused ");
+    print_number(to, what.number);
+    print_words(to, " ");
+    print_words(to, zt_refusal_name(what.number));
+    print_words(to, ", object ");
+    print_number(to, what.object);
+    print_words(to, ", component ");
+    print_number(to, what.component);
+    print_words(to, ": ");
+    print_words(to, zt_refusal_words(what.number));
+    print_words(to, "\n");
+}
+
+int say_refused(const char *path, fault what) {
+    flush(&out);
+    print_words(&err, "zt: ");
+    print_escaped(&err, (const uint8_t *)path, strlen(path));
+    print_words(&err, ": ");
+    print_refused(&err, what);
+    flush(&err);
+    return REFUSED;
+}
+
+void json_verdict(const char *path, fault what) {
+    json_key(1, "", "file");
+    json_words(path);
+    json_key(0, " ", "sound");
+    print_words(&out, what.number == ZT_ACCEPTED ? "true" : "false");
+    if (what.number == ZT_ACCEPTED) return;
+    json_key(0, " ", "refusal");
+    print_words(&out, "{");
+    json_number(1, "", "number", what.number);
+    json_key(0, " ", "name");
+    json_words(zt_refusal_name(what.number));
+    json_number(0, " ", "object", what.object);
+    json_number(0, " ", "component", what.component);
+    json_key(0, " ", "words");
+    json_words(zt_refusal_words(what.number));
+    print_words(&out, "}");
+}

@@ -1,0 +1,20 @@
+/* What is said of a refusal. */
+#ifndef REFUSAL_H
+#define REFUSAL_H
+#include "stream.h"
+#include "zt.h"
+
+/* The number, ZT_ACCEPTED for none, and where it is. */
+typedef struct {
+    uint64_t number, object, component;
+} fault;
+
+/* "refused 20 BOUNDS, object 0, component 1: offset under 64, ..", as a line. */
+void print_refused(stream *to, fault what);
+
+/* The same of a file, on standard error; answers REFUSED. */
+int say_refused(const char *path, fault what);
+
+/* The first members of every JSON answer about a file: its path, and whether it is sound, else why not. */
+void json_verdict(const char *path, fault what);
+#endif

@@ -1,0 +1,514 @@
+"""Runs the command as a person would, and holds what it says and how it ends to what it should. usage: tried.py FOLDER, with cases/ and made/ of the second program."""
+import json
+import os
+import re
+import resource
+import signal
+import stat
+import subprocess
+import sys
+import threading
+
+import sample
+
+HERE = os.path.dirname(os.path.dirname(os.path.abspath(__file__)))
+ZT = [os.path.join(HERE, "host/run"), os.path.join(HERE, "target/command/zt")]
+SECOND = os.path.join(HERE, "second/target/release/second")
+WORK = os.path.abspath(sys.argv[1])
+untried = []
+
+
+def zt(*words, **more):
+    """Status, output, trouble."""
+    more = {"stdin": subprocess.DEVNULL, "stdout": subprocess.PIPE, "stderr": subprocess.PIPE, "cwd": WORK, **more}
+    if "input" in more:
+        del more["stdin"]
+    ended = subprocess.run([*more.pop("before", []), *ZT, *words], **more)
+    return ended.returncode, ended.stdout, ended.stderr
+
+
+def expect(got, wanted, what=""):
+    if got != wanted:
+        raise AssertionError(f"{what}\nwanted {wanted!r}\nand got {got!r}")
+
+
+def put(name, content):
+    with open(os.path.join(os.fsencode(WORK), os.fsencode(name)), "wb") as into:
+        into.write(content)
+    return name
+
+
+def content(name):
+    with open(os.path.join(WORK, name), "rb") as of:
+        return of.read()
+
+
+def done(*words, **more):
+    """The output of a command that must end well and say nothing else."""
+    status, said, trouble = zt(*words, **more)
+    expect((status, trouble), (0, b""), words)
+    return said
+
+
+def told(*words, **more):
+    return json.loads(done(*words, **more))
+
+
+def troubled(trouble, *words, status=2, **more):
+    """A command that must fail with these words on standard error, and nothing on standard output."""
+    expect(zt(*words, **more), (status, b"", b"zt: " + trouble + b"\n"), words)
+
+
+def answers(folder):
+    with open(os.path.join(WORK, folder, "answers.txt")) as lines:
+        for line in lines:
+            name, *numbers = line.split()
+            yield f"{folder}/{name}", tuple(map(int, numbers))
+
+
+def refusals():
+    """Number, name and words of each refusal, from the header."""
+    with open(os.path.join(HERE, "include/zt.h")) as header:
+        found = re.findall(r"^    ZT_([A-Z]+) = (\d+),? +/\* (.*) \*/$", header.read(), re.M)
+    return {int(number): (name, words) for name, number, words in found}
+
+
+def sound_files(most):
+    """Some sound files of the second program, spread over all of them."""
+    sound = [path for path, numbers in files if numbers[0] == 0]
+    return sound[:: max(1, len(sound) // most)]
+
+
+# Each function from here on whose name begins with `try_` is tried, in this order.
+
+
+def try_every_refusal():
+    known = refusals()
+    wanted = []
+    for path, (number, owner, part) in files:
+        name, words = known[number]
+        wanted.append(f"{path}: sound" if number == 0 else f"{path}: refused {number} {name}, object {owner}, component {part}: {words}")
+    status, said, trouble = zt("check", *(path for path, _ in files))
+    expect((status, trouble), (1, b""))
+    expect(said.decode().splitlines(), wanted)
+    expect({numbers[0] for _, numbers in files}, set(range(24)), "the files have every refusal")
+
+
+def try_every_refusal_as_json():
+    known = refusals()
+    status, said, trouble = zt("check", "--json", *(path for path, _ in files))
+    expect((status, trouble), (1, b""))
+    verdicts = json.loads(said)
+    expect(len(verdicts), len(files))
+    for verdict, (path, (number, owner, part)) in zip(verdicts, files):
+        refusal = {"number": number, "name": known[number][0], "object": owner, "component": part, "words": known[number][1]}
+        expect(verdict, {"file": path, "sound": True} if number == 0 else {"file": path, "sound": False, "refusal": refusal})
+
+
+def try_one_refused_file():
+    put("short.zt", b"ZTEN1000")
+    line = b"short.zt: refused 1 SHORT, object 0, component 0: file under 24 bytes"
+    refusal = {"number": 1, "name": "SHORT", "object": 0, "component": 0, "words": "file under 24 bytes"}
+    for words in (["list"], ["show"], ["map"], ["copy", "-o", "new.zt"]):
+        troubled(line, *words, "short.zt", status=1)
+    troubled(line, "get", "short.zt", "a", "b", status=1)
+    expect(os.path.exists(os.path.join(WORK, "new.zt")), False)
+    for command in ("list", "show", "map"):
+        status, said, trouble = zt(command, "short.zt", "--json")
+        expect((status, json.loads(said), trouble), (1, {"file": "short.zt", "sound": False, "refusal": refusal}, b""))
+
+
+def try_listings_against_the_second_program():
+    for path in sound_files(24):
+        theirs = subprocess.run([SECOND, "list", path], cwd=WORK, capture_output=True, check=True).stdout
+        if theirs == b"too long\n":
+            continue
+        expect(done("list", path), theirs, path)
+        listed, objects = told("list", "--json", path), []
+        for line in theirs.decode().splitlines()[1:]:
+            word, *rest = line.split(" ")
+            if word == "object":
+                objects.append((rest[0], rest[1], []))
+            else:
+                objects[-1][2].append(tuple(rest))
+        escaped = [(shown(o["name"]), shown(o["format"]), [(shown(c["name"]), c["dtype"], str(c["offset"]), str(c["length"])) for c in o["components"]]) for o in listed["objects"]]
+        expect(escaped, objects, path)
+
+
+def shown(text):
+    return "".join(chr(b) if 33 <= b <= 126 and b != 92 else f"\\{b:02x}" for b in text.encode())
+
+
+def try_show_and_map():
+    for path in sound_files(10):
+        full, listed, account = told("show", "--json", path), told("list", "--json", path), told("map", "--json", path)
+        length = os.path.getsize(os.path.join(WORK, path))
+        for thing, same in zip(full["objects"], listed["objects"], strict=True):
+            for part, same_part in zip(thing["components"], same["components"], strict=True):
+                expect({key: part[key] for key in same_part}, same_part)
+            expect((thing["name"], thing["format"]), (same["name"], same["format"]))
+        expect((full["length"], account["length"], account["frame"]), (length, length, 24))
+        expect(account["manifest"], full["manifest"]["length"])
+        covered = set()
+        for thing in full["objects"]:
+            for part in thing["components"]:
+                covered.update(range(part["offset"], part["offset"] + part["length"]))
+        expect(account["components"], len(covered), path)
+        at = 0
+        for span in account["spans"]:
+            expect(span["offset"], at, path)
+            at += span["length"]
+        expect(at, length)
+        for kind in ("frame", "components", "gaps", "manifest"):
+            expect(account[kind], sum(span["length"] for span in account["spans"] if span["kind"] == kind), path)
+        bar, *legend = done("map", path).decode().splitlines()
+        expect((len(bar) <= 64, set(bar) <= set("F#.M")), (True, True))
+        expect([int(line.split()[-3]) for line in legend], [24, account["components"], account["gaps"], account["manifest"], length])
+        expect(len(done("show", path).splitlines()), 4 + len(full["objects"]) + sum(len(thing["components"]) for thing in full["objects"]))
+
+
+def try_columns():
+    digest = "sha256:" + "0f" * 8
+    many = [("values", sample.component("f32", 64, 12, digest=digest)), ("indices", sample.component("u64", 64, 24)), ("indptr", sample.component("u64", 64, 24))]
+    odd = [("-", sample.component("u8", 64, 0, type="")), ("", sample.component("u8", 64, 0, type="-"))]
+    things = [("mix", sample.thing([2, 4], "sparse_csr", many, attributes=sample.Pairs())), ("", sample.thing([], "", odd))]
+    put("columns.zt", sample.file(things, bytes(64), attributes=sample.Pairs([("a", 1)])))
+    lines = done("show", "columns.zt").decode().splitlines()
+    expect(re.sub(r" at \d+", "", lines[0]), f"columns.zt: bytes {len(content('columns.zt'))}, objects 2, components 5, manifest {len(content('columns.zt')) - 144} bytes, attributes 4 bytes")
+    wanted = [
+        "object  format      shape  attributes",
+        "  component  dtype  type  offset  length  digest",
+        "mix     sparse_csr  [2,4]  1 bytes",
+        f"  values     f32    -         64      12  {digest}",
+        "  indices    u64    -         64      24  -",
+        "  indptr     u64    -         64      24  -",
+        "\\       \\           []     -",
+        "  \\2d        u8     \\         64       0  -",
+        "  \\          u8     \\2d       64       0  -",
+    ]
+    expect([re.sub(r" at \d+", "", line) for line in lines[2:]], wanted)
+    full = told("show", "--json", "columns.zt")
+    expect([part["type"] for part in full["objects"][1]["components"]], ["", "-"])
+    expect((full["objects"][0]["shape"], full["objects"][0]["attributes"]["length"], full["objects"][1]["attributes"]), ([2, 4], 1, None))
+
+
+def try_get():
+    blobs = bytes(range(200)) + bytes(56)
+    odd = "a b\\c\n\u202e\0"
+    parts = [("data", sample.component("u8", 64, 200)), (odd, sample.component("u8", 128, 72)), ("none", sample.component("u8", 64, 0))]
+    put("get.zt", sample.file([("other", sample.thing([], "f", parts[2:])), (odd, sample.thing([], "f", parts)), ("", sample.thing([], "f", parts))], blobs))
+    expect(done("get", "get.zt", "", "data"), blobs[:200])
+    expect(done("get", "get.zt", "--escaped", shown(odd), shown(odd)), blobs[64:136])
+    expect(done("get", "get.zt", "other", "none"), b"")
+    expect(done("get", "-", "", "data", input=content("get.zt")), blobs[:200])
+    expect(done("get", "get.zt", "-o", "got", "", "data"), b"")
+    expect(content("got"), blobs[:200])
+    expect(done("get", "-ogot", "get.zt", "other", "none"), b"")
+    expect(content("got"), b"")
+    troubled(b"data: the file has no such object", "get", "get.zt", "data", "data")
+    troubled(b"data: the object has no such component", "get", "get.zt", "other", "data")
+    troubled(b"a\\5cz: no name as listings print it: a backslash takes two hex digits", "get", "--escaped", "get.zt", "a\\z", "data")
+
+
+def try_copies():
+    for path in sound_files(16):
+        done("copy", path, "-o", "copy.zt")
+        expect(done("check", "copy.zt"), b"copy.zt: sound\n", path)
+        full, again = told("show", "--json", path), told("show", "--json", "copy.zt")
+        old, new = content(path), content("copy.zt")
+        for thing, same in zip(full["objects"], again["objects"], strict=True):
+            expect([thing[key] for key in ("name", "format", "shape")], [same[key] for key in ("name", "format", "shape")], path)
+            for part, same_part in zip(thing["components"], same["components"], strict=True):
+                expect([part[key] for key in ("name", "dtype", "type", "digest")], [same_part[key] for key in ("name", "dtype", "type", "digest")], path)
+                blobs = [bytes_of[of["offset"] : of["offset"] + of["length"]] for bytes_of, of in ((old, part), (new, same_part))]
+                expect(blobs[0], blobs[1], path)
+    for path in sound_files(4):
+        once = done("copy", "-o", "-", path)
+        expect(done("copy", "-", "--output=-", input=once), once, "a copy's copy is the copy")
+
+
+def try_copy_drops_unknown_fields():
+    parts = [("data", sample.component("f32", 64, 12, checked="by nobody"))]
+    put("unknown.zt", sample.file([("w", sample.thing([3], "dense", parts, colour="red"))], b"twelve bytes", author="someone"))
+    put("known.zt", sample.file([("w", sample.thing([3], "dense", [("data", sample.component("f32", 64, 12))]))], b"twelve bytes"))
+    done("copy", "unknown.zt", "-o", "unknown.zt")
+    expect(content("unknown.zt"), content("known.zt"))
+
+
+def try_copy_keeps_mode_and_links():
+    put("target.zt", b"old")
+    os.chmod(os.path.join(WORK, "target.zt"), 0o640)
+    os.symlink("target.zt", os.path.join(WORK, "link.zt"))
+    done("copy", "known.zt", "-o", "link.zt")
+    expect(os.readlink(os.path.join(WORK, "link.zt")), "target.zt")
+    expect(content("target.zt"), content("known.zt"))
+    expect(stat.S_IMODE(os.stat(os.path.join(WORK, "target.zt")).st_mode), 0o640)
+    done("copy", "known.zt", "-o", "fresh.zt", umask=0o027)
+    expect(stat.S_IMODE(os.stat(os.path.join(WORK, "fresh.zt")).st_mode), 0o640)
+    for length in (250, 255):
+        done("copy", "known.zt", "-o", "n" * length)
+    nothing_left(WORK)
+
+
+def nothing_left(folder):
+    expect([name for name in os.listdir(folder) if name.startswith(".zt-")], [], "temporary files")
+
+
+def small_files():
+    resource.setrlimit(resource.RLIMIT_FSIZE, (100, 100))
+
+
+def try_outputs_that_cannot_be():
+    os.mkdir(os.path.join(WORK, "folder"))
+    troubled(b"folder: Is a directory", "copy", "known.zt", "-o", "folder")
+    troubled(b"no/where.zt: No such file or directory", "copy", "known.zt", "-o", "no/where.zt")
+    troubled(b"/dev/null: is there already, and no regular file", "copy", "known.zt", "-o", "/dev/null")
+    troubled(b"n" * 256 + b": File name too long", "copy", "known.zt", "-o", "n" * 256)
+    put("kept.zt", b"old")
+    troubled(b"kept.zt: File too large", "copy", "known.zt", "-o", "kept.zt", preexec_fn=small_files)
+    expect(content("kept.zt"), b"old", "the old file stays")
+    nothing_left(WORK)
+
+
+def try_full_disk():
+    disk = os.path.join(WORK, "disk")
+    os.mkdir(disk)
+    if subprocess.run(["mount", "-t", "tmpfs", "-o", "size=64k", "tmpfs", disk], capture_output=True).returncode:
+        untried.append("a full disk: nothing can be mounted here; a limit on the size of files was met instead")
+        return
+    try:
+        put("disk/kept.zt", b"old")
+        parts = [("data", sample.component("u8", 64, 100000))]
+        put("large.zt", sample.file([("w", sample.thing([100000], "dense", parts))], bytes(100000)))
+        for words in (["copy", "large.zt"], ["get", "large.zt", "w", "data"]):
+            troubled(b"disk/kept.zt: No space left on device", *words, "-o", "disk/kept.zt")
+            expect((content("disk/kept.zt"), os.listdir(disk)), (b"old", ["kept.zt"]))
+        done("copy", "known.zt", "-o", "disk/kept.zt")
+        expect(content("disk/kept.zt"), content("known.zt"))
+    finally:
+        subprocess.run(["umount", disk], check=True)
+
+
+EVERY = (["check", "known.zt"], ["list", "known.zt"], ["show", "known.zt"], ["map", "known.zt"], ["get", "known.zt", "w", "data"], ["copy", "known.zt", "-o", "-"], ["--help"], ["--version"])
+
+
+def try_full_and_closed_outputs():
+    for words in EVERY:
+        with open("/dev/full", "wb") as full:
+            expect(zt(*words, stdout=full), (2, None, b"zt: standard output: No space left on device\n"), words)
+        close = ["sh", "-c", 'exec "$@" >&-', "sh"]
+        expect(zt(*words, before=close), (2, b"", b"zt: standard output: Bad file descriptor\n"), words)
+        reader, writer = os.pipe()
+        os.close(reader)
+        expect(zt(*words, stdout=writer), (2, None, b"zt: standard output: Broken pipe\n"), words)
+        os.close(writer)
+    # With every descriptor closed, the file written is none of them; nothing was to be printed, so nothing is wrong.
+    expect(zt("copy", "known.zt", "-o", "quiet.zt", before=["sh", "-c", 'exec "$@" >&- 2>&- <&-', "sh"])[0], 0)
+    expect(content("quiet.zt"), content("known.zt"))
+
+
+def try_what_is_no_file():
+    troubled(b"no.zt: No such file or directory", "list", "no.zt")
+    troubled(b"folder: Is a directory", "show", "folder")
+    troubled(b"known.zt/x: Not a directory", "map", "known.zt/x")
+    expect(zt("check", "", "known.zt"), (2, b"known.zt: sound\n", b"zt: : No such file or directory\n"))
+    put("empty.zt", b"")
+    for empty in ("empty.zt", "/dev/null"):
+        expect(zt("check", empty)[:2], (1, os.fsencode(empty) + b": refused 1 SHORT, object 0, component 0: file under 24 bytes\n"))
+    expect(zt("check", "/proc/self/status")[1], b"/proc/self/status: refused 2 HEADER, object 0, component 0: first 8 wrong\n")
+
+
+def try_fifo_and_standard_input():
+    put("large-in.zt", sample.file([("w", sample.thing([300000], "dense", [("data", sample.component("u8", 64, 300000))]))], bytes(300000)))
+    fifo = os.path.join(WORK, "fifo")
+    os.mkfifo(fifo)
+
+    def feed():
+        with open(fifo, "wb") as into:
+            into.write(content("large-in.zt"))
+
+    writer = threading.Thread(target=feed)
+    writer.start()
+    expect(done("check", "fifo"), b"fifo: sound\n")
+    writer.join()
+    expect(done("check", "-", input=content("large-in.zt")), b"-: sound\n")
+    expect(done("list", "--", "-", input=content("known.zt")), done("list", "known.zt"))
+    with open(os.path.join(WORK, "known.zt"), "rb") as of:
+        expect(done("check", "-", stdin=of), b"-: sound\n")
+    with open(put_at("prefixed", b"prefix" + content("known.zt")), "rb") as of:
+        of.seek(6)
+        expect(done("check", "-", stdin=of), b"-: sound\n", "standard input in the middle of a file")
+    expect(zt("check", "-", "-", input=content("known.zt")), (2, b"-: sound\n", b"zt: -: standard input can be read only once\n"))
+    expect(zt("check", "-", before=["sh", "-c", 'exec "$@" <&-', "sh"]), (2, b"", b"zt: -: Bad file descriptor\n"))
+
+
+def put_at(name, bytes_of):
+    return os.path.join(WORK, put(name, bytes_of))
+
+
+def try_no_permission():
+    put("secret.zt", content("known.zt"))
+    os.chmod(os.path.join(WORK, "secret.zt"), 0)
+    before = []
+    if os.getuid() == 0:
+        before = ["setpriv", "--reuid=65534", "--regid=65534", "--clear-groups"]
+        if subprocess.run([*before, *ZT, "--version"], cwd=WORK, capture_output=True).returncode:
+            untried.append("a file without permission: root may read it, and nobody can't run the command here")
+            return
+    expect(zt("check", "secret.zt", "known.zt", before=before), (2, b"known.zt: sound\n", b"zt: secret.zt: Permission denied\n"))
+    troubled(b"mine.zt: Permission denied", "copy", "known.zt", "-o", "mine.zt", before=[*before, "--"] if before else ["sh", "-c", 'chmod 555 . && exec "$@"', "sh"])
+    os.chmod(WORK, 0o755)
+
+
+def try_five_gigabytes():
+    """Sparse: a component far behind, and a gap that no byte was written to."""
+    five = 5 << 30
+    path = os.path.join(WORK, "five.zt")
+    with open(path, "wb") as into:
+        into.write(sample.MAGIC)
+        into.seek(five)
+        into.write(b"far away")
+        text = sample.manifest([("w", sample.thing([five - 64], "dense", [("data", sample.component("u8", 64, five - 64))])), ("end", sample.thing([2], "dense", [("data", sample.component("f32", five, 8))]))])
+        into.write(sample.behind(text))
+    expect(done("check", "five.zt"), b"five.zt: sound\n")
+    expect(done("list", "five.zt").splitlines()[-1], b"blob data f32 %d 8" % five)
+    expect(done("get", "five.zt", "end", "data"), b"far away")
+    account = told("map", "--json", "five.zt")
+    expect((account["components"], account["gaps"], account["length"]), (five - 56, 56, os.path.getsize(path)))
+    expect(done("map", "five.zt").splitlines()[0], b"#" * 64)
+    expect(told("show", "--json", "five.zt")["objects"][1]["components"][0]["offset"], five)
+    with open(path, "r+b") as into:
+        into.truncate(five)
+    expect(zt("check", "five.zt")[0], 1)
+    os.remove(path)
+
+
+def try_largest_table():
+    parts = [(f"c{i}", sample.component("bool", 64, 0)) for i in range(16)]
+    put("most.zt", sample.file([(f"object number {i}", sample.thing([0] * 8, "any", parts)) for i in range(1024)]))
+    expect(done("list", "most.zt").splitlines()[0], b"objects 1024 components 16384")
+    expect(len(done("show", "most.zt").splitlines()), 4 + 1024 + 16384)
+    expect(len(told("show", "--json", "most.zt")["objects"]), 1024)
+    done("copy", "most.zt", "-o", "most-copy.zt")
+    expect(done("list", "most-copy.zt").count(b"\n"), 1 + 1024 + 16384)
+    put("400.zt", sample.file([(f"o{i}", sample.thing([], "any", parts[:1])) for i in range(400)]))
+    expect(done("check", "400.zt"), b"400.zt: sound\n")
+
+
+ODD = ["new\nline", "\x1b[31mred\x1b[0m", "\u202egnp.exe", "\u05d0\u05d1", "\0", "\x7f\x85", '"quoted\\"', "\U0001f600", "\ufffd\uffff", "x" * 20000, "zt: a.zt: sound\nb", " "]
+
+
+def try_odd_names():
+    for odd in ODD:
+        put("odd.zt", sample.named(odd, odd))
+        listed, columns, full = done("list", "odd.zt"), done("show", "odd.zt"), done("show", "--json", "odd.zt")
+        expect(re.sub(rb"[ -~\n]", b"", listed + columns + full), b"", odd)
+        expect(listed.decode().splitlines()[1], f"object {shown(odd)} any")
+        expect(columns.count(b"\n"), 6)
+        thing = json.loads(full)["objects"][0]
+        expect((thing["name"], thing["components"][0]["name"]), (odd, odd))
+        expect(done("get", "odd.zt", "--escaped", shown(odd), shown(odd)), b"twelve bytes")
+
+
+def try_odd_paths():
+    good, bad = content("known.zt"), b"ZTEN1000"
+    for odd in (b"new\nline.zt", b"\x1b[31m.zt", "\u202egnp.zt".encode(), b"not utf-8 \xff\xc0\xed\xa0\x80.zt", b"back\\slash.zt", b" ", b"-n", b"--json"):
+        put(odd, good)
+        line = "".join(chr(b) if 33 <= b <= 126 and b != 92 else f"\\{b:02x}" for b in odd)
+        expect(done("check", "--", odd), f"{line}: sound\n".encode())
+        path = odd.decode("utf-8", "replace") if odd.decode("utf-8", "ignore").encode() == odd else None
+        found = told("check", "--json", "--", odd)[0]["file"]
+        expect(found if path else found.replace("\ufffd", ""), path or odd.decode("utf-8", "ignore"))
+        done("copy", "known.zt", "-o", b"./" + odd)
+        put(odd, bad)
+        expect(zt("list", "--", odd)[2].count(b"\n"), 1)
+        os.remove(os.path.join(os.fsencode(WORK), odd))
+        troubled(line.encode() + b": No such file or directory", "list", "--", odd)
+    expect(zt("list", b"./a\nb: sound")[2], b"zt: ./a\\0ab:\\20sound: No such file or directory\n")
+
+
+def try_thousands_of_files():
+    os.mkdir(os.path.join(WORK, "many"))
+    names = [f"many/{i}.zt" for i in range(4000)]
+    for i, name in enumerate(names):
+        if i != 2000:
+            put(name, b"no" if i == 1000 else sample.named(str(i)))
+    status, said, trouble = zt("check", *names)
+    expect((status, trouble), (2, b"zt: many/2000.zt: No such file or directory\n"))
+    expect([line for line in said.decode().splitlines() if not line.endswith(": sound")], ["many/1000.zt: refused 1 SHORT, object 0, component 0: file under 24 bytes"])
+    expect(said.count(b"\n"), 3999)
+    status, said, _ = zt("check", "--json", *names)
+    verdicts = [verdict["sound"] for verdict in json.loads(said)]
+    expect((status, verdicts.index(False), verdicts.index(None), verdicts.count(True)), (2, 1000, 2000, 3998))
+
+
+def try_a_file_that_changes():
+    """The command waits for its output to be read; meanwhile the file is written to."""
+    reader, writer = os.pipe()
+    started = subprocess.Popen([*ZT, "get", "large-in.zt", "w", "data"], cwd=WORK, stdout=writer, stderr=subprocess.PIPE)
+    os.close(writer)
+    first = os.read(reader, 1)
+    os.utime(os.path.join(WORK, "large-in.zt"))
+    while os.read(reader, 1 << 20):
+        pass
+    os.close(reader)
+    expect((first, started.communicate()[1], started.returncode), (b"\0", b"zt: large-in.zt: the file changed while it was read\n", 2))
+
+
+def try_signals():
+    for number, status, words in ((signal.SIGBUS, 2, b"zt: a file was cut while it was read, or its disk has no room\n"), (signal.SIGTERM, -signal.SIGTERM, b"")):
+        reader, writer = os.pipe()
+        started = subprocess.Popen([*ZT, "get", "large-in.zt", "w", "data"], cwd=WORK, stdout=writer, stderr=subprocess.PIPE)
+        os.close(writer)
+        os.read(reader, 1)
+        started.send_signal(number)
+        said = started.communicate()[1]
+        expect((said, started.returncode), (words, status), number)
+        os.close(reader)
+
+
+def try_usage():
+    commands = done("--commands").decode().split()
+    expect(commands[:6], ["check", "list", "show", "map", "get", "copy"])
+    everything = done("--help").decode()
+    for command in commands:
+        expect(everything.count(f"zt {command} "), 1)
+        expect(done(command, "--help").splitlines()[0].decode() in everything, True)
+        troubled(f"--no: no such option; zt {command} --help says how it is called".encode(), command, "--no", "x")
+        troubled(f"{command}: an operand is missing; zt {command} --help says how it is called".encode(), command)
+    with open(os.path.join(HERE, "include/zt.h")) as header:
+        version = re.search(r'ZT_LIBRARY_VERSION "(.*)"', header.read())[1]
+    expect(done("--version").decode(), f"zt {version}\n")
+    troubled(b"a command is missing; zt --help lists them")
+    troubled(b"nothing: no such command; zt --help lists them", "nothing")
+    troubled(b"b: one operand too many; zt list --help says how it is called", "list", "a", "b")
+    troubled(b"copy: -o NEW is missing; zt copy --help says how it is called", "copy", "known.zt")
+    troubled(b"copy: -o has no path; zt copy --help says how it is called", "copy", "known.zt", "-o")
+    troubled(b"--json: no such option; zt copy --help says how it is called", "copy", "known.zt", "--json", "-o", "x")
+    expect(done("list", "known.zt", "--json"), done("list", "--json", "--", "known.zt"))
+
+
+def try_completion():
+    """In a shell whose zt is the command."""
+    os.mkdir(os.path.join(WORK, "bin"))
+    put("bin/zt", f'#!/bin/sh\nexec "{ZT[0]}" "{ZT[1]}" "$@"\n'.encode())
+    os.chmod(os.path.join(WORK, "bin/zt"), 0o755)
+    script = '. "$0"; COMP_WORDS=(zt "$1"); COMP_CWORD=1; _zt; echo "${COMPREPLY[*]}"; COMP_WORDS=(zt list --j); COMP_CWORD=2; _zt; echo "${COMPREPLY[*]}"'
+    said = subprocess.run(["bash", "-c", script, os.path.join(HERE, "command/completion.bash"), "c"], env={**os.environ, "PATH": f"{WORK}/bin:{os.environ['PATH']}"}, capture_output=True, check=True)
+    expect(said.stdout, b"check copy\n--json\n")
+
+
+files = [*answers("cases"), *answers("made")]
+tried = failed = 0
+for name, function in list(globals().items()):
+    if name.startswith("try_"):
+        tried += 1
+        try:
+            function()
+        except (AssertionError, OSError, ValueError, KeyError, IndexError, subprocess.SubprocessError) as error:
+            failed += 1
+            print(f"{name[4:].replace('_', ' ')}: {type(error).__name__}: {str(error)[:2000]}")
+for words in untried:
+    print(f"not tried: {words}")
+print(f"the command: {tried - failed} of {tried} as they should be")
+sys.exit(failed > 0)
