@@ -1,6 +1,18 @@
-/* Prints the answer for each file named: its number, as the box gets it. C99 and C++. */
+/* Prints the answer for each file named: its number, as the box gets it; a sound file's listing must keep zt.h's bound. C99 and C++. */
 #include "read_file.h"
 #include "zt.h"
+
+static uint64_t table[ZT_TABLE_MOST];
+
+/* Whether the listing of a sound file has room in three bytes for each of its manifest's. */
+static int listing_fits(bytes file) {
+    zt_answer read = zt_read(file.at, file.length, table, ZT_TABLE_MOST);
+    size_t room = 3 * (file.length - 16 - (size_t)read.start);
+    uint8_t *text = (uint8_t *)malloc(room);
+    zt_text listed = zt_list(file.at, file.length, table, ZT_TABLE_MOST, read.objects, read.components, text, room);
+    free(text);
+    return read.number == ZT_ACCEPTED && listed.number == ZT_ACCEPTED;
+}
 
 int main(int count, char **paths) {
     int i;
@@ -12,7 +24,12 @@ int main(int count, char **paths) {
     }
     for (i = 1; i < count; i++) {
         bytes file = read_file(paths[i]);
-        printf("%s %d\n", paths[i], (int)zt_accept(file.at, file.length));
+        int number = (int)zt_accept(file.at, file.length);
+        printf("%s %d\n", paths[i], number);
+        if (number == ZT_ACCEPTED && !listing_fits(file)) {
+            fprintf(stderr, "%s: the listing is longer than zt.h says\n", paths[i]);
+            return 1;
+        }
         free(file.at);
     }
     return 0;

@@ -1,4 +1,5 @@
-"""Runs the command as a person would, and holds what it says and how it ends to what it should. usage: tried.py FOLDER, with cases/ and made/ of the second program."""
+"""Runs the command as a person would, and holds what it says and how it ends to what it should.
+usage: tried.py FOLDER, with cases/ and made/ of the second program."""
 import json
 import os
 import re
@@ -131,8 +132,10 @@ def try_listings_against_the_second_program():
                 objects.append((rest[0], rest[1], []))
             else:
                 objects[-1][2].append(tuple(rest))
-        escaped = [(shown(o["name"]), shown(o["format"]), [(shown(c["name"]), c["dtype"], str(c["offset"]), str(c["length"])) for c in o["components"]]) for o in listed["objects"]]
-        expect(escaped, objects, path)
+        for thing, (name, form, lines) in zip(listed["objects"], objects, strict=True):
+            expect((shown(thing["name"]), shown(thing["format"])), (name, form), path)
+            parts = [(shown(part["name"]), part["dtype"], str(part["offset"]), str(part["length"])) for part in thing["components"]]
+            expect(parts, lines, path)
 
 
 def shown(text):
@@ -174,7 +177,9 @@ def try_columns():
     things = [("mix", sample.thing([2, 4], "sparse_csr", many, attributes=sample.Pairs())), ("", sample.thing([], "", odd))]
     put("columns.zt", sample.file(things, bytes(64), attributes=sample.Pairs([("a", 1)])))
     lines = done("show", "columns.zt").decode().splitlines()
-    expect(re.sub(r" at \d+", "", lines[0]), f"columns.zt: bytes {len(content('columns.zt'))}, objects 2, components 5, manifest {len(content('columns.zt')) - 144} bytes, attributes 4 bytes")
+    length = len(content("columns.zt"))
+    first = f"columns.zt: bytes {length}, objects 2, components 5, manifest {length - 144} bytes, attributes 4 bytes"
+    expect(re.sub(r" at \d+", "", lines[0]), first)
     wanted = [
         "object  format      shape  attributes",
         "  component  dtype  type  offset  length  digest",
@@ -289,7 +294,13 @@ def try_full_disk():
         subprocess.run(["umount", disk], check=True)
 
 
-EVERY = (["check", "known.zt"], ["list", "known.zt"], ["show", "known.zt"], ["map", "known.zt"], ["get", "known.zt", "w", "data"], ["copy", "known.zt", "-o", "-"], ["--help"], ["--version"])
+EVERY = (
+    *([command, "known.zt"] for command in ("check", "list", "show", "map")),
+    ["get", "known.zt", "w", "data"],
+    ["copy", "known.zt", "-o", "-"],
+    ["--help"],
+    ["--version"],
+)
 
 
 def try_full_and_closed_outputs():
@@ -356,20 +367,21 @@ def try_no_permission():
             untried.append("a file without permission: root may read it, and nobody can't run the command here")
             return
     expect(zt("check", "secret.zt", "known.zt", before=before), (2, b"known.zt: sound\n", b"zt: secret.zt: Permission denied\n"))
-    troubled(b"mine.zt: Permission denied", "copy", "known.zt", "-o", "mine.zt", before=[*before, "--"] if before else ["sh", "-c", 'chmod 555 . && exec "$@"', "sh"])
+    os.chmod(WORK, 0o555)
+    troubled(b"mine.zt: Permission denied", "copy", "known.zt", "-o", "mine.zt", before=before)
     os.chmod(WORK, 0o755)
 
 
 def try_five_gigabytes():
-    """Sparse: a component far behind, and a gap that no byte was written to."""
+    """Sparse: two components, the second far behind."""
     five = 5 << 30
     path = os.path.join(WORK, "five.zt")
+    near = sample.thing([five - 64], "dense", [("data", sample.component("u8", 64, five - 64))])
+    far = sample.thing([2], "dense", [("data", sample.component("f32", five, 8))])
     with open(path, "wb") as into:
         into.write(sample.MAGIC)
         into.seek(five)
-        into.write(b"far away")
-        text = sample.manifest([("w", sample.thing([five - 64], "dense", [("data", sample.component("u8", 64, five - 64))])), ("end", sample.thing([2], "dense", [("data", sample.component("f32", five, 8))]))])
-        into.write(sample.behind(text))
+        into.write(b"far away" + sample.behind(sample.manifest([("w", near), ("end", far)])))
     expect(done("check", "five.zt"), b"five.zt: sound\n")
     expect(done("list", "five.zt").splitlines()[-1], b"blob data f32 %d 8" % five)
     expect(done("get", "five.zt", "end", "data"), b"far away")
@@ -395,7 +407,8 @@ def try_largest_table():
     expect(done("check", "400.zt"), b"400.zt: sound\n")
 
 
-ODD = ["new\nline", "\x1b[31mred\x1b[0m", "\u202egnp.exe", "\u05d0\u05d1", "\0", "\x7f\x85", '"quoted\\"', "\U0001f600", "\ufffd\uffff", "x" * 20000, "zt: a.zt: sound\nb", " "]
+ODD = ["new\nline", "\x1b[31mred\x1b[0m", "\u202egnp.exe", "\u05d0\u05d1", "\0", "\x7f\x85", '"quoted\\"', "\U0001f600", "\ufffd\uffff", " "]
+ODD += ["x" * 20000, "zt: a.zt: sound\nb"]
 
 
 def try_odd_names():
@@ -438,8 +451,10 @@ def try_thousands_of_files():
     expect([line for line in said.decode().splitlines() if not line.endswith(": sound")], ["many/1000.zt: refused 1 SHORT, object 0, component 0: file under 24 bytes"])
     expect(said.count(b"\n"), 3999)
     status, said, _ = zt("check", "--json", *names)
-    verdicts = [verdict["sound"] for verdict in json.loads(said)]
-    expect((status, verdicts.index(False), verdicts.index(None), verdicts.count(True)), (2, 1000, 2000, 3998))
+    verdicts = json.loads(said)
+    expect(verdicts[2000], {"file": "many/2000.zt", "sound": None, "trouble": "No such file or directory"})
+    sound = [verdict["sound"] for verdict in verdicts]
+    expect((status, sound.index(False), sound.count(True)), (2, 1000, 3998))
 
 
 def try_a_file_that_changes():
@@ -455,8 +470,24 @@ def try_a_file_that_changes():
     expect((first, started.communicate()[1], started.returncode), (b"\0", b"zt: large-in.zt: the file changed while it was read\n", 2))
 
 
+def try_a_file_that_is_cut():
+    """As above, but what isn't yet read is gone."""
+    put("cut.zt", content("large-in.zt"))
+    reader, writer = os.pipe()
+    started = subprocess.Popen([*ZT, "get", "cut.zt", "w", "data"], cwd=WORK, stdout=writer, stderr=subprocess.PIPE)
+    os.close(writer)
+    os.read(reader, 1)
+    os.truncate(os.path.join(WORK, "cut.zt"), 0)
+    while os.read(reader, 1 << 20):
+        pass
+    os.close(reader)
+    expect(b"zt: cut.zt: the file changed while it was read\n" in started.communicate()[1], True)
+    expect(started.returncode, 2)
+
+
 def try_signals():
-    for number, status, words in ((signal.SIGBUS, 2, b"zt: a file was cut while it was read, or its disk has no room\n"), (signal.SIGTERM, -signal.SIGTERM, b"")):
+    cut = b"zt: a file was cut while it was read, or its disk has no room\n"
+    for number, status, words in ((signal.SIGBUS, 2, cut), (signal.SIGTERM, -signal.SIGTERM, b"")):
         reader, writer = os.pipe()
         started = subprocess.Popen([*ZT, "get", "large-in.zt", "w", "data"], cwd=WORK, stdout=writer, stderr=subprocess.PIPE)
         os.close(writer)
@@ -493,9 +524,11 @@ def try_completion():
     os.mkdir(os.path.join(WORK, "bin"))
     put("bin/zt", f'#!/bin/sh\nexec "{ZT[0]}" "{ZT[1]}" "$@"\n'.encode())
     os.chmod(os.path.join(WORK, "bin/zt"), 0o755)
-    script = '. "$0"; COMP_WORDS=(zt "$1"); COMP_CWORD=1; _zt; echo "${COMPREPLY[*]}"; COMP_WORDS=(zt list --j); COMP_CWORD=2; _zt; echo "${COMPREPLY[*]}"'
-    said = subprocess.run(["bash", "-c", script, os.path.join(HERE, "command/completion.bash"), "c"], env={**os.environ, "PATH": f"{WORK}/bin:{os.environ['PATH']}"}, capture_output=True, check=True)
-    expect(said.stdout, b"check copy\n--json\n")
+    path = {**os.environ, "PATH": f"{WORK}/bin:{os.environ['PATH']}"}
+    for words, wanted in ((["zt", "c"], b"check copy\n"), (["zt", "list", "--j"], b"--json\n"), (["zt", "list", "quie"], b"quiet.zt\n")):
+        script = '. "$0"; COMP_WORDS=("$@"); COMP_CWORD=$(($# - 1)); _zt; echo "${COMPREPLY[*]}"'
+        completion = ["bash", "-c", script, os.path.join(HERE, "command/completion.bash"), *words]
+        expect(subprocess.run(completion, cwd=WORK, env=path, stdout=subprocess.PIPE, stderr=subprocess.DEVNULL, check=True).stdout, wanted)
 
 
 files = [*answers("cases"), *answers("made")]

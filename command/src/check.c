@@ -11,6 +11,15 @@ static void print_verdict(const char *path, fault what) {
     else print_refused(&out, what);
 }
 
+static void json_unread(const char *path) {
+    json_key(1, "", "file");
+    json_words(path);
+    json_key(0, " ", "sound");
+    print_words(&out, "null");
+    json_key(0, " ", "trouble");
+    json_words(last_trouble);
+}
+
 static int check_file(const char *path, int json, int first) {
     model of;
     int status = model_open(&of, path);
@@ -18,12 +27,7 @@ static int check_file(const char *path, int json, int first) {
     if (status == DONE && json) json_verdict(path, fault_of(&of));
     if (status == DONE && !json) print_verdict(path, fault_of(&of));
     if (status == DONE) status = model_close(&of, of.answer.number == ZT_ACCEPTED ? DONE : REFUSED);
-    else if (json) {
-        json_key(1, "", "file");
-        json_words(path);
-        json_key(0, " ", "sound");
-        print_words(&out, "null");
-    }
+    else if (json) json_unread(path);
     if (json) print_words(&out, "}");
     return status;
 }

@@ -64,8 +64,11 @@ size_t escaped_length(const uint8_t *at, size_t length) {
     return sum;
 }
 
+char last_trouble[160];
+
 int trouble(const char *path, const char *words) {
     flush(&out);
+    snprintf(last_trouble, sizeof last_trouble, "%s", words);
     print_words(&err, "zt: ");
     if (path) {
         print_escaped(&err, (const uint8_t *)path, strlen(path));

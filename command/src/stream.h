@@ -30,6 +30,7 @@ size_t escaped_length(const uint8_t *at, size_t length);
 /* A line on standard error about a file, or, where the path is null, about the command; answers TROUBLE. */
 int trouble(const char *path, const char *words);
 int trouble_of(const char *path, int error); /* the words of an errno */
+extern char last_trouble[160];               /* the words of the last one, for JSON */
 
 /* Writes what is left and closes standard output: TROUBLE if any of it couldn't be written. */
 int finish_output(void);
