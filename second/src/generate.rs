@@ -2,11 +2,13 @@
 
 mod damage;
 mod file;
+mod first_layout;
 mod items;
 mod plan;
 pub mod rng;
 mod rowset;
 
+use crate::layout::Layout;
 use crate::writer::{self, Written};
 use rng::Rng;
 
@@ -43,10 +45,15 @@ impl RowSet {
 
 /// One of the files of a seed, made for itself: every second one is for a chosen refusal, the others are damaged anywhere.
 pub fn nth_file(seed: u64, index: u64) -> Vec<u8> {
+    nth_file_as(Layout::Current, seed, index)
+}
+
+/// The same in a layout.
+pub fn nth_file_as(layout: Layout, seed: u64, index: u64) -> Vec<u8> {
     let mut rng = Rng::new(Rng::new(seed ^ index.rotate_left(32)).number());
     match index % 2 {
-        0 => file::file(&mut rng),
-        _ => damage::file(&mut rng),
+        0 => file::file(&mut rng, layout),
+        _ => damage::file(&mut rng, layout),
     }
 }
 
@@ -60,12 +67,22 @@ impl Generator {
     /// A file: sound, with one fault for any of refusals 1 to 23, with two, at a limit or one past
     /// it, cut short or with bytes changed. Most are under 1 KiB; a few are as large as limits.
     pub fn next_file(&mut self) -> Vec<u8> {
-        file::file(&mut self.rng)
+        self.next_file_as(Layout::Current)
+    }
+
+    /// The same in a layout; 1.0 gets no FOOTER and no TYPE.
+    pub fn next_file_as(&mut self, layout: Layout) -> Vec<u8> {
+        file::file(&mut self.rng, layout)
     }
 
     /// A file that was sound before its tree, its manifest's bytes or its frame were changed anywhere.
     pub fn next_damaged_file(&mut self) -> Vec<u8> {
-        damage::file(&mut self.rng)
+        self.next_damaged_file_as(Layout::Current)
+    }
+
+    /// The same in a layout.
+    pub fn next_damaged_file_as(&mut self, layout: Layout) -> Vec<u8> {
+        damage::file(&mut self.rng, layout)
     }
 
     /// One CBOR item, sound or damaged, sometimes with bytes after it.
