@@ -4,11 +4,13 @@ mod damage;
 mod file;
 mod first_layout;
 mod items;
+mod placement;
 mod plan;
 pub mod rng;
 mod rowset;
 
 use crate::layout::Layout;
+use crate::planned::{self, Asked};
 use crate::writer::{self, Written};
 use rng::Rng;
 
@@ -40,6 +42,31 @@ impl RowSet {
             &self.buffer,
             out,
         )
+    }
+}
+
+/// What the writer is asked with, and a plan for its blobs.
+#[derive(Clone, Debug, PartialEq, Eq)]
+pub struct PlannedSet {
+    pub set: RowSet,
+    pub plan: Vec<u64>,
+    pub ceiling: u64,
+}
+
+impl PlannedSet {
+    /// The planned writer's answer to this.
+    pub fn write(&self, out: &mut [u8]) -> Written {
+        let asked = Asked {
+            rows: &self.set.rows,
+            objects: self.set.objects,
+            components: self.set.components,
+            attributes_place: self.set.attributes_place,
+            attributes_length: self.set.attributes_length,
+            buffer: &self.set.buffer,
+            plan: &self.plan,
+            ceiling: self.ceiling,
+        };
+        planned::write_planned(asked, out)
     }
 }
 
@@ -98,5 +125,10 @@ impl Generator {
     /// Rows and a buffer for the writer, sound or not.
     pub fn next_rows(&mut self) -> RowSet {
         rowset::rows(&mut self.rng)
+    }
+
+    /// Rows with a plan: rising, falling or in any order, sound or with offsets that touch, overlap, are one off, too few or too many.
+    pub fn next_planned(&mut self) -> PlannedSet {
+        placement::planned(&mut self.rng)
     }
 }

@@ -15,6 +15,7 @@ pub mod generate;
 pub mod judge;
 pub mod layout;
 pub mod listing;
+pub mod planned;
 pub mod probes;
 pub mod refusal;
 pub mod row_probes;
