@@ -4,6 +4,7 @@ mod damage;
 mod file;
 mod first_layout;
 mod items;
+mod pair;
 mod placement;
 mod plan;
 pub mod rng;
@@ -70,6 +71,15 @@ impl PlannedSet {
     }
 }
 
+/// Two files, each in its layout.
+#[derive(Clone, Debug, PartialEq, Eq)]
+pub struct FilePair {
+    pub first_layout: u64,
+    pub first: Vec<u8>,
+    pub second_layout: u64,
+    pub second: Vec<u8>,
+}
+
 /// One of the files of a seed, made for itself: every second one is for a chosen refusal, the others are damaged anywhere.
 pub fn nth_file(seed: u64, index: u64) -> Vec<u8> {
     nth_file_as(Layout::Current, seed, index)
@@ -125,6 +135,16 @@ impl Generator {
     /// Rows and a buffer for the writer, sound or not.
     pub fn next_rows(&mut self) -> RowSet {
         rowset::rows(&mut self.rng)
+    }
+
+    /// Two files, mostly accepted: the second is the first with small changes, or another one.
+    pub fn next_pair(&mut self) -> FilePair {
+        pair::pair(&mut self.rng)
+    }
+
+    /// A file of several objects, of which some have faults of their own.
+    pub fn next_partly_sound(&mut self, layout: Layout) -> Vec<u8> {
+        pair::partly_sound(&mut self.rng, layout)
     }
 
     /// Rows with a plan: rising, falling or in any order, sound or with offsets that touch, overlap, are one off, too few or too many.

@@ -83,7 +83,8 @@ fn at_size_limit(rng: &mut Rng, layout: Layout) -> Vec<u8> {
     layout.assemble(&[], &manifest)
 }
 
-fn framed(rng: &mut Rng, layout: Layout, plan: &Plan, faults: &[u8]) -> Vec<u8> {
+/// The plan's file, spoiled for these refusals, now and then damaged.
+pub fn framed(rng: &mut Rng, layout: Layout, plan: &Plan, faults: &[u8]) -> Vec<u8> {
     let (mut root, manifest_start) = tree(rng, layout, plan);
     for &number in faults {
         // A fault may find its place gone, taken by the one before.
