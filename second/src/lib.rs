@@ -7,6 +7,7 @@ pub mod antt;
 pub mod appendix;
 pub mod cases;
 pub mod cbor;
+pub mod changes;
 pub mod compose;
 pub mod described;
 pub mod encode;
