@@ -3,6 +3,7 @@
 mod damage;
 mod file;
 mod first_layout;
+mod floats;
 mod items;
 mod pair;
 mod placement;
@@ -145,6 +146,11 @@ impl Generator {
     /// A file of several objects, of which some have faults of their own.
     pub fn next_partly_sound(&mut self, layout: Layout) -> Vec<u8> {
         pair::partly_sound(&mut self.rng, layout)
+    }
+
+    /// An accepted file with f32 components among others, which overlap, nest, are empty or end at the manifest's edge, over numbers of every kind.
+    pub fn next_floats(&mut self, layout: Layout) -> Vec<u8> {
+        floats::file(&mut self.rng, layout)
     }
 
     /// Rows with a plan: rising, falling or in any order, sound or with offsets that touch, overlap, are one off, too few or too many.
