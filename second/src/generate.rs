@@ -4,6 +4,7 @@ mod damage;
 mod file;
 mod first_layout;
 mod floats;
+mod history;
 mod items;
 mod pair;
 mod placement;
@@ -11,6 +12,7 @@ mod plan;
 pub mod rng;
 mod rowset;
 
+use crate::engines::History;
 use crate::layout::Layout;
 use crate::planned::{self, Asked};
 use crate::writer::{self, Written};
@@ -151,6 +153,16 @@ impl Generator {
     /// An accepted file with f32 components among others, which overlap, nest, are empty or end at the manifest's edge, over numbers of every kind.
     pub fn next_floats(&mut self, layout: Layout) -> Vec<u8> {
         floats::file(&mut self.rng, layout)
+    }
+
+    /// Calls of two engines over files of many sizes, with states and lengths from outside now and then.
+    pub fn next_history(&mut self) -> History {
+        history::history(&mut self.rng)
+    }
+
+    /// An accepted file, in either layout, with this many objects and components; the number that says its layout.
+    pub fn file_with_rows(&mut self, objects: usize, components: usize) -> (u64, Vec<u8>) {
+        history::with_rows(&mut self.rng, objects, components)
     }
 
     /// Rows with a plan: rising, falling or in any order, sound or with offsets that touch, overlap, are one off, too few or too many.

@@ -12,6 +12,7 @@ pub mod compose;
 pub mod decimal;
 pub mod described;
 pub mod encode;
+pub mod engines;
 pub mod explain;
 pub mod findings;
 pub mod first_layout;
