@@ -3,6 +3,7 @@
 
 use crate::cbor::{self, Kind, Node};
 use crate::frame;
+use crate::layout::{self, Layout};
 use crate::refusal::{
     Refusal, ALIGN, BOUNDS, COUNT, DTYPE, ENCODING, KEY, KIND, LENGTH, MAJOR, MISSING, RANK, ROLE,
     TEXT, TWICE, TYPE, VERSION,
@@ -63,6 +64,11 @@ pub fn verdict(file: &[u8]) -> (u8, u64, u64) {
 
 /// Judges a manifest that begins at `manifest_start` of its file.
 pub fn judge(manifest: &[u8], manifest_start: u64) -> Result<Manifest, Refusal> {
+    Layout::Current.judge(manifest, manifest_start)
+}
+
+/// Judges up to the objects' names, and then each object for itself.
+pub fn judge_entries(manifest: &[u8], manifest_start: u64) -> Result<layout::Entries, Refusal> {
     let root = cbor::decode(manifest).map_err(|fault| Refusal::whole(fault.number))?;
     let judge = Judge {
         bytes: manifest,
@@ -77,23 +83,29 @@ pub struct Judge<'a> {
 }
 
 impl<'a> Judge<'a> {
-    fn root(&self, root: &Node) -> Result<Manifest, Refusal> {
-        let (attributes, entries) = self.root_fields(root).map_err(Refusal::whole)?;
+    fn root(&self, root: &Node) -> Result<layout::Entries, Refusal> {
+        let (attributes, entries) = self
+            .root_fields(root, Layout::Current.objects())
+            .map_err(Refusal::whole)?;
         let objects = entries
             .into_iter()
             .enumerate()
             .map(|(index, (name, entry))| self.object(index, name, entry))
-            .collect::<Result<_, _>>()?;
-        Ok(Manifest {
+            .collect();
+        Ok(layout::Entries {
             attributes,
             objects,
         })
     }
 
-    /// The root's own checks, up to the objects' names.
-    fn root_fields<'t>(&self, root: &'t Node) -> Result<(Option<Span>, Entries<'t>), u8> {
+    /// The root's own checks, up to the names in the field that holds the objects.
+    pub fn root_fields<'t>(
+        &self,
+        root: &'t Node,
+        holder: &str,
+    ) -> Result<(Option<Span>, Entries<'t>), u8> {
         let [version, attributes, objects] =
-            self.fields(root, ["version", "attributes", "objects"])?;
+            self.fields(root, ["version", "attributes", holder])?;
         let version = text(version.ok_or(MISSING)?)?;
         if major(&self.bytes[version]).ok_or(VERSION)? != b"1" {
             return Err(MAJOR);
@@ -269,7 +281,7 @@ impl<'a> Judge<'a> {
     }
 
     /// Kind, keys and repeats of a root, object or component map; its known fields' values.
-    fn fields<'t, const N: usize>(
+    pub fn fields<'t, const N: usize>(
         &self,
         map: &'t Node,
         known: [&str; N],
@@ -290,7 +302,7 @@ impl<'a> Judge<'a> {
     }
 
     /// Kind, keys, UTF-8, count and repeats of `objects` or `components`; names and entries.
-    fn names<'t>(&self, map: &'t Node, limit: usize) -> Result<Entries<'t>, u8> {
+    pub fn names<'t>(&self, map: &'t Node, limit: usize) -> Result<Entries<'t>, u8> {
         let pairs = self.keyed_pairs(map)?;
         if !pairs.iter().all(|(name, _)| is_utf8(self.at(name))) {
             return Err(TEXT);
@@ -316,7 +328,7 @@ impl<'a> Judge<'a> {
             .collect()
     }
 
-    fn utf8_text(&self, node: &Node) -> Result<Span, u8> {
+    pub fn utf8_text(&self, node: &Node) -> Result<Span, u8> {
         let span = text(node)?;
         if is_utf8(self.at(&span)) {
             Ok(span)
@@ -326,7 +338,7 @@ impl<'a> Judge<'a> {
     }
 
     /// A type or a digest, for which null counts as absent.
-    fn optional_text(&self, node: Option<&Node>) -> Result<Option<Span>, u8> {
+    pub fn optional_text(&self, node: Option<&Node>) -> Result<Option<Span>, u8> {
         present(node).map(|node| self.utf8_text(node)).transpose()
     }
 
@@ -336,14 +348,14 @@ impl<'a> Judge<'a> {
 }
 
 /// The content of whole text.
-fn text(node: &Node) -> Result<Span, u8> {
+pub fn text(node: &Node) -> Result<Span, u8> {
     match &node.kind {
         Kind::Text(content) => Ok(content.clone()),
         _ => Err(KIND),
     }
 }
 
-fn unsigned(node: &Node) -> Result<u64, u8> {
+pub fn unsigned(node: &Node) -> Result<u64, u8> {
     match node.kind {
         Kind::Unsigned(number) => Ok(number),
         _ => Err(KIND),
@@ -351,7 +363,7 @@ fn unsigned(node: &Node) -> Result<u64, u8> {
 }
 
 /// The kinds of the shape and of all its elements, then the rank limit.
-fn dimensions(node: &Node) -> Result<Vec<u64>, u8> {
+pub fn dimensions(node: &Node) -> Result<Vec<u64>, u8> {
     let Kind::Array(elements) = &node.kind else {
         return Err(KIND);
     };

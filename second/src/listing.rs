@@ -52,7 +52,7 @@ fn line(out: &mut Vec<u8>, parts: &[&[u8]]) {
 }
 
 /// A text with bytes outside 33 to 126, and the backslash, as a backslash and two hex digits.
-fn shown(file: &[u8], text: Part) -> Option<Vec<u8>> {
+pub fn shown(file: &[u8], text: Part) -> Option<Vec<u8>> {
     let mut out = Vec::new();
     for &byte in text.of(file)? {
         match byte {

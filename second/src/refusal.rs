@@ -1,4 +1,4 @@
-//! The refusal numbers of document 01, and a refusal with the indices it gives.
+//! The refusal numbers of documents 01 and 02, and a refusal with the indices it gives.
 
 pub const SHORT: u8 = 1;
 pub const HEADER: u8 = 2;
@@ -26,6 +26,8 @@ pub const LENGTH: u8 = 23;
 pub const ROOM: u8 = 24;
 pub const ROW: u8 = 25;
 pub const INDEX: u8 = 26;
+pub const PLAN: u8 = 27;
+pub const BUSY: u8 = 28;
 
 /// A refusal's number, the object's index and the component's index in its object.
 #[derive(Clone, Copy, Debug, PartialEq, Eq)]

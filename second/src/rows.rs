@@ -4,7 +4,8 @@ use crate::columns::{
     ATTRIBUTES, BLOB, COMPONENT_ROW, COUNT, DIGEST, DTYPE, FORMAT, NAME, OBJECT_ROW, OWNER, RANK,
     SHAPE, TYPE,
 };
-use crate::judge::{self, Component, Manifest, Object, RANK_LIMIT};
+use crate::judge::{Component, Manifest, Object, RANK_LIMIT};
+use crate::layout::Layout;
 use crate::refusal::{Refusal, ROOM};
 use std::ops::Range;
 
@@ -52,7 +53,12 @@ pub struct Answer {
 
 /// Reads a file into the lent table, which stays as it was on refusal and beyond the rows.
 pub fn read(file: &[u8], table: &mut [u64]) -> Answer {
-    match try_read(file, table) {
+    read_as(Layout::Current.number(), file, table)
+}
+
+/// The same for the layout that is said.
+pub fn read_as(layout: u64, file: &[u8], table: &mut [u64]) -> Answer {
+    match try_read(Layout::of(layout), file, table) {
         Ok(answer) => answer,
         Err(refusal) => Answer {
             number: refusal.number,
@@ -63,8 +69,8 @@ pub fn read(file: &[u8], table: &mut [u64]) -> Answer {
     }
 }
 
-fn try_read(file: &[u8], table: &mut [u64]) -> Result<Answer, Refusal> {
-    let (manifest_start, manifest) = judge::judge_file(file)?;
+fn try_read(layout: Layout, file: &[u8], table: &mut [u64]) -> Result<Answer, Refusal> {
+    let (manifest_start, manifest) = layout.judge_file(file)?;
     let rows = rows_of(&manifest, manifest_start);
     table
         .get_mut(..rows.len())

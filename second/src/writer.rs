@@ -64,29 +64,36 @@ fn try_write(
         rows::split(rows, objects, components).ok_or(Refusal::whole(ROW))?;
     let source =
         Source::checked(&objects, &components, attributes, buffer).ok_or(Refusal::whole(ROW))?;
-    let lengths = source.components.iter().map(|c| c.blob.len() as u64);
-    let offsets = offsets(lengths).ok_or(Refusal::whole(COUNT))?;
-    let mut size = Size(0);
-    source.manifest(&offsets, &mut size);
-    if size.0 > u128::from(SIZE_LIMIT) {
-        return Err(Refusal::whole(BIG));
-    }
-    let mut manifest = Vec::new();
-    source.manifest(&offsets, &mut manifest);
+    let laid = source.laid()?;
+    laid.write(out).ok_or(Refusal::whole(ROOM))
+}
 
-    let blobs = source.components.iter().map(|component| component.blob);
-    let placed: Vec<_> = offsets.into_iter().zip(blobs).collect();
-    let manifest_start = placed
-        .last()
-        .map_or(8, |(offset, blob)| offset + blob.len() as u64);
-    judge::judge(&manifest, manifest_start)?;
-    let length = manifest_start + manifest.len() as u64 + 16;
-    let file = usize::try_from(length)
-        .ok()
-        .and_then(|length| out.get_mut(..length))
-        .ok_or(Refusal::whole(ROOM))?;
-    fill(file, &placed, manifest_start as usize, &manifest);
-    Ok(length)
+/// A whole file that no check but the room's refuses, before it is written.
+pub struct Laid<'a> {
+    placed: Vec<(u64, &'a [u8])>,
+    manifest_start: u64,
+    manifest: Vec<u8>,
+}
+
+impl Laid<'_> {
+    /// The file's length.
+    pub fn length(&self) -> u64 {
+        self.manifest_start + self.manifest.len() as u64 + 16
+    }
+
+    /// Whether an output of this many bytes is long enough.
+    pub fn fits(&self, room: usize) -> bool {
+        self.length() <= room as u64
+    }
+
+    /// Writes the file and gives its length; nothing if the output is shorter.
+    pub fn write(&self, out: &mut [u8]) -> Option<u64> {
+        let length = self.length();
+        let file = out.get_mut(..usize::try_from(length).ok()?)?;
+        let start = self.manifest_start as usize;
+        fill(file, &self.placed, start, &self.manifest);
+        Some(length)
+    }
 }
 
 /// The offset of each blob: the least multiple of 64 not below the place reached. Nothing if the
@@ -138,32 +145,35 @@ impl Sink for Size {
     }
 }
 
-/// Rows that passed ROW, with their parts of the buffer.
-struct Source<'a> {
-    attributes: Option<&'a [u8]>,
-    objects: Vec<ObjectSource<'a>>,
-    components: Vec<ComponentSource<'a>>,
+/// What a file is to hold: rows that passed ROW with their parts of the buffer, or what a reading described.
+#[derive(Clone, Default)]
+pub struct Source<'a> {
+    pub attributes: Option<&'a [u8]>,
+    pub objects: Vec<ObjectSource<'a>>,
+    pub components: Vec<ComponentSource<'a>>,
 }
 
-struct ObjectSource<'a> {
-    name: &'a [u8],
-    shape: &'a [u64],
-    format: &'a [u8],
-    attributes: Option<&'a [u8]>,
-    components: usize,
+#[derive(Clone)]
+pub struct ObjectSource<'a> {
+    pub name: &'a [u8],
+    pub shape: &'a [u64],
+    pub format: &'a [u8],
+    pub attributes: Option<&'a [u8]>,
+    pub components: usize,
 }
 
-struct ComponentSource<'a> {
-    name: &'a [u8],
-    dtype: &'static str,
-    logical: Option<&'a [u8]>,
-    blob: &'a [u8],
-    digest: Option<&'a [u8]>,
+#[derive(Clone)]
+pub struct ComponentSource<'a> {
+    pub name: &'a [u8],
+    pub dtype: &'static str,
+    pub logical: Option<&'a [u8]>,
+    pub blob: &'a [u8],
+    pub digest: Option<&'a [u8]>,
 }
 
 impl<'a> Source<'a> {
     /// Looks at every row; nothing means ROW.
-    fn checked(
+    pub fn checked(
         objects: &'a [ObjectRow],
         components: &[ComponentRow],
         attributes: Part,
@@ -187,6 +197,36 @@ impl<'a> Source<'a> {
                 .iter()
                 .map(|row| ComponentSource::checked(row, buffer))
                 .collect::<Option<_>>()?,
+        })
+    }
+
+    /// The file with 01's own placement: COUNT if the last blob ends too far out, then as for any placement.
+    pub fn laid(&self) -> Result<Laid<'a>, Refusal> {
+        let lengths = self.components.iter().map(|c| c.blob.len() as u64);
+        let offsets = offsets(lengths).ok_or(Refusal::whole(COUNT))?;
+        self.laid_at(&offsets)
+    }
+
+    /// The file with each blob at its offset and the manifest after the greatest end: BIG, then the reader's own refusal.
+    pub fn laid_at(&self, offsets: &[u64]) -> Result<Laid<'a>, Refusal> {
+        let mut size = Size(0);
+        self.manifest(offsets, &mut size);
+        if size.0 > u128::from(SIZE_LIMIT) {
+            return Err(Refusal::whole(BIG));
+        }
+        let mut manifest = Vec::new();
+        self.manifest(offsets, &mut manifest);
+        let blobs = self.components.iter().map(|component| component.blob);
+        let placed: Vec<_> = offsets.iter().copied().zip(blobs).collect();
+        let ends = placed
+            .iter()
+            .map(|(offset, blob)| offset + blob.len() as u64);
+        let manifest_start = ends.max().unwrap_or(8);
+        judge::judge(&manifest, manifest_start)?;
+        Ok(Laid {
+            placed,
+            manifest_start,
+            manifest,
         })
     }
 

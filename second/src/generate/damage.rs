@@ -1,19 +1,23 @@
 //! Files damaged anywhere: a sound tree changed at any of its nodes, then the manifest's bytes, then the frame.
 
 use super::file::{self, any_kind};
+use super::first_layout;
 use super::items;
 use super::plan::Plan;
 use super::rng::Rng;
 use crate::encode::Item;
-use crate::frame;
 use crate::judge::{COMPONENT_LIMIT, RANK_LIMIT};
+use crate::layout::Layout;
 use crate::refusal::{LENGTH, RANK, ROLE, TYPE};
 
-pub fn file(rng: &mut Rng) -> Vec<u8> {
+pub fn file(rng: &mut Rng, layout: Layout) -> Vec<u8> {
     let mut plan = match rng.one_in(1_000) {
         true => Plan::alike_names(rng),
         false => Plan::sound(rng),
     };
+    if layout == Layout::First {
+        first_layout::fit(rng, &mut plan);
+    }
     if rng.one_in(4) {
         // Several faults that only their order tells apart.
         for _ in 0..2 + rng.index(2) {
@@ -21,7 +25,7 @@ pub fn file(rng: &mut Rng) -> Vec<u8> {
             plan.spoil(rng, number);
         }
     }
-    let (mut root, manifest_start) = file::tree(rng, &plan);
+    let (mut root, manifest_start) = file::tree(rng, layout, &plan);
     for _ in 0..*rng.pick(&[0, 1, 1, 1, 2, 4]) {
         let (node, depth) = any_node(rng, &mut root, 1);
         change(rng, node, depth);
@@ -30,10 +34,10 @@ pub fn file(rng: &mut Rng) -> Vec<u8> {
     if rng.one_in(6) {
         bytes(rng, &mut manifest);
     }
-    let mut file = frame::assemble(&vec![0; manifest_start as usize - 8], &manifest);
+    let mut file = layout.assemble(&vec![0; manifest_start as usize - 8], &manifest);
     match rng.index(16) {
         0 => bytes(rng, &mut file),
-        1 => frame::set_size(&mut file, manifest.len() as u64 + 2 * rng.below(2) - 1),
+        1 => layout.set_size(&mut file, manifest.len() as u64 + 2 * rng.below(2) - 1),
         _ => {}
     }
     file

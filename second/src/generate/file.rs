@@ -1,34 +1,21 @@
 //! Whole files by chance: a plan made into a manifest's tree, spoiled, encoded, framed, damaged.
 
+use super::first_layout;
 use super::items;
 use super::plan::{ComponentPlan, ObjectPlan, Plan};
 use super::rng::Rng;
 use crate::cbor::DEPTH;
 use crate::compose::{field, is_text, pairs, set, Pairs};
 use crate::encode::{Head, Item};
-use crate::frame::{self, SIZE_LIMIT};
+use crate::frame::SIZE_LIMIT;
+use crate::layout::Layout;
 use crate::refusal::{
     ALIGN, BIG, BOUNDS, CBOR, DEEP, DTYPE, ENCODING, FIT, FOOTER, HEADER, KEY, KIND, LENGTH, MAJOR,
     MISSING, SHORT, TWICE, VERSION,
 };
 use crate::types::DTYPES;
 
-/// The known fields of the maps at each level; `objects` and `components` hold names.
-const FIELDS: [&[&str]; 5] = [
-    &["version", "attributes", "objects"],
-    &[],
-    &["shape", "format", "attributes", "components"],
-    &[],
-    &[
-        "dtype",
-        "type",
-        "offset",
-        "length",
-        "uncompressed_length",
-        "encoding",
-        "digest",
-    ],
-];
+/// The levels of the maps that have fields; those between hold names.
 const ROOT: usize = 0;
 const OBJECT: usize = 2;
 const COMPONENT: usize = 4;
@@ -37,13 +24,13 @@ const COMPONENT: usize = 4;
 const FURTHEST_END: u64 = 2048;
 
 /// A file: sound, with one or two faults, or damaged.
-pub fn file(rng: &mut Rng) -> Vec<u8> {
+pub fn file(rng: &mut Rng, layout: Layout) -> Vec<u8> {
     if rng.one_in(20_000) {
-        return at_size_limit(rng);
+        return at_size_limit(rng, layout);
     }
     if rng.one_in(3_000) {
         let plan = Plan::many_objects(rng);
-        return framed(rng, &plan, &[]);
+        return framed(rng, layout, &plan, &[]);
     }
     let faults = match rng.index(20) {
         0..=6 => vec![],
@@ -51,6 +38,9 @@ pub fn file(rng: &mut Rng) -> Vec<u8> {
         _ => two_faults(rng),
     };
     let mut plan = Plan::sound(rng);
+    if layout == Layout::First {
+        first_layout::fit(rng, &mut plan);
+    }
     if faults.len() > 1 && rng.one_in(2) {
         // So that both faults meet in one object.
         plan.objects.truncate(1);
@@ -58,7 +48,7 @@ pub fn file(rng: &mut Rng) -> Vec<u8> {
     for &number in &faults {
         plan.spoil(rng, number);
     }
-    framed(rng, &plan, &faults)
+    framed(rng, layout, &plan, &faults)
 }
 
 /// One of the refusals that a file can get.
@@ -76,12 +66,12 @@ fn two_faults(rng: &mut Rng) -> Vec<u8> {
 
 /// A file whose manifest is exactly as long as the limit, or one byte longer, by an unknown field
 /// that holds a long byte string.
-fn at_size_limit(rng: &mut Rng) -> Vec<u8> {
+fn at_size_limit(rng: &mut Rng, layout: Layout) -> Vec<u8> {
     const LONG_HEAD: usize = 5;
     let up_to_content = |head: &[u8]| {
         Item::map([
             ("version", Item::text("1.2.0")),
-            ("objects", Item::Map(Vec::new())),
+            (layout.objects(), Item::Map(Vec::new())),
             ("padding", Item::Raw(head.to_vec())),
         ])
         .shortest()
@@ -90,17 +80,18 @@ fn at_size_limit(rng: &mut Rng) -> Vec<u8> {
     let content = size - up_to_content(&[]).len() - LONG_HEAD;
     let mut manifest = up_to_content(Head::new(2, content as u64, 0).bytes());
     manifest.resize(size, 0);
-    frame::assemble(&[], &manifest)
+    layout.assemble(&[], &manifest)
 }
 
-fn framed(rng: &mut Rng, plan: &Plan, faults: &[u8]) -> Vec<u8> {
-    let (mut root, manifest_start) = tree(rng, plan);
+/// The plan's file, spoiled for these refusals, now and then damaged.
+pub fn framed(rng: &mut Rng, layout: Layout, plan: &Plan, faults: &[u8]) -> Vec<u8> {
+    let (mut root, manifest_start) = tree(rng, layout, plan);
     for &number in faults {
         // A fault may find its place gone, taken by the one before.
-        let _ = spoil(rng, &mut root, number, manifest_start);
+        let _ = spoil(rng, layout, &mut root, number, manifest_start);
     }
     if rng.one_in(16) {
-        let _ = odd_fields(rng, &mut root);
+        let _ = odd_fields(rng, layout, &mut root);
     }
     let mut manifest = items::encoded(rng, &root);
     if rng.one_in(8) {
@@ -110,9 +101,9 @@ fn framed(rng: &mut Rng, plan: &Plan, faults: &[u8]) -> Vec<u8> {
     }
     let mut blobs = rng.bytes(8);
     blobs.resize(manifest_start as usize - 8, 0);
-    let mut file = frame::assemble(&blobs, &manifest);
+    let mut file = layout.assemble(&blobs, &manifest);
     for &number in faults {
-        spoil_frame(rng, &mut file, number);
+        spoil_frame(rng, layout, &mut file, number);
     }
     if rng.one_in(40) {
         items::damage(rng, &mut file);
@@ -121,10 +112,10 @@ fn framed(rng: &mut Rng, plan: &Plan, faults: &[u8]) -> Vec<u8> {
 }
 
 /// The plan's manifest and its start, which is at or shortly after the last end of a blob.
-pub fn tree(rng: &mut Rng, plan: &Plan) -> (Item, u64) {
+pub fn tree(rng: &mut Rng, layout: Layout, plan: &Plan) -> (Item, u64) {
     let map = |rng: &mut Rng, mut pairs: Pairs, level| {
         if !plan.bare {
-            add_unknown(rng, &mut pairs, level);
+            add_unknown(rng, layout, &mut pairs, level);
         }
         Item::Map(pairs)
     };
@@ -138,17 +129,24 @@ pub fn tree(rng: &mut Rng, plan: &Plan) -> (Item, u64) {
             if component_end <= FURTHEST_END {
                 end = component_end.max(end);
             }
-            let pairs = component_pairs(rng, component, offset);
+            let pairs = match layout {
+                Layout::Current => component_pairs(rng, component, offset),
+                Layout::First => first_layout::component_pairs(rng, component, offset),
+            };
             let entry = map(rng, pairs, COMPONENT);
             components.push((Item::text(&component.name), entry));
         }
-        let entry = map(rng, object_pairs(object, components), OBJECT);
+        let pairs = match layout {
+            Layout::Current => object_pairs(object, components),
+            Layout::First => first_layout::tensor_pairs(object, components),
+        };
+        let entry = map(rng, pairs, OBJECT);
         objects.push((Item::text(&object.name), entry));
     }
     let version = *rng.pick(&["1.2.0", "1.2.0", "1.2", "1.0", "1.999999999.0"]);
     let mut root = field_pairs([("version", Item::text(version))]);
     push_optional(&mut root, "attributes", plan.attributes.clone());
-    root.push((Item::text("objects"), Item::Map(objects)));
+    root.push((Item::text(layout.objects()), Item::Map(objects)));
     let gap = *rng.pick(&[0, 0, 0, 1, 63, 64]);
     (map(rng, root, ROOT), end + gap)
 }
@@ -188,18 +186,18 @@ fn component_pairs(rng: &mut Rng, component: &ComponentPlan, offset: u64) -> Pai
     pairs
 }
 
-fn field_pairs<const N: usize>(pairs: [(&str, Item); N]) -> Pairs {
+pub fn field_pairs<const N: usize>(pairs: [(&str, Item); N]) -> Pairs {
     pairs.map(|(key, value)| (Item::text(key), value)).into()
 }
 
-fn push_optional(pairs: &mut Pairs, key: &str, value: Option<Item>) {
+pub fn push_optional(pairs: &mut Pairs, key: &str, value: Option<Item>) {
     pairs.extend(value.map(|value| (Item::text(key), value)));
 }
 
 /// Adds unknown fields, some twice, and sometimes moves the pairs about.
-fn add_unknown(rng: &mut Rng, pairs: &mut Pairs, level: usize) {
+fn add_unknown(rng: &mut Rng, layout: Layout, pairs: &mut Pairs, level: usize) {
     while rng.one_in(4) {
-        let pair = (unknown_key(rng, level), unknown_value(rng, level));
+        let pair = (unknown_key(rng, layout, level), unknown_value(rng, level));
         for _ in 0..=rng.index(2) {
             pairs.insert(rng.index(pairs.len() + 1), pair.clone());
         }
@@ -210,15 +208,20 @@ fn add_unknown(rng: &mut Rng, pairs: &mut Pairs, level: usize) {
 }
 
 /// A field of another map, a text that almost is a field, any text, or no UTF-8 at all.
-fn unknown_key(rng: &mut Rng, level: usize) -> Item {
-    let other = FIELDS[*rng.pick(&[ROOT, OBJECT, COMPONENT])];
+fn unknown_key(rng: &mut Rng, layout: Layout, level: usize) -> Item {
+    let of = match layout {
+        Layout::Current => layout,
+        Layout::First => *rng.pick(&Layout::ALL),
+    };
+    let other = of.fields()[*rng.pick(&[ROOT, OBJECT, COMPONENT])];
     let key = match rng.index(4) {
         0 => rng.pick(other).as_bytes().to_vec(),
         1 => [rng.pick(other).as_bytes(), b"s"].concat(),
         2 => items::utf8(rng),
         _ => items::not_utf8(rng),
     };
-    match FIELDS[level].iter().any(|known| known.as_bytes() == key) {
+    let known = layout.fields()[level];
+    match known.iter().any(|known| known.as_bytes() == key) {
         true => Item::text("unknown"),
         false => Item::Text(key),
     }
@@ -234,11 +237,16 @@ fn unknown_value(rng: &mut Rng, level: usize) -> Item {
 
 /// Goes down to the map (or what stands in its place) of a level: 0 root, 1 objects, 2 an object,
 /// 3 its components, 4 a component.
-fn descend<'t>(rng: &mut Rng, root: &'t mut Item, level: usize) -> Option<&'t mut Item> {
+fn descend<'t>(
+    rng: &mut Rng,
+    layout: Layout,
+    root: &'t mut Item,
+    level: usize,
+) -> Option<&'t mut Item> {
     let mut at = root;
     for step in 0..level {
         at = match step {
-            0 => field(at, "objects")?,
+            0 => field(at, layout.objects())?,
             2 => field(at, "components")?,
             _ => &mut rng.pick_mut(pairs(at)?)?.1,
         };
@@ -247,7 +255,13 @@ fn descend<'t>(rng: &mut Rng, root: &'t mut Item, level: usize) -> Option<&'t mu
 }
 
 /// Spoils the tree for one refusal; nothing if the place for it isn't there.
-fn spoil(rng: &mut Rng, root: &mut Item, number: u8, manifest_start: u64) -> Option<()> {
+fn spoil(
+    rng: &mut Rng,
+    layout: Layout,
+    root: &mut Item,
+    number: u8,
+    manifest_start: u64,
+) -> Option<()> {
     const VERSIONS: [&str; 13] = [
         "1",
         "01.2",
@@ -267,42 +281,41 @@ fn spoil(rng: &mut Rng, root: &mut Item, number: u8, manifest_start: u64) -> Opt
     match number {
         CBOR => {
             let value = items::damaged(rng);
-            insert_unknown(rng, root, level, value)
+            insert_unknown(rng, layout, root, level, value)
         }
-        DEEP => too_deep(rng, root, level),
-        KIND => wrong_kind(rng, root, level),
+        DEEP => too_deep(rng, layout, root, level),
+        KIND => wrong_kind(rng, layout, root, level),
         KEY => {
-            let any_level = rng.index(FIELDS.len());
-            let pairs = pairs(descend(rng, root, any_level)?)?;
+            let any_level = rng.index(layout.fields().len());
+            let pairs = pairs(descend(rng, layout, root, any_level)?)?;
             odd_key(rng, pairs);
             Some(())
         }
         TWICE => {
-            let pairs = pairs(descend(rng, root, level)?)?;
+            let pairs = pairs(descend(rng, layout, root, level)?)?;
             let (key, value) = rng.pick_mut(pairs)?.clone();
             let value = if rng.one_in(2) { Item::null() } else { value };
             pairs.insert(rng.index(pairs.len() + 1), (key, value));
             Some(())
         }
         MISSING => {
-            let missing = *rng.pick(FIELDS[level]);
-            let pairs = pairs(descend(rng, root, level)?)?;
+            let missing = *rng.pick(layout.fields()[level]);
+            let pairs = pairs(descend(rng, layout, root, level)?)?;
             pairs.retain(|(key, _)| !is_text(key, missing));
             Some(())
         }
         VERSION => set_one_of(rng, root, "version", &VERSIONS),
         MAJOR => set_one_of(rng, root, "version", &["2.0", "0.1", "10.0.0", "11.2"]),
         DTYPE => {
-            let component = descend(rng, root, COMPONENT)?;
-            set_one_of(
-                rng,
-                component,
-                "dtype",
-                &["", "F32", "f8", "u128", "f32 ", "ü"],
-            )
+            let (level, names) = match layout {
+                Layout::Current => (COMPONENT, ["", "F32", "f8", "u128", "f32 ", "ü"]),
+                Layout::First => (OBJECT, ["", "Float32", "f32", "u64", "float32 ", "uint"]),
+            };
+            let map = descend(rng, layout, root, level)?;
+            set_one_of(rng, map, "dtype", &names)
         }
         ENCODING => {
-            let component = descend(rng, root, COMPONENT)?;
+            let component = descend(rng, layout, root, COMPONENT)?;
             set_one_of(
                 rng,
                 component,
@@ -313,14 +326,14 @@ fn spoil(rng: &mut Rng, root: &mut Item, number: u8, manifest_start: u64) -> Opt
         ALIGN => {
             let offset = *rng.pick(&[1, 8, 63, 65, 72, 96, u64::MAX, (1 << 63) + 1]);
             set(
-                descend(rng, root, COMPONENT)?,
+                descend(rng, layout, root, COMPONENT)?,
                 "offset",
                 Item::Unsigned(offset),
             );
             Some(())
         }
         BOUNDS => {
-            let component = descend(rng, root, COMPONENT)?;
+            let component = descend(rng, layout, root, COMPONENT)?;
             out_of_bounds(rng, component, manifest_start);
             Some(())
         }
@@ -333,22 +346,29 @@ fn set_one_of(rng: &mut Rng, map: &mut Item, name: &str, texts: &[&str]) -> Opti
     Some(())
 }
 
-fn insert_unknown(rng: &mut Rng, root: &mut Item, level: usize, value: Item) -> Option<()> {
-    let pairs = pairs(descend(rng, root, level)?)?;
+fn insert_unknown(
+    rng: &mut Rng,
+    layout: Layout,
+    root: &mut Item,
+    level: usize,
+    value: Item,
+) -> Option<()> {
+    let pairs = pairs(descend(rng, layout, root, level)?)?;
     pairs.insert(rng.index(pairs.len() + 1), (Item::text("unknown"), value));
     Some(())
 }
 
 /// Puts an item near the depth limit into attributes or into an unknown field.
-fn too_deep(rng: &mut Rng, root: &mut Item, level: usize) -> Option<()> {
+fn too_deep(rng: &mut Rng, layout: Layout, root: &mut Item, level: usize) -> Option<()> {
     let depth = level as u32 + 2;
-    if level == COMPONENT || rng.one_in(2) {
+    let known = layout.fields()[level].contains(&"attributes");
+    if !known || rng.one_in(2) {
         let value = items::near_limit(rng, depth);
-        return insert_unknown(rng, root, level, value);
+        return insert_unknown(rng, layout, root, level, value);
     }
     let deep = items::near_limit(rng, depth + 1);
     let attributes = Item::Map(vec![(Item::null(), deep)]);
-    set(descend(rng, root, level)?, "attributes", attributes);
+    set(descend(rng, layout, root, level)?, "attributes", attributes);
     Some(())
 }
 
@@ -365,9 +385,9 @@ fn odd_key(rng: &mut Rng, pairs: &mut Pairs) {
 }
 
 /// Puts a value of any kind for a known value: a field, a dimension, an entry or the root.
-fn wrong_kind(rng: &mut Rng, root: &mut Item, level: usize) -> Option<()> {
-    let map = descend(rng, root, level)?;
-    let name = *rng.pick(FIELDS[level]);
+fn wrong_kind(rng: &mut Rng, layout: Layout, root: &mut Item, level: usize) -> Option<()> {
+    let map = descend(rng, layout, root, level)?;
+    let name = *rng.pick(layout.fields()[level]);
     let value = match rng.index(8) {
         0 => map,
         1 if level == OBJECT => match field(map, "shape")? {
@@ -386,11 +406,11 @@ fn wrong_kind(rng: &mut Rng, root: &mut Item, level: usize) -> Option<()> {
 }
 
 /// Puts odd values for several fields of one map, so that the order of its checks shows.
-fn odd_fields(rng: &mut Rng, root: &mut Item) -> Option<()> {
+fn odd_fields(rng: &mut Rng, layout: Layout, root: &mut Item) -> Option<()> {
     let level = *rng.pick(&[ROOT, OBJECT, COMPONENT, COMPONENT]);
-    let map = descend(rng, root, level)?;
+    let map = descend(rng, layout, root, level)?;
     for _ in 0..2 + rng.index(2) {
-        let name = *rng.pick(FIELDS[level]);
+        let name = *rng.pick(layout.fields()[level]);
         set(map, name, odd_value(rng));
     }
     Some(())
@@ -460,20 +480,23 @@ fn out_of_bounds(rng: &mut Rng, component: &mut Item, manifest_start: u64) {
 }
 
 /// Spoils a framed file for one of refusals 1 to 5.
-fn spoil_frame(rng: &mut Rng, file: &mut Vec<u8>, number: u8) {
+fn spoil_frame(rng: &mut Rng, layout: Layout, file: &mut Vec<u8>, number: u8) {
     let length = file.len();
+    let least = layout.frame();
     if number == SHORT {
-        file.truncate(*rng.pick(&[0, 1, 7, 8, 16, 23, 23, 24]));
+        let lengths = [0, 1, 7, 8, least - 8, least - 1, least - 1, least];
+        file.truncate(*rng.pick(&lengths));
     }
-    if length < 24 || file.len() < 24 {
+    if length < least || file.len() < least {
         return;
     }
+    let most = (length - least) as u64;
     let size = match number {
         BIG => *rng.pick(&[SIZE_LIMIT, SIZE_LIMIT + 1, 1 << 32, 1 << 63, u64::MAX]),
-        FIT => *rng.pick(&[0, length as u64 - 24, length as u64 - 23, SIZE_LIMIT]),
+        FIT => *rng.pick(&[0, most, most + 1, SIZE_LIMIT]),
         HEADER => return file[rng.index(8)] ^= 1 << rng.index(8),
         FOOTER => return file[length - 1 - rng.index(8)] ^= 1 << rng.index(8),
         _ => return,
     };
-    frame::set_size(file, size);
+    layout.set_size(file, size);
 }

@@ -9,6 +9,7 @@ use crate::judge::{COMPONENT_LIMIT, OBJECT_LIMIT, RANK_LIMIT};
 use crate::refusal::{COUNT, LENGTH, RANK, ROLE, TEXT, TWICE, TYPE};
 use crate::types::{self, DTYPES, LISTED, U64};
 
+#[derive(Clone)]
 pub struct Plan {
     /// Whether the file gets no unknown fields.
     pub bare: bool,
@@ -123,7 +124,7 @@ pub fn attributes(rng: &mut Rng, depth: u32) -> Option<Item> {
 }
 
 /// Makes texts that stand earlier in the list differ from all later ones.
-fn unique<T>(list: &mut [T], mut name: impl FnMut(&mut T) -> &mut Vec<u8>) {
+pub fn unique<T>(list: &mut [T], mut name: impl FnMut(&mut T) -> &mut Vec<u8>) {
     for at in 1..list.len() {
         let (before, after) = list.split_at_mut(at);
         let own = name(&mut after[0]);
