@@ -1,9 +1,9 @@
-//! The 82 items of RFC 7049's Appendix A, and files that hold them, with the answer that 01 gives each.
+//! The 82 items of RFC 7049's Appendix A, which are RFC 8949's and simple(24), and files that hold them, with the answer that 01 gives each.
 
 use crate::cases::{Case, Place};
 use crate::encode::Item;
 use crate::frame;
-use crate::refusal::{KEY, KIND, MISSING};
+use crate::refusal::{CBOR, KEY, KIND, MISSING};
 
 pub struct Example {
     pub bytes: Vec<u8>,
@@ -31,6 +31,11 @@ fn example(line: &'static str) -> Example {
 }
 
 impl Example {
+    /// RFC 8949 took one item out of the table: a simple value below 32 in two bytes.
+    pub fn is_well_formed(&self) -> bool {
+        self.bytes != [0xF8, 24]
+    }
+
     fn is_map(&self) -> bool {
         self.bytes[0] >> 5 == 5
     }
@@ -40,7 +45,7 @@ impl Example {
         let held = |what: &str, file, number| Case {
             what: format!("{} as {what}", self.diagnostic),
             file,
-            number,
+            number: if self.is_well_formed() { number } else { CBOR },
         };
         let item = || Item::Raw(self.bytes.clone());
         let unknown = |place: Place| {

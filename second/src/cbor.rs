@@ -1,4 +1,4 @@
-//! CBOR (RFC 7049) bytes to a tree whose nodes know their spans, or refusal 6 or 7 with its place.
+//! CBOR (RFC 8949) bytes to a tree whose nodes know their spans, or refusal 6 or 7 with its place.
 
 use crate::refusal::{CBOR, DEEP};
 use std::ops::Range;
@@ -126,6 +126,8 @@ impl Decoder<'_> {
                 width: 1 << (head.low - 24),
                 bits,
             },
+            // RFC 8949, section 3.3: a simple value below 32 takes no second byte.
+            (7, Some(0..=31)) if head.low == 24 => return Err(malformed(start)),
             (7, Some(number)) => Kind::Simple(number as u8),
             // An indefinite length is right only for strings, arrays and maps.
             _ => return Err(malformed(start)),

@@ -14,6 +14,7 @@ pub enum Item {
     Array(Vec<Item>),
     Map(Vec<(Item, Item)>),
     Tag(u64, Box<Item>),
+    /// Below 24 in one byte, else in two: so 24 to 31 come out malformed (RFC 8949, section 3.3).
     Simple(u8),
     Half(u16),
     Single(u32),
@@ -137,7 +138,7 @@ impl Item {
                 head(6, *number, style, out);
                 content.encode(style, out);
             }
-            Item::Simple(n) if *n < 24 && style.wider() == 0 => out.push(0xE0 | n),
+            Item::Simple(n) if *n < 24 => out.push(0xE0 | n),
             Item::Simple(n) => out.extend([0xF8, *n]),
             Item::Half(bits) => {
                 out.push(0xF9);

@@ -133,7 +133,7 @@ fn lengths_of_rows() -> Vec<RowSet> {
 fn attributes() -> Vec<RowSet> {
     let mut sets = Vec::new();
     for (in_root, levels) in [(true, 31), (false, 29)] {
-        let kinds: [Vec<u8>; 12] = [
+        let kinds: [Vec<u8>; 16] = [
             vec![0xA0],
             vec![0xBF, 0xFF],
             vec![0xB8, 0x01, 0x00, 0x00],
@@ -141,6 +141,10 @@ fn attributes() -> Vec<RowSet> {
             vec![0xC1, 0xA0],
             vec![0xA0, 0x00],
             vec![0xA1, 0x00],
+            vec![0xA1, 0x00, 0xF8, 0x1F],
+            vec![0xA1, 0x00, 0xF8, 0x20],
+            nested(levels - 2, &[0xF8, 0x1F]),
+            [&[0xA2, 0xF8, 0x16][..], &nested(levels, &[0x00])].concat(),
             nested(levels - 2, &[0x80]),
             nested(levels - 1, &[0x80]),
             [nested(levels - 1, &[0x00]), vec![0x00]].concat(),

@@ -114,6 +114,8 @@ fn ways(node: &Item, depth: u32) -> Vec<Item> {
     let mut ways = vec![
         Item::null(),
         Item::Raw(vec![0xF8, 22]),
+        Item::Raw(vec![0xF8, 31]),
+        Item::Raw(vec![0xF8, 32]),
         Item::null().tagged(0),
         node.clone().tagged(55_799),
         Item::Array(vec![node.clone()]),

@@ -1,4 +1,4 @@
-//! Vectors for the proved leaves: Appendix A's items, their malformed neighbours, depth 32 and 33,
+//! Vectors for the proved leaves: Appendix A's items, their malformed neighbours, simple values, depth 32 and 33,
 //! UTF-8 and versions, each with this program's answer.
 
 use crate::appendix::examples;
@@ -45,7 +45,15 @@ fn answer(question: u8, bytes: &[u8]) -> String {
 
 /// Every vector once.
 fn all() -> Vec<Vector> {
-    let items = [appendix_a(), heads(), neighbours(), chunked(), nested()].concat();
+    let items = [
+        appendix_a(),
+        heads(),
+        neighbours(),
+        simple_values(),
+        chunked(),
+        nested(),
+    ]
+    .concat();
     let items = items.into_iter().flat_map(cut_and_longer);
     let questions = items
         .map(|bytes| (b's', bytes))
@@ -100,6 +108,14 @@ fn neighbours() -> Vec<Vec<u8>> {
         .collect()
 }
 
+/// Simple values on both sides of RFC 8949's rule, in every place: in a second byte from 32 on.
+fn simple_values() -> Vec<Vec<u8>> {
+    [0, 22, 31, 32]
+        .into_iter()
+        .flat_map(|number| PLACES.map(|place| place(&[0xF8, number])))
+        .collect()
+}
+
 /// Each puts an item in its place in another.
 const PLACES: [fn(&[u8]) -> Vec<u8>; 11] = [
     <[u8]>::to_vec,
@@ -142,7 +158,7 @@ fn chunked() -> Vec<Vec<u8>> {
 
 /// An item at depth 32 or 33 below arrays, maps as keys or values, and tags.
 fn nested() -> Vec<Vec<u8>> {
-    const INNERMOST: [&[u8]; 11] = [
+    const INNERMOST: [&[u8]; 13] = [
         b"\x00",
         b"\x60",
         b"\x80",
@@ -153,6 +169,8 @@ fn nested() -> Vec<Vec<u8>> {
         b"\x81\x00",
         b"",
         b"\x1C",
+        b"\xF8\x1F",
+        b"\xF8\x20",
         b"\xFF",
     ];
     let mut made = Vec::new();

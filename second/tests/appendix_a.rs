@@ -1,13 +1,36 @@
-//! The 82 items of RFC 7049's Appendix A: decoded, as unknown values, as attributes, as a manifest.
+//! The 81 items of RFC 8949's Appendix A, and the one that RFC 7049's had besides: decoded, as unknown values, as attributes, as a manifest.
 
 use second::appendix::{self, examples, Example};
 use second::cases::Case;
 use second::cbor::{self, Kind, Node};
 use second::judge::verdict;
 
+fn well_formed() -> impl Iterator<Item = Example> {
+    examples().into_iter().filter(Example::is_well_formed)
+}
+
 #[test]
-fn there_are_82() {
-    assert_eq!(examples().len(), 82);
+fn there_are_81_and_one_that_went() {
+    assert_eq!(well_formed().count(), 81);
+    let gone = examples().into_iter().filter(|item| !item.is_well_formed());
+    let gone: Vec<_> = gone.map(|item| item.diagnostic).collect();
+    assert_eq!(gone, ["simple(24)"]);
+}
+
+/// RFC 8949, section 3.3: the second byte is at least 32.
+#[test]
+fn a_simple_value_in_two_bytes_is_32_or_more() {
+    for second in 0..=0xFF {
+        let bytes = [0xF8, second];
+        match cbor::decode(&bytes) {
+            Ok(node) => {
+                assert!(second >= 32 && matches!(node.kind, Kind::Simple(n) if n == second))
+            }
+            Err(fault) => assert!(second < 32 && (fault.number, fault.place) == (6, 0)),
+        }
+    }
+    let cut = cbor::decode(b"\xF8").unwrap_err();
+    assert_eq!((cut.number, cut.place), (6, 1));
 }
 
 #[test]
@@ -19,7 +42,7 @@ fn in_every_place_it_is_answered_as_01_says() {
 
 #[test]
 fn cut_short_or_continued() {
-    for Example { bytes, .. } in examples() {
+    for Example { bytes, .. } in well_formed() {
         let length = bytes.len();
         assert_eq!(cbor::skip_item(&bytes, 32), Ok(length));
         for end in 0..length {
@@ -35,7 +58,7 @@ fn cut_short_or_continued() {
 
 #[test]
 fn means_what_the_appendix_says() {
-    for Example { bytes, diagnostic } in examples() {
+    for Example { bytes, diagnostic } in well_formed() {
         let node = cbor::decode(&bytes).unwrap();
         match (&node.kind, diagnostic.parse::<f64>()) {
             (Kind::Float { width, bits }, Ok(expected)) => {
@@ -54,7 +77,7 @@ fn means_what_the_appendix_says() {
     }
 }
 
-/// Diagnostic notation, RFC 7049, section 6.
+/// Diagnostic notation, RFC 8949, section 8.
 fn shown(bytes: &[u8], node: &Node) -> String {
     let list = |parts: Vec<String>| parts.join(", ");
     match &node.kind {
@@ -111,7 +134,7 @@ fn float(width: u8, bits: u64) -> f64 {
     }
 }
 
-/// RFC 7049, Appendix D.
+/// RFC 8949, Appendix D.
 fn half(bits: u64) -> f64 {
     let exponent = (bits >> 10 & 0x1F) as i32;
     let mantissa = (bits & 0x3FF) as f64;

@@ -6,9 +6,11 @@ use mathlib.Core.Bool.{Bool, true, false, _&&_}
 use mathlib.Core.Path.{_≡_, refl, ap, sym, _∙_}
 use lib.Dec.{leb, ltb}
 use borrow.Author.Tests.{leb-true, ltb-true, le-leb, lt-ltb}
-use lib.ListN.{length, getD, drop}
+use borrow.Rule.Slice.PartAt.{part-to-end}
+use lib.ListN.{length, getD, take, drop}
 use Rattle.meaning.specs.Read.{toBreak, chunk, longArguments, malformed, wide}
-use Rattle.cbor.specs.Ending.{fault, FAULT, code, ending, shift, itemEnd, headOf, stringEnd, holds, HolderIs, held, doubled, Counted, SizeIs}
+use Rattle.cbor.specs.Ending.{fault, FAULT, code, ending, shift, itemEnd, headOf, stringEnd, holds, PlainIs, HolderIs, held, doubled, Counted, SizeIs}
+use Rattle.cbor.specs.declared.Argued.{Argued}
 use Rattle.cbor.specs.declared.Holding.{Holding}
 use Rattle.cbor.proofs.Heads.{head-small, head-fits, head-short, is-24}
 use Rattle.cbor.proofs.Answers.{string-fits, string-short}
@@ -40,13 +42,29 @@ scalar b h n = ⊎-elim low (λ l. high (upper l)) (lt-or b 64)
         both : 128 ≤ b → b < 224 → ⊥
         both k u = let z : holds b ≡ true = rw (le-leb 128 b k, lt-ltb b 224 u) in let y : _≡_ {A = ℕ} 0 1 = cc in omega arith
 
-pub scalar-ends : (s : List ℕ) (d : ℕ) → 1 ≤ length s → Scalar (getD s 0 0) → (getD s 0 0 % 32 ≡ 31 → ⊥) → headOf s .size ≡ code (itemEnd (suc d) s)
-scalar-ends [] d l k n = absurd (omega arith)
-scalar-ends (b ∷ t) d l k n = majors.scalar-ends d b t k n
+pub scalar-ends : (s : List ℕ) (d : ℕ) → 1 ≤ length s → Scalar (getD s 0 0) → (getD s 0 0 % 32 ≡ 31 → ⊥) → (224 ≤ getD s 0 0 → getD s 0 0 % 32 ≡ 24 → 32 ≤ headOf s .value) → headOf s .size ≡ code (itemEnd (suc d) s)
+scalar-ends [] d l k n m = absurd (omega arith)
+scalar-ends (b ∷ t) d l k n m = majors.scalar-ends d b t k n m
+
+-- a simple value below 32 in a second byte
+pub scalar-reserved : (s : List ℕ) (d : ℕ) → 1 ≤ length s → getD s 0 0 ≡ 248 → headOf s .value < 32 → FAULT + 6 ≡ code (itemEnd (suc d) s)
+scalar-reserved [] d l k m = absurd (omega arith)
+scalar-reserved (b ∷ t) d l k m = majors.scalar-reserved d b t (omega arith) (omega arith) m
 
 pub scalar-open : (s : List ℕ) (d : ℕ) → 1 ≤ length s → Scalar (getD s 0 0) → getD s 0 0 % 32 ≡ 31 → FAULT + 6 ≡ code (itemEnd (suc d) s)
 scalar-open [] d l k n = absurd (omega arith)
 scalar-open (b ∷ t) d l k n = majors.scalar-open d b t k n
+
+-- an item that holds no other, of which the head was read from the part that is all of s
+module _ (s : List ℕ) {h : Argued} (l : 1 ≤ length s) (read : h ≡ headOf (take (length s - 0) (drop 0 s))) where
+  is : h ≡ headOf s
+  is = read ∙ ap headOf (part-to-end s 0)
+
+  pub plain-value : (64 ≤ getD s 0 0 → getD s 0 0 < 128 → ⊥) → (getD s 0 0 % 32 ≡ 31 → ⊥) → (224 ≤ getD s 0 0 → getD s 0 0 % 32 ≡ 24 → 32 ≤ h .value) → PlainIs s (h .size)
+  plain-value n o m d u = ap (λ a. a .size) is ∙ scalar-ends s d l (scalar (getD s 0 0) u n) o (λ x y. let z = ap (λ a. a .value) is in let q = m x y in omega arith)
+
+  pub plain-reserved : getD s 0 0 ≡ 248 → h .value < 32 → PlainIs s (FAULT + 6)
+  plain-reserved e m d u = scalar-reserved s d l e (let z = ap (λ a. a .value) is in omega arith)
 
 pub string-ends : (s : List ℕ) (d : ℕ) → 1 ≤ length s → 64 ≤ getD s 0 0 → getD s 0 0 < 128 → length s < FAULT → (getD s 0 0 % 32 ≡ 31 → ⊥) → stringEnd (length s) (headOf s .size) (headOf s .value) ≡ code (itemEnd (suc d) s)
 string-ends [] d l x y r n = absurd (omega arith)
@@ -126,4 +144,4 @@ wide-size w b is h k s l e = ⊎-elim
 
 pub number-ends : (left : ℕ) (s : List ℕ) → 0 < left → 1 ≤ length s → getD s 0 0 < 28 → (n : ℕ) → SizeIs (getD s 0 0) n → stringEnd (length s) n 0 ≡ code (itemEnd left s)
 number-ends zero s l k b n z = absurd (omega arith)
-number-ends (suc d) s l k b n z = z s k refl ∙ scalar-ends s d k (low (omega arith)) (λ e. omega arith)
+number-ends (suc d) s l k b n z = z s k refl ∙ scalar-ends s d k (low (omega arith)) (λ e. omega arith) (λ h e. absurd (omega arith))

@@ -100,8 +100,12 @@ pub record Refuses (o : Outcome Argument) : Type 0 where
   pub at : List ℕ
   pub is : o ≡ refused 6 at
 
+-- the low five bits are 24 exactly where the argument is one byte more
+abbrev pub OneMore : ℕ → ℕ → Type 0
+OneMore i w = (i ≡ 24 → w ≡ 1) × (w ≡ 1 → i ≡ 24)
+
 pub data Look (i : ℕ) (t : List ℕ) : Type 0 where
-  sized : (w n : ℕ) → w ≤ length t → ((o : List ℕ) → argument o i t ≡ got (known w n) (drop w t)) → i < 28 → Look i t
+  sized : (w n : ℕ) → w ≤ length t → ((o : List ℕ) → argument o i t ≡ got (known w n) (drop w t)) → i < 28 → OneMore i w → Look i t
   loose : i ≡ 31 → ((o : List ℕ) → argument o i t ≡ got indefinite t) → Look i t
   wrong : (i ≡ 31 → ⊥) → ((o : List ℕ) → Refuses (argument o i t)) → Look i t
 
@@ -112,13 +116,13 @@ module _ (i : ℕ) (t : List ℕ) where
 
   look-small : i < 24 → Look i t
   unfolding argument
-  look-small h = sized 0 i (omega arith) (λ o. rw (lt-ltb i 24 h)) (omega arith)
+  look-small h = sized 0 i (omega arith) (λ o. rw (lt-ltb i 24 h)) (omega arith) ((λ e. omega arith), (λ e. omega arith))
 
-  look-wide : (w : ℕ) → 24 ≤ i → i < 28 → ((o : List ℕ) → getD longArguments (i - 24) malformed o t ≡ wide w t) → Look i t
+  look-wide : (w : ℕ) → 24 ≤ i → i < 28 → OneMore i w → ((o : List ℕ) → getD longArguments (i - 24) malformed o t ≡ wide w t) → Look i t
   unfolding wide
-  look-wide w h k is = ⊎-elim
+  look-wide w h k one is = ⊎-elim
       (λ l. wrong (λ e. omega arith) (λ o. record { at = []; is = later o h ∙ is o ∙ ap (λ x. read.after x (λ n. read.pure (known w n))) (number-ends-early w 0 t l) }))
-      (λ l. sized w (word w t 0 0) l (λ o. later o h ∙ is o ∙ ap (λ x. read.after x (λ n. read.pure (known w n))) (fits l)) k)
+      (λ l. sized w (word w t 0 0) l (λ o. later o h ∙ is o ∙ ap (λ x. read.after x (λ n. read.pure (known w n))) (fits l)) k one)
       (lt-or (length t) w)
     where
       fits : w ≤ length t → number w 0 t ≡ got (word w t 0 0) (drop w t)
@@ -131,9 +135,9 @@ pub look : (i : ℕ) (t : List ℕ) → Look i t
 unfolding longArguments argument
 look i t =
     ⊎-elim (look-small i t) (λ h.
-    ⊎-elim (λ e. rw e (look-wide 24 t 1 (omega arith) (omega arith) (λ o. refl))) (λ a.
-    ⊎-elim (λ e. rw e (look-wide 25 t 2 (omega arith) (omega arith) (λ o. refl))) (λ b.
-    ⊎-elim (λ e. rw e (look-wide 26 t 4 (omega arith) (omega arith) (λ o. refl))) (λ c.
-    ⊎-elim (λ e. rw e (look-wide 27 t 8 (omega arith) (omega arith) (λ o. refl))) (λ d.
+    ⊎-elim (λ e. rw e (look-wide 24 t 1 (omega arith) (omega arith) ((λ e. refl), (λ e. refl)) (λ o. refl))) (λ a.
+    ⊎-elim (λ e. rw e (look-wide 25 t 2 (omega arith) (omega arith) ((λ e. omega arith), (λ e. omega arith)) (λ o. refl))) (λ b.
+    ⊎-elim (λ e. rw e (look-wide 26 t 4 (omega arith) (omega arith) ((λ e. omega arith), (λ e. omega arith)) (λ o. refl))) (λ c.
+    ⊎-elim (λ e. rw e (look-wide 27 t 8 (omega arith) (omega arith) ((λ e. omega arith), (λ e. omega arith)) (λ o. refl))) (λ d.
     ⊎-elim (λ e. rw e (loose refl (λ o. refl))) (look-late i t (omega arith))
     (eq-or i 31)) (eq-or i 27)) (eq-or i 26)) (eq-or i 25)) (eq-or i 24)) (lt-or i 24)

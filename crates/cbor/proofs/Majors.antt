@@ -7,15 +7,16 @@ use mathlib.Core.Logic.{⊎-elim}
 use mathlib.Core.Path.{_≡_, refl, ap, sym, _∙_}
 use lib.ListN.{length, getD, drop, length-drop}
 use lib.Dec.{ltb}
-use borrow.Author.Tests.{eq-eqb, ne-eqb, le-leb, lt-leb, ltb-false}
+use borrow.Author.Tests.{eq-eqb, ne-eqb, le-leb, lt-leb, lt-ltb, ltb-false}
 use Rattle.meaning.specs.Tree as tree
 use Rattle.meaning.specs.Tree.{Node}
 use Rattle.meaning.specs.Read as read
-use Rattle.meaning.specs.Read.{got, refused, Reader, after, _>>=_, Argument, known, indefinite, argument, infoOf, majorOf, content, item, noNote, times, toBreak, chunk, pair, run}
+use Rattle.meaning.specs.Read.{got, refused, Reader, after, _>>=_, Argument, known, indefinite, argument, infoOf, majorOf, content, item, noNote, times, toBreak, chunk, pair, run, reserved}
 use Rattle.meaning.proofs.ReadPrefix.{still, Exact, toBreak-exact, chunk-exact, chunk-hungry, times-exact, pair-exact, item-exact, item-hungry}
+use Rattle.meaning.proofs.ExactEvery.{not-reserved}
 use Rattle.endian.proofs.Which.{lt-or}
 use Rattle.cbor.specs.Ending.{Ending, took, fault, FAULT, code, ending, shift, itemEnd, headed, headOf, argued, endless, stringEnd, holds, rest, HolderIs, held, doubled}
-use Rattle.cbor.proofs.Heads.{Look, sized, loose, wrong, look, Refuses}
+use Rattle.cbor.proofs.Heads.{OneMore, Look, sized, loose, wrong, look, Refuses}
 use Rattle.cbor.proofs.Passing.{ending-map, further}
 use Rattle.cbor.proofs.Rest.{one-due, never-met, pairs-are-items, items-exact, pairs-exact}
 
@@ -70,19 +71,23 @@ majors-late (suc (suc (suc (suc (suc zero))))) l = absurd (omega arith)
 majors-late (suc (suc (suc (suc (suc (suc zero)))))) l = absurd (omega arith)
 majors-late (suc (suc (suc (suc (suc (suc (suc m))))))) l = refl
 
+is-reserved : (w n : ℕ) → w ≡ 1 → n < 32 → reserved w n ≡ true
+unfolding reserved
+is-reserved w n e h = rw (eq-eqb w 1 e, lt-ltb n 32 h)
+
 module _ (d b : ℕ) (t : List ℕ) where
   abbrev after-head : Argument → List ℕ → Ending
   after-head a r = ending (b ∷ t) (content noNote (item noNote d) (b ∷ t) (majorOf b) a r)
 
-  scalar-sized : Scalar b → (w n : ℕ) → w ≤ length t → after-head (known w n) (drop w t) ≡ took (w + 1)
+  scalar-sized : Scalar b → (w n : ℕ) → w ≤ length t → (224 ≤ b → reserved w n ≡ false) → after-head (known w n) (drop w t) ≡ took (w + 1)
   unfolding content majorOf read.close
-  scalar-sized (low l) w n h = go (b / 32) refl
+  scalar-sized (low l) w n h u = go (b / 32) refl
     where
       go : (m : ℕ) → b / 32 ≡ m → after-head (known w n) (drop w t) ≡ took (w + 1)
       go zero e = rw e (ap took (beyond-head b w t h))
       go (suc zero) e = rw e (ap took (beyond-head b w t h))
       go (suc (suc m)) e = absurd (omega arith)
-  scalar-sized (high l) w n h = rw (majors-late (b / 32) (omega arith)) (ap took (beyond-head b w t h))
+  scalar-sized (high l) w n h u = rw (majors-late (b / 32) (omega arith), u l) (ap took (beyond-head b w t h))
 
   scalar-loose : Scalar b → after-head indefinite t ≡ fault 6
   unfolding content majorOf
@@ -94,19 +99,37 @@ module _ (d b : ℕ) (t : List ℕ) where
       go (suc (suc m)) e = absurd (omega arith)
   scalar-loose (high l) = rw (majors-late (b / 32) (omega arith)) refl
 
-  pub scalar-ends : Scalar b → (b % 32 ≡ 31 → ⊥) → headOf (b ∷ t) .size ≡ code (itemEnd (suc d) (b ∷ t))
-  scalar-ends k n = go (look (b % 32) t)
+  pub scalar-ends : Scalar b → (b % 32 ≡ 31 → ⊥) → (224 ≤ b → b % 32 ≡ 24 → 32 ≤ headOf (b ∷ t) .value) → headOf (b ∷ t) .size ≡ code (itemEnd (suc d) (b ∷ t))
+  scalar-ends k n m = go (look (b % 32) t)
     where
+      value-is : (w v : ℕ) → headOf (b ∷ t) ≡ argued v (w + 1) → headOf (b ∷ t) .value ≡ v
+      value-is w v e = ap (λ a. a .value) e
+
+      free : (w v : ℕ) → headOf (b ∷ t) ≡ argued v (w + 1) → OneMore (b % 32) w → 224 ≤ b → reserved w v ≡ false
+      free w v e one h = not-reserved w v (λ z. let y = m h (one .1 z) in let q = value-is w v e in omega arith)
+
       go : Look (b % 32) t → headOf (b ∷ t) .size ≡ code (itemEnd (suc d) (b ∷ t))
-      go (sized w v l e x) = rw (head-sized b t w v e, item-sized d b t w v e, scalar-sized k w v l)
+      go (sized w v l e x one) = rw (head-sized b t w v e, item-sized d b t w v e, scalar-sized k w v l (free w v (head-sized b t w v e) one))
       go (loose e x) = absurd (n e)
       go (wrong x e) = rw (head-refused b t e, item-refused d b t e)
+
+  pub scalar-reserved : 224 ≤ b → b % 32 ≡ 24 → headOf (b ∷ t) .value < 32 → FAULT + 6 ≡ code (itemEnd (suc d) (b ∷ t))
+  unfolding content majorOf
+  scalar-reserved h n m = go (look (b % 32) t)
+    where
+      taken : (w v : ℕ) → headOf (b ∷ t) ≡ argued v (w + 1) → OneMore (b % 32) w → reserved w v ≡ true
+      taken w v e one = is-reserved w v (one .0 n) (let q = ap (λ a. a .value) e in omega arith)
+
+      go : Look (b % 32) t → FAULT + 6 ≡ code (itemEnd (suc d) (b ∷ t))
+      go (sized w v l e x one) = rw (item-sized d b t w v e, majors-late (b / 32) (omega arith), taken w v (head-sized b t w v e) one)
+      go (loose e x) = absurd (omega arith)
+      go (wrong x e) = rw (item-refused d b t e)
 
   pub scalar-open : Scalar b → b % 32 ≡ 31 → FAULT + 6 ≡ code (itemEnd (suc d) (b ∷ t))
   scalar-open k n = go (look (b % 32) t)
     where
       go : Look (b % 32) t → FAULT + 6 ≡ code (itemEnd (suc d) (b ∷ t))
-      go (sized w v l e x) = absurd (omega arith)
+      go (sized w v l e x one) = absurd (omega arith)
       go (loose e x) = rw (item-loose d b t x, scalar-loose k)
       go (wrong x e) = absurd (x n)
 
@@ -149,7 +172,7 @@ module _ (m b : ℕ) (t : List ℕ) where
   chunk-open e n = go (look (b % 32) t)
     where
       go : Look (b % 32) t → FAULT + 6 ≡ code (ending (b ∷ t) (chunk m (b ∷ t)))
-      go (sized w v l h x) = absurd (omega arith)
+      go (sized w v l h x one) = absurd (omega arith)
       go (loose h x) = rw (chunk-opens e, x (b ∷ t))
       go (wrong x h) = absurd (x n)
 
@@ -162,7 +185,7 @@ module _ (m b : ℕ) (t : List ℕ) where
       bare w v = sym (ending-map (b ∷ t) (run v (drop w t)) (λ x r. x))
 
       go : Look (b % 32) t → stringEnd (length (b ∷ t)) (headOf (b ∷ t) .size) (headOf (b ∷ t) .value) ≡ code (ending (b ∷ t) (chunk m (b ∷ t)))
-      go (sized w v l h x) = rw (head-sized b t w v h, chunk-opens e, h (b ∷ t)) (sym (ap code (bare w v) ∙ run-ends (λ x r. x) b t room w v l))
+      go (sized w v l h x one) = rw (head-sized b t w v h, chunk-opens e, h (b ∷ t)) (sym (ap code (bare w v) ∙ run-ends (λ x r. x) b t room w v l))
       go (loose h x) = absurd (n h)
       go (wrong x h) = rw (head-refused b t h, chunk-opens e, h (b ∷ t) .is) (refused-end (length (b ∷ t)) room)
 
@@ -198,7 +221,7 @@ module _ (d b : ℕ) (t : List ℕ) (low : 64 ≤ b) (high : b < 128) where
   string-ends room n = go (look (b % 32) t)
     where
       go : Look (b % 32) t → stringEnd (length (b ∷ t)) (headOf (b ∷ t) .size) (headOf (b ∷ t) .value) ≡ code (itemEnd (suc d) (b ∷ t))
-      go (sized w v l e x) = rw (head-sized b t w v e, item-sized d b t w v e) (sym (string-sized room w v l))
+      go (sized w v l e x one) = rw (head-sized b t w v e, item-sized d b t w v e) (sym (string-sized room w v l))
       go (loose e x) = absurd (n e)
       go (wrong x e) = rw (head-refused b t e, item-refused d b t e) (refused-end (length (b ∷ t)) room)
 
@@ -216,7 +239,7 @@ module _ (d b : ℕ) (t : List ℕ) (low : 64 ≤ b) (high : b < 128) where
   string-opens n = go (look (b % 32) t)
     where
       go : Look (b % 32) t → itemEnd (suc d) (b ∷ t) ≡ shift 1 (ending t (toBreak (chunk (b / 32)) t))
-      go (sized w v l e x) = absurd (omega arith)
+      go (sized w v l e x one) = absurd (omega arith)
       go (loose e x) = ap (ending (b ∷ t)) (item-loose d b t x) ∙ string-loose
       go (wrong x e) = absurd (x n)
 
@@ -240,7 +263,7 @@ holder-sized : (b : ℕ) (t : List ℕ) (count : ℕ → ℕ) → Holds b t coun
 holder-sized b t count h n = go (look (b % 32) t)
   where
     go : Look (b % 32) t → HolderIs (b ∷ t) (held (headOf (b ∷ t) .size) (count (headOf (b ∷ t) .value)) 0)
-    go (sized w v l e x) = rw (head-sized b t w v e) (record {
+    go (sized w v l e x one) = rw (head-sized b t w v e) (record {
       counted = λ k. absurd (omega arith);
       inside = λ k q d. ap (ending (b ∷ t)) (item-sized d b t w v e) ∙ h .definite d w v l;
       outside = λ k q d. absurd (omega arith);
@@ -257,7 +280,7 @@ holder-loose : (b : ℕ) (t : List ℕ) (mode : ℕ) → b % 32 ≡ 31 → ((d :
 holder-loose b t mode n h = go (look (b % 32) t)
   where
     go : Look (b % 32) t → HolderIs (b ∷ t) (held (headOf (b ∷ t) .size) (headOf (b ∷ t) .value) mode)
-    go (sized w v l e x) = absurd (omega arith)
+    go (sized w v l e x one) = absurd (omega arith)
     go (loose e x) = rw (head-loose b t x) (record {
       counted = λ k. refl;
       inside = λ k q d. ap (ending (b ∷ t)) (item-loose d b t x) ∙ h d;
@@ -322,6 +345,6 @@ module _ (b : ℕ) (t : List ℕ) (room : length (b ∷ t) < FAULT) where
   open-tag-refused l h n d = go (look (b % 32) t)
     where
       go : Look (b % 32) t → itemEnd (suc d) (b ∷ t) ≡ fault 6
-      go (sized w v k e x) = absurd (omega arith)
+      go (sized w v k e x one) = absurd (omega arith)
       go (loose e x) = rw (item-loose d b t x, major 6 (omega arith))
       go (wrong x e) = absurd (x n)

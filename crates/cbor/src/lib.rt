@@ -165,7 +165,7 @@ fn string(s: &[u8]) -> usize
     string_end(s.len(), h.size, h.value)
 }
 
-// An item that holds no other: a number, a string, a simple value or a float.
+// An item that holds no other: a number, a string, a simple value or a float. A simple value below 32 has no second byte; where that byte is missing, the head's value is 0.
 fn plain(s: &[u8]) -> usize
     ensures { λ r. ⌜ spec.PlainIs (now (s .entry)) r ⌝ }
 {
@@ -182,6 +182,11 @@ fn plain(s: &[u8]) -> usize
         return MALFORMED;
     }
     let h = head(&s[0..]);
+    if b == 248 {
+        if h.value < 32 {
+            return MALFORMED;
+        }
+    }
     h.size
 }
 

@@ -3,15 +3,15 @@ use Prim.Native.Nat.{ℕ, zero, suc, _+_, _≤_, _<_, _/_, _%_, _*_, _^_}
 use native.Mathlib.Omega.{arith}
 use native.Mathlib.Nat.{div-add-mod', pow-suc, mod-lt}
 use mathlib.Core.List.{List, [], _∷_, _++_, append-assoc}
-use mathlib.Core.Bool.{Bool, true, false, cond}
-use mathlib.Core.Path.{_≡_, refl, ap, _∙_}
-use lib.Dec.{eqb}
+use mathlib.Core.Bool.{Bool, true, false, cond, _&&_}
+use mathlib.Core.Path.{_≡_, refl, ap, sym, _∙_}
+use lib.Dec.{eqb, ltb}
 use lib.ListN.{length, getD, length-append}
-use borrow.Author.Tests.{lt-ltb, le-leb, lt-leb, eq-eqb, eqb-true}
+use borrow.Author.Tests.{lt-ltb, ltb-false, le-ltb, le-leb, lt-leb, eq-eqb, ne-eqb, eqb-true}
 use Rattle.meaning.specs.Tree as tree
 use Rattle.meaning.specs.Tree.{Nodes, Pairs, Pair, ε, _▸_, ∅, _⇒_▸_, nodes, pairs, nodeList, pairList}
 use Rattle.meaning.specs.Read.{Outcome, got, refused, Reader, after, _>>=_, pure, malformed, here, byte, run, number, times, untilBreak, toBreak}
-use Rattle.meaning.specs.Read.{Argument, known, indefinite, wide, longArguments, argument, majors, majorOf, infoOf, definite, joined, close, pair, content, beyond, item, noNote, special}
+use Rattle.meaning.specs.Read.{Argument, known, indefinite, wide, longArguments, argument, majors, majorOf, infoOf, definite, joined, reserved, close, pair, content, beyond, item, noNote, special}
 use Rattle.meaning.specs.Read as read
 use Rattle.meaning.specs.Encoding.{big, Low, inside, one, two, four, eight, Head, head, Chunks, done, chunk, Tree, Encodes, Elements, end, next, Entries, endPairs, nextPair}
 use Rattle.meaning.specs.Encoding.{uint, nint, bytes, text, chunkedBytes, chunkedText, array, openArray, dict, openDict, tag, simple, float}
@@ -156,6 +156,19 @@ pair-shy it shy s a r = go (it (255 ∷ s)) refl
     go (got k s′) e h = shy s k s′ e
     go (refused n q) e h = never-got h
 
+-- a value that may stand in its argument of w bytes
+pub not-reserved : (w n : ℕ) → (w ≡ 1 → 32 ≤ n) → reserved w n ≡ false
+unfolding reserved
+not-reserved w n h = go (eqb w 1) refl
+  where
+    go : (t : Bool) → eqb w 1 ≡ t → (t && ltb n 32) ≡ false
+    go true e = le-ltb n 32 (h (eqb-true w 1 e))
+    go false e = refl
+
+pub large-enough : (w n : ℕ) → reserved w n ≡ false → w ≡ 1 → 32 ≤ n
+unfolding reserved
+large-enough w n e h = ltb-false n 32 (sym (ap (λ t. t && ltb n 32) (eq-eqb w 1 h)) ∙ e)
+
 nodes-nodeList : (ns : Nodes (Unit {0})) → nodes (nodeList ns) ≡ ns
 nodes-nodeList ε = refl
 nodes-nodeList (_▸_ n ns) = ap {B = Nodes (Unit {0})} (λ r. _▸_ n r) (nodes-nodeList ns)
@@ -241,8 +254,8 @@ module _ (d : ℕ) (every : (t : Tree) (bs : List ℕ) → Encodes d t bs → Re
   level-reads (dict {ps} {bs} h es) x = whole-reads d h (tree.dict tt ps) bs (dict-reads (times entry (length (pairList ps))) ps bs (times-reads entry (entries-read d every es))) x
   level-reads (openDict {ps} {bs} es) x = open-reads d 5 (tree.dict tt ps) (bs ++ 255 ∷ []) (dict-reads (toBreak entry) ps (bs ++ 255 ∷ []) (entries-to-break es)) x
   level-reads (tag {n} {t} {bs} h e) x = whole-reads d h (tree.tag tt n t) bs (ends-reads it (tree.tag tt n) bs (every t bs e) refl) x
-  level-reads (simple {w} {n} h l) x = item-reads d h (tree.simple tt n) x x (λ o. rw (le-leb w 1 l))
-  level-reads (float {w} {n} h l) x = item-reads d h (tree.float tt w n) x x (λ o. rw (lt-leb w 1 l))
+  level-reads (simple {w} {n} h l k) x = item-reads d h (tree.simple tt n) x x (λ o. rw (not-reserved w n k, le-leb w 1 l))
+  level-reads (float {w} {n} h l) x = item-reads d h (tree.float tt w n) x x (λ o. rw (not-reserved w n (λ e. absurd (omega arith)), lt-leb w 1 l))
 
 pub every-encoding-is-read : (d : ℕ) (t : Tree) (bs : List ℕ) → Encodes d t bs → (x : List ℕ) → item noNote d (bs ++ x) ≡ got t x
 every-encoding-is-read zero t bs e = elim e [ ]

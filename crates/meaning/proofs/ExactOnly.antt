@@ -15,12 +15,12 @@ use Rattle.meaning.specs.Tree as tree
 use Rattle.meaning.specs.Tree.{Pair, nodes, pairs, nodeList-nodes, pairList-pairs}
 use Rattle.meaning.specs.Read as read
 use Rattle.meaning.specs.Read.{Outcome, got, refused, Reader, after, _>>=_, pure, malformed, here, byte, run, number, stop, times, untilBreak, toBreak}
-use Rattle.meaning.specs.Read.{Argument, known, indefinite, wide, longArguments, argument, majors, majorOf, infoOf, definite, joined, close, pair, content, item, noNote}
+use Rattle.meaning.specs.Read.{Argument, known, indefinite, wide, longArguments, argument, majors, majorOf, infoOf, definite, joined, reserved, close, pair, content, item, noNote}
 use Rattle.meaning.specs.Read.{Major, unsigned, negative, byteString, textString, arrayOf, mapOf, tagged, special}
 use Rattle.meaning.specs.Encoding.{Bytes, big, Low, inside, one, two, four, eight, Head, head, Chunks, done, chunk, Tree, Encodes, Elements, end, next, Entries, endPairs, nextPair}
 use Rattle.meaning.specs.Encoding.{uint, nint, bytes, text, chunkedBytes, chunkedText, array, openArray, dict, openDict, tag, simple, float}
 use Rattle.meaning.proofs.ReadPrefix.{never-got, Alike, alike, never-beyond}
-use Rattle.meaning.proofs.ExactEvery.{Each, none, more}
+use Rattle.meaning.proofs.ExactEvery.{Each, none, more, large-enough}
 
 -- what was taken off s, where r was left
 pub record Taken (E : List ℕ → Type 0) (s r : List ℕ) : Type 0 where
@@ -325,12 +325,17 @@ module _ (d : ℕ) (it : Reader Tree) (hi : Sound it (Encodes d)) where
       → (o : List ℕ) → Sound (toBreak m >>= λ l. close noNote o (λ p. make l)) (From (h ∷ []))
   open-sound h E m make hm whole = ends-sound (Stopped E) (toBreak m) make (h ∷ []) (toBreak-sound E m hm) (λ l c t. stopped-whole (From (h ∷ []) (make l)) t (whole l))
 
-  special-encodes : {w n l : ℕ} → Low w n l → Encodes (suc d) (cond (leb w 1) (tree.simple tt n) (tree.float tt w n)) ((7 * 32 + l) ∷ big w n)
-  special-encodes {w} {n} {l} low = go (leb w 1) refl
+  special-encodes : {w n l : ℕ} → Low w n l → reserved w n ≡ false → Encodes (suc d) (cond (leb w 1) (tree.simple tt n) (tree.float tt w n)) ((7 * 32 + l) ∷ big w n)
+  special-encodes {w} {n} {l} low u = go (leb w 1) refl
     where
       go : (t : Bool) → leb w 1 ≡ t → Encodes (suc d) (cond t (tree.simple tt n) (tree.float tt w n)) ((7 * 32 + l) ∷ big w n)
-      go true e = simple (head low) (leb-true w 1 e)
+      go true e = simple (head low) (leb-true w 1 e) (large-enough w n u)
       go false e = float (head low) (leb-false w 1 e)
+
+  special-sound : {w n l : ℕ} → Low w n l → (o : List ℕ) (t : Bool) → reserved w n ≡ t
+      → Sound (cond t (malformed o) (close noNote o (λ p. cond (leb w 1) (tree.simple tt n) (tree.float tt w n)))) (From ((7 * 32 + l) ∷ big w n))
+  special-sound {w} {n} {l} low o true e = malformed-sound (From ((7 * 32 + l) ∷ big w n)) o
+  special-sound {w} {n} {l} low o false e = atom-sound (cond (leb w 1) (tree.simple tt n) (tree.float tt w n)) ((7 * 32 + l) ∷ big w n) (special-encodes low e) o
 
   content-sound : (o : List ℕ) (q : Major) (l : ℕ) {a : Argument} {c : List ℕ} → Rest l a c → Sound (content noNote it o q a) (From ((code q * 32 + l) ∷ c))
   unfolding content
@@ -352,7 +357,7 @@ module _ (d : ℕ) (it : Reader Tree) (hi : Sound it (Encodes d)) where
   content-sound o mapOf l unvalued = open-sound 0xbf (Entry d) (pair noNote it) (λ l. tree.dict tt (pairs l)) (pair-sound d it hi) (λ l cs es. openDict (entries-of es)) o
   content-sound o tagged l (valued {w} {n} low) = ends-sound (Encodes d) it (tree.tag tt n) ((6 * 32 + l) ∷ big w n) hi (λ t c e. tag (head low) e) o
   content-sound o tagged l unvalued = malformed-sound (From (0xdf ∷ [])) o
-  content-sound o special l (valued {w} {n} low) = atom-sound (cond (leb w 1) (tree.simple tt n) (tree.float tt w n)) ((7 * 32 + l) ∷ big w n) (special-encodes low) o
+  content-sound o special l (valued {w} {n} low) = special-sound low o (reserved w n) refl
   content-sound o special l unvalued = malformed-sound (From (0xff ∷ [])) o
 
   rest-sound : (o : List ℕ) (h : ℕ) → h < 256 → Sound (argument o (infoOf h) >>= λ a. content noNote it o (majorOf h) a) (From (h ∷ []))

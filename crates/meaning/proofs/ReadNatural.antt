@@ -8,7 +8,7 @@ use lib.ListN.{length}
 use Rattle.meaning.specs.Tree.{Node, Nodes, Pairs, _▸_, _⇒_▸_, Pair, mapP, mapNodes, mapPairs, nodes, pairs, simple, float, array, dict}
 use Rattle.meaning.specs.Notes.{mapPair}
 use Rattle.meaning.specs.Read.{Outcome, got, refused, Reader, after, _>>=_, pure, here, byte, run, stop, times, untilBreak, toBreak}
-use Rattle.meaning.specs.Read.{Argument, known, indefinite, argument, majorOf, infoOf, chunk, close, pair, content, beyond, item}
+use Rattle.meaning.specs.Read.{Argument, known, indefinite, argument, majorOf, infoOf, chunk, reserved, close, pair, content, beyond, item}
 use Rattle.meaning.specs.Read.{Major, unsigned, negative, byteString, textString, arrayOf, mapOf, tagged, special}
 
 abbrev pub mapOut : {A B : Type 0} → (A → B) → Outcome A → Outcome B
@@ -105,7 +105,7 @@ module _ {P Q : Type 0} (f : P → Q) where
           λ xs. close-follows start _ _ λ p. ap (dict (f p)) (pairs-map xs)
       content-follows start tagged (known w n) = bind-follows (mapP f) (mapP f) it it′ _ _ hi λ x. close-follows start _ _ λ p. refl
       content-follows start tagged indefinite = λ s. refl
-      content-follows start special (known w n) = close-follows start _ _ λ p. cond-node (leb w 1) p n w
+      content-follows start special (known w n) = cond-follows (mapP f) (reserved w n) _ _ _ _ (λ s. refl) (close-follows start _ _ λ p. cond-node (leb w 1) p n w)
       content-follows start special indefinite = λ s. refl
 
     beyond-follows : Follows (mapP f) beyond beyond

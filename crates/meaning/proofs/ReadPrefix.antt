@@ -11,7 +11,7 @@ use lib.Seq.{take-at, drop-at}
 use Rattle.meaning.specs.Refusal.{CBOR}
 use Rattle.meaning.specs.Tree.{Node}
 use Rattle.meaning.specs.Read.{Outcome, got, refused, Reader, after, _>>=_, pure, malformed, here, byte, run, number, stop, times, untilBreak, toBreak}
-use Rattle.meaning.specs.Read.{Argument, known, indefinite, wide, longArguments, argument, majorOf, infoOf, definite, chunk, close, pair, content, beyond, item, noNote}
+use Rattle.meaning.specs.Read.{Argument, known, indefinite, wide, longArguments, argument, majorOf, infoOf, definite, chunk, reserved, close, pair, content, beyond, item, noNote}
 use Rattle.meaning.specs.Read.{Major, unsigned, negative, byteString, textString, arrayOf, mapOf, tagged, special}
 
 -- a reader that does not ask where its item began
@@ -297,7 +297,7 @@ module _ (it : Reader (Node (Unit {0}))) (hi : Exact (still it)) (eats : Hungry 
   content-exact mapOf indefinite = ends (toBreak (pair noNote it)) _ (toBreak-exact (pair noNote it) pair-exact pair-hungry)
   content-exact tagged (known w n) = ends it _ hi
   content-exact tagged indefinite = malformed-exact
-  content-exact special (known w n) = close-exact _
+  content-exact special (known w n) = cond-exact (reserved w n) malformed _ malformed-exact (close-exact _)
   content-exact special indefinite = malformed-exact
 
   rest-exact : (h : ℕ) → Exact (λ o. argument o (infoOf h) >>= λ a. content noNote it o (majorOf h) a)

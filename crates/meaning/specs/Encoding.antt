@@ -1,4 +1,4 @@
--- RFC 7049's grammar under document 01, "CBOR carried": which bytes encode which tree where d levels are left. The choices are free: the width of each argument,
+-- RFC 8949's grammar under document 01, "CBOR carried" (02, Req 09): which bytes encode which tree where d levels are left. The choices are free: the width of each argument,
 -- definite or indefinite length, and where an indefinite string is cut. What is read is exactly this (proofs/Exact).
 use Prim.Native.Nat.{ℕ, zero, suc, _+_, _*_, _/_, _%_, _^_, _<_, _≤_}
 use mathlib.Core.List.{List, [], _∷_, _++_}
@@ -51,7 +51,8 @@ mutual
     dict : {d w : ℕ} {ps : Pairs (Unit {0})} {hs bs : List ℕ} → Head 5 w (length (pairList ps)) hs → Entries d ps bs → Encodes (suc d) (tree.dict tt ps) (hs ++ bs)
     openDict : {d : ℕ} {ps : Pairs (Unit {0})} {bs : List ℕ} → Entries d ps bs → Encodes (suc d) (tree.dict tt ps) (0xbf ∷ bs ++ 0xff ∷ [])
     tag : {d w n : ℕ} {t : Tree} {hs bs : List ℕ} → Head 6 w n hs → Encodes d t bs → Encodes (suc d) (tree.tag tt n t) (hs ++ bs)
-    simple : {d w n : ℕ} {hs : List ℕ} → Head 7 w n hs → w ≤ 1 → Encodes (suc d) (tree.simple tt n) hs
+    -- in a second byte, from 32 on
+    simple : {d w n : ℕ} {hs : List ℕ} → Head 7 w n hs → w ≤ 1 → (w ≡ 1 → 32 ≤ n) → Encodes (suc d) (tree.simple tt n) hs
     float : {d w n : ℕ} {hs : List ℕ} → Head 7 w n hs → 2 ≤ w → Encodes (suc d) (tree.float tt w n) hs
 
   pub data Elements : ℕ → Nodes (Unit {0}) → List ℕ → Type 0 where

@@ -3,7 +3,7 @@
 -- the head that was met, and none where the bytes ended early. Every node is annotated by `note start end`, of the bytes left where it begins and where it ends.
 use Prim.Native.Nat.{ℕ, zero, suc, _+_, _-_, _*_, _/_, _%_}
 use mathlib.Core.List.{List, [], _∷_, _++_}
-use mathlib.Core.Bool.{Bool, true, false, cond}
+use mathlib.Core.Bool.{Bool, true, false, cond, _&&_}
 use lib.ListN.{length, take, drop, getD}
 use lib.Dec.{eqb, leb, ltb}
 use Rattle.meaning.specs.Refusal.{CBOR, DEEP}
@@ -128,6 +128,10 @@ abbrev pub joined : List (List ℕ) → List ℕ
 joined [] = []
 joined (c ∷ cs) = c ++ joined cs
 
+-- RFC 8949, section 3.3: a simple value below 32 takes no second byte
+unfoldable pub reserved : ℕ → ℕ → Bool
+reserved w n = eqb w 1 && ltb n 32
+
 -- no byte is left
 unfoldable pub closed : {A : Type 0} → A → Reader A
 closed a [] = got a []
@@ -183,8 +187,8 @@ module _ {P : Type 0} (note : List ℕ → List ℕ → P) where
     x ← item
     close start (λ p. tag p n x)
   content item start tagged indefinite = malformed start
-  -- simple values of at most one byte more, of any number; floats of two, four or eight
-  content item start special (known w n) = close start (λ p. cond (leb w 1) (simple p n) (float p w n))
+  -- simple values of at most one byte more, floats of two, four or eight
+  content item start special (known w n) = cond (reserved w n) (malformed start) (close start (λ p. cond (leb w 1) (simple p n) (float p w n)))
   content item start special indefinite = malformed start
 
   -- an item where d levels are left

@@ -9,7 +9,7 @@ use lib.ListN.{getD}
 use borrow.Author.Tests.{ne-eqb}
 use Rattle.meaning.specs.Check.{pass, refuse}
 use Rattle.meaning.specs.Tree.{Node, Pair, uint, nint, bytes, text, chunkedBytes, chunkedText, array, dict, tag, simple, float, meaning, nodes, pairs}
-use Rattle.meaning.specs.Read.{Outcome, got, refused, Reader, after, _>>=_, here, byte, run, times, toBreak, joined, Argument, known, indefinite, argument, infoOf, chunk, close, pair, content, item, noNote}
+use Rattle.meaning.specs.Read.{Outcome, got, refused, Reader, after, _>>=_, here, byte, run, times, toBreak, joined, Argument, known, indefinite, argument, infoOf, chunk, reserved, malformed, close, pair, content, item, noNote}
 use Rattle.meaning.specs.Read.{Major, unsigned, negative, byteString, textString, arrayOf, mapOf, tagged, special, majors, majorOf}
 use Rattle.meaning.specs.Kind as kinds
 use Rattle.meaning.specs.Sound.{aMap, beginsAsMap, fillsOrDeep}
@@ -53,6 +53,12 @@ ends-as {A} m o make c s t r h = go (m s)
     go (got a s′) e = closed-as o (make a) c s′ t r (h a) e
     go (refused n q) e = absurd (never-got e)
 
+-- the same, where nothing reserves the value
+free-as : (b : Bool) (o : List ℕ) (make : Unit {0} → Bare) (c : Bool) (s : List ℕ) (t : Bare) (r : List ℕ) → isDict (make tt) ≡ c
+    → cond b (malformed o) (close noNote o make) s ≡ got t r → isDict t ≡ c
+free-as true o make c s t r h e = absurd (never-got e)
+free-as false o make c s t r h e = closed-as o make c s t r h e
+
 special-as : (b : Bool) (w n : ℕ) → isDict {P = Unit {0}} (cond b (simple tt n) (float tt w n)) ≡ false
 unfolding isDict
 special-as true w n = refl
@@ -75,7 +81,7 @@ module _ (it : Reader Bare) (o s : List ℕ) (t : Bare) (r : List ℕ) where
   content-as mapOf indefinite e = ends-as (toBreak (pair noNote it)) o (λ l p. dict p (pairs l)) true s t r (λ a. refl) e
   content-as tagged (known w n) e = ends-as it o (λ x p. tag p n x) false s t r (λ a. refl) e
   content-as tagged indefinite e = absurd (never-got e)
-  content-as special (known w n) e = closed-as o (λ p. cond (leb w 1) (simple p n) (float p w n)) false s t r (special-as (leb w 1) w n) e
+  content-as special (known w n) e = free-as (reserved w n) o (λ p. cond (leb w 1) (simple p n) (float p w n)) false s t r (special-as (leb w 1) w n) e
   content-as special indefinite e = absurd (never-got e)
 
 major-as : (m : ℕ) → isMap (getD majors m special) ≡ eqb m 5

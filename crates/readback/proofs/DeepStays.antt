@@ -9,7 +9,7 @@ use lib.ListN.{length, take, drop, getD}
 use Rattle.meaning.specs.Refusal.{CBOR, DEEP}
 use Rattle.meaning.specs.Tree.{Node}
 use Rattle.meaning.specs.Read.{Outcome, got, refused, Reader, after, _>>=_, pure, malformed, here, byte, run, number, times, toBreak}
-use Rattle.meaning.specs.Read.{Argument, known, indefinite, wide, longArguments, argument, majorOf, infoOf, definite, chunk, close, pair, content, beyond, item, noNote}
+use Rattle.meaning.specs.Read.{Argument, known, indefinite, wide, longArguments, argument, majorOf, infoOf, definite, chunk, reserved, close, pair, content, beyond, item, noNote}
 use Rattle.meaning.specs.Read.{Major, unsigned, negative, byteString, textString, arrayOf, mapOf, tagged, special}
 use Rattle.meaning.proofs.ReadPrefix.{still, Took, Exact, Hungry, bind-got, byte-exact, argument-exact, chunk-exact, chunk-hungry, pair-exact, pair-hungry, item-exact, item-hungry}
 use Rattle.meaning.proofs.ReadTurns.{oneTurn, break-ends, nothing-ends-early, another-turn}
@@ -221,7 +221,7 @@ module _ (it : Reader (Node (Unit {0}))) (xi : Exact (still it)) (eats : Hungry 
   content-stays mapOf indefinite = ends (toBreak (pair noNote it)) _ (toBreak-stays (pair noNote it) (pair-exact it xi eats) pair-stays (pair-hungry it xi eats))
   content-stays tagged (known w n) = ends it _ hi
   content-stays tagged indefinite = never-stays _ malformed-never
-  content-stays special (known w n) = never-stays _ (close-never _)
+  content-stays special (known w n) = never-stays _ (cond-never (reserved w n) malformed _ malformed-never (close-never _))
   content-stays special indefinite = never-stays _ malformed-never
 
   rest-stays : (h : ℕ) → Stays (λ o. argument o (infoOf h) >>= λ a. content noNote it o (majorOf h) a)

@@ -9,7 +9,7 @@ use Rattle.meaning.specs.Refusal.{CBOR, DEEP}
 use Rattle.meaning.specs.Limit.{depthLimit}
 use Rattle.meaning.specs.Tree.{Node, uint, nint, bytes, text, tag, simple, float, Pair, noteOf, nodes, pairs}
 use Rattle.meaning.specs.Read.{Outcome, got, refused, Reader, after, _>>=_, pure, malformed, here, byte, run, number, stop, times, untilBreak, toBreak}
-use Rattle.meaning.specs.Read.{Argument, known, indefinite, wide, longArguments, argument, majorOf, infoOf, definite, chunk, closed, close, pair, content, beyond, item, manifest, Span, spanTo}
+use Rattle.meaning.specs.Read.{Argument, known, indefinite, wide, longArguments, argument, majorOf, infoOf, definite, chunk, closed, reserved, close, pair, content, beyond, item, manifest, Span, spanTo}
 use Rattle.meaning.specs.Read.{Major, unsigned, negative, byteString, textString, arrayOf, mapOf, tagged, special}
 use Rattle.panel.specs.Stands.{Each}
 use Rattle.shown.specs.Placed.{Placed, Within, PlacedNodes, PlacedPairs, PlacedPair}
@@ -175,6 +175,11 @@ module _ (file back : List ℕ) (start end : ℕ) where
             so-after (run n s) _ (run-gets n s) λ bs r e.
             record { is = (word-stands file back start end whole sixteen bs r l k e, refl, later-on k (record { eaten = bs; split = e })) }
 
+        unreserved : (b : Bool) (make : Span → Node Span) → ((p : Span) → Within file start (suc d) (make p) × (noteOf (make p) ≡ p))
+            → (s : List ℕ) → Later o s → Ends (cond b (malformed o) (close (spanTo end) o make) s)
+        unreserved true make within s k = ended o
+        unreserved false make within s k = ending make within s k
+
         simply : (b : Bool) (p : Span) (n w : ℕ) → Within file start (suc d) (cond b (simple p n) (float p w n)) × (noteOf (cond b (simple p n) (float p w n)) ≡ p)
         simply true p n w = (tt, refl)
         simply false p n w = (tt, refl)
@@ -195,7 +200,7 @@ module _ (file back : List ℕ) (start end : ℕ) where
         content-ends mapOf indefinite = closing (toBreak (pair (spanTo end) it)) _ (toBreak-keeps (pair (spanTo end) it) pair-keeps) λ xs p q. (pairs-placed d xs q, refl)
         content-ends tagged (known w n) = closing it (λ x p. tag p n x) hi λ x p q. (q, refl)
         content-ends tagged indefinite = λ s k. ended o
-        content-ends special (known w n) = ending (λ p. cond (leb w 1) (simple p n) (float p w n)) λ p. simply (leb w 1) p n w
+        content-ends special (known w n) = unreserved (reserved w n) (λ p. cond (leb w 1) (simple p n) (float p w n)) λ p. simply (leb w 1) p n w
         content-ends special indefinite = λ s k. ended o
 
     none-left : {Q : Node Span → Type 0} → Keeps Q (item (spanTo end) zero)

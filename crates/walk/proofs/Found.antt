@@ -16,17 +16,16 @@ use Rattle.meaning.specs.Model.{Word}
 use Rattle.meaning.specs.Kind as kinds
 use Rattle.meaning.specs.Kind.{Kind, kind}
 use Rattle.meaning.specs.Read as read
-use Rattle.meaning.specs.Read.{got, refused, known, indefinite, majorOf, run, Major, Argument}
+use Rattle.meaning.specs.Read.{got, refused, known, indefinite, majorOf, run, Major, Argument, reserved}
 use Rattle.meaning.specs.Read.{unsigned, negative, byteString, textString, arrayOf, mapOf, tagged, special}
 use Rattle.meaning.proofs.ReadPrefix.{never-got, alike}
+use Rattle.meaning.proofs.ExactEvery.{large-enough}
 use Rattle.cbor.specs.Ending.{headOf, argued}
 use Rattle.cbor.proofs.Majors.{majors-late}
 use Rattle.walk.specs.Reading.{Ends, ends, Reads}
 use Rattle.cbor.proofs.Heads as heads
-use Rattle.endian.specs.Word.{word}
-use Rattle.endian.proofs.Laws.{word-one}
 use Rattle.endian.proofs.Which.{eq-or, lt-or}
-use Rattle.walk.specs.Places.{Whatever, isNull}
+use Rattle.walk.specs.Places.{Whatever, isNull, NullIs}
 use Rattle.walk.proofs.ReadSays.{Says, KindSays, kind-says, Stood, sized, loose, stood, nothing-read}
 
 -- the number of a major type
@@ -209,6 +208,7 @@ module _ (d b : ℕ) (t : List ℕ) (x : Node Ends) (r : List ℕ) where
     pub fits : width ≤ length t
     pub small : b % 32 < 28
     pub null-is : isNull (kind x) ≡ (leb width 1 && eqb value 22)
+    pub free : reserved width value ≡ false
 
   special-here : 224 ≤ b → Reads (suc d) (b ∷ t) x r → Special
   special-here l e = go (stood d b t x r e)
@@ -223,8 +223,9 @@ module _ (d b : ℕ) (t : List ℕ) (x : Node Ends) (r : List ℕ) where
 
       go : Stood d b t x r → Special
       go (sized w n k h i y) =
-          let z = kind-says (b ∷ t) d (drop w t) x r special (known w n) (subst (λ m. Says (b ∷ t) d m (known w n) (drop w t) x r) is y) in
-          record { width = w; value = n; head = h; fits = k; small = i; null-is = ap isNull z ∙ two (leb w 1) (eqb n 22) }
+          let q = subst (λ m. Says (b ∷ t) d m (known w n) (drop w t) x r) is y in
+          let z = kind-says (b ∷ t) d (drop w t) x r special (known w n) q in
+          record { width = w; value = n; head = h; fits = k; small = i; null-is = ap isNull z ∙ two (leb w 1) (eqb n 22); free = q .2 }
       go (loose k h y) = absurd (subst (λ m. Says (b ∷ t) d m indefinite t x r) is y)
 
 -- ---------------------------------------------------------------- by the first byte of any list
@@ -272,41 +273,49 @@ module _ (b : ℕ) (t : List ℕ) (d : ℕ) (x : Node Ends) (r : List ℕ) (k : 
       k .null-is ∙ (rw (le-leb (k .width) 1 (omega arith), ← u) refl)
 
   null-wide : (w i : ℕ) → ((s : List ℕ) → getD read.longArguments (i - 24) read.malformed [] s ≡ read.wide w s) → b % 32 ≡ i → 24 ≤ i → w ≤ 8
-      → (w < length (b ∷ t)) × (k .width ≡ w) × (k .value ≡ word w (b ∷ t) 1 0)
+      → k .width ≡ w
   null-wide w i is e l m = ⊎-elim
-      (λ f. let z = same-width (heads.head-fits w i is (b ∷ t) (sym e) l f) in let u = z .0 in let v = z .1 in (f, omega arith, sym u))
+      (λ f. let v = same-width (heads.head-fits w i is (b ∷ t) (sym e) l f) .1 in omega arith)
       (λ f. let z = same-width (heads.head-short w i is (b ∷ t) (sym e) l (omega arith) f) in let v = z .1 in let y = k .fits in absurd (omega arith))
       (lt-or w (length (b ∷ t)))
 
 pub null-none : (s : List ℕ) → length s ≡ 0 → Whatever s λ d t r. isNull (kind t) ≡ false
 null-none s l d t r e = absurd (nothing-read d s t r l e)
 
-pub null-one : (s : List ℕ) → 1 ≤ length s → getD s 0 0 ≡ 246 → Whatever s λ d t r. isNull (kind t) ≡ true
+null-one : (s : List ℕ) → 1 ≤ length s → getD s 0 0 ≡ 246 → Whatever s λ d t r. isNull (kind t) ≡ true
 null-one [] l h d t r e = absurd (omega arith)
 null-one (b ∷ s) l h d t r e =
     let k = special-here d b s t r (omega arith) e in
     let z : b % 32 ≡ 22 = omega arith in
     null-small b s d t r k (omega arith) ∙ eq-eqb (b % 32) 22 z
 
-pub null-two : (s : List ℕ) → 1 ≤ length s → getD s 0 0 ≡ 248 → Whatever s λ d t r. (1 < length s) × (isNull (kind t) ≡ eqb (getD s 1 0) 22)
-null-two [] l h d t r e = absurd (omega arith)
-null-two (b ∷ s) l h d t r e =
-    let k = special-here d b s t r (omega arith) e in
-    let z = null-wide b s d t r k 1 24 heads.is-24 (omega arith) (omega arith) (omega arith) in
-    let u = z .1 in
-    (z .0, k .null-is ∙ (rw (le-leb (k .width) 1 (omega arith)) (ap (λ v. eqb v 22) (z .2 ∙ word-one (b ∷ s) 1))))
+-- 22 is below 32, so no second byte holds it
+free-not-null : (w n : ℕ) → w ≡ 1 → reserved w n ≡ false → eqb n 22 ≡ false
+free-not-null w n e h = ne-eqb n 22 (λ z. let y = large-enough w n h e in omega arith)
 
-pub null-other : (s : List ℕ) → 1 ≤ length s → getD s 0 0 < 256 → (getD s 0 0 ≡ 246 → ⊥) → (getD s 0 0 ≡ 248 → ⊥) → Whatever s λ d t r. isNull (kind t) ≡ false
-null-other [] l y m n d t r e = absurd (omega arith)
-null-other (b ∷ s) l y m n d t r e = ⊎-elim (λ h. null-no d b s t r h e) (λ h. high (special-here d b s t r h e) h) (lt-or b 224)
+null-other : (s : List ℕ) → 1 ≤ length s → getD s 0 0 < 256 → (getD s 0 0 ≡ 246 → ⊥) → Whatever s λ d t r. isNull (kind t) ≡ false
+null-other [] l y m d t r e = absurd (omega arith)
+null-other (b ∷ s) l y m d t r e = ⊎-elim (λ h. null-no d b s t r h e) (λ h. high (special-here d b s t r h e) h) (lt-or b 224)
   where
     wider : (k : Special d b s t r) (w i : ℕ) → ((s : List ℕ) → getD read.longArguments (i - 24) read.malformed [] s ≡ read.wide w s) → b % 32 ≡ i → 24 ≤ i → 2 ≤ w → w ≤ 8 → isNull (kind t) ≡ false
-    wider k w i is q g f j = let z = null-wide b s d t r k w i is q g j in let u = z .1 in k .null-is ∙ (rw (lt-leb (k .width) 1 (omega arith)) refl)
+    wider k w i is q g f j = let u = null-wide b s d t r k w i is q g j in k .null-is ∙ (rw (lt-leb (k .width) 1 (omega arith)) refl)
+
+    two : (k : Special d b s t r) → b % 32 ≡ 24 → isNull (kind t) ≡ false
+    two k q =
+        let u = null-wide b s d t r k 1 24 heads.is-24 q (omega arith) (omega arith) in
+        k .null-is ∙ (rw (free-not-null (k .width) (k .value) u (k .free), u) refl)
 
     high : Special d b s t r → 224 ≤ b → isNull (kind t) ≡ false
     high k h = ⊎-elim
         (λ f. null-small b s d t r k f ∙ ne-eqb (b % 32) 22 (λ q. m (omega arith)))
-        (λ f. ⊎-elim (λ q. wider k 2 25 heads.is-25 q (omega arith) (omega arith) (omega arith))
+        (λ f. ⊎-elim (two k) (λ j. ⊎-elim (λ q. wider k 2 25 heads.is-25 q (omega arith) (omega arith) (omega arith))
         (λ a. ⊎-elim (λ q. wider k 4 26 heads.is-26 q (omega arith) (omega arith) (omega arith))
         (λ c. let g = k .small in wider k 8 27 heads.is-27 (omega arith) (omega arith) (omega arith) (omega arith))
-        (eq-or (b % 32) 26)) (eq-or (b % 32) 25)) (lt-or (b % 32) 24)
+        (eq-or (b % 32) 26)) (eq-or (b % 32) 25)) (eq-or (b % 32) 24)) (lt-or (b % 32) 24)
+
+-- null is one byte
+pub null-here : (s : List ℕ) → 1 ≤ length s → getD s 0 0 < 256 → NullIs s (eqb (getD s 0 0) 246)
+null-here s l y d t r e = ⊎-elim
+    (λ h. null-one s l h d t r e ∙ sym (eq-eqb (getD s 0 0) 246 h))
+    (λ h. null-other s l y h d t r e ∙ sym (ne-eqb (getD s 0 0) 246 h))
+    (eq-or (getD s 0 0) 246)

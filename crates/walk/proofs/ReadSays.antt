@@ -11,7 +11,7 @@ use Rattle.meaning.specs.Tree.{Node, Pair, noteOf, nodes, pairs, nodeList-nodes
 use Rattle.meaning.specs.Kind as kinds
 use Rattle.meaning.specs.Kind.{Kind, kind}
 use Rattle.meaning.specs.Read as read
-use Rattle.meaning.specs.Read.{Outcome, got, refused, Reader, after, Argument, known, indefinite, argument, majorOf, content, item, times, toBreak, pair, run}
+use Rattle.meaning.specs.Read.{Outcome, got, refused, Reader, after, Argument, known, indefinite, argument, majorOf, content, item, times, toBreak, pair, run, reserved}
 use Rattle.meaning.specs.Read.{Major, unsigned, negative, byteString, textString, arrayOf, mapOf, tagged, special}
 use Rattle.meaning.proofs.ReadPrefix.{never-got, alike, never-beyond}
 use Rattle.cbor.specs.Ending.{headOf, argued, endless}
@@ -46,6 +46,12 @@ module _ (start : List ℕ) where
   unfolding read.close
   ended make s t r e = let k = alike e in (sym (k .value) ∙ ap (λ x. make (ends start x)) (k .rest), k .rest)
 
+  -- the same, where nothing reserves the value
+  free : (b : Bool) (make : Ends → Node Ends) (s : List ℕ) (t : Node Ends) (r : List ℕ) {c : Bool} → c ≡ b
+      → cond b (read.malformed start) (read.close ends start make) s ≡ got t r → (t ≡ make (ends start r)) × (s ≡ r) × (c ≡ false)
+  free true make s t r h e = absurd (never-got e)
+  free false make s t r h e = let k = ended make s t r e in (k .0, k .1, h)
+
   -- a major type and its argument, of an item whose content stands at q
   abbrev pub Says : ℕ → Major → Argument → List ℕ → Node Ends → List ℕ → Type 0
   Says d unsigned (known w n) q t r = (t ≡ tree.uint (ends start r) n) × (q ≡ r)
@@ -62,7 +68,7 @@ module _ (start : List ℕ) where
   Says d mapOf indefinite q t r = Made start (λ x p. tree.dict p (pairs x)) (toBreak (pair ends (item ends d)) q) t r
   Says d tagged (known w n) q t r = Made start (λ x p. tree.tag p n x) (item ends d q) t r
   Says d tagged indefinite q t r = ⊥
-  Says d special (known w n) q t r = (t ≡ cond (leb w 1) (tree.simple (ends start r) n) (tree.float (ends start r) w n)) × (q ≡ r)
+  Says d special (known w n) q t r = (t ≡ cond (leb w 1) (tree.simple (ends start r) n) (tree.float (ends start r) w n)) × (q ≡ r) × (reserved w n ≡ false)
   Says d special indefinite q t r = ⊥
 
   pub says : (d : ℕ) (m : Major) (a : Argument) (q : List ℕ) (t : Node Ends) (r : List ℕ) → content ends (item ends d) start m a q ≡ got t r → Says d m a q t r
@@ -81,7 +87,7 @@ module _ (start : List ℕ) where
   says d mapOf indefinite q t r e = made (toBreak (pair ends (item ends d)) q) (λ x p. tree.dict p (pairs x)) t r e
   says d tagged (known w n) q t r e = made (item ends d q) (λ x p. tree.tag p n x) t r e
   says d tagged indefinite q t r e = never-got e
-  says d special (known w n) q t r e = ended (λ p. cond (leb w 1) (tree.simple p n) (tree.float p w n)) q t r e
+  says d special (known w n) q t r e = free (reserved w n) (λ p. cond (leb w 1) (tree.simple p n) (tree.float p w n)) q t r refl e
   says d special indefinite q t r e = never-got e
 
 -- ---------------------------------------------------------------- its kind
@@ -166,7 +172,7 @@ module _ (d b : ℕ) (t : List ℕ) (x : Node Ends) (r : List ℕ) where
       after-it o h = ap (λ o. after o (content ends (item ends d) (b ∷ t) (majorOf b))) (sym h) ∙ sym opens ∙ e
 
       go : heads.Look (b % 32) t → Stood d b t x r
-      go (heads.sized w n l h k) = sized w n l (heading.head-sized b t w n h) k (says (b ∷ t) d (majorOf b) (known w n) (drop w t) x r (after-it (got (known w n) (drop w t)) (h (b ∷ t))))
+      go (heads.sized w n l h k one) = sized w n l (heading.head-sized b t w n h) k (says (b ∷ t) d (majorOf b) (known w n) (drop w t) x r (after-it (got (known w n) (drop w t)) (h (b ∷ t))))
       go (heads.loose k h) = loose k (heading.head-loose b t h) (says (b ∷ t) d (majorOf b) indefinite t x r (after-it (got indefinite t) (h (b ∷ t))))
       go (heads.wrong k h) = absurd (never-got (after-it (refused 6 (h (b ∷ t) .at)) (h (b ∷ t) .is)))
 

@@ -78,24 +78,14 @@ pub fn number(s: &[u8]) -> Numeral
     Numeral::Number(h.value)
 }
 
-// Is null at the start of s, in one byte or in two?
+// Is null at the start of s?
 pub fn null(s: &[u8]) -> bool
     ensures { λ r. ⌜ places.NullIs (now (s .entry)) r ⌝ }
 {
     if s.len() == 0 {
         return false;
     }
-    let b = s[0];
-    if b == 246 {
-        return true;
-    }
-    if b == 248 {
-        if s.len() < 2 {
-            return false;
-        }
-        return s[1] == 22;
-    }
-    false
+    s[0] == 246
 }
 
 // The map that begins s, with any head.

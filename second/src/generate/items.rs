@@ -87,7 +87,7 @@ pub fn sound(rng: &mut Rng, levels: u32) -> Item {
         4 => Item::Text(rng.bytes(10)),
         5 => Item::Text(utf8(rng)),
         6 => chunked(rng),
-        7 => Item::Simple(rng.number() as u8),
+        7 => Item::Simple(simple(rng)),
         8 => Item::Simple(20 + rng.index(4) as u8),
         9 => Item::Half(rng.number() as u16),
         10 => match rng.one_in(2) {
@@ -97,6 +97,14 @@ pub fn sound(rng: &mut Rng, levels: u32) -> Item {
         11 => sound(rng, levels - 1).tagged(rng.any_size()),
         12 => Item::Array(several(rng, |rng| sound(rng, levels - 1))),
         _ => map(rng, levels),
+    }
+}
+
+/// Any simple value that has an encoding, often one at an edge.
+fn simple(rng: &mut Rng) -> u8 {
+    match rng.number() as u8 {
+        reserved @ 24..=31 => *rng.pick(&[0, 23, 32, 255, reserved - 24, reserved + 8]),
+        number => number,
     }
 }
 
@@ -124,7 +132,7 @@ fn chunked(rng: &mut Rng) -> Item {
 
 /// Bytes that aren't a well-formed item, whatever follows them or if nothing does.
 pub fn damaged(rng: &mut Rng) -> Item {
-    const DAMAGED: [&[u8]; 26] = [
+    const DAMAGED: [&[u8]; 30] = [
         b"\x1C",
         b"\x1D\x00",
         b"\x1E",
@@ -135,6 +143,10 @@ pub fn damaged(rng: &mut Rng) -> Item {
         b"\x9D",
         b"\xBC",
         b"\xDF\x00",
+        b"\xF8",
+        b"\xF8\x00",
+        b"\xF8\x16",
+        b"\xF8\x1F",
         b"\xFC",
         b"\xFE",
         b"\xFF",

@@ -157,16 +157,32 @@ fn bytes_left_over_are_met_last_and_beat_every_kind() {
 }
 
 #[test]
-fn a_two_byte_simple_value_may_have_any_second_byte() {
-    // 9
+fn a_two_byte_simple_value_has_a_second_byte_from_32_on() {
+    // 9, as 02's Req 09 has it
     for second in 0..=0xFF {
         let simple = [0xF8, second];
-        assert_eq!(number(&unknown(&simple)), 0);
-        assert!(matches!(cbor::decode(&simple).unwrap().kind, Kind::Simple(n) if n == second));
-        let answer = data_judged(with(data(), "type", Item::Raw(simple.to_vec())));
-        let expected = if second == 22 { (0, 0, 0) } else { (8, 1, 0) };
-        assert_eq!(answer, expected, "{second}");
+        let sound = second >= 32;
+        assert_eq!(number(&unknown(&simple)), if sound { 0 } else { 6 });
+        assert_eq!(number(&at_depth(32, &simple)), if sound { 0 } else { 6 });
+        assert_eq!(number(&at_depth(33, &simple)), 7);
+        for field in ["type", "digest", "uncompressed_length", "unknown"] {
+            let answer = data_judged(with(data(), field, Item::Raw(simple.to_vec())));
+            let expected = match (sound, field) {
+                (false, _) => (6, 0, 0),
+                (true, "unknown") => (0, 0, 0),
+                (true, _) => (8, 1, 0),
+            };
+            assert_eq!(answer, expected, "{field} {second}");
+        }
+        let key = vec![(Item::Raw(simple.to_vec()), Item::null())];
+        let attributes = with(root(named([])), "attributes", Item::Map(key));
+        assert_eq!(number(&attributes.shortest()), if sound { 0 } else { 6 });
     }
+    assert_eq!(number(&unknown(b"\x9F\xF8\x20\xF8\x1F\xFF")), 6);
+    assert_eq!(number(&unknown(b"\x7F\x61a\xF8\x20\xFF")), 6);
+    let manifest = unknown(b"\x82\x00\xF8\x1F");
+    let reserved = cbor::decode(&manifest).unwrap_err();
+    assert_eq!((reserved.number, reserved.place), (6, manifest.len() - 2));
     for low in 0..24 {
         let null = matches!(cbor::decode(&[0xE0 | low]).unwrap().kind, Kind::Simple(22));
         assert_eq!(null, low == 22);

@@ -29,4 +29,6 @@ plain-spec =
     (λ c. search needs)
     (λ c. search needs)
     (λ c κs. search needs)
-    (λ c. λ d h. ap (λ h. h .size) ((c .head .ensures) ∙ ap headOf (part-to-end ((c .before .before .before .before .before .before .before .before .args .s .now)) 0)) ∙ first.scalar-ends ((c .before .before .before .before .before .before .before .before .args .s .now)) d (omega arith) (first.scalar (getD ((c .before .before .before .before .before .before .before .before .args .s .now)) 0 0) h (λ x y. ⊎-elim (λ w. omega arith) (λ w. omega arith) ((c .before .before .before .before .if2 .came)))) (λ e. omega arith)))
+    (λ c. first.plain-reserved (c .before .before .before .before .before .before .before .before .before .before .before .args .s .now) (omega arith) (c .before .before .before .head .ensures) (omega arith) (omega arith))
+    (λ c. first.plain-value (c .before .before .before .before .before .before .before .before .before .before .before .args .s .now) (omega arith) (c .before .before .before .head .ensures) (λ x y. absurd (omega arith)) (λ e. omega arith) (λ x y. omega arith))
+    (λ c. first.plain-value (c .before .before .before .before .before .before .before .before .before .args .s .now) (omega arith) (c .before .head .ensures) (λ x y. ⊎-elim (λ w. omega arith) (λ w. omega arith) (c .before .before .before .before .before .if2 .came)) (λ e. omega arith) (λ x y. absurd (omega (arith, (c .before .before .before .before .before .before .before .before .shared-slice-known .given) 0)))))
