@@ -26,6 +26,7 @@ ghost use lib.ListN.{length, take, getD};
 ghost use lib.Dec.{eqb};
 ghost use Rattle.meaning.specs.Columns.{objectWidth, componentWidth, rankColumn, countColumn};
 ghost use Rattle.meaning.specs.Types.{typeRatio, widthOf};
+ghost use Rattle.types.specs.Known.{unitNumber};
 ghost use Rattle.meaning.specs.Format.{formatRules};
 ghost use Rattle.meaning.specs.Asked.{eachRow, askedObject, askedComponent, presentAt};
 ghost use Rattle.meaning.specs.Described.{describedComponent, describedObject};
@@ -58,7 +59,7 @@ fn components(rows: &[u64], n: usize, buffer: &[u8]) -> Ruled
 
 // Bytes of one element: of a logical type, or none, over the storage with this code.
 fn unit(buffer: &[u8], place: u64, size: u64, code: u64) -> u64
-    ensures { λ r. ⌜ r ≡ typeRatio (presentAt (now (buffer .entry)) (record { place = place; size = size })) * widthOf code ⌝ }
+    ensures { λ r. ⌜ r ≡ unitNumber (typeRatio (presentAt (now (buffer .entry)) (record { place = place; size = size }))) (widthOf code) ⌝ }
 {
     if absent(place, size) {
         return types::width_of(code);
