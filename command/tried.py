@@ -9,6 +9,7 @@ import stat
 import subprocess
 import sys
 import threading
+import time
 
 import sample
 
@@ -496,6 +497,24 @@ def try_signals():
         said = started.communicate()[1]
         expect((said, started.returncode), (words, status), number)
         os.close(reader)
+
+
+def try_an_interrupted_copy():
+    """Sparse and large, so that it lasts: the signal comes as soon as the temporary file is seen."""
+    length = 400 << 20
+    parts = [("data", sample.component("u8", 64, length))]
+    with open(os.path.join(WORK, "slow.zt"), "wb") as into:
+        into.write(sample.MAGIC)
+        into.seek(64 + length)
+        into.write(sample.behind(sample.manifest([("w", sample.thing([length], "dense", parts))])))
+    os.mkdir(os.path.join(WORK, "slowly"))
+    put("slowly/kept.zt", b"old")
+    started = subprocess.Popen([*ZT, "copy", "slow.zt", "-o", "slowly/kept.zt"], cwd=WORK)
+    while started.poll() is None and len(os.listdir(os.path.join(WORK, "slowly"))) < 2:
+        time.sleep(0.001)
+    started.terminate()
+    expect(started.wait(), -signal.SIGTERM)
+    expect((content("slowly/kept.zt"), os.listdir(os.path.join(WORK, "slowly"))), (b"old", ["kept.zt"]))
 
 
 def try_usage():

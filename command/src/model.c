@@ -12,7 +12,8 @@ int model_open(model *of, const char *path) {
         return trouble_of(path, ENOMEM);
     }
     of->answer = zt_read(of->file.at, of->file.length, of->table, ZT_TABLE_MOST);
-    return DONE;
+    if (input_unchanged(&of->file) == DONE) return DONE;
+    return model_close(of, TROUBLE);
 }
 
 int model_open_sound(model *of, const char *path, int json) {

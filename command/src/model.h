@@ -18,7 +18,7 @@ typedef struct {
     int present;
 } text;
 
-/* DONE, with the answer, accepted or not; or TROUBLE, which was said, and nothing is held. */
+/* DONE, with the answer, accepted or not; or TROUBLE, which was said, and nothing is held: the file can't be read, or changed while it was. */
 int model_open(model *of, const char *path);
 
 /*

@@ -3,6 +3,7 @@
 #include "stream.h"
 #include <errno.h>
 #include <fcntl.h>
+#include <signal.h>
 #include <stdio.h>
 #include <stdlib.h>
 #include <string.h>
@@ -17,7 +18,7 @@ void whole_remove(void) {
     if (unfinished) unlink(unfinished);
 }
 
-/* The folder of a path, with its slash, as long a name as any: then the temporary name is short enough for every file system. */
+/* A short name in the target's folder, so that it fits wherever the target's own does. */
 static char *beside(const char *target, unsigned attempt) {
     const char *slash = strrchr(target, '/');
     size_t folder = slash ? (size_t)(slash - target) + 1 : 0, room = folder + 48;
@@ -55,6 +56,17 @@ static int create(whole *file, const struct stat *old) {
     return EEXIST;
 }
 
+/* No signal comes between the file and the note of it. */
+static int create_undisturbed(whole *file, const struct stat *old) {
+    sigset_t all, before;
+    int error;
+    sigfillset(&all);
+    sigprocmask(SIG_BLOCK, &all, &before);
+    error = create(file, old);
+    sigprocmask(SIG_SETMASK, &before, NULL);
+    return error;
+}
+
 /* The room is taken from the disk before a byte is put there: a mapping has no other way to say that the disk is full. */
 static int map(whole *file) {
     int error;
@@ -82,7 +94,7 @@ int whole_open(whole *file, const char *path, size_t room) {
         whole_drop(file);
         return trouble(path, "is there already, and no regular file");
     }
-    if (!error) error = create(file, &old);
+    if (!error) error = create_undisturbed(file, &old);
     if (!error) error = map(file);
     if (!error) return DONE;
     whole_drop(file);
