@@ -200,8 +200,8 @@ impl<'a> Judge<'a> {
             return Err((RANK, 0));
         }
         let needed = self.needed_roles(object, format)?;
-        for (at, wanted) in self.wanted_lengths(object, format, &needed)? {
-            if u128::from(object.components[at].length) != wanted {
+        for (at, wanted) in self.wanted_lengths(object, format, &needed) {
+            if !wanted.is_met_by(object.components[at].length) {
                 return Err((LENGTH, at));
             }
         }
@@ -226,43 +226,57 @@ impl<'a> Judge<'a> {
         format.roles().iter().map(find).collect()
     }
 
-    /// The exact length that the format asks of each component, in the order of its roles.
+    /// What the format asks of each component's length, in the order of its roles.
     fn wanted_lengths(
         &self,
         object: &Object,
         format: Format,
         needed: &[usize],
-    ) -> Result<Vec<(usize, u128)>, (u8, usize)> {
-        Ok(match (format, needed) {
+    ) -> Vec<(usize, Wanted)> {
+        match (format, needed) {
             (Format::Dense, &[data]) => {
-                let element = u128::from(self.element_bytes(object, data));
-                let wanted = types::product(&object.shape).saturating_mul(element);
+                let count = types::product(&object.shape);
+                let wanted = match self.element_bytes(object, data) {
+                    Some(element) => Wanted::Exactly(count.saturating_mul(u128::from(element))),
+                    None => whole_numbers(object, data),
+                };
                 vec![(data, wanted)]
             }
             (Format::SparseCsr, &[values, indices, indptr]) => {
-                let n = self.value_count(object, values)?;
                 let rows = u128::from(object.shape[0]);
-                vec![(indices, 8 * n), (indptr, 8 * (rows + 1))]
+                let pointers = Wanted::Exactly(8 * (rows + 1));
+                let mut wanted = self.values_and_indices(object, values, indices, 8);
+                wanted.push((indptr, pointers));
+                wanted
             }
             (Format::SparseCoo, &[values, coords]) => {
-                let n = self.value_count(object, values)?;
-                vec![(coords, 8 * object.shape.len() as u128 * n)]
+                let each = 8 * object.shape.len() as u128;
+                self.values_and_indices(object, values, coords, each)
             }
             _ => Vec::new(),
-        })
-    }
-
-    /// n: how many elements the values hold, without remainder.
-    fn value_count(&self, object: &Object, values: usize) -> Result<u128, (u8, usize)> {
-        let length = object.components[values].length;
-        let element = self.element_bytes(object, values);
-        if !length.is_multiple_of(element) {
-            return Err((LENGTH, values));
         }
-        Ok(u128::from(length / element))
     }
 
-    fn element_bytes(&self, object: &Object, at: usize) -> u64 {
+    /// Values without remainder, and index numbers of so many bytes for each of them. A type without ratio tells no number of
+    /// elements: then both are only to be whole.
+    fn values_and_indices(
+        &self,
+        object: &Object,
+        values: usize,
+        indices: usize,
+        each: u128,
+    ) -> Vec<(usize, Wanted)> {
+        let (of_values, of_indices) = match self.element_bytes(object, values) {
+            Some(element) => {
+                let n = u128::from(object.components[values].length / element);
+                (Wanted::MultipleOf(element), Wanted::Exactly(each * n))
+            }
+            None => (whole_numbers(object, values), Wanted::MultipleOf(8)),
+        };
+        vec![(values, of_values), (indices, of_indices)]
+    }
+
+    fn element_bytes(&self, object: &Object, at: usize) -> Option<u64> {
         let component = &object.components[at];
         let logical = component.logical.clone().map(|span| &self.bytes[span]);
         types::element_bytes(component.dtype, logical)
@@ -384,4 +398,24 @@ pub fn major(version: &[u8]) -> Option<&[u8]> {
             && (run.len() == 1 || run[0] != b'0')
     };
     ((2..=3).contains(&runs.len()) && runs.iter().all(sound)).then(|| runs[0])
+}
+
+/// What a format asks of a component's length.
+enum Wanted {
+    Exactly(u128),
+    MultipleOf(u64),
+}
+
+impl Wanted {
+    fn is_met_by(&self, length: u64) -> bool {
+        match *self {
+            Wanted::Exactly(wanted) => u128::from(length) == wanted,
+            Wanted::MultipleOf(bytes) => length % bytes == 0,
+        }
+    }
+}
+
+/// Of a type without ratio: numbers of its dtype.
+fn whole_numbers(object: &Object, at: usize) -> Wanted {
+    Wanted::MultipleOf(types::DTYPES[object.components[at].dtype].1)
 }

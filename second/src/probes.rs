@@ -29,6 +29,7 @@ pub fn files() -> Vec<Vec<u8>> {
     files.extend(FORMATS.iter().flat_map(|(format, roles)| {
         (0..=roles.len()).map(move |missing| format_without(format, roles, missing))
     }));
+    files.extend(unlisted());
     files.extend(
         [8, 9].map(|rank| one("dense", &vec![1; rank], &[("data", component("u8", 64, 1))])),
     );
@@ -39,6 +40,31 @@ pub fn files() -> Vec<Vec<u8>> {
     files.extend([16_777_216_u64, 16_777_217].map(sized));
     files.extend(UTF8_EDGES.iter().map(|name| called(name)));
     files.push(called(&(0..128).collect::<Vec<u8>>()));
+    files
+}
+
+/// A type that 01 doesn't list, in each format that has a length rule: whole numbers and one byte off.
+fn unlisted() -> Vec<Vec<u8>> {
+    let quad = |length| with(component("f16", 64, length), "type", Item::text("quad"));
+    let index = |length| component("u64", 64, length);
+    let mut files = Vec::new();
+    files.extend([0, 2, 24, 25].map(|length| one("dense", &[3], &[("data", quad(length))])));
+    files.extend([(6, 8, 24), (6, 9, 24), (7, 8, 24), (6, 8, 16)].map(
+        |(values, indices, indptr)| {
+            let parts = [
+                ("values", quad(values)),
+                ("indices", index(indices)),
+                ("indptr", index(indptr)),
+            ];
+            one("sparse_csr", &[2, 1], &parts)
+        },
+    ));
+    for shape in [&[][..], &[4]] {
+        files.extend([(6, 0), (6, 8), (6, 12), (7, 8)].map(|(values, coords)| {
+            let parts = [("values", quad(values)), ("coords", index(coords))];
+            one("sparse_coo", shape, &parts)
+        }));
+    }
     files
 }
 

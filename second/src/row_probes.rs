@@ -101,6 +101,14 @@ fn numbers() -> Vec<RowSet> {
     sets.extend([[0, 1, 0], [0, 1, 1], [1, 0, 0], [0, 0, 2]].map(|owners| {
         with(&[0, 1, 2].map(|component| (PARTS[component] + OWNER, owners[component])))
     }));
+    // "free" is no listed type, so that any whole number of f32 will do.
+    sets.extend([0, 4, 8, 6].map(|length| {
+        with(&[
+            (PARTS[2] + TYPE, 2),
+            (PARTS[2] + TYPE + 1, 4),
+            (PARTS[2] + BLOB + 1, length),
+        ])
+    }));
     sets.push(with(&[
         (FIRST + COUNT, 1),
         (SECOND + COUNT, 2),

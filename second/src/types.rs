@@ -48,12 +48,13 @@ pub fn listed_type(text: &[u8]) -> Option<&'static Listed> {
     LISTED.iter().find(|listed| listed.name.as_bytes() == text)
 }
 
-/// Bytes of one logical element: ratio × width. Any other type, or none, has ratio 1.
-pub fn element_bytes(dtype: usize, logical: Option<&[u8]>) -> u64 {
-    let ratio = logical
-        .and_then(listed_type)
-        .map_or(1, |listed| listed.ratio);
-    ratio * DTYPES[dtype].1
+/// Bytes of one logical element: ratio × width. Without a type the ratio is 1; a type that 01 doesn't list has none (02, Req 03).
+pub fn element_bytes(dtype: usize, logical: Option<&[u8]>) -> Option<u64> {
+    let ratio = match logical {
+        Some(text) => listed_type(text)?.ratio,
+        None => 1,
+    };
+    Some(ratio * DTYPES[dtype].1)
 }
 
 #[derive(Clone, Copy, Debug, PartialEq, Eq)]

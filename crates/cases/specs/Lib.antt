@@ -1,2 +1,3 @@
 pub mod Files
 pub mod Table
+pub mod Unlisted

@@ -1,5 +1,5 @@
 -- The logical type of a component that passes, and its digest: none, or a text that stands in the component's bytes c.
-use Prim.Native.Nat.{ℕ, suc, _*_}
+use Prim.Native.Nat.{ℕ, suc}
 use mathlib.Core.List.{List}
 use mathlib.Core.Option.{Option, none, some}
 use mathlib.Core.Path.{_≡_}
@@ -9,8 +9,9 @@ use Rattle.meaning.specs.Check.{pass}
 use Rattle.meaning.specs.Model.{Word, Component}
 use Rattle.meaning.specs.Kind.{aWord}
 use Rattle.meaning.specs.Types.{ratioOf, widthOf, listed, logicals}
-use Rattle.meaning.specs.Format.{unit}
 use Rattle.meaning.specs.Judge.{part}
+use Rattle.types.specs.Known.{unitNumber}
+use Rattle.formats.specs.Parts.{unitCode}
 use Rattle.walk.specs.Reading.{Ends}
 use Rattle.walk.specs.Places.{Whatever}
 use Rattle.fields.specs.Slots.{Holds}
@@ -20,10 +21,10 @@ pub data WordAt (c : List ℕ) (o : Option (Word Ends)) : Type 0 where
   bare : o ≡ none → WordAt c o
   lettered : (w : Word Ends) → o ≡ some w → (d : ℕ) (t : Node Ends) → Holds (suc d) c (length (w .note .start)) (some t) → aWord t ≡ pass w → WordAt c o
 
--- bytes of one element, over the storage with this code, of the logical type that begins s
+-- bytes of one element, as `types::unit_of` gives them, over the storage with this code, of the logical type that begins s
 abbrev pub SpeltUnit : List ℕ → ℕ → ℕ → Type 0
-SpeltUnit s code r = Whatever s λ d t q. (w : Word Ends) → aWord t ≡ pass w → r ≡ ratioOf (listed logicals (w .letters)) * widthOf code
+SpeltUnit s code r = Whatever s λ d t q. (w : Word Ends) → aWord t ≡ pass w → r ≡ unitNumber (ratioOf (listed logicals (w .letters))) (widthOf code)
 
 -- the same of a component in c, whose type has `left` bytes left, 0 for none
 abbrev pub UnitIs : List ℕ → ℕ → ℕ → ℕ → Type 0
-UnitIs c code left r = (k : Component Ends) → WordAt c (k .type) → k .dtype ≡ code → leftWord (k .type) ≡ left → r ≡ unit (part k)
+UnitIs c code left r = (k : Component Ends) → WordAt c (k .type) → k .dtype ≡ code → leftWord (k .type) ≡ left → r ≡ unitCode (part k)

@@ -9,7 +9,7 @@ ghost use Rattle.formats.specs.Parts.{flag};
 ghost use Rattle.components.specs.Typed as is;
 ghost use Rattle.components.specs.Row.{putRow, RoleIs};
 
-// Bytes of one element of the logical type that begins s.
+// Bytes of one element of the logical type that begins s, as types::unit_of has them.
 fn spelt_unit(s: &[u8], code: u64) -> u64
     ensures { λ r. ⌜ is.SpeltUnit (now (s .entry)) code r ⌝ }
 {

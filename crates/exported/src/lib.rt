@@ -141,7 +141,7 @@ pub extern "C" fn leaf_type_fits(k: &[u8], code: u64) -> bool
 
 #[no_mangle]
 pub extern "C" fn leaf_ratio_of(k: &[u8]) -> u64
-    ensures { λ r. ⌜ r ≡ types.ratioOf (types.listed types.logicals (now (k .entry))) ⌝ }
+    ensures { λ r. ⌜ r ≡ known.codeOr 0 (types.ratioOf (types.listed types.logicals (now (k .entry)))) ⌝ }
 {
     types::ratio_of(k)
 }

@@ -7,12 +7,12 @@ use mathlib.Core.Path.{_≡_, refl, ap, _∙_}
 use lib.ListN.{length, take, drop, getD}
 use lib.Dec.{eqb}
 use Rattle.meaning.specs.Types.{u64, typeRatio, widthOf, ratioOf, listed, logicals}
-use Rattle.meaning.specs.Format.{Part, unit, untyped, plain}
+use Rattle.meaning.specs.Format.{Part, untyped, plain}
 use Rattle.meaning.specs.Read.{Span}
 use Rattle.meaning.specs.Asked.{eachRow, askedComponent, presentAt}
 use Rattle.meaning.specs.Described.{describedComponent}
-use Rattle.types.specs.Known.{position, roleNames}
-use Rattle.formats.specs.Parts.{flag, partRow, partRows}
+use Rattle.types.specs.Known.{position, roleNames, unitNumber}
+use Rattle.formats.specs.Parts.{flag, unitCode, partRow, partRows}
 use Rattle.components.specs.Row.{putRow}
 use Rattle.components.proofs.Rows.{row-length, row-after}
 use Rattle.naming.proofs.Noting.{map-snoc}
@@ -25,12 +25,12 @@ module _ (buffer : List ℕ) (place size : ℕ) where
   abbrev range : Span
   range = record { place = place; size = size }
 
-  pub untyped-unit : (code : ℕ) → (eqb place 0 && eqb size 0) ≡ true → widthOf code ≡ typeRatio (presentAt buffer range) * widthOf code
-  unfolding typeRatio
+  pub untyped-unit : (code : ℕ) → (eqb place 0 && eqb size 0) ≡ true → widthOf code ≡ unitNumber (typeRatio (presentAt buffer range)) (widthOf code)
+  unfolding typeRatio unitNumber
   untyped-unit code e = rw (nothing-there buffer place size e) (omega arith)
 
   pub typed-unit : (code : ℕ) → (eqb place 0 && eqb size 0) ≡ false
-      → ratioOf (listed logicals (take size (drop place buffer))) * widthOf code ≡ typeRatio (presentAt buffer range) * widthOf code
+      → unitNumber (ratioOf (listed logicals (take size (drop place buffer)))) (widthOf code) ≡ unitNumber (typeRatio (presentAt buffer range)) (widthOf code)
   unfolding typeRatio
   typed-unit code e = rw (something-there buffer place size e) refl
 
@@ -50,10 +50,10 @@ module _ (buffer row : List ℕ) where
   typeless = eqb (getD row 3 0) 0 && eqb (getD row 4 0) 0
 
   pub part-put : (out : List ℕ) (j a b c d : ℕ) → a ≡ position roleNames (take (getD row 1 0) (drop (getD row 0 0) buffer))
-      → b ≡ typeRatio (presentAt buffer (record { place = getD row 3 0; size = getD row 4 0 })) * widthOf (getD row 2 0)
+      → b ≡ unitNumber (typeRatio (presentAt buffer (record { place = getD row 3 0; size = getD row 4 0 }))) (widthOf (getD row 2 0))
       → c ≡ flag (eqb (getD row 2 0) 8 && typeless) → d ≡ length (take (getD row 6 0) (drop (getD row 5 0) buffer))
       → putRow out j a b c d ≡ putPart out j thePart
-  unfolding partOf describedComponent askedComponent unit plain u64
+  unfolding partOf describedComponent askedComponent unitCode plain u64
   part-put out j a b c d ea eb ec ed = rw (ea, eb, ec, ed, no-type buffer (getD row 3 0) (getD row 4 0)) refl
 
 parts-snoc : (ps : List Part) (p : Part) → partRows (ps ++ p ∷ []) ≡ partRows ps ++ partRow p
@@ -84,11 +84,11 @@ module _ (buffer rows : List ℕ) (j : ℕ) where
     put-this = put ∙ ap (λ (row : List ℕ). putPart out j (thePart buffer row)) is
 
     pub still-room : length out′ ≡ 64
-    still-room = ap length put-this ∙ row-length out room j (position roleNames (this .called)) (unit this) (flag (plain this)) (this .size)
+    still-room = ap length put-this ∙ row-length out room j (position roleNames (this .called)) (unitCode this) (flag (plain this)) (this .size)
 
     pub parts-next : j < 16 → take (4 * j) out ≡ partRows (partsOf buffer j rows) → take (4 * (j + 1)) out′ ≡ partRows (partsOf buffer (j + 1) rows)
     unfolding partRow
     parts-next few h =
         let z : 4 * (j + 1) ≡ 4 * suc j = omega arith in
         rw (put-this, z, one-part-more, parts-snoc (partsOf buffer j rows) this, ← h)
-        (row-after out room j (position roleNames (this .called)) (unit this) (flag (plain this)) (this .size) few)
+        (row-after out room j (position roleNames (this .called)) (unitCode this) (flag (plain this)) (this .size) few)

@@ -13,6 +13,7 @@ ghost use mathlib.Core.Bool.{_&&_};
 ghost use lib.ListN.{length, take, getD};
 ghost use lib.Dec.{eqb};
 ghost use Rattle.meaning.specs.Types.{typeRatio, widthOf};
+ghost use Rattle.types.specs.Known.{unitNumber};
 ghost use Rattle.meaning.specs.Format.{formatRules};
 ghost use Rattle.meaning.specs.Asked.{eachRow, askedObject, askedComponent, presentAt};
 ghost use Rattle.meaning.specs.Described.{describedComponent, describedObject};
@@ -45,7 +46,7 @@ fn components(rows: &[u64], n: usize, buffer: &[u8]) -> Ruled
 
 // Bytes of one element: of a logical type, or none, over the storage with this code.
 fn unit(buffer: &[u8], place: u64, size: u64, code: u64) -> u64
-    ensures { λ r. ⌜ r ≡ typeRatio (presentAt (now (buffer .entry)) (record { place = place; size = size })) * widthOf code ⌝ }
+    ensures { λ r. ⌜ r ≡ unitNumber (typeRatio (presentAt (now (buffer .entry)) (record { place = place; size = size }))) (widthOf code) ⌝ }
 {
     if absent(place, size) {
         return types::width_of(code);

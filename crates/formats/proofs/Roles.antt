@@ -13,9 +13,9 @@ use borrow.Author.Tests.{eq-eqb, ne-eqb}
 use Rattle.meaning.specs.Check.{fault}
 use Rattle.meaning.specs.Refusal.{ROLE}
 use Rattle.meaning.specs.Text.{same}
-use Rattle.meaning.specs.Format.{Part, unit, plain, role}
+use Rattle.meaning.specs.Format.{Part, plain, role}
 use Rattle.types.specs.Known.{position, roleNames}
-use Rattle.formats.specs.Parts.{flag, partRow, partRows, roleName, RoleIs}
+use Rattle.formats.specs.Parts.{flag, unitCode, partRow, partRows, roleName, RoleIs}
 use Rattle.formats.specs.declared.Filled.the-variants.{Absent, At}
 use Rattle.types.proofs.Tell.{place-tells}
 
@@ -36,7 +36,7 @@ pub record Row (parts : List ℕ) (at : ℕ) (ds : List Part) : Type 0 where
   pub more : List Part
   pub are : ds ≡ this ∷ more
   pub code : getD parts at 0 ≡ position roleNames (this .called)
-  pub bytes : getD parts (at + 1) 0 ≡ unit this
+  pub bytes : getD parts (at + 1) 0 ≡ unitCode this
   pub bare : getD parts (at + 2) 0 ≡ flag (plain this)
   pub long : getD parts (at + 3) 0 ≡ this .size
   pub rest : drop (at + 4) parts ≡ partRows more

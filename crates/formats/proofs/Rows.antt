@@ -9,8 +9,9 @@ use native.Mathlib.Nat.{one-mul}
 use lib.ListN.{length}
 use lib.Dec.{eqb}
 use Rattle.meaning.specs.Types.{widthOf, u64, logicals, listed, ratioOf, typeRatio}
-use Rattle.meaning.specs.Format.{Part, unit, plain, untyped}
-use Rattle.formats.specs.Parts.{partRow, partRows}
+use Rattle.meaning.specs.Format.{Part, plain, untyped}
+use Rattle.types.specs.Known.{unitNumber}
+use Rattle.formats.specs.Parts.{unitCode, partRow, partRows}
 
 pub rows-length : (cs : List Part) → length (partRows cs) ≡ 4 * length cs
 unfolding partRows partRow
@@ -24,8 +25,8 @@ rows-more (c ∷ cs) ds = ap (λ l. partRow c ++ l) (rows-more cs ds) ∙ sym (a
 
 module _ (c : Part) where
   module _ (bare : c .typed ≡ none) where
-    pub unit-bare : unit c ≡ widthOf (c .code)
-    unfolding unit typeRatio
+    pub unit-bare : unitCode c ≡ widthOf (c .code)
+    unfolding unitCode typeRatio unitNumber
     unit-bare = rw bare (one-mul (widthOf (c .code)))
 
     pub plain-bare : plain c ≡ eqb (c .code) 8
@@ -37,8 +38,8 @@ module _ (c : Part) where
         go false = refl
 
   module _ (w : List ℕ) (typed : c .typed ≡ some w) where
-    pub unit-typed : unit c ≡ ratioOf (listed logicals w) * widthOf (c .code)
-    unfolding unit typeRatio
+    pub unit-typed : unitCode c ≡ unitNumber (ratioOf (listed logicals w)) (widthOf (c .code))
+    unfolding unitCode typeRatio
     unit-typed = rw typed
 
     pub plain-typed : plain c ≡ false

@@ -2,45 +2,92 @@
 use mathlib.Core.Path.{_≡_, refl, sym, ap, _∙_, subst}
 use mathlib.Core.List.{List, []}
 use mathlib.Core.Bool.{Bool, true, false}
-use Prim.Native.Nat.{ℕ, _+_, _-_, _*_, _/_, _%_, _<_}
+use mathlib.Core.Option.{Option, none, some}
+use Prim.Native.Nat.{ℕ, _+_, _-_, _*_, _/_, _%_, _≤_, _<_}
 use native.Mathlib.Omega.{arith}
+use native.Mathlib.Nat.{mul-le-mul}
 use lib.ListN.{length, getD, take, drop}
-use lib.Dec.{eqb}
-use borrow.Author.Tests.{eq-eqb, ne-eqb}
+use lib.Dec.{eqb, leb}
+use borrow.Author.Tests.{eq-eqb, ne-eqb, le-leb, lt-leb}
 use borrow.Rule.Slice.PartAt.{part-to-end}
 use Rattle.meaning.specs.Check.{Check, pass, _>>=_, _>>_, _unless_, inComponent}
 use Rattle.meaning.specs.Refusal.{LENGTH}
 use Rattle.meaning.specs.Text.{same}
-use Rattle.meaning.specs.Types.{product}
-use Rattle.meaning.specs.Format.{Part, unit, plain, indexRole, long, whole, dense, sparseCsr, sparseCoo, quantizedGroup, formatRules}
-use Rattle.types.specs.Known.{position, roleNames, formatNames}
-use Rattle.formats.specs.Parts.{flag, partRows, roleName, rulesOf, told, RoleIs, IndexIs, RoleThere, csrLengths, cooLengths}
+use Rattle.meaning.specs.Types.{widthOf, logicals, listed, ratioOf, typeRatio, product}
+use Rattle.meaning.specs.Format as format
+use Rattle.meaning.specs.Format.{Part, Role, elementBytes, unit, plain, indexRole, long, multiple, wholeOf, whole, indexed, dense, sparseCsr, sparseCoo, quantizedGroup, formatRules}
+use Rattle.types.specs.Known.{position, roleNames, formatNames, unitNumber}
+use Rattle.formats.specs.Parts.{flag, unitCode, partRows, roleName, rulesOf, told, RoleIs, IndexIs, RoleThere, denseFits, valuesFit, indexFits, csrLengths, cooLengths}
 use Rattle.formats.specs.declared.Ruled.{Ruled}
 use Rattle.formats.specs.declared.Ruled.the-variants.{Right, Wrong}
 use Rattle.formats.specs.declared.Filled.the-variants.{Absent, At}
 use Rattle.formats.specs.declared.Indexed.the-variants.{Odd, Plain}
 use Rattle.types.proofs.Tell.{place-tells}
+use Rattle.types.proofs.Codes.{Ratio, unlisted, between, ratio-is, width-most}
 
 -- ---------------------------------------------------------------- lengths
 
--- a test with its answer, over a count that was computed
-counted : (f : ℕ → Bool) (m n : ℕ) {t u : Bool} → m ≡ n → t ≡ f m → t ≡ u → f n ≡ u
-counted f m n e is h = ap f (sym e) ∙ sym is ∙ h
+-- a unit's code tells what a part's length is counted in: numbers of its dtype, or elements
+pub data Counts (c : Part) (u : ℕ) : Type 0 where
+  numbers : unit c ≡ none → leb 256 u ≡ true → u - 256 ≡ widthOf (c .code) → Counts c u
+  elements : unit c ≡ some u → leb 256 u ≡ false → Counts c u
 
-module _ (rows v u size x indices y pointers : ℕ) (a : Bool) (even : a ≡ eqb (size % u) 0) where
+pub counts : (c : Part) (u : ℕ) → u ≡ unitCode c → Counts c u
+unfolding unit elementBytes unitCode unitNumber typeRatio
+counts c u e = by (c .typed) refl
+  where
+    listed-as : (o : Option ℕ) → Ratio o → typeRatio (c .typed) ≡ o → u ≡ unitNumber o (widthOf (c .code)) → Counts c u
+    listed-as o unlisted t h = numbers (rw t) (le-leb 256 u (omega arith)) (omega arith)
+    listed-as o (between {r} a b) t h =
+        let m : r * widthOf (c .code) ≤ 16 = mul-le-mul b (width-most (c .code)) in
+        elements (rw (t, h)) (lt-leb 256 u (omega arith))
+
+    by : (o : Option (List ℕ)) → c .typed ≡ o → Counts c u
+    by none t = listed-as (some 1) (between (omega arith) (omega arith)) (rw t) (rw t at e)
+    by (some w) t = listed-as (ratioOf (listed logicals w)) (ratio-is w) (rw t) (rw t at e)
+
+-- the tests of lengths, where elements aren't counted and where they are
+module _ (u size : ℕ) {t : Bool} where
+  module _ (free : 256 ≤ u) where
+    pub dense-free : (shape : List ℕ) → t ≡ eqb (size % (u - 256)) 0 → t ≡ denseFits shape u size
+    unfolding denseFits
+    dense-free shape e = rw (le-leb 256 u free) e
+
+    pub values-free : t ≡ eqb (size % (u - 256)) 0 → t ≡ valuesFit u size
+    unfolding valuesFit
+    values-free e = rw (le-leb 256 u free) e
+
+    pub index-free : (each l : ℕ) → t ≡ eqb (l % 8) 0 → t ≡ indexFits u size each l
+    unfolding indexFits
+    index-free each l e = rw (le-leb 256 u free) e
+
+  module _ (counted : u < 256) where
+    pub dense-counted : (shape : List ℕ) → t ≡ eqb size (product (take (length shape - 0) (drop 0 shape)) * u) → t ≡ denseFits shape u size
+    unfolding denseFits
+    dense-counted shape e = rw (lt-leb 256 u counted) (rw (part-to-end shape 0) at e)
+
+    pub values-counted : t ≡ eqb (size % u) 0 → t ≡ valuesFit u size
+    unfolding valuesFit
+    values-counted e = rw (lt-leb 256 u counted) e
+
+    pub index-counted : (each l : ℕ) {m : ℕ} → m ≡ size / u → t ≡ eqb l (each * m) → t ≡ indexFits u size each l
+    unfolding indexFits
+    index-counted each l n e = rw (lt-leb 256 u counted) (rw n at e)
+
+module _ (rows v u size x indices y pointers : ℕ) {a : Bool} (even : a ≡ valuesFit u size) where
   pub csr-odd : a ≡ false → csrLengths rows v u size x indices y pointers ≡ told (Wrong 23 v)
   unfolding csrLengths
   csr-odd e = rw (sym even ∙ e)
 
-  module _ (ok : a ≡ true) (m : ℕ) (count : m ≡ size / u) (b : Bool) (fits : b ≡ eqb indices (8 * m)) where
+  module _ (ok : a ≡ true) {b : Bool} (fits : b ≡ indexFits u size 8 indices) where
     pub csr-indices : b ≡ false → csrLengths rows v u size x indices y pointers ≡ told (Wrong 23 x)
     unfolding csrLengths
-    csr-indices e = rw (sym even ∙ ok, counted (λ n. eqb indices (8 * n)) m (size / u) count fits e)
+    csr-indices e = rw (sym even ∙ ok, sym fits ∙ e)
 
-    module _ (ok2 : b ≡ true) (d : Bool) (rows-fit : d ≡ eqb pointers (8 * (rows + 1))) where
+    module _ (ok2 : b ≡ true) {d : Bool} (rows-fit : d ≡ eqb pointers (8 * (rows + 1))) where
       csr-both : {t : Bool} → d ≡ t → csrLengths rows v u size x indices y pointers ≡ inComponent y (LENGTH unless t)
       unfolding csrLengths
-      csr-both e = rw (sym even ∙ ok, counted (λ n. eqb indices (8 * n)) m (size / u) count fits ok2, sym rows-fit ∙ e)
+      csr-both e = rw (sym even ∙ ok, sym fits ∙ ok2, sym rows-fit ∙ e)
 
       pub csr-pointers : d ≡ false → csrLengths rows v u size x indices y pointers ≡ told (Wrong 23 y)
       csr-pointers e = csr-both e
@@ -48,15 +95,15 @@ module _ (rows v u size x indices y pointers : ℕ) (a : Bool) (even : a ≡ eqb
       pub csr-right : d ≡ true → csrLengths rows v u size x indices y pointers ≡ told Right
       csr-right e = csr-both e
 
-module _ (rank v u size x coords : ℕ) (a : Bool) (even : a ≡ eqb (size % u) 0) where
+module _ (rank v u size x coords : ℕ) {a : Bool} (even : a ≡ valuesFit u size) where
   pub coo-odd : a ≡ false → cooLengths rank v u size x coords ≡ told (Wrong 23 v)
   unfolding cooLengths
   coo-odd e = rw (sym even ∙ e)
 
-  module _ (ok : a ≡ true) (m : ℕ) (count : m ≡ size / u) (b : Bool) (fits : b ≡ eqb coords (8 * rank * m)) where
+  module _ (ok : a ≡ true) {b : Bool} (fits : b ≡ indexFits u size (8 * rank) coords) where
     coo-both : {t : Bool} → b ≡ t → cooLengths rank v u size x coords ≡ inComponent x (LENGTH unless t)
     unfolding cooLengths
-    coo-both e = rw (sym even ∙ ok, counted (λ n. eqb coords (8 * rank * n)) m (size / u) count fits e)
+    coo-both e = rw (sym even ∙ ok, sym fits ∙ e)
 
     pub coo-coords : b ≡ false → cooLengths rank v u size x coords ≡ told (Wrong 23 x)
     coo-coords e = coo-both e
@@ -108,12 +155,14 @@ module _ (shape : List ℕ) (cs : List Part) where
   unfolding dense roleName roleNames
   dense-absent h = rw h
 
-  module _ (i u p s : ℕ) (h : RoleIs (roleName 0) cs (At i u p s)) (t : Bool) (is : t ≡ eqb s (product (take (length shape - 0) (drop 0 shape)) * u)) where
+  module _ (i u p s : ℕ) (h : RoleIs (roleName 0) cs (At i u p s)) (t : Bool) (is : t ≡ denseFits (take (length shape - 0) (drop 0 shape)) u s) where
     dense-at : {o : Bool} → t ≡ o → dense shape cs ≡ inComponent i (LENGTH unless o)
-    unfolding dense long roleName roleNames
-    dense-at e =
-        let q : t ≡ eqb (h .0 .size) (product shape * unit (h .0)) = rw (h .4, h .2, part-to-end shape 0) at is in
-        rw (h .1, sym q, e)
+    unfolding dense format.elements long multiple roleName roleNames denseFits
+    dense-at e = go (counts (h .0) u (h .2)) (rw (h .4, part-to-end shape 0) at is) ∙ ap (λ t. inComponent i (LENGTH unless t)) e
+      where
+        go : Counts (h .0) u → t ≡ denseFits shape u (h .0 .size) → dense shape cs ≡ inComponent i (LENGTH unless t)
+        go (numbers n l w) q = rw (h .1, n, q, l, w)
+        go (elements n l) q = rw (h .1, n, q, l)
 
     pub dense-right : t ≡ true → dense shape cs ≡ told Right
     dense-right e = dense-at e
@@ -140,9 +189,22 @@ module _ (shape : List ℕ) (cs : List Part) where
       group-right h = rw (first .1, second .1, h .1)
 
 -- a count and what follows it
-after-whole : (t : Bool) (v n : ℕ) (k : ℕ → Check (Unit {0})) → ((inComponent v (LENGTH unless t) >> pass n) >>= k) ≡ (inComponent v (LENGTH unless t) >> k n)
+after-whole : (t : Bool) (v : ℕ) (n : Option ℕ) (k : Option ℕ → Check (Unit {0})) → ((inComponent v (LENGTH unless t) >> pass n) >>= k) ≡ (inComponent v (LENGTH unless t) >> k n)
 after-whole true v n k = refl
 after-whole false v n k = refl
+
+-- values, then their indices, by the code of the values' unit
+values-then : (K : Check (Unit {0}) → Check (Unit {0})) (r x : Role) (each u : ℕ) → u ≡ unitCode (r .part)
+    → (whole r >>= λ n. K (indexed x each n))
+    ≡ (inComponent (r .index) (LENGTH unless valuesFit u (r .part .size)) >> K (inComponent (x .index) (LENGTH unless indexFits u (r .part .size) each (x .part .size))))
+unfolding whole wholeOf multiple indexed long valuesFit indexFits
+values-then K r x each u e = go (counts (r .part) u e)
+  where
+    go : Counts (r .part) u
+        → (wholeOf r (unit (r .part)) >>= λ n. K (indexed x each n))
+        ≡ (inComponent (r .index) (LENGTH unless valuesFit u (r .part .size)) >> K (inComponent (x .index) (LENGTH unless indexFits u (r .part .size) each (x .part .size))))
+    go (numbers n l w) = rw (n, l, w) (after-whole (eqb (r .part .size % widthOf (r .part .code)) 0) (r .index) none (λ n. K (indexed x each n)))
+    go (elements n l) = rw (n, l) (after-whole (eqb (r .part .size % u) 0) (r .index) (some (r .part .size / u)) (λ n. K (indexed x each n)))
 
 module _ (shape : List ℕ) (cs : List Part) where
   pub csr-rank : (length shape ≡ 2 → ⊥) → sparseCsr shape cs ≡ told (Wrong 21 0)
@@ -165,11 +227,12 @@ module _ (shape : List ℕ) (cs : List Part) where
         csr-no-pointers j f = rw (eq-eqb (length shape) 2 two, h .1, g .1, f)
 
         pub csr-all : (y pointers : ℕ) (r : Ruled) → IndexIs (roleName 3) cs (Plain y pointers) → csrLengths (getD shape 0 0) v u s x indices y pointers ≡ told r → sparseCsr shape cs ≡ told r
-        unfolding sparseCsr csrLengths whole long roleName roleNames
+        unfolding sparseCsr csrLengths long roleName roleNames
         csr-all y pointers r f e =
-            let a : sparseCsr shape cs ≡ csrLengths (getD shape 0 0) v (unit (h .0)) (h .0 .size) x (g .0 .size) y (f .0 .size) =
-            rw (eq-eqb (length shape) 2 two, h .1, g .1, f .1) (after-whole (eqb (h .0 .size % unit (h .0)) 0) v (h .0 .size / unit (h .0)) _) in
-            a ∙ (rw (h .2, h .4, g .2, f .2) at e)
+            let a : sparseCsr shape cs ≡ csrLengths (getD shape 0 0) v u (h .0 .size) x (g .0 .size) y (f .0 .size) =
+            rw (eq-eqb (length shape) 2 two, h .1, g .1, f .1)
+            (values-then (λ c. c >> inComponent y (LENGTH unless eqb (f .0 .size) (8 * (getD shape 0 0 + 1)))) (record { index = v; part = h .0 }) (record { index = x; part = g .0 }) 8 u (h .2)) in
+            a ∙ (rw (h .4, g .2, f .2) at e)
 
   pub coo-no-values : RoleIs (roleName 1) cs Absent → sparseCoo shape cs ≡ told (Wrong 22 0)
   unfolding sparseCoo roleName roleNames
@@ -181,11 +244,11 @@ module _ (shape : List ℕ) (cs : List Part) where
     coo-no-coords j g = rw (h .1, g)
 
     pub coo-all : (x coords : ℕ) (r : Ruled) → IndexIs (roleName 4) cs (Plain x coords) → cooLengths (length shape) v u s x coords ≡ told r → sparseCoo shape cs ≡ told r
-    unfolding sparseCoo cooLengths whole long roleName roleNames
+    unfolding sparseCoo cooLengths roleName roleNames
     coo-all x coords r g e =
-        let a : sparseCoo shape cs ≡ cooLengths (length shape) v (unit (h .0)) (h .0 .size) x (g .0 .size) =
-        rw (h .1, g .1) (after-whole (eqb (h .0 .size % unit (h .0)) 0) v (h .0 .size / unit (h .0)) _) in
-        a ∙ (rw (h .2, h .4, g .2) at e)
+        let a : sparseCoo shape cs ≡ cooLengths (length shape) v u (h .0 .size) x (g .0 .size) =
+        rw (h .1, g .1) (values-then (λ c. c) (record { index = v; part = h .0 }) (record { index = x; part = g .0 }) (8 * length shape) u (h .2)) in
+        a ∙ (rw (h .4, g .2) at e)
 
 -- ---------------------------------------------------------------- the format's own code
 

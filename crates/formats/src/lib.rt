@@ -1,11 +1,11 @@
 // What a format asks of an object's components: RANK, ROLE and LENGTH of document 01. A component is a row of four numbers: the code of
-// its role (types::role_code), the bytes of one element (types::unit_of), 1 for plain u64 or else 0, and its length.
+// its role (types::role_code), the bytes of one element (types::unit_of: 256 and those of one number where elements aren't counted), 1 for plain u64 or else 0, and its length.
 ghost use mathlib.Core.Path.{_≡_};
 ghost use mathlib.Core.List.{List};
-ghost use Prim.Native.Nat.{ℕ, _<_};
+ghost use Prim.Native.Nat.{ℕ, _<_, _*_};
 ghost use Rattle.types.specs.Known.{position, formatNames};
 ghost use Rattle.meaning.specs.Format as format;
-ghost use Rattle.formats.specs.Parts.{partRows, roleName, RoleIs, IndexIs, RoleThere, told, csrLengths, cooLengths};
+ghost use Rattle.formats.specs.Parts.{partRows, roleName, RoleIs, IndexIs, RoleThere, told, denseFits, valuesFit, indexFits, csrLengths, cooLengths};
 
 // Whether the rules hold, or the number of the first that doesn't and the component's index.
 pub enum Ruled {
@@ -58,6 +58,46 @@ fn index_role(parts: &[u64], code: u64) -> Indexed
     }
 }
 
+// Data of this shape may have this length.
+fn dense_fits(shape: &[u64], unit: u64, stored: u64) -> bool
+    ensures { λ r. ⌜ r ≡ denseFits (now (shape .entry)) unit stored ⌝ }
+{
+    if 256 <= unit {
+        return lengths::is_whole(stored, unit - 256);
+    }
+    lengths::dense_length(stored, &shape[0..], unit)
+}
+
+// Values may have this length.
+fn values_fit(unit: u64, size: u64) -> bool
+    ensures { λ r. ⌜ r ≡ valuesFit unit size ⌝ }
+{
+    if 256 <= unit {
+        return lengths::is_whole(size, unit - 256);
+    }
+    lengths::is_whole(size, unit)
+}
+
+// The indices of values of `size` bytes may have this length.
+fn indices_fit(unit: u64, size: u64, indices: u64) -> bool
+    ensures { λ r. ⌜ r ≡ indexFits unit size 8 indices ⌝ }
+{
+    if 256 <= unit {
+        return lengths::is_whole(indices, 8);
+    }
+    lengths::is_product(indices, 8, lengths::count_of(size, unit))
+}
+
+// The coordinates, of this rank, of values of `size` bytes may have this length.
+fn coords_fit(unit: u64, size: u64, rank: u64, coords: u64) -> bool
+    ensures { λ r. ⌜ r ≡ indexFits unit size (8 * rank) coords ⌝ }
+{
+    if 256 <= unit {
+        return lengths::is_whole(coords, 8);
+    }
+    lengths::coordinate_length(coords, rank, lengths::count_of(size, unit))
+}
+
 // dense: the role data, and its length.
 fn dense(shape: &[u64], parts: &[u64]) -> Ruled
     ensures { λ r. ⌜ ((cs : List format.Part) → now (parts .entry) ≡ partRows cs → format.dense (now (shape .entry)) cs ≡ told r) ⌝ }
@@ -65,7 +105,7 @@ fn dense(shape: &[u64], parts: &[u64]) -> Ruled
     match role_of(&parts[0..], 0) {
         Filled::Absent => Ruled::Wrong(22, 0),
         Filled::At(i, unit, _, size) => {
-            if lengths::dense_length(size, &shape[0..], unit) {
+            if dense_fits(&shape[0..], unit, size) {
                 return Ruled::Right;
             }
             Ruled::Wrong(23, i)
@@ -86,10 +126,10 @@ fn csr_lengths(
 ) -> Ruled
     ensures { λ r. ⌜ csrLengths rows v unit size x indices y pointers ≡ told r ⌝ }
 {
-    if !lengths::is_whole(size, unit) {
+    if !values_fit(unit, size) {
         return Ruled::Wrong(23, v);
     }
-    if !lengths::is_product(indices, 8, lengths::count_of(size, unit)) {
+    if !indices_fit(unit, size, indices) {
         return Ruled::Wrong(23, x);
     }
     if !lengths::pointer_length(pointers, rows) {
@@ -130,10 +170,10 @@ fn sparse_csr(shape: &[u64], parts: &[u64]) -> Ruled
 fn coo_lengths(rank: u64, v: usize, unit: u64, size: u64, x: usize, coords: u64) -> Ruled
     ensures { λ r. ⌜ cooLengths rank v unit size x coords ≡ told r ⌝ }
 {
-    if !lengths::is_whole(size, unit) {
+    if !values_fit(unit, size) {
         return Ruled::Wrong(23, v);
     }
-    if !lengths::coordinate_length(coords, rank, lengths::count_of(size, unit)) {
+    if !coords_fit(unit, size, rank, coords) {
         return Ruled::Wrong(23, x);
     }
     Ruled::Right

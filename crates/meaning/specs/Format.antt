@@ -23,8 +23,12 @@ pub record Role : Type 0 where
   pub part : Part
 
 -- bytes of one element: ratio × width
-unfoldable pub unit : Part → ℕ
-unit c = typeRatio (c .typed) * widthOf (c .code)
+unfoldable pub elementBytes : ℕ → Option ℕ → Option ℕ
+elementBytes width none = none
+elementBytes width (some ratio) = some (ratio * width)
+
+unfoldable pub unit : Part → Option ℕ
+unit c = elementBytes (widthOf (c .code)) (typeRatio (c .typed))
 
 unfoldable pub role : List ℕ → ℕ → List Part → Check Role
 role n i [] = fault ROLE
@@ -47,16 +51,35 @@ indexRole n cs = do
 unfoldable pub long : Role → ℕ → Check (Unit {0})
 long r n = inComponent (r .index) (LENGTH unless eqb (r .part .size) n)
 
+unfoldable pub multiple : Role → ℕ → Check (Unit {0})
+multiple r n = inComponent (r .index) (LENGTH unless eqb (r .part .size % n) 0)
+
+-- what a length has to be is said over the bytes of one element; where there is no ratio (02, Req 03), a whole multiple of the dtype's width will do
+unfoldable pub elements : Role → ℕ → Option ℕ → Check (Unit {0})
+elements r n none = multiple r (widthOf (r .part .code))
+elements r n (some u) = long r (n * u)
+
 -- the number of elements, without remainder
-unfoldable pub whole : Role → Check ℕ
-whole r = do
-  inComponent (r .index) (LENGTH unless eqb (r .part .size % unit (r .part)) 0)
-  pass (r .part .size / unit (r .part))
+unfoldable pub wholeOf : Role → Option ℕ → Check (Option ℕ)
+wholeOf r none = do
+  multiple r (widthOf (r .part .code))
+  pass none
+wholeOf r (some u) = do
+  multiple r u
+  pass (some (r .part .size / u))
+
+unfoldable pub whole : Role → Check (Option ℕ)
+whole r = wholeOf r (unit (r .part))
+
+-- index numbers, so many bytes for each element; where these aren't counted, whole ones
+unfoldable pub indexed : Role → ℕ → Option ℕ → Check (Unit {0})
+indexed r each none = multiple r 8
+indexed r each (some n) = long r (each * n)
 
 unfoldable pub dense : List ℕ → List Part → Check (Unit {0})
 dense shape cs = do
   d ← role (ascii "data") 0 cs
-  long d (product shape * unit (d .part))
+  elements d (product shape) (unit (d .part))
 
 unfoldable pub sparseCsr : List ℕ → List Part → Check (Unit {0})
 sparseCsr shape cs = do
@@ -65,7 +88,7 @@ sparseCsr shape cs = do
   indices ← indexRole (ascii "indices") cs
   indptr ← indexRole (ascii "indptr") cs
   n ← whole values
-  long indices (8 * n)
+  indexed indices 8 n
   long indptr (8 * (getD shape 0 0 + 1))
 
 unfoldable pub sparseCoo : List ℕ → List Part → Check (Unit {0})
@@ -73,7 +96,7 @@ sparseCoo shape cs = do
   values ← role (ascii "values") 0 cs
   coords ← indexRole (ascii "coords") cs
   n ← whole values
-  long coords (8 * length shape * n)
+  indexed coords (8 * length shape) n
 
 unfoldable pub quantizedGroup : List ℕ → List Part → Check (Unit {0})
 quantizedGroup shape cs = do

@@ -68,12 +68,14 @@ unfoldable pub fitsOver : ℕ → Option Logical → Bool
 fitsOver d none = true
 fitsOver d (some l) = eqb (l .needs) d
 
-unfoldable pub ratioOf : Option Logical → ℕ
-ratioOf none = 1
-ratioOf (some l) = l .ratio
+-- a type that is not listed has no ratio (02, Req 03)
+unfoldable pub ratioOf : Option Logical → Option ℕ
+ratioOf none = none
+ratioOf (some l) = some (l .ratio)
 
-unfoldable pub typeRatio : Option (List ℕ) → ℕ
-typeRatio none = 1
+-- without a type, a number is an element
+unfoldable pub typeRatio : Option (List ℕ) → Option ℕ
+typeRatio none = some 1
 typeRatio (some w) = ratioOf (listed logicals w)
 
 -- the product of a shape, exact; 1 for an empty one

@@ -14,7 +14,7 @@ use Rattle.meaning.specs.Text.{same, all}
 use Rattle.meaning.specs.Types.{Storage, storages, codeFrom, storageOf, widthOf, Logical, logicals, listed, fitsOver, ratioOf}
 use Rattle.types.specs.Row.{digitOf}
 use Rattle.types.proofs.Tagged.{both-left, both-right}
-use Rattle.types.specs.Known.{position, codeOr, dtypeCode, storageNames, logicalNames}
+use Rattle.types.specs.Known.{position, codeOr, unitNumber, dtypeCode, storageNames, logicalNames}
 
 pub position-most : (ns : List (List ℕ)) (k : List ℕ) → position ns k ≤ length ns
 unfolding position
@@ -140,8 +140,8 @@ module _ (k : List ℕ) (i : ℕ) (is : i ≡ position logicalNames (take (lengt
     unfolding fitsOver
     fits-in c = rw listed-in (ap (λ (n : ℕ). eqb n c) (List·getD-map (λ l. l .needs) logicals i d))
 
-    pub ratio-in : getD (map (λ l. l .ratio) logicals) i (d .ratio) ≡ ratioOf (listed logicals k)
-    unfolding ratioOf
+    pub ratio-in : getD (map (λ l. l .ratio) logicals) i (d .ratio) ≡ codeOr 0 (ratioOf (listed logicals k))
+    unfolding ratioOf codeOr
     ratio-in = rw listed-in (List·getD-map (λ l. l .ratio) logicals i d)
 
   module _ (no-type : length logicals ≤ i) where
@@ -152,8 +152,8 @@ module _ (k : List ℕ) (i : ℕ) (is : i ≡ position logicalNames (take (lengt
     unfolding fitsOver
     fits-out c = rw listed-out
 
-    pub ratio-out : 1 ≡ ratioOf (listed logicals k)
-    unfolding ratioOf
+    pub ratio-out : 0 ≡ codeOr 0 (ratioOf (listed logicals k))
+    unfolding ratioOf codeOr
     ratio-out = rw listed-out
 
 -- ---------------------------------------------------------------- bounds, by a test of each table
@@ -167,23 +167,52 @@ pub width-most : (c : ℕ) → widthOf c ≤ 8
 unfolding storages
 width-most c = rw (width-is c) at (most 8 (map (λ s. s .width) storages) c refl)
 
-ratio-in-list : (k : List ℕ) (ls : List Logical) → all (λ l. leb (l .ratio) 2) ls ≡ true → ratioOf (listed ls k) ≤ 2
+-- a ratio that there is is 1 or 2
+pub data Ratio : Option ℕ → Type 0 where
+  unlisted : Ratio none
+  between : {r : ℕ} → 1 ≤ r → r ≤ 2 → Ratio (some r)
+
+ratio-in-list : (k : List ℕ) (ls : List Logical) → all (λ l. leb 1 (l .ratio) && leb (l .ratio) 2) ls ≡ true → Ratio (ratioOf (listed ls k))
 unfolding listed ratioOf
-ratio-in-list k [] e = omega arith
-ratio-in-list k (l ∷ ls) e =
-    pick (same (l .called) k) (leb-true (l .ratio) 2 (both-left (leb (l .ratio) 2) _ e)) (ratio-in-list k ls (both-right (leb (l .ratio) 2) _ e))
+ratio-in-list k [] e = unlisted
+ratio-in-list k (l ∷ ls) e = pick (same (l .called) k) (both-left (leb 1 (l .ratio) && leb (l .ratio) 2) _ e) (ratio-in-list k ls (both-right (leb 1 (l .ratio) && leb (l .ratio) 2) _ e))
   where
-    pick : (t : Bool) → l .ratio ≤ 2 → ratioOf (listed ls k) ≤ 2 → ratioOf (cond t (some l) (listed ls k)) ≤ 2
-    pick true a b = a
+    pick : (t : Bool) → (leb 1 (l .ratio) && leb (l .ratio) 2) ≡ true → Ratio (ratioOf (listed ls k)) → Ratio (ratioOf (cond t (some l) (listed ls k)))
+    pick true a b = between (leb-true 1 (l .ratio) (both-left _ (leb (l .ratio) 2) a)) (leb-true (l .ratio) 2 (both-right (leb 1 (l .ratio)) _ a))
     pick false a b = b
 
-pub ratio-most : (k : List ℕ) → ratioOf (listed logicals k) ≤ 2
+pub ratio-is : (k : List ℕ) → Ratio (ratioOf (listed logicals k))
 unfolding logicals
-ratio-most k = ratio-in-list k logicals refl
+ratio-is k = ratio-in-list k logicals refl
 
-module _ (k : List ℕ) (c r w : ℕ) (a : r ≡ ratioOf (listed logicals (take (length k - 0) (drop 0 k)))) (b : w ≡ widthOf c) where
+-- the answer of `unit_of`, from a ratio r, 0 for none, and a width
+module _ (k : List ℕ) (c r w : ℕ) (a : r ≡ codeOr 0 (ratioOf (listed logicals (take (length k - 0) (drop 0 k))))) (b : w ≡ widthOf c) where
+  pub width-small : w ≤ 8
+  width-small = rw b (width-most c)
+
+  ratio-here : r ≡ codeOr 0 (ratioOf (listed logicals k))
+  ratio-here = a ∙ ap (λ k. codeOr 0 (ratioOf (listed logicals k))) (part-to-end k 0)
+
   pub unit-most : r * w ≤ 16
-  unit-most = let x : r ≤ 2 = rw a (ratio-most _) in let y : w ≤ 8 = rw b (width-most c) in mul-le-mul x y
+  unfolding codeOr
+  unit-most = mul-le-mul (go (ratioOf (listed logicals k)) (ratio-is k) ratio-here) width-small
+    where
+      go : (o : Option ℕ) → Ratio o → r ≡ codeOr 0 o → r ≤ 2
+      go o unlisted e = omega arith
+      go o (between l h) e = omega arith
 
-  pub unit-is : r * w ≡ ratioOf (listed logicals k) * widthOf c
-  unit-is = rw (a, b, part-to-end k 0)
+  pub unit-unlisted : r ≡ 0 → 256 + w ≡ unitNumber (ratioOf (listed logicals k)) (widthOf c)
+  unfolding unitNumber codeOr
+  unit-unlisted z = rw (← b) (go (ratioOf (listed logicals k)) (ratio-is k) ratio-here)
+    where
+      go : (o : Option ℕ) → Ratio o → r ≡ codeOr 0 o → 256 + w ≡ unitNumber o w
+      go o unlisted e = refl
+      go o (between l h) e = absurd (omega arith)
+
+  pub unit-listed : (r ≡ 0 → ⊥) → r * w ≡ unitNumber (ratioOf (listed logicals k)) (widthOf c)
+  unfolding unitNumber codeOr
+  unit-listed n = rw (← b) (go (ratioOf (listed logicals k)) (ratio-is k) ratio-here)
+    where
+      go : (o : Option ℕ) → Ratio o → r ≡ codeOr 0 o → r * w ≡ unitNumber o w
+      go o unlisted e = absurd (n e)
+      go o (between l h) e = ap (λ (n : ℕ). n * w) e

@@ -1,5 +1,5 @@
 -- The codes that texts name, by their place in a list: fields, storage types, formats, roles. What the public contracts cite.
-use Prim.Native.Nat.{ℕ, suc}
+use Prim.Native.Nat.{ℕ, suc, _+_, _*_}
 use mathlib.Core.List.{List, [], _∷_, map}
 use mathlib.Core.Bool.{cond}
 use mathlib.Core.Option.{Option, none, some}
@@ -15,6 +15,11 @@ position (n ∷ ns) k = let r = position ns k in cond (same n k) 0 (suc r)
 unfoldable pub codeOr : ℕ → Option ℕ → ℕ
 codeOr n none = n
 codeOr n (some c) = c
+
+-- bytes of one element, as a number: 256 and the bytes of one number where there is no ratio
+unfoldable pub unitNumber : Option ℕ → ℕ → ℕ
+unitNumber none width = 256 + width
+unitNumber (some ratio) width = ratio * width
 
 -- the storage that is named, 13 for none
 unfoldable pub dtypeCode : List ℕ → ℕ

@@ -4,7 +4,6 @@ mod row;
 mod tables;
 
 ghost use mathlib.Core.Path.{_≡_};
-ghost use Prim.Native.Nat.{_*_};
 ghost use Rattle.types.specs.Known as known;
 ghost use Rattle.meaning.specs.Field as field;
 ghost use Rattle.meaning.specs.Text as text;
@@ -79,22 +78,27 @@ pub fn type_fits(k: &[u8], code: u64) -> bool
     true
 }
 
-// The numbers that stand for one element of the logical type k.
+// The numbers that stand for one element of the logical type k, 0 for one that is not listed.
 pub fn ratio_of(k: &[u8]) -> u64
-    ensures { λ r. ⌜ r ≡ types.ratioOf (types.listed types.logicals (now (k .entry))) ⌝ }
+    ensures { λ r. ⌜ r ≡ known.codeOr 0 (types.ratioOf (types.listed types.logicals (now (k .entry)))) ⌝ }
 {
     let i = logical_index(&k[0..]);
     if i < 6 {
         return row::digit(tables::RATIO, i as u64);
     }
-    1
+    0
 }
 
-// The bytes of one element of the logical type k over the storage with this code.
+// The bytes of one element of the logical type k over the storage with this code; 256 and its width if k is not listed, so that elements aren't counted.
 pub fn unit_of(k: &[u8], code: u64) -> u64
-    ensures { λ r. ⌜ r ≡ types.ratioOf (types.listed types.logicals (now (k .entry))) * types.widthOf code ⌝ }
+    ensures { λ r. ⌜ r ≡ known.unitNumber (types.ratioOf (types.listed types.logicals (now (k .entry)))) (types.widthOf code) ⌝ }
 {
-    ratio_of(&k[0..]) * width_of(code)
+    let r = ratio_of(&k[0..]);
+    let w = width_of(code);
+    if r == 0 {
+        return 256 + w;
+    }
+    r * w
 }
 
 // 0 dense, 1 sparse_csr, 2 sparse_coo, 3 quantized_group, 4 any other format.

@@ -113,7 +113,7 @@ fn names() {
         let listed = types::listed_type(&text);
         let code = code(&mut rng);
         let fits = listed.is_none_or(|listed| listed.dtype as u64 == code);
-        let ratio = listed.map_or(1, |listed| listed.ratio);
+        let ratio = listed.map_or(0, |listed| listed.ratio);
         let name = listed.map_or("other", |listed| listed.name);
         let proved = (against::type_fits(&text, code), against::ratio_of(&text));
         let label = format!("{name} {} {ratio}", yes_or_no(fits));
@@ -343,6 +343,7 @@ impl Part {
     /// With so many elements.
     fn of(self, count: u64) -> Part {
         let unit = types::element_bytes(self.dtype, self.logical.map(str::as_bytes));
+        let unit = unit.unwrap_or(DTYPES[self.dtype].1);
         Part {
             length: unit.wrapping_mul(count),
             ..self
@@ -350,11 +351,17 @@ impl Part {
     }
 
     fn row(&self) -> [u64; 4] {
-        let ratio = against::ratio_of(self.logical.unwrap_or("").as_bytes());
+        let width = against::width_of(self.dtype as u64);
+        let unit = match self.logical.map(|text| against::ratio_of(text.as_bytes())) {
+            None => width,
+            // No ratio: elements aren't counted.
+            Some(0) => 256 + width,
+            Some(ratio) => ratio * width,
+        };
         let plain = self.dtype == U64 && self.logical.is_none();
         [
             against::role_code(self.role.as_bytes()),
-            ratio * against::width_of(self.dtype as u64),
+            unit,
             plain.into(),
             self.length,
         ]

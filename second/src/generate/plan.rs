@@ -179,7 +179,10 @@ fn dense(rng: &mut Rng) -> ObjectPlan {
         _ => (0..rng.index(4)).map(|_| rng.below(6)).collect(),
     };
     rng.shuffle(&mut shape);
-    let element = types::element_bytes(data.dtype, data.logical.as_deref());
+    let Some(element) = types::element_bytes(data.dtype, data.logical.as_deref()) else {
+        data.length = uncounted(rng, data.dtype);
+        return with_components(shape, "dense", vec![data]);
+    };
     let mut length = types::product(&shape).saturating_mul(u128::from(element));
     if length > u128::from(LARGEST_BLOB) {
         shape = vec![1; shape.len()];
@@ -192,9 +195,11 @@ fn dense(rng: &mut Rng) -> ObjectPlan {
 fn sparse_csr(rng: &mut Rng) -> ObjectPlan {
     let rows = rng.below(4);
     let n = rng.below(4);
+    let values = values(rng, n);
+    let indices = indexed(rng, &values, 8 * n);
     let components = vec![
-        values(rng, n),
-        index_role("indices", 8 * n),
+        values,
+        index_role("indices", indices),
         index_role("indptr", 8 * (rows + 1)),
     ];
     with_components(vec![rows, rng.any_size()], "sparse_csr", components)
@@ -203,8 +208,9 @@ fn sparse_csr(rng: &mut Rng) -> ObjectPlan {
 fn sparse_coo(rng: &mut Rng) -> ObjectPlan {
     let shape = any_shape(rng);
     let n = rng.below(4);
-    let coords = index_role("coords", 8 * shape.len() as u64 * n);
-    let components = vec![values(rng, n), coords];
+    let values = values(rng, n);
+    let coords = indexed(rng, &values, 8 * shape.len() as u64 * n);
+    let components = vec![values, index_role("coords", coords)];
     with_components(shape, "sparse_coo", components)
 }
 
@@ -224,8 +230,24 @@ fn with_components(shape: Vec<u64>, format: &str, components: Vec<ComponentPlan>
 
 fn values(rng: &mut Rng, n: u64) -> ComponentPlan {
     let values = component(rng, "values");
-    let length = n * types::element_bytes(values.dtype, values.logical.as_deref());
+    let length = match types::element_bytes(values.dtype, values.logical.as_deref()) {
+        Some(element) => n * element,
+        None => uncounted(rng, values.dtype),
+    };
     ComponentPlan { length, ..values }
+}
+
+/// A length that tells no number of elements: some numbers of the dtype.
+fn uncounted(rng: &mut Rng, dtype: usize) -> u64 {
+    rng.below(9) * DTYPES[dtype].1
+}
+
+/// The length of index numbers: what is asked, or any whole ones where the values' elements aren't counted.
+fn indexed(rng: &mut Rng, values: &ComponentPlan, asked: u64) -> u64 {
+    match types::element_bytes(values.dtype, values.logical.as_deref()) {
+        Some(_) => asked,
+        None => 8 * rng.below(9),
+    }
 }
 
 fn index_role(role: &str, length: u64) -> ComponentPlan {
@@ -362,6 +384,7 @@ fn right_if_wrapped(rng: &mut Rng) -> ObjectPlan {
     }
     let data = component(rng, "data");
     let element = types::element_bytes(data.dtype, data.logical.as_deref());
+    let element = element.unwrap_or(DTYPES[data.dtype].1);
     let count = rng.below(4);
     let wrapping = ((1 << 64) / u128::from(element)) as u64;
     let (shape, count) = match rng.index(4) {

@@ -5,6 +5,7 @@ use super::judged;
 use second::cbor::{self, Fault, Kind};
 use second::compose::{component, data, dense, named, object, root, with};
 use second::encode::Item;
+use second::types::DTYPES;
 
 /// A manifest without objects whose last field is unknown and has this value, at depth 2.
 fn unknown(value: &[u8]) -> Vec<u8> {
@@ -642,6 +643,7 @@ fn only_listed_types_are_type_faults() {
     assert_eq!(judge("f64", 32, "complex64"), (18, 1, 0));
     for other in ["", "f32", "Complex64", "complex64 "] {
         assert_eq!(judge("u8", 2, other), (0, 0, 0));
+        assert_eq!(judge("u8", 3, other), (0, 0, 0));
     }
     let indices = with(component("u64", 64, 8), "type", Item::text("complex64"));
     let components = named([
@@ -653,6 +655,133 @@ fn only_listed_types_are_type_faults() {
         object_judged(object(&[2, 5], "sparse_csr", components)),
         (18, 1, 1)
     );
+}
+
+/// A component whose type is this text.
+fn typed(dtype: &str, length: u64, logical: &str) -> Item {
+    with(component(dtype, 64, length), "type", Item::text(logical))
+}
+
+/// Types that 01 doesn't list: any text, also the name of a storage type.
+const UNLISTED: [&str; 4] = ["", "f32", "quad", "Complex64"];
+
+#[test]
+fn dense_data_of_an_unlisted_type_are_whole_numbers() {
+    // 34, as 02's Req 03 has it
+    for (dtype, width) in DTYPES {
+        for logical in UNLISTED {
+            for length in [0, width, 4 * width * 6, 4 * width * 6 + 1, width + 1] {
+                let components = named([("data", typed(dtype, length, logical))]);
+                let answer = object_judged(object(&[2, 3], "dense", components));
+                let expected = if length % width == 0 {
+                    (0, 0, 0)
+                } else {
+                    (23, 1, 0)
+                };
+                assert_eq!(answer, expected, "{dtype} {logical} {length}");
+            }
+        }
+    }
+    // The shape may be anything, and then its product is never looked at.
+    for shape in [&[][..], &[0], &[1 << 63, 1 << 63]] {
+        let components = named([("data", typed("f32", 12, "quad"))]);
+        assert_eq!(object_judged(object(shape, "dense", components)), (0, 0, 0));
+    }
+    // Listed types and absent ones keep their rule.
+    let dense = |data| object_judged(object(&[2, 3], "dense", named([("data", data)])));
+    assert_eq!(dense(component("f32", 64, 24)), (0, 0, 0));
+    assert_eq!(dense(component("f32", 64, 28)), (23, 1, 0));
+    let null = |length| with(component("f32", 64, length), "type", Item::null());
+    assert_eq!(dense(null(24)), (0, 0, 0));
+    assert_eq!(dense(null(28)), (23, 1, 0));
+    assert_eq!(dense(typed("f32", 48, "complex64")), (0, 0, 0));
+    assert_eq!(dense(typed("f32", 52, "complex64")), (23, 1, 0));
+    assert_eq!(dense(typed("u8", 6, "f8_e5m2")), (0, 0, 0));
+    assert_eq!(dense(typed("u8", 7, "f8_e5m2")), (23, 1, 0));
+}
+
+/// Lengths of indices or coordinates, whole and not.
+const INDEX_LENGTHS: [u64; 7] = [0, 1, 8, 12, 16, 48, 49];
+
+#[test]
+fn indices_of_an_unlisted_type_are_whole_numbers() {
+    // 34, as 02's Req 03 has it
+    let csr = |values, indices, indptr| {
+        let components = named([
+            ("values", values),
+            ("indices", component("u64", 64, indices)),
+            ("indptr", component("u64", 64, indptr)),
+        ]);
+        object_judged(object(&[2, 5], "sparse_csr", components))
+    };
+    for logical in UNLISTED {
+        for length in [0, 4, 96, 97, 2] {
+            for indices in INDEX_LENGTHS {
+                let expected = match (length % 4, indices % 8) {
+                    (0, 0) => (0, 0, 0),
+                    (0, _) => (23, 1, 1),
+                    _ => (23, 1, 0),
+                };
+                let answer = csr(typed("f32", length, logical), indices, 24);
+                assert_eq!(answer, expected, "{logical} {length} {indices}");
+            }
+        }
+        // indptr keeps its rule, as it doesn't depend on values.
+        assert_eq!(csr(typed("f32", 96, logical), 8, 16), (23, 1, 2));
+        assert_eq!(csr(typed("f32", 96, logical), 8, 32), (23, 1, 2));
+    }
+    for indices in INDEX_LENGTHS {
+        let kept = |n: u64| {
+            if indices == 8 * n {
+                (0, 0, 0)
+            } else {
+                (23, 1, 1)
+            }
+        };
+        assert_eq!(csr(component("f32", 64, 8), indices, 24), kept(2));
+        assert_eq!(csr(typed("f32", 16, "complex64"), indices, 24), kept(2));
+        assert_eq!(csr(typed("f32", 12, "complex64"), indices, 24), (23, 1, 0));
+        let null = with(component("f32", 64, 24), "type", Item::null());
+        assert_eq!(csr(null, indices, 24), kept(6));
+    }
+    // Only the values' type counts: an index role still has none.
+    let components = named([
+        ("values", typed("f32", 4, "quad")),
+        ("indices", typed("u64", 8, "quad")),
+        ("indptr", component("u64", 64, 24)),
+    ]);
+    let answer = object_judged(object(&[2, 5], "sparse_csr", components));
+    assert_eq!(answer, (22, 1, 1));
+}
+
+#[test]
+fn coordinates_of_an_unlisted_type_are_whole_numbers() {
+    // 34 and 37, as 02's Req 03 has them
+    let coo = |shape: &[u64], values, coords| {
+        let components = named([("coords", component("u64", 64, coords)), ("values", values)]);
+        object_judged(object(shape, "sparse_coo", components))
+    };
+    for shape in [&[][..], &[7], &[2, 3, 4]] {
+        let rank = shape.len() as u64;
+        for coords in INDEX_LENGTHS {
+            let whole = if coords % 8 == 0 {
+                (0, 0, 0)
+            } else {
+                (23, 1, 0)
+            };
+            for logical in UNLISTED {
+                assert_eq!(coo(shape, typed("f32", 8, logical), coords), whole);
+                assert_eq!(coo(shape, typed("f32", 6, logical), coords), (23, 1, 1));
+            }
+            let kept = if coords == 8 * rank * 2 {
+                (0, 0, 0)
+            } else {
+                (23, 1, 0)
+            };
+            assert_eq!(coo(shape, component("f32", 64, 8), coords), kept);
+            assert_eq!(coo(shape, typed("f32", 16, "complex64"), coords), kept);
+        }
+    }
 }
 
 #[test]

@@ -10,8 +10,7 @@ coo-lengths-spec =
     tie.close
     (tie.spec
     (λ c κs. search needs)
-    (λ c. laws.coo-odd (c .before .before .args .rank) (c .before .before .args .v) (c .before .before .args .unit) (c .before .before .args .size) (c .before .before .args .x) (c .before .before .args .coords) _ (c .before .is-whole .ensures) ((not-true _ (c .if1 .taken))))
+    (λ c. let a = c .before .before .args in laws.coo-odd (a .rank) (a .v) (a .unit) (a .size) (a .x) (a .coords) (c .before .values-fit .ensures) (not-true _ (c .if1 .taken)))
     (λ c κs. search needs)
-    (λ c κs. search needs)
-    (λ c. laws.coo-coords (c .before .before .before .before .before .args .rank) (c .before .before .before .before .before .args .v) (c .before .before .before .before .before .args .unit) (c .before .before .before .before .before .args .size) (c .before .before .before .before .before .args .x) (c .before .before .before .before .before .args .coords) _ (c .before .before .before .before .is-whole .ensures) ((not-false _ (c .before .before .before .if1 .left))) _ (c .before .before .count-of .ensures) _ (c .before .coordinate-length .ensures) ((not-true _ (c .if2 .taken))))
-    (λ c. laws.coo-right (c .before .before .before .before .before .args .rank) (c .before .before .before .before .before .args .v) (c .before .before .before .before .before .args .unit) (c .before .before .before .before .before .args .size) (c .before .before .before .before .before .args .x) (c .before .before .before .before .before .args .coords) _ (c .before .before .before .before .is-whole .ensures) ((not-false _ (c .before .before .before .if1 .left))) _ (c .before .before .count-of .ensures) _ (c .before .coordinate-length .ensures) ((not-false _ (c .if2 .left)))))
+    (λ c. let a = c .before .before .before .before .args in laws.coo-coords (a .rank) (a .v) (a .unit) (a .size) (a .x) (a .coords) (c .before .before .before .values-fit .ensures) (not-false _ (c .before .before .if1 .left)) (c .before .coords-fit .ensures) (not-true _ (c .if2 .taken)))
+    (λ c. let a = c .before .before .before .before .args in laws.coo-right (a .rank) (a .v) (a .unit) (a .size) (a .x) (a .coords) (c .before .before .before .values-fit .ensures) (not-false _ (c .before .before .if1 .left)) (c .before .coords-fit .ensures) (not-false _ (c .if2 .left))))
