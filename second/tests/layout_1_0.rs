@@ -431,7 +431,7 @@ fn bounds_are_measured_against_the_manifest_start() {
 
 #[test]
 fn generated_files_reach_every_refusal_but_footer_and_type() {
-    const FILES: u64 = 60_000;
+    const FILES: u64 = 40_000;
     let mut seen = [0usize; 24];
     let mut role_components = [0usize; 16];
     for index in 0..FILES {
