@@ -15,6 +15,19 @@ pub struct Changes {
     pub entries: u64,
 }
 
+impl Changes {
+    /// Its numbers in the order of the C struct.
+    pub fn numbers(&self) -> [u64; 5] {
+        [
+            self.number,
+            self.file,
+            self.object,
+            self.component,
+            self.entries,
+        ]
+    }
+}
+
 /// One entry of the list, in the order of its eight numbers.
 #[derive(Clone, Copy, Debug, Default, PartialEq, Eq)]
 pub struct Entry {

@@ -29,6 +29,7 @@ pub struct Explanation {
 }
 
 impl Explanation {
+    /// Its numbers in the order of the C struct.
     pub fn numbers(&self) -> [u64; 10] {
         [
             self.number,
@@ -478,6 +479,13 @@ fn is_null(node: &Node) -> bool {
 pub struct Said {
     pub number: u64,
     pub length: u64,
+}
+
+impl Said {
+    /// Its numbers in the order of the C struct.
+    pub fn numbers(&self) -> [u64; 2] {
+        [self.number, self.length]
+    }
 }
 
 /// Puts the sentence, which stays as it was beyond it or if there isn't room for it.

@@ -148,7 +148,7 @@ fn the_root_of_001() {
     );
     let lines = b"objects 1 components 1\nobject layer1.weight dense\nblob data f32 64 8\n";
     assert_eq!(listing(&file, &table, 1, 1).unwrap(), lines);
-    let short = read_as(FIRST, &file, &mut vec![0; OBJECT_ROW + COMPONENT_ROW - 1]);
+    let short = read_as(FIRST, &file, &mut [0; OBJECT_ROW + COMPONENT_ROW - 1]);
     assert_eq!(short.number, ROOM);
 }
 
