@@ -520,3 +520,18 @@ fn a_1_2_0_component_inside_a_tensor_is_fine() {
     );
     assert_eq!(second_judged(entry), (0, 0, 0));
 }
+
+/// Req 12, where rows have its two columns: place and length of the component's map, the whole item.
+#[test]
+fn imported_rows_know_their_entry() {
+    let file = file(&tensors(named([("w", sound())])), 72);
+    let mut table = vec![0; OBJECT_ROW + COMPONENT_ROW];
+    assert_eq!(read_as(FIRST, &file, &mut table).number, 0);
+    if let &[entry, length] = &table[OBJECT_ROW + 10..] {
+        let entry = Part {
+            place: entry,
+            length,
+        };
+        assert_eq!(entry.of(&file), Some(&place(64, 8).shortest()[..]));
+    }
+}
