@@ -231,6 +231,17 @@ impl<'a> Walk<'a> {
         self.shape(shape)?;
         let format = self.utf8(format_node)?;
         self.map(attributes)?;
+        let parts = self.parts(&format, components)?;
+        Ok(ObjectFields {
+            shape,
+            format,
+            components,
+            parts,
+        })
+    }
+
+    /// Each component of an object of this format.
+    fn parts<'t>(&self, format: &Span, components: &'t Node) -> Checked<Vec<ComponentFields<'t>>> {
         let roles = Format::of(&self.bytes[format.clone()]).roles();
         let mut parts = Vec::new();
         for (index, (_, name, entry)) in self
@@ -257,12 +268,7 @@ impl<'a> Walk<'a> {
                 plain_u64,
             });
         }
-        Ok(ObjectFields {
-            shape,
-            format,
-            components,
-            parts,
-        })
+        Ok(parts)
     }
 
     /// The value of the length, and whether dtype and type are plain u64.
