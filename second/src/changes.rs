@@ -15,6 +15,19 @@ pub struct Changes {
     pub entries: u64,
 }
 
+impl Changes {
+    /// Its numbers in the order of the C struct.
+    pub fn numbers(&self) -> [u64; 5] {
+        [
+            self.number,
+            self.file,
+            self.object,
+            self.component,
+            self.entries,
+        ]
+    }
+}
+
 /// One entry of the list, in the order of its eight numbers.
 #[derive(Clone, Copy, Debug, Default, PartialEq, Eq)]
 pub struct Entry {
@@ -184,17 +197,11 @@ fn in_both(files: [&Described; 2], objects: [&Object; 2], at: Entry) -> Vec<Entr
             }
         }
     }
-    for (index, component) in objects[1].components.iter().enumerate() {
-        let same_name = |other: &Component| name(0, other) == name(1, component);
-        if !objects[0].components.iter().any(same_name) {
-            differs |= COMPONENT_NAMES;
-            parts.push(Entry {
-                kind: COMPONENT_IN_SECOND,
-                second_component: index as u64,
-                ..at
-            });
-        }
+    let added = only_in_second(files, objects, at);
+    if !added.is_empty() {
+        differs |= COMPONENT_NAMES;
     }
+    parts.extend(added);
     if objects[0].shape != objects[1].shape {
         differs |= SHAPE;
     }
@@ -210,6 +217,24 @@ fn in_both(files: [&Described; 2], objects: [&Object; 2], at: Entry) -> Vec<Entr
         ..at
     };
     [vec![whole], parts].concat()
+}
+
+/// The components that only the second of two objects has.
+fn only_in_second(files: [&Described; 2], objects: [&Object; 2], at: Entry) -> Vec<Entry> {
+    let [first, second] = files;
+    let mut added = Vec::new();
+    for (index, component) in objects[1].components.iter().enumerate() {
+        let name = second.bytes(&component.name);
+        let same_name = |other: &Component| first.bytes(&other.name) == name;
+        if !objects[0].components.iter().any(same_name) {
+            added.push(Entry {
+                kind: COMPONENT_IN_SECOND,
+                second_component: index as u64,
+                ..at
+            });
+        }
+    }
+    added
 }
 
 /// What differs between two components of one name, and where their bytes do.

@@ -152,6 +152,22 @@ pub struct Held {
     pub attributes_length: u64,
 }
 
+impl Held {
+    /// Its numbers in the order of the C struct.
+    pub fn numbers(&self) -> [u64; 8] {
+        [
+            self.number,
+            self.place,
+            self.numbers,
+            self.objects,
+            self.components,
+            self.start,
+            self.attributes_place,
+            self.attributes_length,
+        ]
+    }
+}
+
 /// Where the engine's rows stand in the table; all 0 if it has none loaded.
 pub fn holds(shared: &[u64], engine: u64) -> Held {
     match states(shared, engine) {
@@ -246,22 +262,10 @@ impl History {
         let numbers = match call {
             Call::Load { engine, file } => {
                 let (layout, file) = &self.files[file];
-                let a = load(shared, engine, *layout, file);
-                let (number, counts) = (a.number.into(), [a.objects, a.components]);
-                let attributes = [a.attributes_place, a.attributes_length];
-                let first = [number, a.object, a.component, counts[0], counts[1]];
-                [&first[..], &[a.manifest_start], &attributes].concat()
+                load(shared, engine, *layout, file).numbers().to_vec()
             }
             Call::Drop { engine } => vec![drop_rows(shared, engine)],
-            Call::Holds { engine } => {
-                let h = holds(shared, engine);
-                let place = [h.number, h.place, h.numbers, h.objects, h.components];
-                [
-                    &place[..],
-                    &[h.start, h.attributes_place, h.attributes_length],
-                ]
-                .concat()
-            }
+            Call::Holds { engine } => holds(shared, engine).numbers().to_vec(),
             Call::View {
                 engine,
                 file,

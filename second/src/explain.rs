@@ -29,6 +29,7 @@ pub struct Explanation {
 }
 
 impl Explanation {
+    /// Its numbers in the order of the C struct.
     pub fn numbers(&self) -> [u64; 10] {
         [
             self.number,
@@ -230,6 +231,17 @@ impl<'a> Walk<'a> {
         self.shape(shape)?;
         let format = self.utf8(format_node)?;
         self.map(attributes)?;
+        let parts = self.parts(&format, components)?;
+        Ok(ObjectFields {
+            shape,
+            format,
+            components,
+            parts,
+        })
+    }
+
+    /// Each component of an object of this format.
+    fn parts<'t>(&self, format: &Span, components: &'t Node) -> Checked<Vec<ComponentFields<'t>>> {
         let roles = Format::of(&self.bytes[format.clone()]).roles();
         let mut parts = Vec::new();
         for (index, (_, name, entry)) in self
@@ -256,12 +268,7 @@ impl<'a> Walk<'a> {
                 plain_u64,
             });
         }
-        Ok(ObjectFields {
-            shape,
-            format,
-            components,
-            parts,
-        })
+        Ok(parts)
     }
 
     /// The value of the length, and whether dtype and type are plain u64.
@@ -478,6 +485,13 @@ fn is_null(node: &Node) -> bool {
 pub struct Said {
     pub number: u64,
     pub length: u64,
+}
+
+impl Said {
+    /// Its numbers in the order of the C struct.
+    pub fn numbers(&self) -> [u64; 2] {
+        [self.number, self.length]
+    }
 }
 
 /// Puts the sentence, which stays as it was beyond it or if there isn't room for it.

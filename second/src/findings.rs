@@ -31,6 +31,19 @@ pub struct Found {
     pub nans: u64,
 }
 
+impl Found {
+    /// Its numbers in the order of the C struct.
+    pub fn numbers(&self) -> [u64; 5] {
+        [
+            self.number,
+            self.finding,
+            self.smallest,
+            self.largest,
+            self.nans,
+        ]
+    }
+}
+
 /// The finding of little-endian f32; bytes left over at the end aren't looked at.
 pub fn finding(blob: &[u8]) -> Finding {
     let mut found = Finding::Empty;
@@ -128,6 +141,21 @@ pub struct Account {
     pub between: u64,
 }
 
+impl Account {
+    /// Its numbers in the order of the C struct.
+    pub fn numbers(&self) -> [u64; 7] {
+        [
+            self.number,
+            self.object,
+            self.component,
+            self.frame,
+            self.manifest,
+            self.inside,
+            self.between,
+        ]
+    }
+}
+
 /// The account of an accepted file's bytes. `work` is working room as for a reading, and ends as zeros.
 pub fn account(layout: u64, file: &[u8], work: &mut [u64]) -> Account {
     work.fill(0);
@@ -184,6 +212,13 @@ pub struct Panel {
     pub object: u64,
     pub component: u64,
     pub length: u64,
+}
+
+impl Panel {
+    /// Its numbers in the order of the C struct.
+    pub fn numbers(&self) -> [u64; 4] {
+        [self.number, self.object, self.component, self.length]
+    }
 }
 
 /// Puts the panel's text, which stays as it was on refusal and beyond it. `work` is working room as for a reading, and ends as zeros.

@@ -1,5 +1,6 @@
 //! A second reader, judge, lister, viewer and writer of `.zt` files, written from documents 01 and
-//! READINGS alone: it decodes the manifest to a tree and then judges the tree.
+//! READINGS, and for the requests from 02, REQUESTS and 001, alone: it decodes the manifest to a
+//! tree and then judges the tree.
 
 #![forbid(unsafe_code)]
 

@@ -14,6 +14,19 @@ pub struct Merged {
     pub length: u64,
 }
 
+impl Merged {
+    /// Its numbers in the order of the C struct.
+    pub fn numbers(&self) -> [u64; 5] {
+        [
+            self.number,
+            self.file,
+            self.object,
+            self.component,
+            self.length,
+        ]
+    }
+}
+
 /// Writes the merged file into `out`, which stays as it was on refusal. The rows are working room and end as zeros.
 pub fn merge(
     first_layout: u64,

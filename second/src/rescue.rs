@@ -16,6 +16,20 @@ pub struct Rescued {
     pub length: u64,
 }
 
+impl Rescued {
+    /// Its numbers in the order of the C struct.
+    pub fn numbers(&self) -> [u64; 6] {
+        [
+            self.number,
+            self.object,
+            self.component,
+            self.kept,
+            self.dropped,
+            self.length,
+        ]
+    }
+}
+
 /// Numbers of an entry of the list: the object's index, the refusal's number, its component.
 pub const ENTRY: usize = 3;
 

@@ -51,6 +51,22 @@ pub struct Answer {
     pub attributes_length: u64,
 }
 
+impl Answer {
+    /// Its numbers in the order of the C struct.
+    pub fn numbers(&self) -> [u64; 8] {
+        [
+            u64::from(self.number),
+            self.object,
+            self.component,
+            self.objects,
+            self.components,
+            self.manifest_start,
+            self.attributes_place,
+            self.attributes_length,
+        ]
+    }
+}
+
 /// Reads a file into the lent table, which stays as it was on refusal and beyond the rows.
 pub fn read(file: &[u8], table: &mut [u64]) -> Answer {
     read_as(Layout::Current.number(), file, table)

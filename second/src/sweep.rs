@@ -2,19 +2,28 @@
 //! every two faults together.
 
 mod faults;
+mod first;
 mod roles;
 
-pub use faults::{many_names, two_faults};
-pub use roles::roles;
+pub use faults::{many_names, many_names_as, two_faults, two_faults_as};
+pub use roles::{roles, roles_as};
 
 use crate::cases;
 use crate::compose::{component, data, dense, named, object, root, with};
 use crate::encode::{Item, Style};
-use crate::frame;
+use crate::layout::Layout;
 
 /// Every byte of case 2 in turn: removed, doubled, and made each other byte.
 pub fn bytes() -> Vec<Vec<u8>> {
-    let sound = cases::one_dense_object();
+    bytes_as(Layout::Current)
+}
+
+/// The same of case 2's like in a layout.
+pub fn bytes_as(layout: Layout) -> Vec<Vec<u8>> {
+    let sound = match layout {
+        Layout::Current => cases::one_dense_object(),
+        Layout::First => first::one_dense_tensor(),
+    };
     let mut files = Vec::new();
     for at in 0..sound.len() {
         let (before, after) = (&sound[..at], &sound[at + 1..]);
@@ -27,7 +36,12 @@ pub fn bytes() -> Vec<Vec<u8>> {
 
 /// Every node of the manifest in turn, key or value, changed in every way, in three styles.
 pub fn nodes() -> Vec<Vec<u8>> {
-    let sound = manifest();
+    nodes_as(Layout::Current)
+}
+
+/// The same of a manifest of a layout.
+pub fn nodes_as(layout: Layout) -> Vec<Vec<u8>> {
+    let sound = manifest(layout);
     let mut trees = vec![sound.clone()];
     for index in 0.. {
         let mut changed = sound.clone();
@@ -45,7 +59,7 @@ pub fn nodes() -> Vec<Vec<u8>> {
     let styles = [(0, false), (4, false), (0, true)];
     let in_style = |(wider, indefinite)| {
         let mut style = Always { wider, indefinite };
-        let file = |tree: &Item| frame::assemble(BLOBS, &tree.encoded(&mut style));
+        let file = |tree: &Item| layout.assemble(BLOBS, &tree.encoded(&mut style));
         trees.iter().map(file).collect::<Vec<_>>()
     };
     styles.into_iter().flat_map(in_style).collect()
@@ -54,8 +68,16 @@ pub fn nodes() -> Vec<Vec<u8>> {
 /// Room for the blobs of `manifest`.
 const BLOBS: &[u8] = &[0; 248];
 
+/// A sound manifest of a layout with every known field.
+fn manifest(layout: Layout) -> Item {
+    match layout {
+        Layout::Current => current(),
+        Layout::First => first::manifest(),
+    }
+}
+
 /// Two objects, the second with every known field, and a field that no map knows in each.
-fn manifest() -> Item {
+fn current() -> Item {
     let unknown = |map| {
         with(
             map,

@@ -24,6 +24,18 @@ pub struct Written {
     pub length: u64,
 }
 
+impl Written {
+    /// Its numbers in the order of the C struct.
+    pub fn numbers(&self) -> [u64; 4] {
+        [
+            u64::from(self.number),
+            self.object,
+            self.component,
+            self.length,
+        ]
+    }
+}
+
 /// Writes the file into `out`, which stays as it was on refusal and beyond the file.
 pub fn write(
     rows: &[u64],

@@ -10,7 +10,7 @@ use second::merge::merge;
 use second::refusal::{ROOM, SHORT};
 use second::columns::{COMPONENT_ROW, OBJECT_ROW};
 
-const AMPLE: usize = 40_000;
+const AMPLE: usize = 20_000;
 
 /// A file whose blob bytes from 64 on are `blobs`.
 fn file(objects: Item, blobs: &[u8]) -> Vec<u8> {
@@ -201,7 +201,7 @@ fn room_for_work_then_for_the_list() {
 fn generated_pairs_exchange_and_are_like_themselves() {
     let mut generator = Generator::new(31);
     let (mut kinds, mut flags, mut flags_of_parts) = ([0usize; 7], [0usize; 64], [0usize; 64]);
-    for _ in 0..20_000 {
+    for _ in 0..8_000 {
         let pair = generator.next_pair();
         let (answer, list) = entries(&pair);
         let back = FilePair {
@@ -251,15 +251,15 @@ fn generated_pairs_exchange_and_are_like_themselves() {
         };
         assert_eq!(entries(&same).1, [[0; 8]; 0]);
     }
-    assert!(kinds[1..].iter().all(|&count| count > 300), "{kinds:?}");
+    assert!(kinds[1..].iter().all(|&count| count > 100), "{kinds:?}");
     for flag in [1, 2, 4, 8, 16, 32] {
         assert!(
-            (0..64).any(|all| all & flag != 0 && flags[all] > 50),
+            (0..64).any(|all| all & flag != 0 && flags[all] > 10),
             "{flag}"
         );
     }
     for flag in [8, 16, 32] {
-        assert!(flags_of_parts[flag] > 50, "{flag}");
+        assert!(flags_of_parts[flag] > 10, "{flag}");
     }
     assert!(flags_of_parts[0] == 0 && flags[0] == 0);
 }

@@ -149,7 +149,7 @@ fn the_root_of_001() {
     );
     let lines = b"objects 1 components 1\nobject layer1.weight dense\nblob data f32 64 8\n";
     assert_eq!(listing(&file, &table, 1, 1).unwrap(), lines);
-    let short = read_as(FIRST, &file, &mut vec![0; OBJECT_ROW + COMPONENT_ROW - 1]);
+    let short = read_as(FIRST, &file, &mut [0; OBJECT_ROW + COMPONENT_ROW - 1]);
     assert_eq!(short.number, ROOM);
 }
 
@@ -432,7 +432,7 @@ fn bounds_are_measured_against_the_manifest_start() {
 
 #[test]
 fn generated_files_reach_every_refusal_but_footer_and_type() {
-    const FILES: u64 = 60_000;
+    const FILES: u64 = 40_000;
     let mut seen = [0usize; 24];
     let mut role_components = [0usize; 16];
     for index in 0..FILES {
@@ -520,4 +520,19 @@ fn a_1_2_0_component_inside_a_tensor_is_fine() {
         named([("data", component("zzz", 64, 8))]),
     );
     assert_eq!(second_judged(entry), (0, 0, 0));
+}
+
+/// Req 12, where rows have its two columns: place and length of the component's map, the whole item.
+#[test]
+fn imported_rows_know_their_entry() {
+    let file = file(&tensors(named([("w", sound())])), 72);
+    let mut table = vec![0; OBJECT_ROW + COMPONENT_ROW];
+    assert_eq!(read_as(FIRST, &file, &mut table).number, 0);
+    if let &[entry, length] = &table[OBJECT_ROW + 10..] {
+        let entry = Part {
+            place: entry,
+            length,
+        };
+        assert_eq!(entry.of(&file), Some(&place(64, 8).shortest()[..]));
+    }
 }

@@ -225,7 +225,7 @@ fn rewritten(layout: u64, file: &[u8]) -> Option<Vec<u8>> {
 fn generated_pairs_merge_as_the_writer_writes() {
     let mut generator = Generator::new(11);
     let (mut accepted, mut seen) = (0, [[0usize; 3]; 26]);
-    for _ in 0..20_000 {
+    for _ in 0..8_000 {
         let pair = generator.next_pair();
         let (answer, out) = merged_as(
             pair.first_layout,
@@ -249,10 +249,10 @@ fn generated_pairs_merge_as_the_writer_writes() {
         assert_eq!(rewritten(0, &once).unwrap(), once);
         assert_eq!(rewritten(0, &out).unwrap(), out);
     }
-    assert!(accepted > 5_000);
-    assert!(seen[usize::from(TWICE)][0] > 1_000);
+    assert!(accepted > 2_000);
+    assert!(seen[usize::from(TWICE)][0] > 400);
     for file in [1, 2] {
-        assert!(seen[1..].iter().map(|of| of[file]).sum::<usize>() > 500);
+        assert!(seen[1..].iter().map(|of| of[file]).sum::<usize>() > 200);
     }
 }
 
@@ -260,7 +260,7 @@ fn generated_pairs_merge_as_the_writer_writes() {
 fn grouping_doesnt_matter() {
     let mut generator = Generator::new(12);
     let mut met = 0;
-    for _ in 0..6_000 {
+    for _ in 0..3_000 {
         let (one, two) = (generator.next_pair(), generator.next_pair());
         let a = (one.first_layout, &one.first[..]);
         let b = (one.second_layout, &one.second[..]);
@@ -277,7 +277,7 @@ fn grouping_doesnt_matter() {
             met += 1;
         }
     }
-    assert!(met > 300);
+    assert!(met > 150);
 }
 
 /// 1,024 objects of 16 components that share 64 MiB reach past 2^40; a merge is COUNT before TWICE.

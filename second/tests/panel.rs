@@ -270,7 +270,7 @@ fn the_panels_text() {
 fn generated_files_add_up() {
     let mut generator = Generator::new(42);
     let mut seen = [0usize; 4];
-    for index in 0..30_000 {
+    for index in 0..10_000 {
         let layout = Layout::of(index % 2);
         let file = generator.next_floats(layout);
         let mut table = vec![0; 400];
@@ -300,6 +300,6 @@ fn generated_files_add_up() {
             assert!(found.nans <= row.blob.length / 4);
         }
     }
-    assert!(seen.iter().all(|&count| count > 1_000), "{seen:?}");
+    assert!(seen.iter().all(|&count| count > 300), "{seen:?}");
     assert_eq!(MOST_ROOM, 1_024 * OBJECT_ROW + 16_384 * COMPONENT_ROW);
 }

@@ -168,7 +168,7 @@ fn generated_plans_reach_every_answer_and_read_back() {
     let mut falling = 0;
     let mut rows_at_fault = [0usize; 4];
     let mut table = vec![0; 220_000];
-    for _ in 0..60_000 {
+    for _ in 0..30_000 {
         let planned = generator.next_planned();
         let mut out = vec![0xA5; 1 << 16];
         let written = planned.write(&mut out);
@@ -201,12 +201,12 @@ fn generated_plans_reach_every_answer_and_read_back() {
         assert!((8..answer.manifest_start as usize).all(|at| out[at] == 0 || inside(at)));
     }
     for number in [0, ROW, PLAN, ROOM, TWICE] {
-        assert!(seen[usize::from(number)] > 100, "{number}");
+        assert!(seen[usize::from(number)] > 50, "{number}");
     }
     // the reader's: 17 components
     assert!(seen[usize::from(COUNT)] > 0);
-    assert!(falling > 1_000);
-    assert!(rows_at_fault.iter().all(|&count| count > 100));
+    assert!(falling > 500);
+    assert!(rows_at_fault.iter().all(|&count| count > 50));
 }
 
 #[test]

@@ -155,7 +155,7 @@ fn the_writers_count_stands() {
 fn generated_files_keep_exactly_the_sound_objects() {
     let mut generator = Generator::new(21);
     let (mut some, mut all, mut none, mut numbers) = (0, 0, 0, [0usize; 24]);
-    for index in 0..30_000 {
+    for index in 0..12_000 {
         let layout = Layout::of(index % 2);
         let file = generator.next_partly_sound(layout);
         let number = layout.number();
@@ -204,10 +204,10 @@ fn generated_files_keep_exactly_the_sound_objects() {
         assert_eq!(same, out);
     }
     assert!(
-        some > 5_000 && all > 2_000 && none > 1_000,
+        some > 2_000 && all > 800 && none > 400,
         "{some} {all} {none}"
     );
     for number in [8, 9, 10, 11, 12, 15, 16, 17, 18, 19, 20, 21, 22, 23] {
-        assert!(numbers[number] > 50, "{number}");
+        assert!(numbers[number] > 10, "{number}");
     }
 }

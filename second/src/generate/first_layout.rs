@@ -48,7 +48,7 @@ fn fit_lengths(object: &mut ObjectPlan, width: u64) {
 /// The tensor's dtype is that of a component which is no index.
 pub fn tensor_pairs(object: &ObjectPlan, components: Pairs) -> Pairs {
     let own = object.components.iter().map(|component| component.dtype);
-    let dtype = own.clone().find(|&code| code != U64).or(own.last());
+    let dtype = own.clone().find(|&code| code != U64).or(own.clone().next());
     let shape = object.shape.iter().map(|&n| Item::Unsigned(n)).collect();
     field_pairs([
         (
@@ -84,7 +84,7 @@ pub fn component_pairs(rng: &mut Rng, component: &ComponentPlan, offset: u64) ->
         None => rng.one_in(8).then(Item::null),
     };
     push_optional(&mut pairs, "digest", digest);
-    let logical = component.logical.as_ref().map(|text| Item::text(text));
+    let logical = component.logical.as_ref().map(Item::text);
     push_optional(&mut pairs, "type", logical);
     if rng.one_in(8) {
         let name = *rng.pick(&["dtype", "type", "uncompressed_length"]);

@@ -148,9 +148,8 @@ pub fn partly_sound(rng: &mut Rng, layout: Layout) -> Vec<u8> {
     }
     let mut file = file::framed(rng, layout, &plan, &faults);
     if let Ok(range) = layout.manifest_range(&file) {
-        for at in 64..range.start {
-            file[at] = (at % 251) as u8;
-        }
+        let blobs = file.iter_mut().enumerate().take(range.start).skip(64);
+        blobs.for_each(|(at, byte)| *byte = (at % 251) as u8);
     }
     file
 }

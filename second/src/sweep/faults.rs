@@ -1,10 +1,10 @@
 //! Every two faults in one manifest, so that the order of checks shows; and names at the limits of their count with every fault of names.
 
 use super::{manifest, BLOBS};
-use crate::compose::{field, is_text, named, object, pairs, root, set, with, Pairs};
+use crate::compose::{field, is_text, named, object, pairs, set, with, Pairs};
 use crate::encode::Item;
-use crate::frame;
 use crate::judge::{COMPONENT_LIMIT, OBJECT_LIMIT};
+use crate::layout::Layout;
 
 /// What is done to a map.
 #[derive(Clone)]
@@ -17,28 +17,28 @@ enum Fault {
 
 use Fault::{Also, With, Without};
 
-/// Names of the fields that lead from the root to a map, and what may be wrong there.
+/// Names of the fields that lead from the root to a map, and what may be wrong there; "" is the field that holds the objects.
 type Place = (&'static [&'static str], Vec<Fault>);
 
 const NOT_UTF8: &[u8] = b"\xED\xA0\x80";
 
 /// Each fault of every place alone and with each other.
 pub fn two_faults() -> Vec<Vec<u8>> {
+    two_faults_as(Layout::Current)
+}
+
+/// The same in a layout.
+pub fn two_faults_as(layout: Layout) -> Vec<Vec<u8>> {
+    let objects = || object_faults(layout);
     let places: [Place; 8] = [
-        (&[], root_faults()),
-        (&["objects"], name_faults("w")),
-        (&["objects", "w"], object_faults()),
-        (&["objects", "w", "components", "data"], component_faults()),
-        (&["objects", "ü"], object_faults()),
-        (&["objects", "ü", "components"], name_faults("values")),
-        (
-            &["objects", "ü", "components", "values"],
-            component_faults(),
-        ),
-        (
-            &["objects", "ü", "components", "indices"],
-            component_faults(),
-        ),
+        (&[], root_faults(layout)),
+        (&[""], name_faults("w")),
+        (&["", "w"], objects()),
+        (&["", "w", "components", "data"], component_faults()),
+        (&["", "ü"], objects()),
+        (&["", "ü", "components"], name_faults("values")),
+        (&["", "ü", "components", "values"], component_faults()),
+        (&["", "ü", "components", "indices"], component_faults()),
     ];
     let in_place = |(path, faults): &Place| {
         let faults = faults.iter().cloned();
@@ -48,20 +48,26 @@ pub fn two_faults() -> Vec<Vec<u8>> {
     let mut files = Vec::new();
     for (at, first) in faults.iter().enumerate() {
         for second in &faults[at..] {
-            let mut tree = manifest();
+            let mut tree = manifest(layout);
             // The inner map first, since an outer fault may take it away.
             for (path, fault) in [second, first] {
-                put(&mut tree, path, fault.clone());
+                put(&mut tree, layout, path, fault.clone());
             }
-            files.push(frame::assemble(BLOBS, &tree.shortest()));
+            files.push(layout.assemble(BLOBS, &tree.shortest()));
         }
     }
     files
 }
 
 /// Nothing is done where the map is gone.
-fn put(tree: &mut Item, path: &[&str], fault: Fault) {
-    let map = path.iter().try_fold(tree, |map, name| field(map, name));
+fn put(tree: &mut Item, layout: Layout, path: &[&'static str], fault: Fault) {
+    let named = |name: &&'static str| match *name {
+        "" => layout.objects(),
+        other => other,
+    };
+    let map = path
+        .iter()
+        .try_fold(tree, |map, name| field(map, named(name)));
     let Some(map) = map else { return };
     match (fault, pairs(map)) {
         (Without(name), Some(pairs)) => pairs.retain(|(key, _)| !is_text(key, name)),
@@ -79,7 +85,7 @@ fn again(name: &str) -> Fault {
     Also(Item::text(name), Item::null())
 }
 
-fn root_faults() -> Vec<Fault> {
+fn root_faults(layout: Layout) -> Vec<Fault> {
     vec![
         odd_key(),
         again("version"),
@@ -88,8 +94,8 @@ fn root_faults() -> Vec<Fault> {
         With("version", Item::text("1")),
         With("version", Item::text("2.0")),
         With("attributes", Item::null()),
-        Without("objects"),
-        With("objects", Item::null()),
+        Without(layout.objects()),
+        With(layout.objects(), Item::null()),
     ]
 }
 
@@ -100,8 +106,8 @@ fn name_faults(present: &str) -> Vec<Fault> {
     faults
 }
 
-fn object_faults() -> Vec<Fault> {
-    vec![
+fn object_faults(layout: Layout) -> Vec<Fault> {
+    let mut faults = vec![
         odd_key(),
         again("shape"),
         Without("shape"),
@@ -116,7 +122,17 @@ fn object_faults() -> Vec<Fault> {
         With("format", Item::text("sparse_coo")),
         With("attributes", Item::null()),
         With("components", Item::null()),
-    ]
+    ];
+    if layout == Layout::First {
+        faults.extend([
+            again("dtype"),
+            Without("dtype"),
+            With("dtype", Item::null()),
+            With("dtype", Item::text("f32")),
+            With("dtype", Item::text("float64")),
+        ]);
+    }
+    faults
 }
 
 fn component_faults() -> Vec<Fault> {
@@ -152,16 +168,24 @@ fn component_faults() -> Vec<Fault> {
 /// Objects and components one under the limit of their count, at it, and one over it, with every choice of an odd name, one that isn't UTF-8, a
 /// repeated one and an entry at fault.
 pub fn many_names() -> Vec<Vec<u8>> {
+    many_names_as(Layout::Current)
+}
+
+/// The same in a layout.
+pub fn many_names_as(layout: Layout) -> Vec<Vec<u8>> {
     let mut files = Vec::new();
     for limit in [OBJECT_LIMIT, COMPONENT_LIMIT] {
         for count in limit - 1..=limit + 1 {
             for faults in 0..16 {
-                let names = Item::Map(numbered(count, faults));
+                let dtype = Item::text(layout.dtype_name(11));
+                let names = Item::Map(numbered(count, faults, &dtype));
                 let objects = match limit {
                     OBJECT_LIMIT => names,
-                    _ => named([("w", object(&[], "", names))]),
+                    _ => named([("w", with(object(&[], "", names), "dtype", dtype))]),
                 };
-                files.push(frame::assemble(BLOBS, &root(objects).shortest()));
+                let version = ("version", Item::text("1.2.0"));
+                let root = Item::map([version, (layout.objects(), objects)]);
+                files.push(layout.assemble(BLOBS, &root.shortest()));
             }
         }
     }
@@ -169,10 +193,10 @@ pub fn many_names() -> Vec<Vec<u8>> {
 }
 
 /// So many names, the last of them wrong in the ways that the bits say.
-fn numbered(count: usize, faults: usize) -> Pairs {
+fn numbered(count: usize, faults: usize, dtype: &Item) -> Pairs {
     // An object and a component at once: what is known in one is unknown in the other.
     let fields = [
-        ("dtype", Item::text("u8")),
+        ("dtype", dtype.clone()),
         ("offset", Item::Unsigned(64)),
         ("length", Item::Unsigned(0)),
     ];

@@ -3,10 +3,15 @@
 use super::BLOBS;
 use crate::compose::{component, named, object, root, with, Pairs};
 use crate::encode::Item;
-use crate::frame;
+use crate::layout::Layout;
 
 /// For ranks 1 to 3.
 pub fn roles() -> Vec<Vec<u8>> {
+    roles_as(Layout::Current)
+}
+
+/// The same in a layout; a tensor's dtype is u64, so that all lengths are as right as in the other.
+pub fn roles_as(layout: Layout) -> Vec<Vec<u8>> {
     let mut files = Vec::new();
     for rank in 1..=3 {
         let shape = vec![2; rank];
@@ -36,13 +41,24 @@ pub fn roles() -> Vec<Vec<u8>> {
                 let parts: Vec<_> = parts.filter_map(|(role, state)| state(*role)).collect();
                 for order in orders(parts) {
                     let object = object(&shape, format, Item::Map(order));
-                    let manifest = root(named([("w", object)])).shortest();
-                    files.push(frame::assemble(BLOBS, &manifest));
+                    files.push(layout.assemble(BLOBS, &holding(layout, object).shortest()));
                 }
             }
         }
     }
     files
+}
+
+/// A manifest of one object.
+fn holding(layout: Layout, object: Item) -> Item {
+    match layout {
+        Layout::Current => root(named([("w", object)])),
+        Layout::First => {
+            let tensor = with(object, "dtype", Item::text("uint64"));
+            let tensors = named([("w", tensor)]);
+            Item::map([("version", Item::text("1.0")), ("tensors", tensors)])
+        }
+    }
 }
 
 /// How many elements the values of a sparse object have.
