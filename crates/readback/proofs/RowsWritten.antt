@@ -93,7 +93,7 @@ then-passes (refuse n o c) k h = absurd (refused-is-not h)
 passed-same : {A : Type 0} {a b : A} → pass a ≡ pass b → a ≡ b
 passed-same e = cc
 
-rows-counted : (rows : List ℕ) (objects components : ℕ) (attributes : Span) → length (asked rows objects components attributes .components) ≡ components
+pub rows-counted : (rows : List ℕ) (objects components : ℕ) (attributes : Span) → length (asked rows objects components attributes .components) ≡ components
 unfolding asked
 rows-counted rows objects components attributes = each-row-length askedComponent componentWidth components (drop (objectWidth * objects) rows)
 

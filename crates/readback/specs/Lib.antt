@@ -7,3 +7,4 @@ pub mod Judged
 pub mod Agrees
 pub mod Back
 pub mod Spelled
+pub mod Lent

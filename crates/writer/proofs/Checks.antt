@@ -20,6 +20,7 @@ use Rattle.meaning.specs.Manifest.{manifestBytes}
 use Rattle.meaning.specs.Layout.{fileOf}
 use Rattle.meaning.specs.Write.{writeAnswer, outputAfter, written}
 use Rattle.readback.specs.Judged.{judged}
+use Rattle.readback.specs.Lent.{Lent}
 use Rattle.readback.proofs.EveryPart.{every-by-index}
 use Rattle.readback.proofs.Placed.{placement-rises, file-length}
 use Rattle.readback.proofs.RowsWritten.{written-is}
@@ -40,6 +41,10 @@ module _ (rows : List ℕ) (i : ℕ) (before : (j : ℕ) → j < i → getD rows
 
   pub all-there : length rows ≤ i → Numbers rows
   all-there h j k = before j (omega (arith, h, k))
+
+-- what the slices are
+pub lent : (rows buffer : List ℕ) → Numbers rows → length rows < 256 ^ 8 → length buffer < 256 ^ 8 → Lent rows buffer
+lent rows buffer numbers few small = record { numbers = every-by-index _ 0 rows numbers; few = few; small = small }
 
 -- ---- an answer
 

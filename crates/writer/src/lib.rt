@@ -4,6 +4,7 @@ use rows::sound;
 ghost use mathlib.Core.Path.{_≡_};
 ghost use Prim.Native.Nat.{_<_, _^_};
 ghost use lib.ListN.{length};
+ghost use Rattle.readback.specs.Lent.{Lent};
 ghost use Rattle.writer.specs.Told as is;
 ghost use Rattle.meaning.specs.Write.{written};
 ghost use Rattle.writer.specs.Sized.{Fit, Measures};
@@ -51,7 +52,7 @@ enum Sized {
     Yes(u64, u64),
 }
 
-// ROW, COUNT and BIG.
+// ROW, COUNT and BIG; and, whatever they say, what the slices are.
 fn measured(
     rows: &[u64],
     objects: u64,
@@ -60,12 +61,13 @@ fn measured(
     size: u64,
     buffer: &[u8],
 ) -> Sized
-    ensures { λ r. ⌜ Measures (now (rows .entry)) objects components (record { place = place; size = size }) (now (buffer .entry)) r ⌝ }
+    ensures sizes { λ r. ⌜ Measures (now (rows .entry)) objects components (record { place = place; size = size }) (now (buffer .entry)) r ⌝ }
+    ensures lent { λ r. ⌜ Lent (now (rows .entry)) (now (buffer .entry)) ⌝ }
 {
+    all_below(rows);
     if !sound(rows, objects, components, place, size, buffer) {
         return Sized::No(25);
     }
-    all_below(rows);
     let end = sizes::last_end(rows, objects, components);
     if 1099511627776 < end {
         return Sized::No(15);
@@ -119,7 +121,8 @@ pub fn write(
     buffer: &[u8],
     out: &mut [u8],
 ) -> Written
-    ensures { λ r. ⌜ is.Answered (written (now (rows .entry)) objects components (record { place = place; size = size }) (now (buffer .entry)) (length (now (out .entry)))) r (now (out .entry)) (now (out .exit)) ⌝ }
+    ensures answer { λ r. ⌜ is.Answered (written (now (rows .entry)) objects components (record { place = place; size = size }) (now (buffer .entry)) (length (now (out .entry)))) r (now (out .entry)) (now (out .exit)) ⌝ }
+    ensures lent { λ r. ⌜ Lent (now (rows .entry)) (now (buffer .entry)) ⌝ }
 {
     match measured(rows, objects, components, place, size, buffer) {
         Sized::No(n) => refused(n, 0, 0),

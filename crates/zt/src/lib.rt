@@ -15,6 +15,7 @@ ghost use Rattle.view.specs.Told as extent;
 ghost use Rattle.panel.specs.Lines.{listed};
 ghost use Rattle.panel.specs.Told as listing;
 ghost use Rattle.writer.specs.Told.{Answered};
+ghost use Rattle.readback.specs.Lent.{Lent};
 
 // The refusal number of a file, 0 for one that is accepted. Never ROOM: no table is lent.
 #[no_mangle]
@@ -62,7 +63,7 @@ pub extern "C" fn zt_list(
     panel::list(file, table, objects, components, text)
 }
 
-// A whole file from rows, put into a lent output: 0, 0, 0 and its length; or the refusal, where it is, and 0.
+// A whole file from rows, put into a lent output: 0, 0, 0 and its length; or the refusal, where it is, and 0. What the slices are is all that read-back asks for.
 #[no_mangle]
 pub extern "C" fn zt_write(
     rows: &[u64],
@@ -73,7 +74,8 @@ pub extern "C" fn zt_write(
     buffer: &[u8],
     out: &mut [u8],
 ) -> Written
-    ensures { λ r. ⌜ Answered (written (now (rows .entry)) objects components (record { place = place; size = size }) (now (buffer .entry)) (length (now (out .entry)))) r (now (out .entry)) (now (out .exit)) ⌝ }
+    ensures answer { λ r. ⌜ Answered (written (now (rows .entry)) objects components (record { place = place; size = size }) (now (buffer .entry)) (length (now (out .entry)))) r (now (out .entry)) (now (out .exit)) ⌝ }
+    ensures lent { λ r. ⌜ Lent (now (rows .entry)) (now (buffer .entry)) ⌝ }
 {
     writer::write(rows, objects, components, place, size, buffer, out)
 }

@@ -20,10 +20,26 @@ measured-spec =
     tie.close
     (tie.spec
     (λ c κs. search needs)
-    (λ c. checks.row ((c .before .before .before .before .args .rows .now)) ((c .before .before .before .before .args .objects)) ((c .before .before .before .before .args .components)) ((c .before .before .before .before .args .place)) ((c .before .before .before .before .args .size)) ((c .before .before .before .before .args .buffer .now)) (sym ((c .before .sound .ensures)) ∙ not-true _ ((c .if1 .taken))))
     (λ c κs. search needs)
-    (λ c κs. rows-laws.sound-lies ((c .before .before .before .before .before .args .buffer .now)) ((c .before .before .before .before .before .args .rows .now)) ((c .before .before .before .before .before .args .objects)) ((c .before .before .before .before .before .args .components)) _ (sym ((c .before .before .sound .ensures)) ∙ not-false _ ((c .before .if1 .left))))
-    (λ c. let g = ((c .before .before .before .before .before .before .before .good)) in checks.count ((c .before .before .before .before .before .before .before .args .rows .now)) ((c .before .before .before .before .before .before .before .args .objects)) ((c .before .before .before .before .before .before .before .args .components)) ((c .before .before .before .before .before .before .before .args .place)) ((c .before .before .before .before .before .before .before .args .size)) ((c .before .before .before .before .before .before .before .args .buffer .now)) (sym ((c .before .before .before .before .sound .ensures)) ∙ not-false _ ((c .before .before .before .if1 .left))) ((c .before .before .all-below .ensures)) (omega arith) (omega arith) ((c .before .last-end .result)) ((c .before .last-end .ensures) ((c .before .before .before .before .before .before .before .args .buffer .now)) _ (sym ((c .before .before .before .before .sound .ensures)) ∙ not-false _ ((c .before .before .before .if1 .left)))) ((c .if2 .taken)))
-    (λ c κs. let g = ((c .before .before .before .before .before .before .before .good)) in exact.measurable ((c .before .before .before .before .before .before .before .args .buffer .now)) ((c .before .before .before .before .before .before .before .args .rows .now)) ((c .before .before .before .before .before .before .before .args .objects)) ((c .before .before .before .before .before .before .before .args .components)) _ (sym ((c .before .before .before .before .sound .ensures)) ∙ not-false _ ((c .before .before .before .if1 .left))) (checks.ends-low ((c .before .before .before .before .before .before .before .args .rows .now)) ((c .before .before .before .before .before .before .before .args .objects)) ((c .before .before .before .before .before .before .before .args .components)) ((c .before .before .before .before .before .before .before .args .place)) ((c .before .before .before .before .before .before .before .args .size)) ((c .before .before .before .before .before .before .before .args .buffer .now)) (sym ((c .before .before .before .before .sound .ensures)) ∙ not-false _ ((c .before .before .before .if1 .left))) ((c .before .before .all-below .ensures)) (omega arith) (omega arith) ((c .before .last-end .result)) ((c .before .last-end .ensures) ((c .before .before .before .before .before .before .before .args .buffer .now)) _ (sym ((c .before .before .before .before .sound .ensures)) ∙ not-false _ ((c .before .before .before .if1 .left)))) ((c .if2 .left))))
-    (λ c. let g = ((c .before .before .before .before .before .before .before .before .before .good)) in checks.big ((c .before .before .before .before .before .before .before .before .before .args .rows .now)) ((c .before .before .before .before .before .before .before .before .before .args .objects)) ((c .before .before .before .before .before .before .before .before .before .args .components)) ((c .before .before .before .before .before .before .before .before .before .args .place)) ((c .before .before .before .before .before .before .before .before .before .args .size)) ((c .before .before .before .before .before .before .before .before .before .args .buffer .now)) (sym ((c .before .before .before .before .before .before .sound .ensures)) ∙ not-false _ ((c .before .before .before .before .before .if1 .left))) ((c .before .before .before .before .all-below .ensures)) (omega arith) (omega arith) ((c .before .before .before .last-end .result)) ((c .before .before .before .last-end .ensures) ((c .before .before .before .before .before .before .before .before .before .args .buffer .now)) _ (sym ((c .before .before .before .before .before .before .sound .ensures)) ∙ not-false _ ((c .before .before .before .before .before .if1 .left)))) ((c .before .before .if2 .left)) ((c .before .manifest .result)) ((c .before .manifest .ensures) ((c .before .before .before .before .before .before .before .before .before .args .buffer .now)) (sym ((c .before .before .before .before .before .before .sound .ensures)) ∙ not-false _ ((c .before .before .before .before .before .if1 .left)))) ((c .if3 .taken)))
-    (λ c. let g = ((c .before .before .before .before .before .before .before .before .before .good)) in checks.fit ((c .before .before .before .before .before .before .before .before .before .args .rows .now)) ((c .before .before .before .before .before .before .before .before .before .args .objects)) ((c .before .before .before .before .before .before .before .before .before .args .components)) ((c .before .before .before .before .before .before .before .before .before .args .place)) ((c .before .before .before .before .before .before .before .before .before .args .size)) ((c .before .before .before .before .before .before .before .before .before .args .buffer .now)) (sym ((c .before .before .before .before .before .before .sound .ensures)) ∙ not-false _ ((c .before .before .before .before .before .if1 .left))) ((c .before .before .before .before .all-below .ensures)) (omega arith) (omega arith) ((c .before .before .before .last-end .result)) ((c .before .before .before .last-end .ensures) ((c .before .before .before .before .before .before .before .before .before .args .buffer .now)) _ (sym ((c .before .before .before .before .before .before .sound .ensures)) ∙ not-false _ ((c .before .before .before .before .before .if1 .left)))) ((c .before .before .if2 .left)) ((c .before .manifest .result)) ((c .before .manifest .ensures) ((c .before .before .before .before .before .before .before .before .before .args .buffer .now)) (sym ((c .before .before .before .before .before .before .sound .ensures)) ∙ not-false _ ((c .before .before .before .before .before .if1 .left)))) ((c .if3 .left))))
+    (λ c. let a = c .before .before .before .before .before .args in let g = c .before .before .before .before .before .good in (
+      checks.row (a .rows .now) (a .objects) (a .components) (a .place) (a .size) (a .buffer .now) (sym (c .before .sound .ensures) ∙ not-true _ (c .if1 .taken)),
+      checks.lent (a .rows .now) (a .buffer .now) (c .before .before .all-below .ensures) (omega arith) (omega arith),
+    ))
+    (λ c κs. let a = c .before .before .before .before .before .args in rows-laws.sound-lies (a .buffer .now) (a .rows .now) (a .objects) (a .components) _ (sym (c .before .sound .ensures) ∙ not-false _ (c .if1 .left)))
+    (λ c. let a = c .before .before .before .before .before .before .before .args in let g = c .before .before .before .before .before .before .before .good in let sound = (sym (c .before .before .before .sound .ensures) ∙ not-false _ (c .before .before .if1 .left)) in (
+      checks.count (a .rows .now) (a .objects) (a .components) (a .place) (a .size) (a .buffer .now) sound (c .before .before .before .before .all-below .ensures) (omega arith) (omega arith) (c .before .last-end .result) (c .before .last-end .ensures (a .buffer .now) _ sound) (c .if2 .taken),
+      checks.lent (a .rows .now) (a .buffer .now) (c .before .before .before .before .all-below .ensures) (omega arith) (omega arith),
+    ))
+    (λ c κs. let a = c .before .before .before .before .before .before .before .args in let g = c .before .before .before .before .before .before .before .good in let sound = (sym (c .before .before .before .sound .ensures) ∙ not-false _ (c .before .before .if1 .left)) in
+    exact.measurable (a .buffer .now) (a .rows .now) (a .objects) (a .components) _ sound
+    (checks.ends-low (a .rows .now) (a .objects) (a .components) (a .place) (a .size) (a .buffer .now) sound (c .before .before .before .before .all-below .ensures) (omega arith) (omega arith) (c .before .last-end .result) (c .before .last-end .ensures (a .buffer .now) _ sound) (c .if2 .left)))
+    (λ c. let a = c .before .before .before .before .before .before .before .before .before .args in let g = c .before .before .before .before .before .before .before .before .before .good in let sound = (sym (c .before .before .before .before .before .sound .ensures) ∙ not-false _ (c .before .before .before .before .if1 .left)) in (
+      checks.big (a .rows .now) (a .objects) (a .components) (a .place) (a .size) (a .buffer .now) sound (c .before .before .before .before .before .before .all-below .ensures) (omega arith) (omega arith) (c .before .before .before .last-end .result) (c .before .before .before .last-end .ensures (a .buffer .now) _ sound) (c .before .before .if2 .left)
+          (c .before .manifest .result) (c .before .manifest .ensures (a .buffer .now) sound) (c .if3 .taken),
+      checks.lent (a .rows .now) (a .buffer .now) (c .before .before .before .before .before .before .all-below .ensures) (omega arith) (omega arith),
+    ))
+    (λ c. let a = c .before .before .before .before .before .before .before .before .before .args in let g = c .before .before .before .before .before .before .before .before .before .good in let sound = (sym (c .before .before .before .before .before .sound .ensures) ∙ not-false _ (c .before .before .before .before .if1 .left)) in (
+      checks.fit (a .rows .now) (a .objects) (a .components) (a .place) (a .size) (a .buffer .now) sound (c .before .before .before .before .before .before .all-below .ensures) (omega arith) (omega arith) (c .before .before .before .last-end .result) (c .before .before .before .last-end .ensures (a .buffer .now) _ sound) (c .before .before .if2 .left)
+          (c .before .manifest .result) (c .before .manifest .ensures (a .buffer .now) sound) (c .if3 .left),
+      checks.lent (a .rows .now) (a .buffer .now) (c .before .before .before .before .before .before .all-below .ensures) (omega arith) (omega arith),
+    )))

@@ -17,7 +17,10 @@ write-spec =
     (λ c. search needs)
     (λ c κs. search needs)
     (λ c. search needs)
-    (λ c κs. checks.measured-yes ((c .before .before .before .before .before .before .before .before .args .rows .now)) ((c .before .before .before .before .before .before .before .before .args .objects)) ((c .before .before .before .before .before .before .before .before .args .components)) ((c .before .before .before .before .before .before .before .before .args .place)) ((c .before .before .before .before .before .before .before .before .args .size)) ((c .before .before .before .before .before .before .before .before .args .buffer .now)) ((c .before .before .before .before .measured .result)) ((c .before .before .before .before .measured .ensures)) _ _ ((c .before .before .end .given .1)))
-    (λ c. checks.measured-no ((c .before .before .before .before .before .before .before .before .args .rows .now)) ((c .before .before .before .before .before .before .before .before .args .objects)) ((c .before .before .before .before .before .before .before .before .args .components)) ((c .before .before .before .before .before .before .before .before .args .place)) ((c .before .before .before .before .before .before .before .before .args .size)) ((c .before .before .before .before .before .before .before .before .args .buffer .now)) ((c .before .before .before .before .measured .result)) ((c .before .before .before .before .measured .ensures)) _ ((c .before .before .n .given .1)) _ ((c .refused .ensures)) ((c .before .before .before .before .before .before .before .before .args .out .now)))
+    (λ c κs. let a = c .before .before .before .before .before .before .before .before .args in let m = c .before .before .before .before .measured in checks.measured-yes (a .rows .now) (a .objects) (a .components) (a .place) (a .size) (a .buffer .now) (m .result) (m .ensures .0) _ _ (c .before .before .end .given .1))
+    (λ c. let a = c .before .before .before .before .before .before .before .before .args in let m = c .before .before .before .before .measured in (
+      checks.measured-no (a .rows .now) (a .objects) (a .components) (a .place) (a .size) (a .buffer .now) (m .result) (m .ensures .0) _ (c .before .before .n .given .1) _ (c .refused .ensures) (a .out .now),
+      m .ensures .1,
+    ))
     (λ c. search needs)
-    (λ c. (c .before .before .fill .ensures)))
+    (λ c. (c .before .before .fill .ensures, c .before .before .before .before .before .before .before .measured .ensures .1)))

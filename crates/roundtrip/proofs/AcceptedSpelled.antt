@@ -1,0 +1,70 @@
+-- What an accepted file's model says is spelled in the file: readback's premise follows from shown's promise.
+use Prim.Native.Nat.{ℕ, suc, _+_, _≤_}
+use native.Mathlib.Omega.{arith}
+use mathlib.Core.List.{List, [], _∷_}
+use mathlib.Core.Option.{Option, none, some}
+use mathlib.Core.Path.{_≡_}
+use lib.ListN.{length}
+use Rattle.meaning.specs.Check.{pass}
+use Rattle.meaning.specs.Tree.{Node, noteOf}
+use Rattle.meaning.specs.Read.{Span, bytesAt}
+use Rattle.meaning.specs.Model.{Word, Component, Object}
+use Rattle.meaning.specs.Types.{storages}
+use Rattle.meaning.specs.Frame.{Reading, reading}
+use Rattle.readback.specs.Every.{Every}
+use Rattle.readback.specs.Spelled as back
+use Rattle.readback.specs.Spelled.{SpelledWord, SpelledMap, SpelledComponent, SpelledObject, Spelled}
+use Rattle.readback.proofs.BeginsAsMap.{map-is-well-formed}
+use Rattle.panel.specs.Stands.{Each}
+use Rattle.shown.specs.Accepted.{IfAny, WordStands, AttributesStand, ComponentAccepted, ObjectAccepted}
+use Rattle.shown.proofs.AcceptedFile.{accepted}
+
+module _ (file : List ℕ) (start : ℕ) (header : 8 ≤ start) (inside : start ≤ length file) where
+  word-spelled : (w : Word Span) → WordStands file start w → SpelledWord file w
+  word-spelled w h = record {
+    lies = record { inside = let a = h .lies .ends in omega (arith, a); later = let a = h .lies .begins in omega (arith, a, header) };
+    spelled = h .spelled;
+  }
+
+  if-any : {A : Type 0} {Q R : A → Type 0} (o : Option A) → ((a : A) → Q a → R a) → IfAny Q o → back.IfAny R o
+  if-any none f h = tt
+  if-any (some a) f h = f a h
+
+  map-spelled : (d : ℕ) (t : Node Span) → AttributesStand file start (suc d) t → SpelledMap file (suc d) t
+  map-spelled d t h = record {
+    lies = record { inside = let a = h .stands .lies .ends in omega (arith, a); later = let a = h .stands .lies .begins in omega (arith, a, header) };
+    well-formed = map-is-well-formed d (bytesAt file (noteOf t)) t (h .pairs) (h .stands .read) (h .map);
+  }
+
+  component-spelled : (c : Component Span) → ComponentAccepted file start c → SpelledComponent file c
+  unfolding storages
+  component-spelled c h = record {
+    name = word-spelled (c .name) (h .name);
+    dtype = h .storage;
+    type = if-any (c .type) word-spelled (h .type);
+    digest = if-any (c .digest) word-spelled (h .digest);
+    blob = let a = h .blob .before-manifest in omega (arith, a, inside);
+  }
+
+  each-every : {A : Type 0} {Q R : A → Type 0} (l : List A) → ((a : A) → Q a → R a) → Each Q l → Every R l
+  unfolding Each
+  each-every [] f h = tt
+  each-every (a ∷ l) f h = (f a (h .0), each-every l f (h .1))
+
+  object-spelled : (o : Object Span) → ObjectAccepted file start o → SpelledObject file o
+  object-spelled o h = record {
+    name = word-spelled (o .name) (h .name);
+    rank = h .rank;
+    format = word-spelled (o .format) (h .format);
+    attributes = if-any (o .attributes) (map-spelled 28) (h .attributes);
+    components = each-every (o .components) component-spelled (h .components);
+  }
+
+pub accepted-spelled : (file : List ℕ) (r : Reading) → reading file ≡ pass r → Spelled file (r .model)
+accepted-spelled file r e =
+    let h = accepted file r e in let f = h .footer in
+    let inside : r .start ≤ length file = omega (arith, f) in
+    record {
+      attributes = if-any file (r .start) (h .header) inside (r .model .attributes) (map-spelled file (r .start) (h .header) inside 30) (h .attributes);
+      objects = each-every file (r .start) (h .header) inside (r .model .objects) (object-spelled file (r .start) (h .header) inside) (h .objects);
+    }

@@ -1,0 +1,48 @@
+-- The rows of an accepted file written once more, and what the writer answers for them: COUNT (2 ^ 40), BIG, ROOM, or the file of what the accepted one says. No other refusal is left.
+use Prim.Native.Nat.{ℕ}
+use mathlib.Core.List.{List, _++_, map}
+use mathlib.Core.Bool.{true}
+use mathlib.Core.Path.{_≡_}
+use lib.ListN.{length}
+use lib.Dec.{leb}
+use Rattle.meaning.specs.Check.{Check, pass, _>>_, _unless_}
+use Rattle.meaning.specs.Refusal.{COUNT, BIG, ROOM}
+use Rattle.meaning.specs.Limit.{manifestLimit, endLimit}
+use Rattle.meaning.specs.Read.{Span}
+use Rattle.meaning.specs.Model.{Model}
+use Rattle.meaning.specs.Rows.{rows, componentCount, attributesSpan}
+use Rattle.meaning.specs.Asked.{asked}
+use Rattle.meaning.specs.Sound.{rowsSound}
+use Rattle.meaning.specs.Write.{written}
+use Rattle.meaning.specs.Described.{Described, blobs, described}
+use Rattle.meaning.specs.Placement.{placement, lastEnd}
+use Rattle.meaning.specs.Manifest.{manifestBytes}
+use Rattle.meaning.specs.Layout.{fileOf}
+
+module _ (d : Described) where
+  -- where the rule places the blobs
+  abbrev pub placed : List ℕ
+  placed = placement (map length (blobs d))
+
+  -- the writer's file
+  unfoldable pub plainFile : List ℕ
+  plainFile = fileOf d placed
+
+  unfoldable pub writtenAgain : ℕ → Check (List ℕ)
+  writtenAgain room = do
+    COUNT unless leb (lastEnd placed (map length (blobs d))) endLimit
+    BIG unless leb (length (manifestBytes d placed)) manifestLimit
+    ROOM unless leb (length plainFile) room
+    pass plainFile
+
+-- the rows of a model, whatever follows them in the table, with the file as buffer
+module _ (file : List ℕ) (m : Model Span) (R : List ℕ) where
+  abbrev pub soundAgain : Type 0
+  soundAgain = rowsSound file (rows m ++ R) (length (m .objects)) (componentCount (m .objects)) (attributesSpan (m .attributes)) ≡ true
+
+  abbrev pub describedAgain : Described
+  describedAgain = described file (asked (rows m ++ R) (length (m .objects)) (componentCount (m .objects)) (attributesSpan (m .attributes)))
+
+  -- into an output of so many bytes
+  abbrev pub rewritten : ℕ → Check (List ℕ)
+  rewritten room = written (rows m ++ R) (length (m .objects)) (componentCount (m .objects)) (attributesSpan (m .attributes)) file room
