@@ -101,8 +101,10 @@ typedef struct {
 } zt_text;
 
 /*
- * The listing, by a table that zt_read filled, put into a lent text of `text_room` bytes. ZT_ROOM, if that is too little, and ZT_INDEX, for a table that
- * is none of this file's, leave the text as it was; bytes beyond the listing stay. The text must overlap neither the file nor the table.
+ * The listing, by a table that zt_read filled, put into a lent text of `text_room` bytes. ZT_ROOM, if that is too little, and ZT_INDEX leave the text as it
+ * was; bytes beyond the listing stay. ZT_INDEX is given unless all rows lie in the table, names, formats and blobs lie inside the file, each storage code is
+ * one of the 13 and the objects' counts add up to the components. No more is checked: a table goes with the file that it was read from, and with another
+ * file's bytes it may be listed with other names. The text must overlap neither the file nor the table.
  */
 zt_text zt_list(const uint8_t *file, size_t length, const uint64_t *table, size_t room, uint64_t objects, uint64_t components, uint8_t *text,
                 size_t text_room);
