@@ -184,8 +184,10 @@ typedef struct {
 } zt_text;
 
 /*
- * The listing, by a table that zt_read filled, put into a lent text of `text_room` bytes. ZT_ROOM, if that is too little, and ZT_INDEX, for a table that
- * is none of this file's, leave the text as it was; bytes beyond the listing stay. The text must overlap neither the file nor the table.
+ * The listing, by a table that zt_read filled, put into a lent text of `text_room` bytes. ZT_ROOM, if that is too little, and ZT_INDEX leave the text as it
+ * was; bytes beyond the listing stay. ZT_INDEX is given unless all rows lie in the table, names, formats and blobs lie inside the file, each storage code is
+ * one of the 13 and the objects' counts add up to the components. No more is checked: a table goes with the file that it was read from, and with another
+ * file's bytes it may be listed with other names. The text must overlap neither the file nor the table.
  *
  * A listing is never longer than 3 bytes for each byte of the manifest, whose length is `length - 16 - start`, so at most 3 * ZT_MANIFEST_MOST: a byte of a
  * text is printed as 3 at most, and the words around texts are shorter than three times what the manifest has around them. Worked out from the format, and

@@ -51,15 +51,19 @@ fn line(out: &mut Vec<u8>, parts: &[&[u8]]) {
     out.push(b'\n');
 }
 
-/// A text with bytes outside 33 to 126, and the backslash, as a backslash and two hex digits.
 pub fn shown(file: &[u8], text: Part) -> Option<Vec<u8>> {
+    text.of(file).map(escaped)
+}
+
+/// A text with bytes outside 33 to 126, and the backslash, as a backslash and two hex digits.
+pub fn escaped(text: &[u8]) -> Vec<u8> {
     let mut out = Vec::new();
-    for &byte in text.of(file)? {
+    for &byte in text {
         match byte {
             b'\\' => out.extend(b"\\5c"),
             33..=126 => out.push(byte),
             _ => out.extend(format!("\\{byte:02x}").bytes()),
         }
     }
-    Some(out)
+    out
 }

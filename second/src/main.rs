@@ -6,7 +6,7 @@ use second::appendix;
 use second::cases;
 use second::generate::nth_file;
 use second::judge::verdict;
-use second::listing::program_text;
+use second::listing::{escaped, program_text};
 use second::probes;
 use second::vectors;
 use std::fs;
@@ -71,10 +71,12 @@ fn number(text: &str) -> io::Result<u64> {
         .map_err(|error| io::Error::other(format!("{text}: {error}")))
 }
 
-/// The path's own line, where there are several.
+/// The path's own line, where there are several: with the listing's escapes, so that no path passes for a line of a listing.
 fn named(path: &str, several: bool) -> Vec<u8> {
     if several {
-        format!("{path}:\n").into_bytes()
+        let mut line = escaped(path.as_bytes());
+        line.extend(b":\n");
+        line
     } else {
         Vec::new()
     }

@@ -41,6 +41,16 @@ fn lists_and_judges_files() {
 }
 
 #[test]
+fn escapes_the_paths_that_it_names() {
+    let directory = directory("escapes_the_paths_that_it_names");
+    let short = "x:\nobjects 0\\.zt";
+    fs::write(directory.join(short), b"").unwrap();
+    let list = second(&["list", short, short], &directory);
+    let each = b"x:\\0aobjects\\200\\5c.zt:\nrefused 1 0 0\n";
+    assert_eq!(list.stdout, [&each[..], each].concat());
+}
+
+#[test]
 fn generates_files_with_their_answers() {
     let directory = directory("generates_files_with_their_answers");
     assert!(second(&["generate", "3", "20", "made"], &directory)

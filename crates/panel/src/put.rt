@@ -76,7 +76,7 @@ fn shown(out: &mut [u8], at: usize, b: u8) -> usize
     byte(out, second, hex(b % 16))
 }
 
-fn text(out: &mut [u8], at: usize, t: &[u8]) -> usize
+pub fn text(out: &mut [u8], at: usize, t: &[u8]) -> usize
     ensures { λ r. ⌜ Wrote (is.shownText (now (t .entry))) at (now (out .entry)) (now (out .exit)) r ⌝ }
 {
     let mut past = at;

@@ -23,10 +23,11 @@ use Rattle.meaning.specs.Encoding.{Bytes}
 use Rattle.readback.specs.Every.{Every}
 use Rattle.readback.specs.Fine.{Fits}
 use Rattle.readback.specs.Spelled.{IfAny}
+use Rattle.shown.proofs.AcceptsExactly.{bytes-take, bytes-drop}
 use Rattle.roundtrip.specs.Sized.{SizedObject, Sized}
 use Rattle.roundtrip.specs.Small.{Small, SmallNodes, SmallPairs}
 use Rattle.roundtrip.proofs.If.{Any, If, passes, anyhow, passed-so, in-object, is-required, bind, then, tested, each-so, any-every}
-use Rattle.roundtrip.proofs.ReadSmall.{bytes-take, bytes-drop, manifest-small}
+use Rattle.roundtrip.proofs.ReadSmall.{manifest-small}
 
 -- as long as a list within the limit
 within : {A B : Type 0} (limit : ℕ) (l : List A) (m : List B) → length m ≡ length l → length l ≤ limit → length m ≤ limit

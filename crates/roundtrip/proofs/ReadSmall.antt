@@ -2,11 +2,7 @@
 use Prim.Native.Nat.{ℕ, zero, suc, _<_, _^_}
 use native.Mathlib.Omega.{arith}
 use mathlib.Core.List.{List, [], _∷_}
-use mathlib.Core.Bool.{true, _&&_}
 use mathlib.Core.Path.{_≡_, refl, ap, sym, _∙_, subst}
-use lib.ListN.{take, drop}
-use lib.Dec.{ltb}
-use lib.Pow.{areBytes}
 use Rattle.meaning.specs.Limit.{depthLimit}
 use Rattle.meaning.specs.Tree as tree
 use Rattle.meaning.specs.Tree.{Node, Nodes, Pairs, ε, _▸_, ∅, _⇒_▸_, mapP, mapNodes, mapPairs, nothing, meaning}
@@ -16,20 +12,7 @@ use Rattle.meaning.specs.Encoding.{Bytes, Low, Head, head, Encodes, Elements, E
 use Rattle.meaning.proofs.ReadNatural.{mapOut, item-follows}
 use Rattle.meaning.proofs.ExactOnly.{Encoded, whatever-is-read-is-encoded}
 use Rattle.readback.specs.Fine.{Fits}
-use Rattle.readback.proofs.EveryPart.{and-left, and-right}
 use Rattle.roundtrip.specs.Small.{Small, SmallNodes, SmallPairs}
-
--- ---- parts of bytes
-
-pub bytes-take : (n : ℕ) (s : List ℕ) → Bytes s → Bytes (take n s)
-bytes-take zero s h = refl
-bytes-take (suc n) [] h = refl
-bytes-take (suc n) (b ∷ s) h = rw (and-left (ltb b 256) (areBytes s) h) (bytes-take n s (and-right (ltb b 256) (areBytes s) h))
-
-pub bytes-drop : (n : ℕ) (s : List ℕ) → Bytes s → Bytes (drop n s)
-bytes-drop zero s h = h
-bytes-drop (suc n) [] h = refl
-bytes-drop (suc n) (b ∷ s) h = bytes-drop n s (and-right (ltb b 256) (areBytes s) h)
 
 -- ---- encodings
 

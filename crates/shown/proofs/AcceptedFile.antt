@@ -16,14 +16,14 @@ use Rattle.reader.specs.Verdict.{verdict}
 use Rattle.view.specs.All.{allComponents}
 use Rattle.panel.specs.Stands.{Each, Stands, ComponentStands, ObjectStands}
 use Rattle.shown.specs.Accepted.{IfAny, WordStands, AttributesStand, BlobLies, ComponentAccepted, ObjectAccepted, Accepted}
-use Rattle.shown.proofs.Judged.{numbered, passed-so, refused-so}
+use Rattle.shown.proofs.Judged.{between, passed-so, refused-so}
 use Rattle.shown.proofs.ReadingJudged.{reading-so}
 
 -- ---------------------------------------------------------------- a file that is refused
 
 -- SHORT to LENGTH: the acceptance of a file never gives ROOM, ROW or INDEX
 pub refusals-of-reading : (file : List ℕ) (n o c : ℕ) → reading file ≡ refuse n o c → (SHORT ≤ n) × (n ≤ LENGTH)
-refusals-of-reading file n o c e = numbered n (refused-so (reading-so file) e)
+refusals-of-reading file n o c e = between n (refused-so (reading-so file) e)
 
 -- the number that the acceptance check gives: never ROOM, and 0 only for a file that is accepted
 module _ (file : List ℕ) where

@@ -7,3 +7,4 @@ pub mod Judgement
 pub mod ReadingJudged
 pub mod AcceptedFile
 pub mod AfterReading
+pub mod AcceptsExactly

@@ -1,4 +1,4 @@
--- Every node that a manifest reads as is placed: one pass over the reading, which also finds that it refuses with one of 01's numbers up to LENGTH.
+-- Every node that a manifest reads as is placed: one pass over the reading, which also finds that it refuses with CBOR or DEEP.
 use Prim.Native.Nat.{ℕ, zero, suc, _+_, _-_, _*_, _/_, _≤_}
 use mathlib.Core.List.{List, [], _∷_, _++_}
 use mathlib.Core.Bool.{Bool, true, false, cond}
@@ -13,14 +13,14 @@ use Rattle.meaning.specs.Read.{Argument, known, indefinite, wide, longArguments
 use Rattle.meaning.specs.Read.{Major, unsigned, negative, byteString, textString, arrayOf, mapOf, tagged, special}
 use Rattle.panel.specs.Stands.{Each}
 use Rattle.shown.specs.Placed.{Placed, Within, PlacedNodes, PlacedPairs, PlacedPair}
-use Rattle.shown.proofs.Judged.{Numbered, Any}
+use Rattle.shown.proofs.Judged.{Between, Any}
 use Rattle.shown.proofs.Spans.{Later, at-once, later-on, Left, left-later, word-stands, node-stands}
 
--- what is got is so, and a refusal's number is one of 1 to 23
+-- what is got is so, and a refusal's number is CBOR or DEEP
 module _ {A : Type 0} where
   abbrev Cases : (A → List ℕ → Type 0) → Outcome A → Type 0
   Cases Q (got a r) = Q a r
-  Cases Q (refused n r) = Numbered n
+  Cases Q (refused n r) = Between CBOR DEEP n
 
   pub record So (Q : A → List ℕ → Type 0) (o : Outcome A) : Type 0 where
     pub is : Cases Q o
@@ -208,7 +208,7 @@ module _ (file back : List ℕ) (start end : ℕ) where
     none-left [] l = ended []
     none-left (b ∷ s) l = record { is = by (eqb b 255) }
       where
-        by : (t : Bool) → Numbered (cond t CBOR DEEP)
+        by : (t : Bool) → Between CBOR DEEP (cond t CBOR DEEP)
         by true = tt
         by false = tt
 

@@ -3,14 +3,14 @@ use Prim.Native.Nat.{ℕ, _+_, _-_, _≤_}
 use native.Mathlib.Omega.{arith}
 use mathlib.Core.List.{List, _++_}
 use mathlib.Core.Bool.{_&&_}
-use mathlib.Core.Path.{_≡_, ap, sym, _∙_}
+use mathlib.Core.Path.{_≡_, ap, sym, subst, _∙_}
 use lib.ListN.{length, take, drop, take-append-drop, length-drop}
 use lib.Seq.{length-take-le, drop-drop}
 use lib.Dec.{leb}
 use borrow.Author.Tests.{leb-true}
 use Rattle.types.proofs.Tagged.{both-left, both-right}
 use Rattle.meaning.specs.Text.{same}
-use Rattle.meaning.specs.Refusal.{SHORT, HEADER, FOOTER, BIG, FIT}
+use Rattle.meaning.specs.Refusal.{SHORT, HEADER, FOOTER, BIG, FIT, CBOR, DEEP}
 use Rattle.meaning.specs.Limit.{manifestLimit, depthLimit}
 use Rattle.meaning.specs.Tree.{Node}
 use Rattle.meaning.specs.Read.{Span, spanTo, Outcome, got, refused, manifest}
@@ -18,17 +18,17 @@ use Rattle.meaning.specs.Judge.{judge}
 use Rattle.meaning.specs.Frame.{magic, little, Frame, frame, checked, reading}
 use Rattle.shown.specs.Accepted.{Accepted}
 use Rattle.shown.specs.Placed.{Placed}
-use Rattle.shown.proofs.Judged.{Judged, passes, bind, tested}
+use Rattle.shown.proofs.Judged.{JudgedFrom, between, is-between, widened, passes, bind, tested}
 use Rattle.shown.proofs.Spans.{Left}
 use Rattle.shown.proofs.ReadPlaced.{So, manifest-placed}
 use Rattle.shown.proofs.Judgement.{judge-so}
 
-record Framed (file : List ℕ) (f : Frame) : Type 0 where
-  header : 8 ≤ f .start
-  some-bytes : 1 ≤ f .size
-  ends : f .start + f .size + 16 ≡ length file
+pub record Framed (file : List ℕ) (f : Frame) : Type 0 where
+  pub header : 8 ≤ f .start
+  pub some-bytes : 1 ≤ f .size
+  pub ends : f .start + f .size + 16 ≡ length file
 
-frame-so : (file : List ℕ) → Judged (Framed file) (frame file)
+pub frame-so : (file : List ℕ) → JudgedFrom SHORT (Framed file) (frame file)
 unfolding frame
 frame-so file =
     let n : ℕ = length file in
@@ -64,21 +64,27 @@ module _ (file : List ℕ) (f : Frame) (h : Framed file f) where
     from = let e = h .ends in let a = length-take-le start file (omega (arith, e)) in omega (arith, a);
   }
 
-  checked-so : {Q : Node Span → Type 0} (o : Outcome (Node Span)) → So (λ (t : Node Span) (r : List ℕ). Q t) o → Judged Q (checked o)
+  checked-so : {Q : Node Span → Type 0} (o : Outcome (Node Span)) → So (λ (t : Node Span) (r : List ℕ). Q t) o → JudgedFrom SHORT Q (checked o)
   unfolding checked
   checked-so (got t r) s = record { is = s .is }
-  checked-so (refused n r) s = record { is = s .is }
+  checked-so (refused n r) s = let a = between n (s .is) in let b = a .0 in let c = a .1 in record { is = is-between n (omega (arith, b)) (omega (arith, c)) }
 
-  tree-so : Judged (Placed file start depthLimit) (checked (manifest (spanTo end) bytes))
-  tree-so =
+  placed-so : So (λ (t : Node Span) (r : List ℕ). Placed file start depthLimit t) (manifest (spanTo end) bytes)
+  placed-so =
       let e = h .ends in let b = back-is in
-      checked-so (manifest (spanTo end) bytes) (manifest-placed file (drop end file) start end (omega (arith, e, b)) (omega (arith, b)) bytes all-left)
+      manifest-placed file (drop end file) start end (omega (arith, e, b)) (omega (arith, b)) bytes all-left
 
-pub reading-so : (file : List ℕ) → Judged (Accepted file) (reading file)
+  pub manifest-refusals : {n : ℕ} {r : List ℕ} → manifest (spanTo end) bytes ≡ refused n r → (CBOR ≤ n) × (n ≤ DEEP)
+  manifest-refusals {n} e = between n (subst (So (λ (t : Node Span) (r : List ℕ). Placed file start depthLimit t)) e placed-so .is)
+
+  pub tree-so : JudgedFrom SHORT (Placed file start depthLimit) (checked (manifest (spanTo end) bytes))
+  tree-so = checked-so (manifest (spanTo end) bytes) placed-so
+
+pub reading-so : (file : List ℕ) → JudgedFrom SHORT (Accepted file) (reading file)
 unfolding reading
 reading-so file =
     bind (frame file) _ (frame-so file) λ f h.
     bind (checked (manifest (spanTo (f .start + f .size)) (take (f .size) (drop (f .start) file)))) _ (tree-so file f h) λ t placed.
-    bind (judge (f .start) t) _ (judge-so file (f .start) t placed) λ m s.
+    bind (judge (f .start) t) _ (widened (judge (f .start) t) (judge-so file (f .start) t placed)) λ m s.
     let e = h .ends in let b = h .some-bytes in
     passes _ (record { header = h .header; footer = omega (arith, e, b); attributes = s .attributes; objects = s .objects })

@@ -2,3 +2,4 @@
 pub mod Accepted
 pub mod Placed
 pub mod Shown
+pub mod Exactly

@@ -1,0 +1,11 @@
+-- `listing::printed::escaped` meets its contract: there is room, so the whole text stands where it was put. Assumes nothing.
+use Rattle.listing.proofs.Texts as texts
+use borrow.Author.Needs.{needs}
+use Rattle.listing.proofs.printed.escaped.Statement.{statement}
+use Rattle.listing.proofs.printed.escaped.Tie as tie
+use Rattle.listing.proofs.printed.escaped.Reads as reads
+use Rattle.listing.proofs.printed.escaped.Lts as lts
+use Rattle.panel.proofs.put.text.Reads as text-reads
+
+pub escaped-spec : {M : Type 1} → statement M
+escaped-spec = tie.close (tie.spec (λ c κs. search needs) (λ c. search needs) (λ c. texts.escaped-stands (c .before .before .before .before .before .before .args .path .now) (c .before .before .before .before .before .before .args .text .now) (c .before .before .before .before .before .before .pre) (c .before .before .text .ensures)))
