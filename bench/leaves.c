@@ -17,6 +17,25 @@ static bool our_names(const void *x) {
     return leaf_no_twice(n->in.bytes, n->in.length, n->left, n->count, n->size, n->count, n->count, ix, n->count);
 }
 
+/* A name of 16 KB: ASCII, mixed, and with a character of two bytes in every eight, so that no word is ASCII. */
+static void long_texts(void) {
+    enum { NAME = 16384 };
+    program utf8 = {"leaf_utf8", our_utf8}, bytes = {"C -O2, by bytes", c_utf8_bytes}, words = {"C -O2, by words", c_utf8_words};
+    struct {
+        const char *what, *piece;
+        double target;
+    } texts[] = {
+        {"UTF-8: a name of 16 KB, ASCII, per byte", "model.layers.11.self_attn.q_proj.weight ", 1.3},
+        {"UTF-8: a name of 16 KB, mixed, per byte", "Größe der Schicht, 水の重み, 𐅑 weight ", 1.5},
+        {"UTF-8: a name of 16 KB, worst, per byte", "layers\xC3\xA4", 1.5},
+    };
+    for (size_t i = 0; i < sizeof texts / sizeof *texts; i++) {
+        input in = text(NAME, texts[i].piece);
+        compare(texts[i].what, utf8, words, &in, (double)in.length, in.length, texts[i].target);
+        compare("", utf8, bytes, &in, (double)in.length, in.length, 0);
+    }
+}
+
 void leaves(void) {
     enum { OBJECTS = 1000, LARGE = 1 << 24, TEXT = 1 << 20, LONG = 16384 };
     zt_file m = model(OBJECTS, 0);
@@ -37,6 +56,7 @@ void leaves(void) {
     compare("well-formed: 16 MiB of arrays, per byte", item, c_strict, &nest, (double)nest.length, nest.length, 0);
     compare("UTF-8: 1 MiB of ASCII, per byte", utf8, c_text, &ascii, (double)ascii.length, ascii.length, 0);
     compare("UTF-8: 1 MiB mixed, per byte", utf8, c_text, &mixed, (double)mixed.length, mixed.length, 0);
+    long_texts();
     compare("no name twice: 1000 of a model, per name", twice, c_sorted, &real, OBJECTS, real.in.length, 0);
     compare("no name twice: 1000 of 16 KB, per name", twice, c_sorted, &tails, OBJECTS, tails.in.length, 0);
 }

@@ -4,14 +4,15 @@ use mathlib.Core.List.{List}
 use mathlib.Core.Bool.{Bool, true, false}
 use Prim.Native.Nat.{ℕ, zero, suc, _+_, _-_, _*_, _/_, _%_, _≤_, _<_}
 use native.Mathlib.Omega.{arith}
-use lib.ListN.{length, getD, take, drop}
+use lib.ListN.{length, getD, take, drop, length-drop}
+use lib.Seq.{drop-drop}
 use lib.Bits.{bitAnd, and-block, and-high}
 use lib.Dec.{ltb, lit<}
 use borrow.Author.Tests.{ltb-true, ltb-false}
 use borrow.Rule.Slice.PartAt.{part-to-end}
 use Rattle.endian.specs.Word.{word}
 use Rattle.meaning.specs.Text.{utf8}
-use Rattle.text.specs.Lead.{ranges}
+use Rattle.text.specs.Lead.{ranges, Ends}
 use Rattle.text.proofs.Utf8Steps.{Says, lead-low}
 use Rattle.text.proofs.WordsDecide.{Bytes}
 
@@ -68,3 +69,19 @@ whole-word {t} {i} h ht k p e z l m n =
 pub rest-decides : {t : List ℕ} {i : ℕ} {r : Bool} → Whole t i → r ≡ utf8 (take (length t - i) (drop i t)) → r ≡ utf8 t
 unfolding utf8 ranges
 rest-decides {t} {i} h e = e ∙ ap utf8 (part-to-end t i) ∙ sym (h .says)
+
+-- after whole characters, the same of the part from there on is the same of all
+module _ {t : List ℕ} {i : ℕ} (h : Whole t i) where
+  rest-is : utf8 t ≡ utf8 (drop i t)
+  unfolding utf8 ranges
+  rest-is = h .says
+
+  pub rest-wrong : {n k : ℕ} → Ends (take (length t - i) (drop i t)) n k → k ≡ 0 → false ≡ utf8 t
+  rest-wrong e z = sym (rest-is ∙ ap utf8 (sym (part-to-end t i)) ∙ e .wrong z)
+
+  pub rest-inside : {n k : ℕ} → i ≤ length t → Ends (take (length t - i) (drop i t)) n k → i + k ≤ length t
+  rest-inside {k} l e = let z : k ≤ length (drop i t) = rw (part-to-end t i) at (e .inside) in omega (arith, length-drop i t)
+
+  pub rest-whole : {n k : ℕ} → Ends (take (length t - i) (drop i t)) n k → (k ≡ 0 → ⊥) → Whole t (i + k)
+  unfolding utf8 ranges
+  rest-whole {k} e z = record { says = rest-is ∙ ap utf8 (sym (part-to-end t i)) ∙ e .decides z ∙ ap (λ l. utf8 (drop k l)) (part-to-end t i) ∙ ap utf8 (drop-drop k i t) }

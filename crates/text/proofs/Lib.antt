@@ -6,5 +6,6 @@ pub mod DigestSteps
 pub mod WithinRange
 pub mod Utf8Steps
 pub mod AsciiWords
+pub mod CharEnds
 pub mod VersionSteps
 pub mod LittleEndian

@@ -11,7 +11,7 @@ use lib.Seq.{drop-cons}
 use lib.Dec.{ltb, eqb}
 use borrow.Author.Tests.{ne-eqb, ltb-true, ltb-false}
 use Rattle.meaning.specs.Text.{Range, within, tail, follow, following, utf8}
-use Rattle.text.specs.Lead.{leadOf, tails, ranges, Leads}
+use Rattle.text.specs.Lead.{leadOf, tails, ranges, Leads, Ends}
 use Rattle.text.specs.declared.utf.Lead.{Lead}
 use Rattle.text.proofs.WithinRange.{in-range, under, over}
 
@@ -20,23 +20,23 @@ use Rattle.text.proofs.WithinRange.{in-range, under, over}
 module _ {b : ℕ} where
   pub lead-0 : b < 128 → Leads b (leadOf 0 128 191)
   unfolding follow ranges
-  lead-0 l = record { none-can = λ e. absurd (omega arith); some-can = λ _. rw (in-range 0 0x7f b (omega arith) (omega arith)) }
+  lead-0 l = record { few = omega arith; none-can = λ e. absurd (omega arith); some-can = λ _. rw (in-range 0 0x7f b (omega arith) (omega arith)) }
 
   pub lead-bad : 128 ≤ b → b < 194 → Leads b (leadOf 4 128 191)
   unfolding follow
-  lead-bad l m = record { some-can = λ e. absurd (e refl); none-can = λ _. rw (over 0 0x7f b (omega arith), under 0xc2 0xdf b (omega arith), under 0xe0 0xe0 b (omega arith), under 0xed 0xed b (omega arith), under 0xe1 0xef b (omega arith), under 0xf0 0xf0 b (omega arith), under 0xf1 0xf3 b (omega arith), under 0xf4 0xf4 b (omega arith)) }
+  lead-bad l m = record { few = omega arith; some-can = λ e. absurd (e refl); none-can = λ _. rw (over 0 0x7f b (omega arith), under 0xc2 0xdf b (omega arith), under 0xe0 0xe0 b (omega arith), under 0xed 0xed b (omega arith), under 0xe1 0xef b (omega arith), under 0xf0 0xf0 b (omega arith), under 0xf1 0xf3 b (omega arith), under 0xf4 0xf4 b (omega arith)) }
 
   pub lead-1 : 194 ≤ b → b < 224 → Leads b (leadOf 1 128 191)
   unfolding follow ranges tails tail
-  lead-1 l m = record { none-can = λ e. absurd (omega arith); some-can = λ _. rw (over 0 0x7f b (omega arith), in-range 0xc2 0xdf b (omega arith) (omega arith)) }
+  lead-1 l m = record { few = omega arith; none-can = λ e. absurd (omega arith); some-can = λ _. rw (over 0 0x7f b (omega arith), in-range 0xc2 0xdf b (omega arith) (omega arith)) }
 
   pub lead-224 : b ≡ 224 → Leads b (leadOf 2 160 191)
   unfolding follow ranges tails tail
-  lead-224 e = record { none-can = λ e. absurd (omega arith); some-can = λ _. rw (over 0 0x7f b (omega arith), over 0xc2 0xdf b (omega arith), in-range 0xe0 0xe0 b (omega arith) (omega arith)) }
+  lead-224 e = record { few = omega arith; none-can = λ e. absurd (omega arith); some-can = λ _. rw (over 0 0x7f b (omega arith), over 0xc2 0xdf b (omega arith), in-range 0xe0 0xe0 b (omega arith) (omega arith)) }
 
   pub lead-237 : b ≡ 237 → Leads b (leadOf 2 128 159)
   unfolding follow ranges tails tail
-  lead-237 e = record { none-can = λ e. absurd (omega arith); some-can = λ _. rw (over 0 0x7f b (omega arith), over 0xc2 0xdf b (omega arith), over 0xe0 0xe0 b (omega arith), in-range 0xed 0xed b (omega arith) (omega arith)) }
+  lead-237 e = record { few = omega arith; none-can = λ e. absurd (omega arith); some-can = λ _. rw (over 0 0x7f b (omega arith), over 0xc2 0xdf b (omega arith), over 0xe0 0xe0 b (omega arith), in-range 0xed 0xed b (omega arith) (omega arith)) }
 
   -- 237 is left out by its own case before
   not-one : (k : ℕ) → (b ≡ k → ⊥) → within k k b ≡ false
@@ -48,23 +48,23 @@ module _ {b : ℕ} where
 
   pub lead-2 : 224 < b → b < 240 → (b ≡ 237 → ⊥) → Leads b (leadOf 2 128 191)
   unfolding follow ranges tails tail
-  lead-2 l m h = record { none-can = λ e. absurd (omega arith); some-can = λ _. rw (over 0 0x7f b (omega arith), over 0xc2 0xdf b (omega arith), over 0xe0 0xe0 b (omega arith), not-one 0xed h, in-range 0xe1 0xef b (omega arith) (omega arith)) }
+  lead-2 l m h = record { few = omega arith; none-can = λ e. absurd (omega arith); some-can = λ _. rw (over 0 0x7f b (omega arith), over 0xc2 0xdf b (omega arith), over 0xe0 0xe0 b (omega arith), not-one 0xed h, in-range 0xe1 0xef b (omega arith) (omega arith)) }
 
   pub lead-240 : b ≡ 240 → Leads b (leadOf 3 144 191)
   unfolding follow ranges tails tail
-  lead-240 e = record { none-can = λ e. absurd (omega arith); some-can = λ _. rw (over 0 0x7f b (omega arith), over 0xc2 0xdf b (omega arith), over 0xe0 0xe0 b (omega arith), over 0xed 0xed b (omega arith), over 0xe1 0xef b (omega arith), in-range 0xf0 0xf0 b (omega arith) (omega arith)) }
+  lead-240 e = record { few = omega arith; none-can = λ e. absurd (omega arith); some-can = λ _. rw (over 0 0x7f b (omega arith), over 0xc2 0xdf b (omega arith), over 0xe0 0xe0 b (omega arith), over 0xed 0xed b (omega arith), over 0xe1 0xef b (omega arith), in-range 0xf0 0xf0 b (omega arith) (omega arith)) }
 
   pub lead-3 : 240 < b → b < 244 → Leads b (leadOf 3 128 191)
   unfolding follow ranges tails tail
-  lead-3 l m = record { none-can = λ e. absurd (omega arith); some-can = λ _. rw (over 0 0x7f b (omega arith), over 0xc2 0xdf b (omega arith), over 0xe0 0xe0 b (omega arith), over 0xed 0xed b (omega arith), over 0xe1 0xef b (omega arith), over 0xf0 0xf0 b (omega arith), in-range 0xf1 0xf3 b (omega arith) (omega arith)) }
+  lead-3 l m = record { few = omega arith; none-can = λ e. absurd (omega arith); some-can = λ _. rw (over 0 0x7f b (omega arith), over 0xc2 0xdf b (omega arith), over 0xe0 0xe0 b (omega arith), over 0xed 0xed b (omega arith), over 0xe1 0xef b (omega arith), over 0xf0 0xf0 b (omega arith), in-range 0xf1 0xf3 b (omega arith) (omega arith)) }
 
   pub lead-244 : b ≡ 244 → Leads b (leadOf 3 128 143)
   unfolding follow ranges tails tail
-  lead-244 e = record { none-can = λ e. absurd (omega arith); some-can = λ _. rw (over 0 0x7f b (omega arith), over 0xc2 0xdf b (omega arith), over 0xe0 0xe0 b (omega arith), over 0xed 0xed b (omega arith), over 0xe1 0xef b (omega arith), over 0xf0 0xf0 b (omega arith), over 0xf1 0xf3 b (omega arith), in-range 0xf4 0xf4 b (omega arith) (omega arith)) }
+  lead-244 e = record { few = omega arith; none-can = λ e. absurd (omega arith); some-can = λ _. rw (over 0 0x7f b (omega arith), over 0xc2 0xdf b (omega arith), over 0xe0 0xe0 b (omega arith), over 0xed 0xed b (omega arith), over 0xe1 0xef b (omega arith), over 0xf0 0xf0 b (omega arith), over 0xf1 0xf3 b (omega arith), in-range 0xf4 0xf4 b (omega arith) (omega arith)) }
 
   pub lead-high : 244 < b → Leads b (leadOf 4 128 191)
   unfolding follow
-  lead-high l = record { some-can = λ e. absurd (e refl); none-can = λ _. rw (over 0 0x7f b (omega arith), over 0xc2 0xdf b (omega arith), over 0xe0 0xe0 b (omega arith), over 0xed 0xed b (omega arith), over 0xe1 0xef b (omega arith), over 0xf0 0xf0 b (omega arith), over 0xf1 0xf3 b (omega arith), over 0xf4 0xf4 b (omega arith)) }
+  lead-high l = record { few = omega arith; some-can = λ e. absurd (e refl); none-can = λ _. rw (over 0 0x7f b (omega arith), over 0xc2 0xdf b (omega arith), over 0xe0 0xe0 b (omega arith), over 0xed 0xed b (omega arith), over 0xe1 0xef b (omega arith), over 0xf0 0xf0 b (omega arith), over 0xf1 0xf3 b (omega arith), over 0xf4 0xf4 b (omega arith)) }
 
 -- ---------------------------------------------------------------- a step
 
@@ -143,3 +143,28 @@ says-end {t} {i} {need} {low} {high} h l = go need (h .says ∙ ap (following (r
     go : (need : ℕ) → utf8 t ≡ following (ranges need low high) [] → eqb need 0 ≡ utf8 t
     go zero e = sym (e ∙ (unfold ranges following in refl))
     go (suc k) e = ne-eqb (suc k) 0 (λ z. omega arith) ∙ sym (e ∙ (unfold ranges following in refl))
+
+-- ---------------------------------------------------------------- the end of a character
+
+-- a text that is wrong, and one whose first k bytes are whole characters
+pub never-ends : {t : List ℕ} {n : ℕ} → false ≡ utf8 t → Ends t n 0
+never-ends e = record { wrong = λ z. sym e; least = λ z. absurd (z refl); inside = omega arith; decides = λ z. absurd (z refl) }
+
+pub ends-at : {t : List ℕ} {n k : ℕ} → Says t k 0 128 191 → n ≤ k → 1 ≤ k → k ≤ length t → Ends t n k
+unfolding utf8 ranges
+ends-at h l m i = record { wrong = λ z. absurd (omega arith); least = λ z. l; inside = i; decides = λ z. h .says }
+
+-- nothing must come: the numbers say no more
+pub says-any : {t : List ℕ} {i need low high : ℕ} → Says t i need low high → need ≡ 0 → Says t i 0 128 191
+unfolding ranges
+says-any h e = record { says = rw e at (h .says) }
+
+-- the text ends where a byte must come
+pub ended-early : {t : List ℕ} {i need low high : ℕ} → Says t i need low high → 0 < need → length t ≤ i → false ≡ utf8 t
+ended-early {need} h l e = sym (ne-eqb need 0 (λ z. omega arith)) ∙ says-end h e
+
+pub says-third : {s : List ℕ} {need : ℕ} → utf8 s ≡ following (tails need) (drop 2 s) → Says s 2 need 128 191
+says-third {s} {need} e = record { says = e ∙ ap (λ u. following u (drop 2 s)) (tails-ranges need) }
+
+pub third-says : {s : List ℕ} {need : ℕ} → Says s 2 need 128 191 → utf8 s ≡ following (tails need) (drop 2 s)
+third-says {s} {need} h = h .says ∙ ap (λ u. following u (drop 2 s)) (sym (tails-ranges need))

@@ -1,4 +1,4 @@
-// UTF-8: eight bytes at a time while all are below 128, and byte by byte from the first word on that has another.
+// UTF-8: eight bytes at a time while all are below 128; a word that has another is passed character by character, and then words are tried again.
 use endian::be4;
 use endian::be8;
 use endian::wide;
@@ -104,6 +104,85 @@ fn utf8_by_bytes(t: &[u8]) -> bool
     need == 0
 }
 
+// Where a character ends of whose bytes two are right and `need` must still come; 0 if they don't.
+fn third_on(s: &[u8], need: u64) -> usize
+    requires { ⌜ (1 ≤ need) × (need ≤ 2) ⌝ }
+    ensures { λ r. ⌜ leads.ThirdIs (now (s .entry)) need r ⌝ }
+{
+    if s.len() < 3 {
+        return 0;
+    }
+    let b = wide(s[2]);
+    if b < 128 {
+        return 0;
+    }
+    if 191 < b {
+        return 0;
+    }
+    if need == 1 {
+        return 3;
+    }
+    if s.len() < 4 {
+        return 0;
+    }
+    let e = wide(s[3]);
+    if e < 128 {
+        return 0;
+    }
+    if 191 < e {
+        return 0;
+    }
+    4
+}
+
+// Where the character ends that begins s, of two bytes or more; 0 if none does.
+fn char_end(s: &[u8]) -> usize
+    requires { ⌜ 1 ≤ length (now s) ⌝ }
+    ensures { λ r. ⌜ leads.CharIs (now (s .entry)) r ⌝ }
+{
+    let l = begins(wide(s[0]));
+    if l.need == 4 {
+        return 0;
+    }
+    if l.need == 0 {
+        return 1;
+    }
+    if s.len() < 2 {
+        return 0;
+    }
+    let b = wide(s[1]);
+    if b < l.low {
+        return 0;
+    }
+    if l.high < b {
+        return 0;
+    }
+    if l.need == 1 {
+        return 2;
+    }
+    third_on(&s[0..], l.need - 1)
+}
+
+// Where the characters end that begin in the first eight bytes; 0 if one of them is none.
+fn eight_on(t: &[u8]) -> usize
+    requires { ⌜ 8 ≤ length (now t) ⌝ }
+    ensures { λ r. ⌜ leads.EightIs (now (t .entry)) r ⌝ }
+{
+    let mut i: usize = 0;
+    while i < 8 {
+        if t[i] < 128 {
+            i += 1;
+            continue;
+        }
+        let k = char_end(&t[i..]);
+        if k == 0 {
+            return 0;
+        }
+        i += k;
+    }
+    i
+}
+
 // The same of four to eight bytes: two words of four that overlap.
 fn utf8_by_halves(t: &[u8]) -> bool
     requires { ⌜ (4 ≤ length (now t)) × (length (now t) ≤ 8) ⌝ }
@@ -119,7 +198,7 @@ fn utf8_by_halves(t: &[u8]) -> bool
     true
 }
 
-// The same of eight bytes or more, by words; the last word overlaps.
+// The same of eight bytes or more, by words; the last word overlaps, and what it doesn't settle goes byte by byte.
 fn utf8_by_words(t: &[u8]) -> bool
     requires { ⌜ 8 ≤ length (now t) ⌝ }
     ensures { λ r. ⌜ r ≡ meant.utf8 (now (t .entry)) ⌝ }
@@ -128,7 +207,12 @@ fn utf8_by_words(t: &[u8]) -> bool
     let mut i: usize = 0;
     while i < last {
         if be8(&t[i..], 0) & HIGH_OF_EIGHT != 0 {
-            return utf8_by_bytes(&t[i..]);
+            let k = eight_on(&t[i..]);
+            if k == 0 {
+                return false;
+            }
+            i += k;
+            continue;
         }
         i += 8;
     }

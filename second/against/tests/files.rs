@@ -73,7 +73,7 @@ fn cases_of_01() {
 
 #[test]
 fn appendix_a() {
-    compare_cases("Appendix A", appendix::files(), 4);
+    compare_cases("Appendix A", appendix::files(), 5);
 }
 
 fn compare_files(of: &'static str, files: Vec<Vec<u8>>, answers: usize) {
