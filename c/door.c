@@ -23,15 +23,16 @@ static void numbers(void) {
     SAME(ZT_RANK, 21), SAME(ZT_ROLE, 22), SAME(ZT_LENGTH, 23), SAME(ZT_ROOM, 24), SAME(ZT_ROW, 25), SAME(ZT_INDEX, 26);
 }
 
-/* The columns and widths of rows, the limits and the storage codes, each with document 01's number. */
+/* The columns and widths of rows, the limits and the storage codes, each with its number in documents 01 and 02. */
 static void columns(void) {
     SAME(ZT_OBJECT_NAME, 0), SAME(ZT_OBJECT_NAME_LENGTH, 1), SAME(ZT_OBJECT_RANK, 2), SAME(ZT_OBJECT_SHAPE, 3), SAME(ZT_OBJECT_FORMAT, 11);
     SAME(ZT_OBJECT_FORMAT_LENGTH, 12), SAME(ZT_OBJECT_ATTRIBUTES, 13), SAME(ZT_OBJECT_ATTRIBUTES_LENGTH, 14), SAME(ZT_OBJECT_COMPONENTS, 15);
     SAME(ZT_OBJECT_WIDTH, 16);
     SAME(ZT_COMPONENT_NAME, 0), SAME(ZT_COMPONENT_NAME_LENGTH, 1), SAME(ZT_COMPONENT_DTYPE, 2), SAME(ZT_COMPONENT_TYPE, 3);
     SAME(ZT_COMPONENT_TYPE_LENGTH, 4), SAME(ZT_COMPONENT_OFFSET, 5), SAME(ZT_COMPONENT_LENGTH, 6), SAME(ZT_COMPONENT_DIGEST, 7);
-    SAME(ZT_COMPONENT_DIGEST_LENGTH, 8), SAME(ZT_COMPONENT_OWNER, 9), SAME(ZT_COMPONENT_WIDTH, 10);
-    SAME(ZT_NUMBERS(3, 7), 118), SAME(ZT_TABLE_MOST, 180224);
+    SAME(ZT_COMPONENT_DIGEST_LENGTH, 8), SAME(ZT_COMPONENT_OWNER, 9), SAME(ZT_COMPONENT_ENTRY, 10), SAME(ZT_COMPONENT_ENTRY_LENGTH, 11);
+    SAME(ZT_COMPONENT_WIDTH, 12);
+    SAME(ZT_NUMBERS(3, 7), 132), SAME(ZT_TABLE_MOST, 212992);
     SAME(ZT_OBJECTS_MOST, 1024), SAME(ZT_COMPONENTS_MOST, 16), SAME(ZT_RANK_MOST, 8), SAME(ZT_MANIFEST_MOST, 16777216);
     SAME(ZT_F64, 0), SAME(ZT_F32, 1), SAME(ZT_F16, 2), SAME(ZT_BF16, 3), SAME(ZT_I64, 4), SAME(ZT_I32, 5), SAME(ZT_I16, 6), SAME(ZT_I8, 7);
     SAME(ZT_U64, 8), SAME(ZT_U32, 9), SAME(ZT_U16, 10), SAME(ZT_U8, 11), SAME(ZT_BOOL, 12);
@@ -63,6 +64,7 @@ static void fill(uint64_t *rows) {
             row[ZT_COMPONENT_DTYPE] = ZT_I8;
             row[ZT_COMPONENT_OFFSET] = BLOB + at, row[ZT_COMPONENT_LENGTH] = 11 + at;
             row[ZT_COMPONENT_OWNER] = i;
+            row[ZT_COMPONENT_ENTRY] = UINT64_MAX, row[ZT_COMPONENT_ENTRY_LENGTH] = UINT64_MAX - at; /* which the writer doesn't look at */
         }
 }
 
@@ -92,6 +94,13 @@ static void accepted(void) {
     SAME(a.objects, OBJECTS), SAME(a.components, COMPONENTS), SAME(a.start, start), SAME(a.size, ROOT_LENGTH);
     SAME(memcmp(out + a.place, buffer + ROOT, ROOT_LENGTH), 0);
     SAME(a.place > start && a.place + a.size <= w.length - 16, 1);
+    {
+        /* the sixth component's map: three fields, from its key's end to the next entry's key, a letter; the last component's ends the manifest */
+        const uint64_t *row = table + ZT_NUMBERS(OBJECTS, 5), *last = table + ZT_NUMBERS(OBJECTS, 6);
+        SAME(row[ZT_COMPONENT_ENTRY], row[ZT_COMPONENT_NAME] + 1), SAME(out[row[ZT_COMPONENT_ENTRY]], 0xA3);
+        SAME(row[ZT_COMPONENT_ENTRY] + row[ZT_COMPONENT_ENTRY_LENGTH], last[ZT_COMPONENT_NAME] - 1);
+        SAME(last[ZT_COMPONENT_ENTRY] + last[ZT_COMPONENT_ENTRY_LENGTH], w.length - 16);
+    }
     a = zt_read(out, w.length, table, NUMBERS - 1);
     SAME(a.number, ZT_ROOM), SAME(a.objects, 0), SAME(a.components, 0), SAME(a.start, 0), SAME(a.place, 0), SAME(a.size, 0);
 

@@ -88,7 +88,7 @@ enum zt_refusal {
  * text or map is absent, both its numbers are 0.
  */
 #define ZT_OBJECT_WIDTH 16
-#define ZT_COMPONENT_WIDTH 10
+#define ZT_COMPONENT_WIDTH 12
 /* The numbers that the rows of so many objects and components take. */
 #define ZT_NUMBERS(objects, components) (ZT_OBJECT_WIDTH * (objects) + ZT_COMPONENT_WIDTH * (components))
 
@@ -116,7 +116,9 @@ enum zt_component_column {
     ZT_COMPONENT_LENGTH = 6,
     ZT_COMPONENT_DIGEST = 7, /* a text, whose truth isn't checked */
     ZT_COMPONENT_DIGEST_LENGTH = 8,
-    ZT_COMPONENT_OWNER = 9 /* the index of its object */
+    ZT_COMPONENT_OWNER = 9,  /* the index of its object */
+    ZT_COMPONENT_ENTRY = 10, /* its map in the manifest, the whole CBOR item; zt_write doesn't look at it */
+    ZT_COMPONENT_ENTRY_LENGTH = 11
 };
 
 /* Storage codes. */

@@ -9,7 +9,7 @@ from ctypes import POINTER, c_size_t, c_uint8, c_uint64
 
 # As in zt.h: widths, the columns that are used here, and for each storage code the letter that memoryview.cast takes (it has none for bf16).
 OBJECT_WIDTH, OBJECT_NAME, OBJECT_RANK, OBJECT_SHAPE = 16, 0, 2, 3
-COMPONENT_WIDTH, COMPONENT_NAME, COMPONENT_DTYPE, COMPONENT_OWNER = 10, 0, 2, 9
+COMPONENT_WIDTH, COMPONENT_NAME, COMPONENT_DTYPE, COMPONENT_OWNER = 12, 0, 2, 9
 TABLE_MOST = (OBJECT_WIDTH + 16 * COMPONENT_WIDTH) * 1024
 LETTERS = "d f e H q i h b Q I H B ?".split()
 

@@ -1,8 +1,8 @@
-//! A row's numbers by name, as document 01 lists them. A range takes two columns: its place, and after it its length.
+//! A row's numbers by name, as documents 01 and 02 list them. A range takes two columns: its place, and after it its length.
 
 /// How many numbers a row takes.
 pub const OBJECT_ROW: usize = 16;
-pub const COMPONENT_ROW: usize = 10;
+pub const COMPONENT_ROW: usize = 12;
 
 /// Of both kinds of row.
 pub const NAME: usize = 0;
@@ -20,6 +20,8 @@ pub const TYPE: usize = 3;
 pub const BLOB: usize = 5;
 pub const DIGEST: usize = 7;
 pub const OWNER: usize = 9;
+/// The component's map in the manifest, the whole item (document 02, Request 12).
+pub const ENTRY: usize = 10;
 
 /// Numbers of the largest table: of 1,024 objects with 16 components each.
 pub const MOST: usize = numbers(1024, 1024 * 16);

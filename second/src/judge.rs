@@ -21,7 +21,7 @@ type Span = Range<usize>;
 /// Names, or keys, each with the value that it holds.
 type Entries<'t> = Vec<(Span, &'t Node)>;
 
-/// An accepted manifest. Texts are spans of their content, attributes of the whole item.
+/// An accepted manifest. Texts are spans of their content, attributes and components' maps of the whole item.
 #[derive(Debug)]
 pub struct Manifest {
     pub attributes: Option<Span>,
@@ -45,6 +45,7 @@ pub struct Component {
     pub offset: u64,
     pub length: u64,
     pub digest: Option<Span>,
+    pub entry: Span,
 }
 
 /// Judges a file with ample room: its manifest start and model, or the refusal.
@@ -191,6 +192,7 @@ impl<'a> Judge<'a> {
             offset,
             length,
             digest,
+            entry: entry.start..entry.end,
         })
     }
 

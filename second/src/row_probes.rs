@@ -1,7 +1,7 @@
 //! Rows on both sides of each of the writer's rules, by hand: one sound set, and its neighbours.
 
 use crate::columns::{
-    numbers, ATTRIBUTES, BLOB, COUNT, DIGEST, DTYPE, FORMAT, NAME, OWNER, RANK, TYPE,
+    numbers, ATTRIBUTES, BLOB, COUNT, DIGEST, DTYPE, ENTRY, FORMAT, NAME, OWNER, RANK, TYPE,
 };
 use crate::generate::RowSet;
 
@@ -23,9 +23,9 @@ fn sound() -> RowSet {
     let mut rows = Vec::new();
     rows.extend([0, 1, 0, 9, 9, 9, 9, 9, 9, 9, 9, 2, 4, 0, 0, 2]);
     rows.extend([1, 1, 1, 2, 9, 9, 9, 9, 9, 9, 9, 6, 5, 0, 0, 1]);
-    rows.extend([15, 1, 11, 0, 0, 16, 3, 0, 0, 0]);
-    rows.extend([11, 4, 12, 0, 0, 16, 0, 0, 0, 0]);
-    rows.extend([11, 4, 1, 0, 0, 16, 8, 0, 0, 1]);
+    rows.extend([15, 1, 11, 0, 0, 16, 3, 0, 0, 0, 0, 0]);
+    rows.extend([11, 4, 12, 0, 0, 16, 0, 0, 0, 0, 99, 1]);
+    rows.extend([11, 4, 1, 0, 0, 16, 8, 0, 0, 1, u64::MAX, u64::MAX]);
     RowSet {
         rows,
         objects: 2,
@@ -45,7 +45,7 @@ fn with(changes: &[(usize, u64)]) -> RowSet {
     set
 }
 
-/// Each range absent, empty elsewhere, at the buffer's end, and past it.
+/// Each range absent, empty elsewhere, at the buffer's end, and past it; a component's entry isn't looked at.
 fn ranges() -> Vec<RowSet> {
     let end = sound().buffer.len() as u64;
     let columns = [
@@ -56,6 +56,7 @@ fn ranges() -> Vec<RowSet> {
         PARTS[0] + TYPE,
         PARTS[0] + BLOB,
         PARTS[0] + DIGEST,
+        PARTS[0] + ENTRY,
     ];
     let parts = [
         (0, 0),

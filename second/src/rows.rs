@@ -1,8 +1,8 @@
 //! The table: object and component rows of 64-bit numbers, and the reader that fills them.
 
 use crate::columns::{
-    ATTRIBUTES, BLOB, COMPONENT_ROW, COUNT, DIGEST, DTYPE, FORMAT, NAME, OBJECT_ROW, OWNER, RANK,
-    SHAPE, TYPE,
+    ATTRIBUTES, BLOB, COMPONENT_ROW, COUNT, DIGEST, DTYPE, ENTRY, FORMAT, NAME, OBJECT_ROW, OWNER,
+    RANK, SHAPE, TYPE,
 };
 use crate::judge::{Component, Manifest, Object, RANK_LIMIT};
 use crate::layout::Layout;
@@ -36,6 +36,8 @@ pub struct ComponentRow {
     pub blob: Part,
     pub digest: Part,
     pub owner: u64,
+    /// The component's map; the writer doesn't look at it.
+    pub entry: Part,
 }
 
 /// What reading answers; all but the refusal is 0 if refused.
@@ -187,6 +189,7 @@ impl ComponentRow {
             blob: pair(component.offset, component.length),
             digest: optional_part(&component.digest, manifest_start),
             owner,
+            entry: part(&component.entry, manifest_start),
         }
     }
 
@@ -198,6 +201,7 @@ impl ComponentRow {
             blob: range(&numbers, BLOB),
             digest: range(&numbers, DIGEST),
             owner: numbers[OWNER],
+            entry: range(&numbers, ENTRY),
         }
     }
 
@@ -209,6 +213,7 @@ impl ComponentRow {
         put_range(&mut numbers, BLOB, self.blob);
         put_range(&mut numbers, DIGEST, self.digest);
         numbers[OWNER] = self.owner;
+        put_range(&mut numbers, ENTRY, self.entry);
         numbers
     }
 }

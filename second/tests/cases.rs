@@ -41,7 +41,7 @@ fn case_2_one_dense_object() {
     let rows = [
         0, 1, 1, 2, 7, 7, 7, 7, 7, 7, 7, 1, 5, 0, 0,
         1, // object: unused dimensions aren't looked at
-        6, 4, 1, 0, 0, 10, 8, 0, 0, 0,
+        6, 4, 1, 0, 0, 10, 8, 0, 0, 0, 7, 7, // nor is where the component's map stands
     ];
     let mut out = [0xA5; 181];
     assert_eq!(write(&rows, 1, 1, 0, 0, buffer, &mut out), written(181));
@@ -64,7 +64,7 @@ fn case_2_one_dense_object() {
     };
     assert_eq!(read(&out, &mut table), accepted);
     let object_row = [97, 1, 1, 2, 0, 0, 0, 0, 0, 0, 0, 115, 5, 0, 0, 1];
-    let component_row = [133, 4, 1, 0, 0, 64, 8, 0, 0, 0];
+    let component_row = [133, 4, 1, 0, 0, 64, 8, 0, 0, 0, 137, 28];
     assert_eq!(table[..OBJECT_ROW], object_row);
     assert_eq!(table[OBJECT_ROW..numbers(1, 1)], component_row);
     assert_eq!(table[numbers(1, 1)..], [9; 4]);

@@ -96,6 +96,11 @@ fn accepted(file: &[u8], answer: &Answer, table: &[u64]) {
         assert_eq!(blob, Ok((row.blob.place, row.blob.length)));
         assert!(row.blob.place >= 64 && row.blob.place % 64 == 0);
         assert!(row.blob.place + row.blob.length <= answer.manifest_start);
+        // Its entry, alone, is one map after its name, and nothing is left over.
+        let entry = text(row.entry);
+        let item = cbor::first_item(entry, DEPTH).unwrap();
+        assert!(matches!(item.kind, Kind::Map(_)) && item.end == entry.len());
+        assert_eq!(row.entry.place, row.name.place + row.name.length);
     }
     let past = view(
         file,

@@ -9,7 +9,7 @@ mod acceptance;
 use acceptance::many_names;
 use common::{component, judged, named, object, root, with};
 use second::columns::{
-    numbers, ATTRIBUTES, BLOB, COMPONENT_ROW, DIGEST, DTYPE, FORMAT, NAME, TYPE,
+    numbers, ATTRIBUTES, BLOB, COMPONENT_ROW, DIGEST, DTYPE, ENTRY, FORMAT, NAME, TYPE,
 };
 use second::compose::{data, dense};
 use second::encode::Item;
@@ -41,13 +41,14 @@ fn table_of(manifest: &Item) -> (Vec<u8>, Vec<u64>) {
 }
 
 #[test]
-fn a_place_is_the_content_of_a_text_and_the_whole_of_attributes() {
+fn a_place_is_the_content_of_a_text_and_the_whole_of_attributes_and_entries() {
     // 43
     let entry = with(
         with(data(), "type", Item::text("t")),
         "digest",
         Item::text("d:0"),
     );
+    let bytes = entry.shortest();
     let attributes = || Item::map([("k", Item::Unsigned(1))]);
     let manifest = root(named([(
         "w",
@@ -63,6 +64,7 @@ fn a_place_is_the_content_of_a_text_and_the_whole_of_attributes() {
     assert_eq!(at(PART + NAME), b"data");
     assert_eq!(at(PART + TYPE), b"t");
     assert_eq!(at(PART + DIGEST), b"d:0");
+    assert_eq!(at(PART + ENTRY), bytes);
     let answer = read(&file, &mut vec![0; WHOLE]);
     assert_eq!(
         part(answer.attributes_place, answer.attributes_length),
@@ -127,6 +129,15 @@ fn room_is_the_programs_last_check() {
     assert!(printed(512, b"last").starts_with("objects 512 components 0\n"));
     assert_eq!(printed(513, b"last"), "refused 24 0 0\n");
     assert_eq!(printed(513, b"1"), "refused 11 0 0\n");
+
+    // 8,192 numbers hold the rows of 292 objects with a component each, and not of one more.
+    let whole = |objects: usize| {
+        let entry = |i: usize| (Item::text(&i.to_string()), dense(data()));
+        let manifest = root(Item::Map((0..objects).map(entry).collect())).shortest();
+        String::from_utf8(program_text(&frame::assemble(&[0; 64], &manifest))).unwrap()
+    };
+    assert!(whole(292).starts_with("objects 292 components 292\n"));
+    assert_eq!(whole(293), "refused 24 0 0\n");
 }
 
 #[test]

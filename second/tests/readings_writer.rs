@@ -59,6 +59,10 @@ impl Asked {
             blob,
             digest: NONE,
             owner: self.objects.len() as u64 - 1,
+            entry: Part {
+                place: u64::MAX,
+                length: 1,
+            },
         });
         self.components.last_mut().unwrap()
     }

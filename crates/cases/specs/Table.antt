@@ -32,10 +32,10 @@ accepted objects components start = 0 ∷ 0 ∷ 0 ∷ objects ∷ components ∷
 abbrev refused : List ℕ → ℕ → ℕ → String → Case
 refused file size n line = record { file = file; size = size; answer = refusal n; rows = []; lines = line ∷ [] }
 
--- places of "w", of "dense" and of "data"; rank and dimensions
+-- places of "w", of "dense" and of "data"; rank and dimensions. The component's map stands after its name, and takes 28 bytes in every case.
 abbrev row : ℕ → ℕ → List ℕ → ℕ → ℕ → ℕ → ℕ → List ℕ
 row name rank dims format role offset size =
-    name ∷ 1 ∷ rank ∷ dims ++ format ∷ 5 ∷ 0 ∷ 0 ∷ 1 ∷ role ∷ 4 ∷ 1 ∷ 0 ∷ 0 ∷ offset ∷ size ∷ 0 ∷ 0 ∷ 0 ∷ []
+    name ∷ 1 ∷ rank ∷ dims ++ format ∷ 5 ∷ 0 ∷ 0 ∷ 1 ∷ role ∷ 4 ∷ 1 ∷ 0 ∷ 0 ∷ offset ∷ size ∷ 0 ∷ 0 ∷ 0 ∷ (role + 4) ∷ 28 ∷ []
 
 abbrev listed : String → List String
 listed blob = "objects 1 components 1" ∷ "object w dense" ∷ blob ∷ []
@@ -127,7 +127,7 @@ abbrev pub writings : List Writing
 writings =
     -- 1
     record { rows = []; objects = 0; components = 0; buffer = []; file = empty }
-    -- 2, with a blob of zeros
+    -- 2, with a blob of zeros; where the component's map stands isn't looked at, and here it lies outside the buffer
     ∷ record {
       rows = row 0 1 (2 ∷ replicate 7 0) 1 6 10 8;
       objects = 1;

@@ -1,4 +1,4 @@
-// A row's numbers by name (document 01, "The table and the view"), and whether rows lie in a table. Every width and column of the code stands here and
+// A row's numbers by name (document 01, "The table and the view", and Request 12 of document 02), and whether rows lie in a table. Every width and column of the code stands here and
 // nowhere else; the definitions have theirs in `meaning`. A range takes two columns: its place, and after it its length.
 ghost use mathlib.Core.Path.{_≡_};
 ghost use Prim.Native.Nat.{_+_, _*_};
@@ -8,7 +8,7 @@ ghost use Rattle.meaning.specs.Columns.{objectWidth, componentWidth};
 // How many numbers an object's row takes, and a component's.
 pub const OBJECT: usize = 16;
 
-pub const COMPONENT: usize = 10;
+pub const COMPONENT: usize = 12;
 
 // The same, for counts of 64 bits.
 pub const OBJECT_64: u64 = OBJECT as u64;
@@ -35,7 +35,7 @@ pub const ATTRIBUTES_LENGTH: usize = ATTRIBUTES + 1;
 
 pub const COUNT: usize = 15;
 
-// Of a component's row: where its bytes lie is `OFFSET` and `LENGTH`; `OWNER` is its object's index.
+// Of a component's row: where its bytes lie is `OFFSET` and `LENGTH`; `OWNER` is its object's index, `ENTRY` its map in the manifest.
 pub const DTYPE: usize = 2;
 
 pub const TYPE: usize = 3;
@@ -51,6 +51,10 @@ pub const DIGEST: usize = 7;
 pub const DIGEST_LENGTH: usize = DIGEST + 1;
 
 pub const OWNER: usize = 9;
+
+pub const ENTRY: usize = 10;
+
+pub const ENTRY_LENGTH: usize = ENTRY + 1;
 
 // n numbers hold the rows of so many objects and components. Compared by division, so that no product wraps.
 pub fn holds(n: usize, objects: u64, components: u64) -> bool

@@ -33,7 +33,7 @@ module _ (s : List ℕ) (start : ℕ) (p : List ℕ) (r₁ : Stored) (h₁ : Sto
 
   pub no-storage : (n : ℕ) → r₁ ≡ NoStorage n → SoundIs s start p (No n)
   unfolding sound
-  no-storage n e d f x w = rw (refused-so placesOf (storage (f .dtype) (f .type)) n (storage-is d f x (NoStorage n) e)) refl
+  no-storage n e d f x w v = rw (refused-so placesOf (storage (f .dtype) (f .type)) n (storage-is d f x (NoStorage n) e)) refl
 
   module _ (code t : ℕ) (e₁ : r₁ ≡ Storage code t) (r₂ : Stretch) (h₂ : ExtentAt (Here s 0) (getD p 2 0) (getD p 3 0) r₂) where
     module _ (d : ℕ) (f : Fields) (x : Found d s p f) where
@@ -45,7 +45,7 @@ module _ (s : List ℕ) (start : ℕ) (p : List ℕ) (r₁ : Stored) (h₁ : Sto
 
     pub no-extent : (n : ℕ) → r₂ ≡ NoExtent n → SoundIs s start p (No n)
     unfolding sound
-    no-extent n e d f x w = rw (has-storage d f x .is) (rw (extent-is d f x (NoExtent n) e) refl)
+    no-extent n e d f x w v = rw (has-storage d f x .is) (rw (extent-is d f x (NoExtent n) e) refl)
 
     module _ (o l : ℕ) (e₂ : r₂ ≡ Reaching o l) (r₃ : Spot) (h₃ : ExtrasAt (Here s 0) (getD p 4 0) (getD p 5 0) (getD p 6 0) r₃) where
       extras-are : (d : ℕ) (f : Fields) → Found d s p f → (q : Spot) → r₃ ≡ q → placeOf (extras (f .unpacked) (f .encoding) (f .digest)) ≡ spot q
@@ -54,14 +54,14 @@ module _ (s : List ℕ) (start : ℕ) (p : List ℕ) (r₁ : Stored) (h₁ : Sto
 
       pub no-extras : (n : ℕ) → r₃ ≡ NoSpot n → SoundIs s start p (No n)
       unfolding sound
-      no-extras n e d f x w =
+      no-extras n e d f x w v =
           rw (has-storage d f x .is) (rw (extent-is d f x (Reaching o l) e₂) (rw (refused-so leftWord (extras (f .unpacked) (f .encoding) (f .digest)) n (extras-are d f x (NoSpot n) e)) refl))
 
       pub all-placed : (g : ℕ) → r₃ ≡ At g → (r : Judged) → r ≡ placedAt start code t o l g → SoundIs s start p r
       unfolding sound
-      all-placed g e r is d f x w =
+      all-placed g e r is d f x w v =
           let y = has-storage d f x in
           let z = passed-so leftWord (extras (f .unpacked) (f .encoding) (f .digest)) g (extras-are d f x (At g) e) in
           rw (y .is) (rw (extent-is d f x (Reaching o l) e₂) (rw (z .is)
           (is ∙ ap (λ (k : ℕ × ℕ). placedAt start (k .0) (k .1) o l g) (sym (y .shown)) ∙ ap (λ (i : ℕ). placedAt start (y .value .dtype) (leftWord (y .value .type)) o l i) (sym (z .shown))
-          ∙ judged-placed (placed start o l) (record { name = w; dtype = y .value .dtype; type = y .value .type; offset = o; length = l; digest = z .value }))))
+          ∙ judged-placed (placed start o l) (record { name = w; dtype = y .value .dtype; type = y .value .type; offset = o; length = l; digest = z .value; entry = v }))))

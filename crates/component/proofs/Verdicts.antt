@@ -9,7 +9,7 @@ use lib.ListN.{length, getD, replicate}
 use lib.Dec.{eqb, leb}
 use borrow.Author.Tests.{eq-eqb, ne-eqb, eqb-true, eqb-false}
 use borrow.Rule.Slice.PartAt.{part-to-end}
-use Rattle.meaning.specs.Tree.{Node, Pair}
+use Rattle.meaning.specs.Tree.{Node, Pair, noteOf}
 use Rattle.meaning.specs.Check.{Check, pass, refuse, _>>=_, _>>_, _unless_, optional}
 use Rattle.meaning.specs.Text.{ascii, all}
 use Rattle.meaning.specs.Refusal.{ALIGN, BOUNDS}
@@ -143,10 +143,10 @@ module _ (start : ℕ) (t : Node Ends) (ps : List (Pair Ends)) (kt : kind t ≡ 
               digest = get (ascii "digest") ps;
             }
 
-            judged-sound : the ≡ sound start n found
+            judged-sound : the ≡ sound start n (noteOf t) found
             unfolding judge.component field.componentFields field.fields aTable asTable sound storage extent extras placed
             judged-sound = rw kt (rw (a, b) (rw (g₁, g₂, g₃)
-                (regroup (λ d t o l g. record { name = n; dtype = d; type = t; offset = o; length = l; digest = g })
+                (regroup (λ d u o l g. record { name = n; dtype = d; type = u; offset = o; length = l; digest = g; entry = noteOf t })
                 (λ o. ALIGN unless eqb (o % alignment) 0) (λ o l. BOUNDS unless (leb alignment o && leb (o + l) start))
                 (optional aNumber (present (get (ascii "uncompressed_length") ps))) (optional judge.raw (get (ascii "encoding") ps)) (optional aText (present (get (ascii "digest") ps)))
                 (judge.aDtype dtype) (λ d. optional (judge.aType d) (present (get (ascii "type") ps))) (aNumber offset) (aNumber size))))
@@ -202,7 +202,7 @@ module _ (s : List ℕ) (start : ℕ) (p : List ℕ) where
     record Ready : Type 0 where
       pub fields : Fields
       pub found : Found d s p fields
-      pub judged-so : verdict ≡ sound start n fields
+      pub judged-so : verdict ≡ sound start n (noteOf t) fields
 
     abbrev Told : Fine → Type 0
     Told (Bad m) = No m ≡ judged verdict
@@ -252,4 +252,4 @@ module _ (s : List ℕ) (start : ℕ) (p : List ℕ) where
     as-sound e r h d ps q chain is t kt n =
         let x : Ready d ps q chain is t kt n = subst (Told d ps q chain is t kt n) (sym slots-say ∙ e) (told d ps q chain is t kt n) in
         let y : SoundIs s start p r = subst (λ u. SoundIs s start u r) (part-to-end p 0) (subst (λ u. SoundIs u start (Here p 0) r) (part-to-end s 0) h) in
-        y d (x .fields) (x .found) n ∙ ap judged (sym (x .judged-so))
+        y d (x .fields) (x .found) n (noteOf t) ∙ ap judged (sym (x .judged-so))

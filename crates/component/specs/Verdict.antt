@@ -127,16 +127,17 @@ pub record Found (d : ℕ) (s p : List ℕ) (f : Fields) : Type 0 where
   pub encoding : Holds (suc d) s (getD p 5 0) (f .encoding)
   pub digest : Holds (suc d) s (getD p 6 0) (f .digest)
 
-unfoldable pub sound : ℕ → Word Ends → Fields → Check (Component Ends)
-sound start n f = do
+-- under this name, with this annotation of its map
+unfoldable pub sound : ℕ → Word Ends → Ends → Fields → Check (Component Ends)
+sound start n e f = do
   k ← storage (f .dtype) (f .type)
   x ← extent (f .offset) (f .length)
   g ← extras (f .unpacked) (f .encoding) (f .digest)
   placed start (x .offset) (x .length)
-  pass (record { name = n; dtype = k .dtype; type = k .type; offset = x .offset; length = x .length; digest = g })
+  pass (record { name = n; dtype = k .dtype; type = k .type; offset = x .offset; length = x .length; digest = g; entry = e })
 
 abbrev pub SoundIs : List ℕ → ℕ → List ℕ → Judged → Type 0
-SoundIs s start p r = (d : ℕ) (f : Fields) → Found d s p f → (n : Word Ends) → r ≡ judged (sound start n f)
+SoundIs s start p r = (d : ℕ) (f : Fields) → Found d s p f → (n : Word Ends) (e : Ends) → r ≡ judged (sound start n e f)
 
 -- for every map of the pairs that are read from s on, where p holds their slots
 abbrev pub VerdictIs : List ℕ → ℕ → List ℕ → Judged → Type 0

@@ -122,6 +122,9 @@ module _ (c : List ℕ) (room : length c < FAULT) (x : Node Ends) (q : List ℕ)
   pub named-so : n ≡ k .name
   named-so = from .named
 
+  pub entered-so : noteOf x ≡ k .entry
+  entered-so = from .entered
+
   -- the value of a field that is a text stands in c
   some-word : (name : List ℕ) (o : Option (Word Ends)) (t : Node Ends) → get name (from .pairs) ≡ some t → (w : Word Ends) → kinds.aWord t ≡ pass w → o ≡ some w → WordAt c o
   some-word name o t g w word typed =

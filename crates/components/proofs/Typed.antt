@@ -3,7 +3,7 @@ use Prim.Native.Nat.{ℕ, _+_, _%_}
 use native.Mathlib.Omega.{arith}
 use mathlib.Core.List.{List}
 use mathlib.Core.Path.{_≡_, refl, ap, sym, _∙_}
-use Rattle.meaning.specs.Tree.{Node, Pair}
+use Rattle.meaning.specs.Tree.{Node, Pair, noteOf}
 use Rattle.meaning.specs.Check.{Check, pass, refuse, _>>=_, _>>_, _unless_, required, optional}
 use mathlib.Core.Bool.{_&&_}
 use lib.Dec.{leb, eqb}
@@ -65,6 +65,7 @@ pub record TextsFrom (n : Named Ends) (k : Component Ends) : Type 0 where
   pub kind-is : kind (n .value) ≡ kinds.table pairs
   pub typed : optional (aType (k .dtype)) (present (get (ascii "type") pairs)) ≡ pass (k .type)
   pub digested : optional kinds.aText (present (get (ascii "digest") pairs)) ≡ pass (k .digest)
+  pub entered : noteOf (n .value) ≡ k .entry
 
 pub texts-from : (start : ℕ) (n : Named Ends) (k : Component Ends) → component start n ≡ pass k → TextsFrom n k
 unfolding component
@@ -87,4 +88,4 @@ texts-from start n k e =
     let y : g .value ≡ k .dtype = ap (λ (c : Component Ends). c .dtype) x in
     let z : h .value ≡ k .type = ap (λ (c : Component Ends). c .type) x in
     let w : o .value ≡ k .digest = ap (λ (c : Component Ends). c .digest) x in
-    record { named = ap (λ (c : Component Ends). c .name) x; pairs = f .pairs; kind-is = f .kind-is; typed = ap (λ d. optional (aType d) (present (get (ascii "type") (f .pairs)))) (sym y) ∙ ap (λ o. optional (aType (g .value)) (present o)) (sym (f .type-is)) ∙ h .is ∙ ap pass z; digested = ap (λ o. optional kinds.aText (present o)) (sym (f .digest-is)) ∙ o .is ∙ ap pass w }
+    record { named = ap (λ (c : Component Ends). c .name) x; pairs = f .pairs; kind-is = f .kind-is; typed = ap (λ d. optional (aType d) (present (get (ascii "type") (f .pairs)))) (sym y) ∙ ap (λ o. optional (aType (g .value)) (present o)) (sym (f .type-is)) ∙ h .is ∙ ap pass z; digested = ap (λ o. optional kinds.aText (present o)) (sym (f .digest-is)) ∙ o .is ∙ ap pass w; entered = ap (λ (c : Component Ends). c .entry) x }

@@ -6,7 +6,7 @@ use mathlib.Core.Option.{Option, none, some}
 use mathlib.Core.Path.{_≡_, refl, ap, ap₂, sym, _∙_, subst}
 use lib.Dec.{eqb, leb, T, eqb→eq}
 use lib.ListN.{length-map}
-use Rattle.meaning.specs.Tree.{Node, meaning, nothing, uint, nint, bytes, text, chunkedBytes, chunkedText, array, dict, tag, simple, float, Pair, pairList, pairList-pairs}
+use Rattle.meaning.specs.Tree.{Node, noteOf, meaning, nothing, uint, nint, bytes, text, chunkedBytes, chunkedText, array, dict, tag, simple, float, Pair, pairList, pairList-pairs}
 use Rattle.meaning.specs.Check.{Check, pass, _>>=_, _>>_, inObject, inComponent, each}
 use Rattle.meaning.specs.Text.{all, filter, same, oneOf, ascii}
 use Rattle.meaning.specs.Version.{versionShape, majorOne}
@@ -119,7 +119,7 @@ module _ {P : Type 0} where
       go true e h r = rw (count-filter m (known ns) (unknown-other ns m e) l, r h l)
       go false e h r = cc
 
-  get-known : (ns : List (List ℕ)) (n : List ℕ) → oneOf ns n ≡ true → (l : List (Pair P)) → get n (filter (known ns) l) ≡ get n l
+  pub get-known : (ns : List (List ℕ)) (n : List ℕ) → oneOf ns n ≡ true → (l : List (Pair P)) → get n (filter (known ns) l) ≡ get n l
   get-known ns n o = get-filter n (known ns) (unknown-other ns n o)
 
   keys-known : (ns : List (List ℕ)) (l : List (Pair P)) → all (λ p. isSome (keyOf p)) (filter (known ns) l) ≡ all (λ p. isSome (keyOf p)) l
@@ -155,7 +155,7 @@ module _ {P : Type 0} where
       go none h = refl
       go (some k) h = rw (same→≡ m k h) at d
 
-  get-same : (n : List ℕ) (g : Node P → Node P) (l : List (Pair P)) → get n (map (onField n g) l) ≡ mapOption g (get n l)
+  pub get-same : (n : List ℕ) (g : Node P → Node P) (l : List (Pair P)) → get n (map (onField n g) l) ≡ mapOption g (get n l)
   unfolding get
   get-same n g [] = refl
   get-same n g (p ∷ l) = rw (named-onField n n g p, get-same n g l) (go (named n p) refl)
@@ -164,7 +164,7 @@ module _ {P : Type 0} where
       go true e = ap some (value-same n g p e)
       go false e = refl
 
-  get-other : (m n : List ℕ) (g : Node P → Node P) → same n m ≡ false → (l : List (Pair P)) → get m (map (onField n g) l) ≡ get m l
+  pub get-other : (m n : List ℕ) (g : Node P → Node P) → same n m ≡ false → (l : List (Pair P)) → get m (map (onField n g) l) ≡ get m l
   unfolding get
   get-other m n g d [] = refl
   get-other m n g d (p ∷ l) = rw (named-onField m n g p, get-other m n g d l) (go (named m p) refl)
@@ -173,7 +173,7 @@ module _ {P : Type 0} where
       go true e = ap some (value-other n g p (named-other m n d p e))
       go false e = refl
 
-  aTable-inMap : (g : List (Pair P) → List (Pair P)) (t : Node P) → aTable (inMap g t) ≡ mapCheck g (aTable t)
+  pub aTable-inMap : (g : List (Pair P) → List (Pair P)) (t : Node P) → aTable (inMap g t) ≡ mapCheck g (aTable t)
   unfolding aTable asTable kind inMap
   aTable-inMap g (uint p n) = refl
   aTable-inMap g (nint p n) = refl
@@ -190,6 +190,20 @@ module _ {P : Type 0} where
       go true = refl
       go false = refl
   aTable-inMap g (float p w b) = refl
+
+  note-inMap : (g : List (Pair P) → List (Pair P)) (t : Node P) → noteOf (inMap g t) ≡ noteOf t
+  unfolding inMap
+  note-inMap g (uint p n) = refl
+  note-inMap g (nint p n) = refl
+  note-inMap g (bytes p bs) = refl
+  note-inMap g (text p bs) = refl
+  note-inMap g (chunkedBytes p bs) = refl
+  note-inMap g (chunkedText p bs) = refl
+  note-inMap g (array p ns) = refl
+  note-inMap g (dict p ps) = refl
+  note-inMap g (tag p n t) = refl
+  note-inMap g (simple p n) = refl
+  note-inMap g (float p w b) = refl
 
   textOn : (List ℕ → List ℕ) → Word P → Word P
   textOn g w = record { note = w .note; letters = g (w .letters) }
@@ -232,9 +246,13 @@ module _ {P : Type 0} where
   namedOn : (Node P → Node P) → Named P → Named P
   namedOn g n = record { name = n .name; value = g (n .value) }
 
+  note-drop : (t : Node P) → noteOf (dropComponent t) ≡ noteOf t
+  unfolding dropComponent
+  note-drop t = note-inMap (filter (known componentNames)) t
+
   component-drop : (start : ℕ) (n : Named P) → component start (namedOn dropComponent n) ≡ component start n
   unfolding component namedOn
-  component-drop start n = simp componentFields-drop
+  component-drop start n = simp (componentFields-drop, note-drop)
 
   -- ---------------------------------------------------------------- names
 

@@ -6,7 +6,7 @@ use mathlib.Core.Option.{Option, none, some}
 use mathlib.Core.Path.{_≡_, refl, ap, sym}
 use lib.Dec.{eqb, leb}
 use lib.ListN.{length-map}
-use Rattle.meaning.specs.Tree.{Node, Nodes, Pairs, uint, nint, bytes, text, chunkedBytes, chunkedText, array, dict, tag, simple, float, ε, _▸_, ∅, _⇒_▸_, Pair, mapP, mapNodes, mapPairs, nodeList, pairList}
+use Rattle.meaning.specs.Tree.{Node, Nodes, Pairs, uint, nint, bytes, text, chunkedBytes, chunkedText, array, dict, tag, simple, float, ε, _▸_, ∅, _⇒_▸_, Pair, noteOf, mapP, mapNodes, mapPairs, nodeList, pairList}
 use Rattle.meaning.specs.Check.{Check, pass, refuse, _>>=_, _>>_, inObject, inComponent, required, optional, each}
 use Rattle.meaning.specs.Text.{all}
 use Rattle.meaning.specs.Model.{Word, Named, Component}
@@ -164,7 +164,7 @@ module _ {P Q : Type 0} (f : P → Q) where
   unfolding aList
   aList-map t = simp (kind-map, asList-map)
 
-  aTable-map : (t : Node P) → aTable (mapP f t) ≡ mapCheck (map (mapPair f)) (aTable t)
+  pub aTable-map : (t : Node P) → aTable (mapP f t) ≡ mapCheck (map (mapPair f)) (aTable t)
   unfolding aTable
   aTable-map t = simp (kind-map, asTable-map)
 
@@ -189,7 +189,7 @@ module _ {P Q : Type 0} (f : P → Q) where
   cond-map g true x y = refl
   cond-map g false x y = refl
 
-  get-map : (n : List ℕ) (ps : List (Pair P)) → get n (map (mapPair f) ps) ≡ mapOption (mapP f) (get n ps)
+  pub get-map : (n : List ℕ) (ps : List (Pair P)) → get n (map (mapPair f) ps) ≡ mapOption (mapP f) (get n ps)
   unfolding get
   get-map n [] = refl
   get-map n (p ∷ ps) = rw (named-map n p, get-map n ps) (sym (cond-map (mapOption (mapP f)) (named n p) (some (p .value)) (get n ps)))
@@ -257,10 +257,23 @@ module _ {P Q : Type 0} (f : P → Q) where
   optional-same g g′ h none = refl
   optional-same g g′ h (some a) = rw (h a)
 
+  pub note-map : (t : Node P) → noteOf (mapP f t) ≡ f (noteOf t)
+  note-map (uint p n) = refl
+  note-map (nint p n) = refl
+  note-map (bytes p bs) = refl
+  note-map (text p bs) = refl
+  note-map (chunkedBytes p bs) = refl
+  note-map (chunkedText p bs) = refl
+  note-map (array p ns) = refl
+  note-map (dict p ps) = refl
+  note-map (tag p n t) = refl
+  note-map (simple p n) = refl
+  note-map (float p w b) = refl
+
   component-map : (start : ℕ) (n : Named P) → component start (mapNamed f n) ≡ mapCheck (mapComponent f) (component start n)
   unfolding component
   component-map start n =
-      simp (componentFields-map, aDtype-map, present-map, optional-type, optional-text, aNumber-map, optional-same aNumber aNumber aNumber-map, optional-same raw raw raw-map, Bind)
+      simp (note-map, componentFields-map, aDtype-map, present-map, optional-type, optional-text, aNumber-map, optional-same aNumber aNumber aNumber-map, optional-same raw raw raw-map, Bind)
 
   attributesOf-map : (t : Node P) → attributesOf (mapP f t) ≡ mapCheck (mapP f) (attributesOf t)
   unfolding attributesOf

@@ -6,3 +6,4 @@ pub mod ExactOnly
 pub mod Exact
 pub mod JudgeNatural
 pub mod DropKeepsVerdict
+pub mod Entries

@@ -1,4 +1,4 @@
--- Document 01, "The table and the view": a row's numbers by name. Every row's width and columns stand here, and nowhere else in the definitions.
+-- Document 01, "The table and the view", and Request 12 of document 02: a row's numbers by name. Every row's width and columns stand here, and nowhere else in the definitions.
 -- A range takes two columns: the named one holds its place, the one after it its length.
 use Prim.Native.Nat.{ℕ, suc}
 
@@ -42,7 +42,7 @@ countColumn = 15
 
 -- how many numbers it takes
 abbrev pub componentWidth : ℕ
-componentWidth = 10
+componentWidth = 12
 
 -- the storage code
 abbrev pub dtypeColumn : ℕ
@@ -70,3 +70,10 @@ digestLengthColumn = suc digestColumn
 -- its object's index
 abbrev pub ownerColumn : ℕ
 ownerColumn = 9
+
+-- its map in the manifest, the whole item
+abbrev pub entryColumn : ℕ
+entryColumn = 10
+
+abbrev pub entryLengthColumn : ℕ
+entryLengthColumn = suc entryColumn

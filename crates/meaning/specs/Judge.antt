@@ -5,7 +5,7 @@ use mathlib.Core.Bool.{_&&_}
 use mathlib.Core.Option.{Option, none, some}
 use lib.ListN.{length}
 use lib.Dec.{eqb, leb}
-use Rattle.meaning.specs.Tree.{Node}
+use Rattle.meaning.specs.Tree.{Node, noteOf}
 use Rattle.meaning.specs.Check.{Check, pass, _>>=_, _>>_, _unless_, fault, inObject, inComponent, required, optional, each}
 use Rattle.meaning.specs.Text.{ascii, same}
 use Rattle.meaning.specs.Version.{versionShape, majorOne}
@@ -59,7 +59,7 @@ module _ {P : Type 0} where
     g ← optional aText (present (c .digest))
     ALIGN unless eqb (o % alignment) 0
     BOUNDS unless (leb alignment o && leb (o + l) start)
-    pass (record { name = n .name; dtype = d; type = t; offset = o; length = l; digest = g })
+    pass (record { name = n .name; dtype = d; type = t; offset = o; length = l; digest = g; entry = noteOf (n .value) })
 
   unfoldable pub lettersOf : Option (Word P) → Option (List ℕ)
   lettersOf none = none

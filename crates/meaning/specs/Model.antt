@@ -9,6 +9,7 @@ pub record Word (P : Type 0) : Type 0 where
   pub note : P
   pub letters : List ℕ
 
+-- `entry` is the annotation of its map
 pub record Component (P : Type 0) : Type 0 where
   pub name : Word P
   pub dtype : ℕ
@@ -16,6 +17,7 @@ pub record Component (P : Type 0) : Type 0 where
   pub offset : ℕ
   pub length : ℕ
   pub digest : Option (Word P)
+  pub entry : P
 
 pub record Object (P : Type 0) : Type 0 where
   pub name : Word P

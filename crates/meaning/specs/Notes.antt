@@ -63,6 +63,7 @@ module _ {P Q : Type 0} (f : P → Q) where
     offset = c .offset;
     length = c .length;
     digest = mapOption mapWord (c .digest);
+    entry = f (c .entry);
   }
 
   abbrev pub mapObject : Object P → Object Q

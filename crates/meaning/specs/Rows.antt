@@ -42,9 +42,10 @@ objectRow o =
     two (wordSpan (o .name)) (length (o .shape) ∷ dimensions (o .shape)
     ++ two (wordSpan (o .format)) (two (attributesSpan (o .attributes)) (length (o .components) ∷ [])))
 
+-- the entry is the whole item, its head included
 unfoldable pub componentRow : ℕ → Component Span → List ℕ
 componentRow owner c =
-    two (wordSpan (c .name)) (c .dtype ∷ two (optionalSpan (c .type)) (c .offset ∷ c .length ∷ two (optionalSpan (c .digest)) (owner ∷ [])))
+    two (wordSpan (c .name)) (c .dtype ∷ two (optionalSpan (c .type)) (c .offset ∷ c .length ∷ two (optionalSpan (c .digest)) (owner ∷ two (c .entry) [])))
 
 unfoldable pub objectRows : List (Object Span) → List ℕ
 objectRows [] = []

@@ -161,7 +161,7 @@ module _ (file : List ℕ) (start : ℕ) (note : List ℕ → List ℕ → Span)
 
   -- the component that passes
   model : Option (Word Span) → Option (Word Span) → Component Span
-  model t g = record { name = w; dtype = c .dtype; type = t; offset = offset; length = length (c .blob); digest = g }
+  model t g = record { name = w; dtype = c .dtype; type = t; offset = offset; length = length (c .blob); digest = g; entry = noteOf T }
 
   tells : (t g : Option (Word Span)) → lettersOf t ≡ c .type → lettersOf g ≡ c .digest → Tells file c (model t g)
   unfolding model readComponent

@@ -1,26 +1,26 @@
--- After a file was read into a table, every component's view is its blob, and the listing is the one of what was read.
+-- After a file was read into a table, every component's view is its blob, its row says where its map stands, and the listing is the one of what was read.
 use Prim.Native.Nat.{ℕ, zero, suc, _+_, _≤_, _<_}
 use native.Mathlib.Omega.{arith}
 use mathlib.Core.List.{List, [], _∷_}
 use mathlib.Core.Bool.{Bool, true, false}
 use mathlib.Core.Option.{some}
-use mathlib.Core.Path.{_≡_, refl, ap, subst}
+use mathlib.Core.Path.{_≡_, refl, ap, ap₂, subst, _∙_}
 use lib.ListN.{length, drop, getElem?}
 use lib.Dec.{leb}
 use borrow.Author.Tests.{le-ltb}
 use Rattle.meaning.specs.Check.{Check, pass, refuse, _>>=_, _>>_, _unless_}
 use Rattle.meaning.specs.Refusal.{INDEX, ROOM}
-use Rattle.meaning.specs.Read.{Span}
+use Rattle.meaning.specs.Read.{Span, bytesAt, item, noNote}
 use Rattle.meaning.specs.Model.{Component}
 use Rattle.meaning.specs.Frame.{Reading, reading}
 use Rattle.meaning.specs.Rows.{roomFor, roomy, componentCount, answer, tableAfter, readInto}
 use Rattle.meaning.specs.View.{viewed, partAt, view}
 use Rattle.meaning.specs.Listing.{listing}
 use Rattle.view.specs.All.{allComponents}
-use Rattle.view.proofs.OfRows.{all-counted, viewed-of-rows, view-of-rows}
+use Rattle.view.proofs.OfRows.{all-counted, entry-of-rows, viewed-of-rows, view-of-rows}
 use Rattle.panel.proofs.OfRows.{listed-of-rows}
-use Rattle.shown.specs.Shown.{viewedThen, viewThen, listedThen, Shown}
-use Rattle.shown.proofs.AcceptedFile.{refusals-of-reading, accepted-stands, accepted-blobs}
+use Rattle.shown.specs.Shown.{viewedThen, viewThen, listedThen, entryThen, EntryShown, Shown}
+use Rattle.shown.proofs.AcceptedFile.{refusals-of-reading, accepted-stands, accepted-component, accepted-blobs}
 
 -- a reading into a table is an accepted one, if there is room
 module _ (file : List ℕ) (room : ℕ) where
@@ -65,6 +65,18 @@ module _ (file table : List ℕ) (r : Reading) (reads : readInto file (length ta
         manifest-inside = lies .1;
         range = rw reads (viewed-of-rows file rest (r .model) j c there inside);
         bytes = rw reads (view-of-rows file rest (r .model) j c there inside);
+      }
+
+  pub read-entry : (j : ℕ) (c : Component Span) → getElem? (allComponents (r .model .objects)) j ≡ some c → EntryShown file table r j c
+  unfolding answer tableAfter
+  read-entry j c there =
+      let own = accepted-component file r read-so j c there .entry in
+      let n = entry-of-rows (drop (roomFor (r .model)) table) (r .model) j c there in
+      let said : entryThen file table j ≡ c .entry = rw reads (ap₂ (λ (p s : ℕ). record { place = p; size = s }) (n .0) (n .1)) in
+      record {
+        entry = own;
+        said = said;
+        alone = ap (λ (s : Span). item noNote 28 (bytesAt file s)) (said ∙ own .noted) ∙ own .stands .stands .read;
       }
 
   pub read-listing : listedThen file table ≡ pass (listing (r .model))

@@ -53,6 +53,15 @@ module _ {A : Type 0} where
   pub faults : {least : ℕ} {Q : A → Type 0} (n : ℕ) → Numbered least n → JudgedFrom least Q (fault n)
   faults n h = record { is = h }
 
+  -- a value that is so, and is the check's own
+  pub with-verdict : {least : ℕ} {Q : A → Type 0} (k : Check A) → JudgedFrom least Q k → JudgedFrom least (λ a. (k ≡ pass a) × Q a) k
+  with-verdict (pass a) h = record { is = (refl, h .is) }
+  with-verdict (refuse n o c) h = record { is = h .is }
+
+  pub so-too : {least : ℕ} {Q R : A → Type 0} (k : Check A) → ((a : A) → Q a → R a) → JudgedFrom least Q k → JudgedFrom least R k
+  so-too (pass a) f h = record { is = f a (h .is) }
+  so-too (refuse n o c) f h = record { is = h .is }
+
   pub passed-so : {least : ℕ} {Q : A → Type 0} {k : Check A} {a : A} → JudgedFrom least Q k → k ≡ pass a → Q a
   passed-so {least} {Q} h e = subst (JudgedFrom least Q) e h .is
 

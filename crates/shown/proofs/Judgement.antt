@@ -4,28 +4,29 @@ use native.Mathlib.Omega.{arith}
 use mathlib.Core.List.{List, [], _∷_, map}
 use mathlib.Core.Bool.{Bool, true, false, cond, _&&_}
 use mathlib.Core.Option.{Option, none, some}
-use mathlib.Core.Path.{_≡_, refl}
+use mathlib.Core.Path.{_≡_, refl, ap, sym, _∙_}
 use lib.ListN.{length}
 use lib.Dec.{eqb, leb}
 use borrow.Author.Tests.{leb-true, eqb-true}
 use Rattle.types.proofs.Tagged.{both-left, both-right}
-use Rattle.meaning.specs.Tree.{Node, Pairs, uint, nint, bytes, text, chunkedBytes, chunkedText, array, dict, tag, simple, float, ∅, _⇒_▸_, Pair, pairList}
+use Rattle.meaning.specs.Tree.{Node, Pairs, uint, nint, bytes, text, chunkedBytes, chunkedText, array, dict, tag, simple, float, ∅, _⇒_▸_, Pair, pairList, noteOf}
 use Rattle.meaning.specs.Check.{Check, pass, refuse, _>>_, inObject, inComponent, required, optional, each}
 use Rattle.meaning.specs.Text.{ascii, same, all, distinct, utf8}
 use Rattle.meaning.specs.Refusal.{KIND, KEY, TEXT, TWICE, VERSION, MAJOR, COUNT, DTYPE, ENCODING, TYPE, ALIGN, BOUNDS}
 use Rattle.meaning.specs.Limit.{objectLimit, componentLimit, alignment}
 use Rattle.meaning.specs.Read.{Span}
-use Rattle.meaning.specs.Model.{Word, Named, Model, RootFields, ObjectFields, ComponentFields}
+use Rattle.meaning.specs.Model.{Word, Named, Component, Model, RootFields, ObjectFields, ComponentFields}
 use Rattle.meaning.specs.Kind.{Kind, number, words, list, table, null, another, kind, asNumber, asWord, asList, asTable, aNumber, aWord, aList, aTable, aText, presentKind, present}
 use Rattle.meaning.specs.Version.{versionShape, majorOne}
 use Rattle.meaning.specs.Field.{isSome, keyOf, count, named, get, fields, rootFields, objectFields, componentFields, nameKind, nameOf, names, rootNames, objectNames, componentNames}
 use Rattle.meaning.specs.Types.{Storage, storages, codeFrom, logicals, listed, fitsOver}
 use Rattle.meaning.specs.Format.{formatRules}
 use Rattle.meaning.specs.Judge.{codeOr, aDtype, aType, raw, attributesOf, component, part, shapeOf, componentsOf, object, aVersion, objectsOf, judge}
+use Rattle.meaning.proofs.Entries.{pairsOr, pairsIn, valuesIn, entriesIn, entriesOf}
 use Rattle.panel.specs.Stands.{Each}
-use Rattle.shown.specs.Accepted.{IfAny, WordStands, AttributesStand, ComponentAccepted, ObjectAccepted}
+use Rattle.shown.specs.Accepted.{IfAny, WordStands, AttributesStand, BlobLies, ComponentAccepted, ObjectAccepted}
 use Rattle.shown.specs.Placed.{less, Placed, PlacedPairs, PlacedPair}
-use Rattle.shown.proofs.Judged.{Any, Judged, passes, faults, in-object, in-component, is-required, bind, then, if-any, tested, test, each-so, any-each}
+use Rattle.shown.proofs.Judged.{Any, Judged, passes, faults, with-verdict, so-too, in-object, in-component, is-required, bind, then, if-any, tested, test, each-so, any-each}
 use Rattle.shown.proofs.FormatNumbered.{format-so}
 
 -- ---------------------------------------------------------------- storage codes
@@ -180,10 +181,10 @@ module _ (file : List ℕ) (start : ℕ) where
       by true r q = h .0 .1
       by false r q = q
 
-  fields-so : (d : ℕ) (known : List (List ℕ)) (t : Node Span) → At d t → Judged (Each (Pairing (less d))) (fields known t)
+  fields-so : (d : ℕ) (known : List (List ℕ)) (t : Node Span) → At d t → Judged (λ ps. (aTable t ≡ pass ps) × Each (Pairing (less d)) ps) (fields known t)
   unfolding fields
   fields-so d known t h =
-      bind (aTable t) _ (table-so d t h) λ ps q.
+      bind (aTable t) _ (with-verdict (aTable t) (table-so d t h)) λ ps q.
       tested KEY (all (λ p. isSome (keyOf p)) ps) _ tt λ e. tested TWICE (all (λ n. leb (count n ps) 1) known) _ tt λ f. passes ps q
 
   names-so : (d limit : ℕ) (t : Node Span) → At d t → Judged (Each (Naming (less d))) (names limit t)
@@ -209,7 +210,8 @@ module _ (file : List ℕ) (start : ℕ) where
   unfolding raw
   raw-so t h = bind (aWord t) _ (word-so 27 t h) λ w q. test ENCODING (same (ascii "raw") (w .letters)) tt
 
-  record ComponentFieldsAt (c : ComponentFields Span) : Type 0 where
+  record ComponentFieldsAt (t : Node Span) (c : ComponentFields Span) : Type 0 where
+    map : AttributesStand file start 28 t
     dtype : IfAny (At 27) (c .dtype)
     type : IfAny (At 27) (c .type)
     offset : IfAny (At 27) (c .offset)
@@ -218,21 +220,33 @@ module _ (file : List ℕ) (start : ℕ) where
     encoding : IfAny (At 27) (c .encoding)
     digest : IfAny (At 27) (c .digest)
 
-  componentFields-so : (t : Node Span) → At 28 t → Judged ComponentFieldsAt (componentFields t)
+  componentFields-so : (t : Node Span) → At 28 t → Judged (ComponentFieldsAt t) (componentFields t)
   unfolding componentFields
   componentFields-so t h = bind (fields componentNames t) _ (fields-so 28 componentNames t h) λ ps q. passes _ (record {
-    dtype = get-so 27 _ ps q;
-    type = get-so 27 _ ps q;
-    offset = get-so 27 _ ps q;
-    length = get-so 27 _ ps q;
-    size = get-so 27 _ ps q;
-    encoding = get-so 27 _ ps q;
-    digest = get-so 27 _ ps q;
+    map = record { stands = h .0; pairs = ps; map = q .0 };
+    dtype = get-so 27 _ ps (q .1);
+    type = get-so 27 _ ps (q .1);
+    offset = get-so 27 _ ps (q .1);
+    length = get-so 27 _ ps (q .1);
+    size = get-so 27 _ ps (q .1);
+    encoding = get-so 27 _ ps (q .1);
+    digest = get-so 27 _ ps (q .1);
   })
 
-  component-so : (n : Named Span) → Naming 28 n → Judged (ComponentAccepted file start) (component start n)
+  -- all but the verdict itself
+  record Found (n : Named Span) (c : Component Span) : Type 0 where
+    named : n .name ≡ c .name
+    noted : c .entry ≡ noteOf (n .value)
+    map : AttributesStand file start 28 (n .value)
+    name : Spelt (c .name)
+    storage : c .dtype < 13
+    type : IfAny Spelt (c .type)
+    digest : IfAny Spelt (c .digest)
+    blob : BlobLies start c
+
+  found-so : (n : Named Span) → Naming 28 n → Judged (Found n) (component start n)
   unfolding component
-  component-so n h =
+  found-so n h =
       bind (componentFields (n .value)) _ (componentFields-so (n .value) (h .1)) λ c p.
       bind (required (c .dtype)) _ (is-required (c .dtype) (p .dtype)) λ dtype at-dtype.
       bind (required (c .offset)) _ (is-required (c .offset) (p .offset)) λ offset at-offset.
@@ -246,6 +260,9 @@ module _ (file : List ℕ) (start : ℕ) where
       (bind (optional aText (present (c .digest))) _ (if-any aText (present (c .digest)) (present-so 27 (c .digest) (p .digest)) (text-so 27)) λ g digest.
       tested ALIGN (eqb (o % alignment) 0) _ tt λ even. tested BOUNDS (leb alignment o && leb (o + l) start) _ tt λ inside.
       passes _ (record {
+        named = refl;
+        noted = refl;
+        map = p .map;
         name = h .0;
         storage = storage;
         type = type;
@@ -256,6 +273,26 @@ module _ (file : List ℕ) (start : ℕ) where
           before-manifest = leb-true (o + l) start (both-right (leb alignment o) (leb (o + l) start) inside);
         };
       })))
+
+  component-so : (n : Named Span) → Naming 28 n → Judged (ComponentAccepted file start) (component start n)
+  component-so n h = so-too (component start n) accepted (with-verdict (component start n) (found-so n h))
+    where
+      accepted : (c : Component Span) → (component start n ≡ pass c) × Found n c → ComponentAccepted file start c
+      accepted c q =
+          let f = q .1 in
+          record {
+            name = f .name;
+            storage = f .storage;
+            type = f .type;
+            digest = f .digest;
+            blob = f .blob;
+            entry = record {
+              node = n .value;
+              noted = f .noted;
+              stands = f .map;
+              judged = ap (λ (w : Word Span). component start (record { name = w; value = n .value })) (sym (f .named)) ∙ q .0;
+            };
+          }
 
   components-so : (t : Node Span) → At 29 t → Judged (Each (ComponentAccepted file start)) (componentsOf start t)
   unfolding componentsOf
@@ -290,7 +327,7 @@ module _ (file : List ℕ) (start : ℕ) where
   unfolding objectFields
   objectFields-so t h =
       bind (fields objectNames t) _ (fields-so 30 objectNames t h)
-      λ ps q. passes _ (record { shape = get-so 29 _ ps q; format = get-so 29 _ ps q; attributes = get-so 29 _ ps q; components = get-so 29 _ ps q })
+      λ ps q. passes _ (record { shape = get-so 29 _ ps (q .1); format = get-so 29 _ ps (q .1); attributes = get-so 29 _ ps (q .1); components = get-so 29 _ ps (q .1) })
 
   object-so : (n : Named Span) → Naming 30 n → Judged (ObjectAccepted file start) (object start n)
   unfolding object
@@ -326,7 +363,7 @@ module _ (file : List ℕ) (start : ℕ) where
   rootFields-so : (t : Node Span) → At 32 t → Judged RootFieldsAt (rootFields t)
   unfolding rootFields
   rootFields-so t h =
-      bind (fields rootNames t) _ (fields-so 32 rootNames t h) λ ps q. passes _ (record { version = get-so 31 _ ps q; attributes = get-so 31 _ ps q; objects = get-so 31 _ ps q })
+      bind (fields rootNames t) _ (fields-so 32 rootNames t h) λ ps q. passes _ (record { version = get-so 31 _ ps (q .1); attributes = get-so 31 _ ps (q .1); objects = get-so 31 _ ps (q .1) })
 
   pub record ModelStands (m : Model Span) : Type 0 where
     pub attributes : IfAny (AttributesStand file start 31) (m .attributes)
@@ -342,3 +379,37 @@ module _ (file : List ℕ) (start : ℕ) where
       bind (required (r .objects)) _ (is-required (r .objects) (p .objects)) λ objects at-objects.
       bind (objectsOf start objects) _ (objects-so objects at-objects) λ os accepted.
       passes _ (record { attributes = lie; objects = accepted }))
+
+  -- ---- the entries of its components have 28 levels left
+
+  pairs-in-so : (d : ℕ) (t : Node Span) → At d t → Each (Pairing (less d)) (pairsIn t)
+  unfolding pairsIn pairsOr Each
+  pairs-in-so d t h = by (aTable t) (table-so d t h)
+    where
+      by : (k : Check (List (Pair Span))) → Judged (Each (Pairing (less d))) k → Each (Pairing (less d)) (pairsOr k)
+      by (pass ps) j = j .is
+      by (refuse n o c) j = tt
+
+  values-so : (d : ℕ) (o : Option (Node Span)) → IfAny (At d) o → Each (At (less d)) (valuesIn o)
+  unfolding valuesIn Each
+  values-so d none h = tt
+  values-so d (some t) h = by (pairsIn t) (pairs-in-so d t h)
+    where
+      by : (ps : List (Pair Span)) → Each (Pairing (less d)) ps → Each (At (less d)) (map (λ p. p .value) ps)
+      by [] h = tt
+      by (p ∷ ps) h = (h .0 .1, by ps (h .1))
+
+  entries-in-so : (t : Node Span) → At 30 t → Each (At 28) (entriesIn t)
+  unfolding entriesIn
+  entries-in-so t h = values-so 29 (get (ascii "components") (pairsIn t)) (get-so 29 (ascii "components") (pairsIn t) (pairs-in-so 30 t h))
+
+  pub entries-so : (t : Node Span) → At 32 t → Each (Each (At 28)) (entriesOf t)
+  unfolding entriesOf Each
+  entries-so t h = by (valuesIn objects) (values-so 31 objects (get-so 31 (ascii "objects") (pairsIn t) (pairs-in-so 32 t h)))
+    where
+      objects : Option (Node Span)
+      objects = get (ascii "objects") (pairsIn t)
+
+      by : (ts : List (Node Span)) → Each (At 30) ts → Each (Each (At 28)) (map entriesIn ts)
+      by [] h = tt
+      by (o ∷ ts) h = (entries-in-so o (h .0), by ts (h .1))

@@ -1,4 +1,4 @@
--- What holds of an accepted file: its texts and attributes stand in the manifest where their rows say, and its blobs lie between header and manifest.
+-- What holds of an accepted file: its texts, attributes and component maps stand in the manifest where their rows say, and its blobs lie between header and manifest.
 use Prim.Native.Nat.{ℕ, _+_, _%_, _≤_, _<_}
 use mathlib.Core.List.{List, []}
 use mathlib.Core.Option.{Option, none, some}
@@ -9,6 +9,7 @@ use Rattle.meaning.specs.Check.{pass}
 use Rattle.meaning.specs.Read.{Span, got, item, noNote}
 use Rattle.meaning.specs.Kind.{aTable}
 use Rattle.meaning.specs.Model.{Word, Component, Object}
+use Rattle.meaning.specs.Judge.{component}
 use Rattle.meaning.specs.Frame.{Reading}
 use Rattle.meaning.specs.Rows.{wordSpan}
 use Rattle.panel.specs.Stands.{Each}
@@ -46,12 +47,20 @@ module _ (file : List ℕ) (start : ℕ) where
     pub pairs : List (Pair Span)
     pub map : aTable t ≡ pass pairs
 
+  -- the entry of a component's row is one whole map of the manifest, at depth 5: 28 levels are left there; under the component's name that map is this component
+  pub record EntryStands (c : Component Span) : Type 0 where
+    pub node : Node Span
+    pub noted : c .entry ≡ noteOf node
+    pub stands : AttributesStand 28 node
+    pub judged : component start (record { name = c .name; value = node }) ≡ pass c
+
   pub record ComponentAccepted (c : Component Span) : Type 0 where
     pub name : WordStands (c .name)
     pub storage : c .dtype < 13
     pub type : IfAny WordStands (c .type)
     pub digest : IfAny WordStands (c .digest)
     pub blob : BlobLies start c
+    pub entry : EntryStands c
 
   -- its attributes are at depth 4: 29 levels are left there
   pub record ObjectAccepted (o : Object Span) : Type 0 where

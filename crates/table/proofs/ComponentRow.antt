@@ -1,4 +1,4 @@
--- The row of a component, a branch each: none where the judgement refuses it, else ten numbers.
+-- The row of a component, a branch each: none where the judgement refuses it, else twelve numbers.
 use Prim.Native.Nat.{ℕ, _+_, _<_}
 use native.Mathlib.Omega.{arith}
 use mathlib.Core.List.{List, [], _∷_}
@@ -6,6 +6,7 @@ use mathlib.Core.Path.{_≡_, refl, ap, sym, _∙_, subst}
 use lib.ListN.{length}
 use lib.Seq.{sets}
 use borrow.Rule.Slice.PartAt.{part-to-end}
+use Rattle.meaning.specs.Columns.{offsetColumn, entryColumn}
 use Rattle.meaning.specs.Tree.{Pair}
 use Rattle.meaning.specs.Check.{pass}
 use Rattle.meaning.specs.Model.{Named}
@@ -20,11 +21,11 @@ use Rattle.component.specs.Value.{leftWord}
 use Rattle.component.specs.Verdict.{judged}
 use Rattle.component.specs.declared.Judged.{Judged}
 use Rattle.component.specs.declared.Judged.the-variants.{No, Yes}
-use Rattle.components.proofs.Lettered.{named-so, type-at, digest-at}
+use Rattle.components.proofs.Lettered.{named-so, type-at, digest-at, entered-so}
 use Rattle.fields.proofs.Texts.{Here}
 use Rattle.table.specs.declared.span.Span.{Span}
-use Rattle.table.specs.Spans.{spanned, spanOfWord, spanOfOption, SpeltIs, SpeltAt}
-use Rattle.table.specs.Row.{ten, rowIn, RowPut}
+use Rattle.table.specs.Spans.{spanOf, spanned, spanOfWord, spanOfOption, SpeltIs, SpeltAt, WholeFrom}
+use Rattle.table.specs.Row.{twelve, rowIn, RowPut}
 use Rattle.table.proofs.Laying as laying
 
 -- ---------------------------------------------------------------- a pair that has a name
@@ -47,25 +48,32 @@ named-pair p n e = go (kind (p .key)) refl e
     go kinds.null h e = absurd (let z : _≡_ {A = ℕ} 0 1 = cc in omega arith)
     go kinds.another h e = absurd (let z : _≡_ {A = ℕ} 0 1 = cc in omega arith)
 
--- ---------------------------------------------------------------- ten numbers
+-- ---------------------------------------------------------------- ten numbers, and twelve
 
 pub ten-put : (t t₁ t₂ : List ℕ) (i a b c d e f g h j k : ℕ) → t₁ ≡ sets t i (a ∷ b ∷ c ∷ d ∷ e ∷ []) → t₂ ≡ sets t₁ (i + 5) (f ∷ g ∷ h ∷ j ∷ k ∷ [])
     → t₂ ≡ sets t i (a ∷ b ∷ c ∷ d ∷ e ∷ f ∷ g ∷ h ∷ j ∷ k ∷ [])
-ten-put t t₁ t₂ i a b c d e f g h j k x y = y ∙ ap (λ t. sets t (i + 5) (f ∷ g ∷ h ∷ j ∷ k ∷ [])) x ∙ sym (laying.sets-append (a ∷ b ∷ c ∷ d ∷ e ∷ []) (f ∷ g ∷ h ∷ j ∷ k ∷ []) t i)
+ten-put t t₁ t₂ i a b c d e f g h j k x y =
+    y ∙ ap (λ t. sets t (i + 5) (f ∷ g ∷ h ∷ j ∷ k ∷ [])) x ∙ sym (laying.sets-append (a ∷ b ∷ c ∷ d ∷ e ∷ []) (f ∷ g ∷ h ∷ j ∷ k ∷ []) t i)
+
+pub twelve-put : (t t₁ t₂ t₃ : List ℕ) (i a b c d e f g h j k l m : ℕ) → t₁ ≡ sets t i (a ∷ b ∷ c ∷ d ∷ e ∷ []) → t₂ ≡ sets t₁ (i + offsetColumn) (f ∷ g ∷ h ∷ j ∷ k ∷ [])
+    → t₃ ≡ sets t₂ (i + entryColumn) (l ∷ m ∷ []) → t₃ ≡ sets t i (a ∷ b ∷ c ∷ d ∷ e ∷ f ∷ g ∷ h ∷ j ∷ k ∷ l ∷ m ∷ [])
+twelve-put t t₁ t₂ t₃ i a b c d e f g h j k l m x y z =
+    z ∙ ap (λ t. sets t (i + entryColumn) (l ∷ m ∷ [])) (ten-put t t₁ t₂ i a b c d e f g h j k x y)
+    ∙ sym (laying.sets-append (a ∷ b ∷ c ∷ d ∷ e ∷ f ∷ g ∷ h ∷ j ∷ k ∷ []) (l ∷ m ∷ []) t i)
 
 -- ---------------------------------------------------------------- the row
 
-module _ (s c : List ℕ) (room : length c < FAULT) (v : Judged) (end owner i : ℕ) (before after : List ℕ) where
-  pub no-row : (m : ℕ) → v ≡ No m → RowPut s c v end owner i before after
-  no-row m e start says p d q r key value n name k passes =
+module _ (s c : List ℕ) (room : length c < FAULT) (v : Judged) (size end owner i : ℕ) (before after : List ℕ) where
+  pub no-row : (m : ℕ) → v ≡ No m → RowPut s c v size end owner i before after
+  no-row m e start says p d q r key value sized n name k passes =
       let so = named-pair p n name in
       let j : No m ≡ judged (pass k) = sym e ∙ says (p .value) r value (n .name) ∙ ap judged (ap (component start) (sym (so .is)) ∙ passes) in
       absurd (let z : _≡_ {A = ℕ} 0 1 = cc in omega arith)
 
-  pub a-row : (code t o l g : ℕ) → v ≡ Yes code t o l g → (x y z : Span) → SpeltIs (Here s 0) end x → SpeltAt (Here c 0) t end y → SpeltAt (Here c 0) g end z
-      → after ≡ sets before i (ten (spanned x) code (spanned y) o l (spanned z) owner) → RowPut s c v end owner i before after
+  pub a-row : (code t o l g : ℕ) → v ≡ Yes code t o l g → (x y z w : Span) → SpeltIs (Here s 0) end x → SpeltAt (Here c 0) t end y → SpeltAt (Here c 0) g end z → WholeFrom (Here c 0) size end w
+      → after ≡ sets before i (twelve (spanned x) code (spanned y) o l (spanned z) owner (spanned w)) → RowPut s c v size end owner i before after
   unfolding componentRow
-  a-row code t o l g e x y z sx sy sz put start says p d q r key value n name k passes =
+  a-row code t o l g e x y z w sx sy sz sw put start says p d q r key value sized n name k passes =
       let so = named-pair p n name in
       let is : component start (record { name = n .name; value = p .value }) ≡ pass k = ap (component start) (sym (so .is)) ∙ passes in
       let j : Yes code t o l g ≡ Yes (k .dtype) (leftWord (k .type)) (k .offset) (k .length) (leftWord (k .digest)) = sym e ∙ says (p .value) r value (n .name) ∙ ap judged is in
@@ -74,12 +82,18 @@ module _ (s c : List ℕ) (room : length c < FAULT) (v : Judged) (end owner i : 
       let offset-is : o ≡ k .offset = cc in
       let length-is : l ≡ k .length = cc in
       let digest-is : leftWord (k .digest) ≡ g = cc in
-      let a : spanned x ≡ spanOfWord end (k .name) = subst (λ u. SpeltIs u end x) (part-to-end s 0) sx d (p .key) q key (n .name) (so .word) ∙ ap (spanOfWord end) (named-so c room (p .value) r value start (n .name) k is) in
-      let b : spanned y ≡ spanOfOption end (k .type) = subst (λ u. SpeltAt u t end y) (part-to-end c 0) sy (k .type) (type-at c room (p .value) r value start (n .name) k is) type-is in
-      let f : spanned z ≡ spanOfOption end (k .digest) = subst (λ u. SpeltAt u g end z) (part-to-end c 0) sz (k .digest) (digest-at c room (p .value) r value start (n .name) k is) digest-is in
-      let same : ten (spanned x) code (spanned y) o l (spanned z) owner ≡ rowIn end owner k =
-      ap (λ u. ten u code (spanned y) o l (spanned z) owner) a
-      ∙ ap (λ u. ten (spanOfWord end (k .name)) code u o l (spanned z) owner) b
-      ∙ ap (λ u. ten (spanOfWord end (k .name)) code (spanOfOption end (k .type)) o l u owner) f
+      let a : spanned x ≡ spanOfWord end (k .name) =
+      subst (λ u. SpeltIs u end x) (part-to-end s 0) sx d (p .key) q key (n .name) (so .word) ∙ ap (spanOfWord end) (named-so c room (p .value) r value start (n .name) k is) in
+      let b : spanned y ≡ spanOfOption end (k .type) =
+      subst (λ u. SpeltAt u t end y) (part-to-end c 0) sy (k .type) (type-at c room (p .value) r value start (n .name) k is) type-is in
+      let f : spanned z ≡ spanOfOption end (k .digest) =
+      subst (λ u. SpeltAt u g end z) (part-to-end c 0) sz (k .digest) (digest-at c room (p .value) r value start (n .name) k is) digest-is in
+      let m : spanned w ≡ spanOf end (k .entry) =
+      subst (λ u. WholeFrom u size end w) (part-to-end c 0) sw .is 28 (p .value) r value sized ∙ ap (spanOf end) (entered-so c room (p .value) r value start (n .name) k is) in
+      let same : twelve (spanned x) code (spanned y) o l (spanned z) owner (spanned w) ≡ rowIn end owner k =
+      ap (λ u. twelve u code (spanned y) o l (spanned z) owner (spanned w)) a
+      ∙ ap (λ u. twelve (spanOfWord end (k .name)) code u o l (spanned z) owner (spanned w)) b
+      ∙ ap (λ u. twelve (spanOfWord end (k .name)) code (spanOfOption end (k .type)) o l u owner (spanned w)) f
+      ∙ ap (λ u. twelve (spanOfWord end (k .name)) code (spanOfOption end (k .type)) o l (spanOfOption end (k .digest)) owner u) m
       ∙ (rw (code-is, offset-is, length-is) refl) in
       put ∙ ap (sets before i) same

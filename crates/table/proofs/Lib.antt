@@ -1,5 +1,6 @@
 pub mod Spelling
 pub mod Laying
+pub mod Whole
 pub mod ComponentRow
 pub mod Entering
 pub mod Rowing

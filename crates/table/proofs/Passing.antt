@@ -22,8 +22,6 @@ use Rattle.walk.specs.Places.{EntryIs}
 use Rattle.walk.specs.declared.Entry.{Entry}
 use Rattle.walk.specs.declared.Entry.the-variants.{End, Value}
 use Rattle.walk.proofs.Turns.{Modes}
-use Rattle.walk.proofs.Chains.{ate}
-use Rattle.walk.proofs.ReadSays.{note-of}
 use Rattle.fields.specs.Slots.{marked, SlotIs}
 use Rattle.fields.specs.Keeping as keeping-is
 use Rattle.fields.proofs.Texts.{Here}
@@ -31,6 +29,7 @@ use Rattle.fields.proofs.Keeping as keeping
 use Rattle.table.specs.Spans.{SizeIs}
 use Rattle.table.specs.Rows.{kept, Says, RowsPut}
 use Rattle.table.specs.Pass.{ValuePut, Sized, Passed}
+use Rattle.table.proofs.Whole.{item-size}
 
 pub known-components : position objectNames (ascii "components") < length objectNames
 unfolding objectNames position
@@ -56,16 +55,6 @@ module _ (start end owner from k seen : ℕ) (c before : List ℕ) (n next : ℕ
 
   pub as-kept : (k ≡ 3 → seen ≡ 0 → ⊥) → ValuePut start end owner from k seen c before n next n next before
   as-kept m = record { first = λ a b. absurd (m a b); other = λ h. refl }
-
--- an item takes as many bytes as its end says
-item-size : (d : ℕ) (c : List ℕ) (t : Node Ends) (r : List ℕ) → Reads d c t r → SizeIs t (code (itemEnd d c))
-item-size d c t r e =
-    let a = ate d c t r e in
-    let n = note-of d c t r e in
-    let f = a .fits in
-    let x : length (noteOf t .start) ≡ length c = ap (λ (p : Ends). length (p .start)) n in
-    let y : length (noteOf t .rest) ≡ length c - a .size = ap (λ (p : Ends). length (p .rest)) n ∙ ap length (a .is) ∙ length-drop (a .size) c in
-    ap code (a .ends-so) ∙ (omega arith)
 
 -- a slot that is still blank was so before, and another was marked
 still-blank : (known : ℕ) (p : List ℕ) (j left i : ℕ) → 0 < left → i < known → i < length p → getD (marked known p j left) i 0 ≡ 0 → (getD p i 0 ≡ 0) × (j ≡ i → ⊥)

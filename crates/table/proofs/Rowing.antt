@@ -16,6 +16,7 @@ use Rattle.meaning.specs.Judge.{component, componentsOf}
 use Rattle.meaning.specs.Rows.{componentRow, rowsOf}
 use Rattle.meaning.specs.Field.{names}
 use Rattle.meaning.specs.Limit.{componentLimit}
+use Rattle.cbor.specs.Ending.{code, itemEnd}
 use Rattle.walk.specs.Reading.{Ends, Reads}
 use Rattle.walk.specs.Places.{MapIs}
 use Rattle.walk.specs.declared.Opening.{Opening}
@@ -25,10 +26,11 @@ use Rattle.walk.proofs.Opens as opens
 use Rattle.component.specs.Verdict.{ComponentIs}
 use Rattle.component.specs.declared.Judged.{Judged}
 use Rattle.naming.proofs.Noting.{map-snoc}
-use Rattle.table.specs.Spans.{spanOf}
+use Rattle.table.specs.Spans.{spanOf, SizeIs}
 use Rattle.table.specs.Row.{rowIn, RowPut}
 use Rattle.table.specs.Rows.{entry, rowsIn, Laid, Rowed, AllRowed, RowsPut}
 use Rattle.table.proofs.Laying as laying
+use Rattle.table.proofs.Whole.{item-size}
 use Rattle.table.proofs.Entering as entering
 
 -- ---------------------------------------------------------------- rows
@@ -78,7 +80,7 @@ none-rowed start end owner from before = record {
 }
 
 module _ (start end owner from : ℕ) (before : List ℕ) (s : List ℕ) (at k : ℕ) (count next next′ : ℕ) (after after′ : List ℕ) (kept : length after ≡ length before) (v : Judged)
-    (judged : ComponentIs (Here s (at + k)) start v) (put : RowPut (Here s at) (Here s (at + k)) v end owner next after after′) (room : ℕ) (roomy : room ≡ length after′) (kept′ : length after′ ≡ length after)
+    (judged : ComponentIs (Here s (at + k)) start v) (size : ℕ) (took : size ≡ code (itemEnd 28 (Here s (at + k)))) (put : RowPut (Here s at) (Here s (at + k)) v size end owner next after after′) (room : ℕ) (roomy : room ≡ length after′) (kept′ : length after′ ≡ length after)
     (further : next + componentWidth ≤ room → next′ ≡ next + componentWidth) where
   pub one-more-rowed : (done : List (Pair Ends)) (p : Pair Ends) (q r : List ℕ) → Reads 28 (drop at s) (p .key) q → Reads 28 (drop (at + k) s) (p .value) r
       → Rowed start end owner from before count next after done → Rowed start end owner from before (count + 1) next′ after′ (done ++ p ∷ [])
@@ -92,7 +94,7 @@ module _ (start end owner from : ℕ) (before : List ℕ) (s : List ℕ) (at k :
         let a : Reads 28 (Here s at) (p .key) q = subst (λ u. Reads 28 u (p .key) q) (sym (part-to-end s at)) key in
         let b : Reads 28 (Here s (at + k)) (p .value) r = subst (λ u. Reads 28 u (p .value) r) (sym (part-to-end s (at + k))) value in
         let row : after′ ≡ sets after next (rowIn end owner (l .last)) =
-        put start judged p 27 q r a b (l .name) (l .name-is) (l .last) (in-component (length done) (component start (l .name)) (l .last) (l .last-is)) in
+        put start judged p 27 q r a b (subst (SizeIs (p .value)) (sym took) (item-size 28 (Here s (at + k)) (p .value) r b)) (l .name) (l .name-is) (l .last) (in-component (length done) (component start (l .name)) (l .last) (l .last-is)) in
         let on : next′ ≡ next + componentWidth = further (omega arith) in
         record {
           next-is = omega arith;

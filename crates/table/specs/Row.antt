@@ -14,18 +14,18 @@ use Rattle.meaning.specs.Rows.{componentRow}
 use Rattle.walk.specs.Reading.{Ends, Reads}
 use Rattle.component.specs.Verdict.{ComponentIs}
 use Rattle.component.specs.declared.Judged.{Judged}
-use Rattle.table.specs.Spans.{spanOf}
+use Rattle.table.specs.Spans.{spanOf, SizeIs}
 
--- its ten numbers
-abbrev pub ten : Span → ℕ → Span → ℕ → ℕ → Span → ℕ → List ℕ
-ten name code type offset size digest owner = name .place ∷ name .size ∷ code ∷ type .place ∷ type .size ∷ offset ∷ size ∷ digest .place ∷ digest .size ∷ owner ∷ []
+-- its twelve numbers
+abbrev pub twelve : Span → ℕ → Span → ℕ → ℕ → Span → ℕ → Span → List ℕ
+twelve name code type offset size digest owner entry = name .place ∷ name .size ∷ code ∷ type .place ∷ type .size ∷ offset ∷ size ∷ digest .place ∷ digest .size ∷ owner ∷ entry .place ∷ entry .size ∷ []
 
 -- its row in a file whose manifest ends at `end`
 abbrev pub rowIn : ℕ → ℕ → Component Ends → List ℕ
 rowIn end owner k = componentRow owner (mapComponent (spanOf end) k)
 
--- the row of every component that passes, whose key begins s and whose value, judged as v, begins c
-abbrev pub RowPut : List ℕ → List ℕ → Judged → ℕ → ℕ → ℕ → List ℕ → List ℕ → Type 0
-RowPut s c v end owner i before after =
-    (start : ℕ) → ComponentIs c start v → (p : Pair Ends) (d : ℕ) (q r : List ℕ) → Reads (suc d) s (p .key) q → Reads 28 c (p .value) r → (n : Named Ends) → nameOf p ≡ pass n
+-- the row of every component that passes, whose key begins s and whose value, judged as v, begins c and takes `size` bytes
+abbrev pub RowPut : List ℕ → List ℕ → Judged → ℕ → ℕ → ℕ → ℕ → List ℕ → List ℕ → Type 0
+RowPut s c v size end owner i before after =
+    (start : ℕ) → ComponentIs c start v → (p : Pair Ends) (d : ℕ) (q r : List ℕ) → Reads (suc d) s (p .key) q → Reads 28 c (p .value) r → SizeIs (p .value) size → (n : Named Ends) → nameOf p ≡ pass n
     → (k : Component Ends) → component start n ≡ pass k → after ≡ sets before i (rowIn end owner k)

@@ -12,7 +12,7 @@ use Rattle.meaning.specs.Model.{Word}
 use Rattle.meaning.specs.Notes.{mapWord, mapOption}
 use Rattle.meaning.specs.Kind.{aWord}
 use Rattle.meaning.specs.Rows.{wordSpan, optionalSpan, attributesSpan}
-use Rattle.walk.specs.Reading.{Ends, leftAt}
+use Rattle.walk.specs.Reading.{Ends, Reads, leftAt}
 use Rattle.walk.specs.Places.{Whatever}
 use Rattle.component.specs.Value.{leftWord}
 use Rattle.components.specs.Typed.{WordAt}
@@ -47,3 +47,7 @@ SizeIs t n = n ≡ length (noteOf t .start) - length (noteOf t .rest)
 -- the item that takes `size` bytes where `left` bytes are left, 0 for none
 abbrev pub WholeIs : ℕ → ℕ → ℕ → Span → Type 0
 WholeIs left size end r = (o : Option (Node Ends)) → leftAt o ≡ left → ((t : Node Ends) → o ≡ some t → (0 < left) × SizeIs t size) → spanned r ≡ attributesSpan (mapOption (mapP (spanOf end)) o)
+
+-- the item that begins c and takes `size` bytes
+pub record WholeFrom (c : List ℕ) (size end : ℕ) (r : Span) : Type 0 where
+  pub is : (d : ℕ) (t : Node Ends) (q : List ℕ) → Reads d c t q → SizeIs t size → spanned r ≡ spanOf end (noteOf t)

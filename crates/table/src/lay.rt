@@ -14,6 +14,16 @@ pub fn put(t: &mut [u64], i: usize, x: u64)
     }
 }
 
+// Two numbers.
+pub fn two(t: &mut [u64], i: usize, a: u64, b: u64)
+    ensures { λ r. ⌜ now (t .exit) ≡ sets (now (t .entry)) i (a ∷ b ∷ []) ⌝ }
+{
+    if i < t.len() {
+        put(t, i, a);
+        put(t, i + 1, b);
+    }
+}
+
 // Five numbers.
 pub fn five(t: &mut [u64], i: usize, a: u64, b: u64, c: u64, d: u64, e: u64)
     ensures { λ r. ⌜ now (t .exit) ≡ sets (now (t .entry)) i (a ∷ b ∷ c ∷ d ∷ e ∷ []) ⌝ }

@@ -1,16 +1,18 @@
 // The row of a component.
 use crate::lay::five;
+use crate::lay::two;
 use crate::span::Span;
 use crate::span::spelt;
 use crate::span::spelt_at;
+use crate::span::whole_from;
 use component::Judged;
 ghost use mathlib.Core.Path.{_≡_};
 ghost use lib.Seq.{sets};
 ghost use Rattle.table.specs.Spans.{spanned};
-ghost use Rattle.table.specs.Row.{ten, RowPut};
+ghost use Rattle.table.specs.Row.{twelve, RowPut};
 
-// Puts ten numbers.
-fn put_ten(
+// Puts twelve numbers.
+fn put_twelve(
     t: &mut [u64],
     i: usize,
     name: Span,
@@ -20,8 +22,9 @@ fn put_ten(
     length: u64,
     digest: Span,
     owner: u64,
+    entry: Span,
 )
-    ensures { λ r. ⌜ now (t .exit) ≡ sets (now (t .entry)) i (ten (spanned name) code (spanned kind) offset length (spanned digest) owner) ⌝ }
+    ensures { λ r. ⌜ now (t .exit) ≡ sets (now (t .entry)) i (twelve (spanned name) code (spanned kind) offset length (spanned digest) owner (spanned entry)) ⌝ }
 {
     if i < t.len() {
         five(t, i, name.place, name.size, code, kind.place, kind.size);
@@ -34,12 +37,22 @@ fn put_ten(
             digest.size,
             owner,
         );
+        two(t, i + columns::ENTRY, entry.place, entry.size);
     }
 }
 
-// Puts the row of a component, whose key begins s and whose value, judged as v, begins c. `owner` is its object's index.
-pub fn put_row(s: &[u8], c: &[u8], v: Judged, end: usize, owner: u64, i: usize, t: &mut [u64])
-    ensures { λ r. ⌜ RowPut (now (s .entry)) (now (c .entry)) v end owner i (now (t .entry)) (now (t .exit)) ⌝ }
+// Puts the row of a component, whose key begins s and whose value, judged as v, begins c and takes `size` bytes. `owner` is its object's index.
+pub fn put_row(
+    s: &[u8],
+    c: &[u8],
+    v: Judged,
+    size: usize,
+    end: usize,
+    owner: u64,
+    i: usize,
+    t: &mut [u64],
+)
+    ensures { λ r. ⌜ RowPut (now (s .entry)) (now (c .entry)) v size end owner i (now (t .entry)) (now (t .exit)) ⌝ }
 {
     match v {
         Judged::No(_) => {}
@@ -47,7 +60,19 @@ pub fn put_row(s: &[u8], c: &[u8], v: Judged, end: usize, owner: u64, i: usize, 
             let name = spelt(&s[0..], end);
             let typed = spelt_at(&c[0..], kind, end);
             let digested = spelt_at(&c[0..], digest, end);
-            put_ten(t, i, name, code, typed, offset, length, digested, owner);
+            let entry = whole_from(&c[0..], size, end);
+            put_twelve(
+                t,
+                i,
+                name,
+                code,
+                typed,
+                offset,
+                length,
+                digested,
+                owner,
+                entry,
+            );
         }
     }
 }

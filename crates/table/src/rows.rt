@@ -60,7 +60,7 @@ fn entries(
                     };
                 }
                 let judged = w.verdict;
-                put_row(&s[at..], &s[v..], judged, end, owner, next, t);
+                put_row(&s[at..], &s[v..], judged, w.end, end, owner, next, t);
                 next = ahead(next, columns::COMPONENT, t.len());
                 n += 1;
                 at = v + w.end;

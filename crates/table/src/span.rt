@@ -46,3 +46,10 @@ pub fn whole(left: usize, size: usize, end: usize) -> Span
         size: size as u64,
     }
 }
+
+// The whole item that begins c and takes `size` bytes.
+pub fn whole_from(c: &[u8], size: usize, end: usize) -> Span
+    ensures { λ r. ⌜ is.WholeFrom (now (c .entry)) size end r ⌝ }
+{
+    whole(c.len(), size, end)
+}

@@ -6,23 +6,21 @@ use mathlib.Core.Bool.{false}
 use mathlib.Core.Path.{_≡_, refl, sym, subst, _∙_}
 use lib.ListN.{drop, getD}
 use lib.Seq.{getD-drop}
-use Rattle.meaning.specs.Columns.{objectWidth, componentWidth, nameColumn, formatColumn, attributesColumn, attributesLengthColumn, typeColumn, digestColumn}
+use Rattle.meaning.specs.Columns.{objectWidth, componentWidth, nameColumn, formatColumn, attributesColumn, attributesLengthColumn, typeColumn, digestColumn, entryColumn, entryLengthColumn}
 use Rattle.meaning.specs.Text.{filter}
-use Rattle.tolerance.specs.Alike.{Field, number, textSpan, mapSpan, objectFields, componentFields, mayDiffer, FieldsAlike}
+use Rattle.tolerance.specs.Alike.{Field, number, textSpan, mapSpan, entrySpan, objectFields, componentFields, mayDiffer, FieldsAlike}
 
 -- n columns, the first of them k
-columnsFrom : ℕ → ℕ → List ℕ
+abbrev pub columnsFrom : ℕ → ℕ → List ℕ
 columnsFrom k zero = []
 columnsFrom k (suc n) = k ∷ columnsFrom (suc k) n
 
 -- an object's row: the places of its name and format, and the place and length of its attributes
 pub object-columns : filter (mayDiffer objectFields) (columnsFrom 0 objectWidth) ≡ nameColumn ∷ formatColumn ∷ attributesColumn ∷ attributesLengthColumn ∷ []
-unfolding columnsFrom
 object-columns = refl
 
--- a component's row: the places of its name, type and digest
-pub component-columns : filter (mayDiffer componentFields) (columnsFrom 0 componentWidth) ≡ nameColumn ∷ typeColumn ∷ digestColumn ∷ []
-unfolding columnsFrom
+-- a component's row: the places of its name, type and digest, and the place and length of its entry
+pub component-columns : filter (mayDiffer componentFields) (columnsFrom 0 componentWidth) ≡ nameColumn ∷ typeColumn ∷ digestColumn ∷ entryColumn ∷ entryLengthColumn ∷ []
 component-columns = refl
 
 -- what holds of a column further on
@@ -40,3 +38,6 @@ module _ (file₁ file₂ : List ℕ) where
   same-columns (mapSpan ∷ fs) l₁ l₂ zero h e = cc
   same-columns (mapSpan ∷ fs) l₁ l₂ (suc zero) h e = cc
   same-columns (mapSpan ∷ fs) l₁ l₂ (suc (suc j)) h e = further l₁ l₂ 2 j (suc (suc j)) (omega arith) (same-columns fs (drop 2 l₁) (drop 2 l₂) j (h .1) e)
+  same-columns (entrySpan ∷ fs) l₁ l₂ zero h e = cc
+  same-columns (entrySpan ∷ fs) l₁ l₂ (suc zero) h e = cc
+  same-columns (entrySpan ∷ fs) l₁ l₂ (suc (suc j)) h e = further l₁ l₂ 2 j (suc (suc j)) (omega arith) (same-columns fs (drop 2 l₁) (drop 2 l₂) j (h .1) e)

@@ -17,7 +17,7 @@ use Rattle.tolerance.proofs.Columns.{same-columns}
 
 -- two numbers more than the rows take
 abbrev table : List ℕ
-table = replicate 28 7
+table = replicate 30 7
 
 pub newer-means-the-same : SameOnceDropped (parsed plain) (parsed newer)
 unfolding computed parsed isUnknown plainVersion known inMap inText onValue onField dropComponent dropObject dropRoot
@@ -33,12 +33,12 @@ unfolding computed
 newer-answer = refl
 
 pub plain-rows : afterwards plain table
-    ≡ 115 ∷ 1 ∷ 1 ∷ 8 ∷ replicate 7 0 ++ 133 ∷ 5 ∷ 149 ∷ 7 ∷ 1 ∷ 169 ∷ 4 ∷ 11 ∷ 189 ∷ 7 ∷ 64 ∷ 8 ∷ 221 ∷ 7 ∷ 0 ∷ 7 ∷ 7 ∷ []
+    ≡ 115 ∷ 1 ∷ 1 ∷ 8 ∷ replicate 7 0 ++ 133 ∷ 5 ∷ 149 ∷ 7 ∷ 1 ∷ 169 ∷ 4 ∷ 11 ∷ 189 ∷ 7 ∷ 64 ∷ 8 ∷ 221 ∷ 7 ∷ 0 ∷ 173 ∷ 55 ∷ 7 ∷ 7 ∷ []
 unfolding computed
 plain-rows = refl
 
 pub newer-rows : afterwards newer table
-    ≡ 129 ∷ 1 ∷ 1 ∷ 8 ∷ replicate 7 0 ++ 164 ∷ 5 ∷ 180 ∷ 11 ∷ 1 ∷ 204 ∷ 4 ∷ 11 ∷ 225 ∷ 7 ∷ 64 ∷ 8 ∷ 280 ∷ 7 ∷ 0 ∷ 7 ∷ 7 ∷ []
+    ≡ 129 ∷ 1 ∷ 1 ∷ 8 ∷ replicate 7 0 ++ 164 ∷ 5 ∷ 180 ∷ 11 ∷ 1 ∷ 204 ∷ 4 ∷ 11 ∷ 225 ∷ 7 ∷ 64 ∷ 8 ∷ 280 ∷ 7 ∷ 0 ∷ 208 ∷ 85 ∷ 7 ∷ 7 ∷ []
 unfolding computed
 newer-rows = refl
 

@@ -19,10 +19,16 @@ use Rattle.meaning.specs.Frame.{Frame, frame, checked, Reading, reading}
 use Rattle.meaning.specs.Rows.{attributesSpan, componentCount, roomFor, roomy, rows, answer, tableAfter, readInto, objectRows, componentRows}
 use Rattle.meaning.proofs.DropKeepsVerdict.{tolerant}
 use Rattle.view.proofs.Columns.{objects-width, components-width}
+use Rattle.meaning.specs.Limit.{depthLimit}
+use Rattle.meaning.proofs.Entries.{Along}
+use Rattle.shown.specs.Placed.{Placed}
+use Rattle.shown.proofs.Judged.{Judged, passes, bind, passed-so}
+use Rattle.shown.proofs.ReadingJudged.{frame-so, tree-so}
 use Rattle.shown.proofs.AcceptedFile.{accepted, refusals-of-reading}
 use Rattle.tolerance.specs.Manifests.{Parsed, parsed, SameOnceDropped}
 use Rattle.tolerance.specs.Alike.{acceptance, afterwards, ReadAlike, refused, accepted as both}
-use Rattle.tolerance.proofs.RowsAlike.{maps-alike, table-alike}
+use Rattle.tolerance.proofs.RowsAlike.{Entries, maps-alike, table-alike}
+use Rattle.tolerance.proofs.Entries.{entries-alike}
 
 -- the reading after checks 1 to 7
 unfoldable pub judged : Parsed → Check Reading
@@ -76,6 +82,43 @@ readings-same file₁ file₂ h = ap (mapCheck said) (reading-parsed file₁) �
     by (pass p) (refuse n o c) s = absurd s
     by (refuse n o c) k₂ s = absurd s
 
+-- ---------------------------------------------------------------- the entries of both
+
+-- what a file that passes checks 1 to 7 holds
+record Holds (file : List ℕ) (p : Parsed) : Type 0 where
+  header : 8 ≤ p .start
+  placed : Placed file (p .start) depthLimit (p .tree)
+
+parsed-so : (file : List ℕ) → Judged (Holds file) (parsed file)
+unfolding parsed
+parsed-so file =
+    bind (frame file) _ (frame-so file) λ f h.
+    bind (checked (manifest (spanTo (f .start + f .size)) (take (f .size) (drop (f .start) file)))) _ (tree-so file f h) λ t placed. passes _ (record { header = h .header; placed = placed })
+
+judged-from : (p : Parsed) (r : Reading) → judged p ≡ pass r → (judge (p .start) (p .tree) ≡ pass (r .model)) × (p .start ≡ r .start)
+unfolding judged
+judged-from p r = by (judge (p .start) (p .tree))
+  where
+    by : (k : Check (Model Span)) → (k >>= λ m. pass (record { start = p .start; model = m })) ≡ pass r → (k ≡ pass (r .model)) × (p .start ≡ r .start)
+    by (pass m) e = let z : record { start = p .start; model = m } ≡ r = cc in (ap (λ (q : Reading). pass (q .model)) z, ap (λ (q : Reading). q .start) z)
+    by (refuse n o c) e = absurd (let z : _≡_ {A = ℕ} 0 1 = cc in omega arith)
+
+module _ (file₁ file₂ : List ℕ) (h : SameOnceDropped (parsed file₁) (parsed file₂)) (r₁ r₂ : Reading) (reads₁ : reading file₁ ≡ pass r₁) (reads₂ : reading file₂ ≡ pass r₂) where
+  both-entries : Along (Entries file₁ file₂) (r₁ .model .objects) (r₂ .model .objects)
+  both-entries = by (parsed file₁) refl (parsed file₂) refl h
+    where
+      by : (k₁ : Check Parsed) → parsed file₁ ≡ k₁ → (k₂ : Check Parsed) → parsed file₂ ≡ k₂ → SameOnceDropped k₁ k₂ → Along (Entries file₁ file₂) (r₁ .model .objects) (r₂ .model .objects)
+      by (pass p) e₁ (pass q) e₂ s =
+          let a = passed-so (parsed-so file₁) e₁ in
+          let b = passed-so (parsed-so file₂) e₂ in
+          let x = judged-from p r₁ (sym (ap (λ (k : Check Parsed). k >>= judged) e₁) ∙ sym (reading-parsed file₁) ∙ reads₁) in
+          let y = judged-from q r₂ (sym (ap (λ (k : Check Parsed). k >>= judged) e₂) ∙ sym (reading-parsed file₂) ∙ reads₂) in
+          let placed₂ : Placed file₂ (p .start) depthLimit (q .tree) = subst (λ (n : ℕ). Placed file₂ n depthLimit (q .tree)) (sym (s .start)) (b .placed) in
+          let judged₂ : judge (p .start) (q .tree) ≡ pass (r₂ .model) = subst (λ (n : ℕ). judge n (q .tree) ≡ pass (r₂ .model)) (sym (s .start)) (y .0) in
+          entries-alike file₁ file₂ (p .start) (a .header) (p .tree) (q .tree) (a .placed) placed₂ (s .meant) (r₁ .model) (r₂ .model) (x .0) judged₂
+      by (pass p) e₁ (refuse n o c) e₂ s = absurd s
+      by (refuse n o c) e₁ k₂ e₂ s = absurd s
+
 -- ---------------------------------------------------------------- counts of models that are the same with annotations forgotten
 
 pub components-counted : (os : List (Object Span)) → componentCount (map (mapObject nothing) os) ≡ componentCount os
@@ -127,7 +170,8 @@ module _ (file₁ table₁ file₂ table₂ : List ℕ) (tables : length table�
   })
 
   module _ (start : ℕ) (m₁ m₂ : Model Span) (same : mapModel nothing m₁ ≡ mapModel nothing m₂)
-      (reads₁ : reading file₁ ≡ pass (record { start = start; model = m₁ })) (reads₂ : reading file₂ ≡ pass (record { start = start; model = m₂ })) where
+      (reads₁ : reading file₁ ≡ pass (record { start = start; model = m₁ })) (reads₂ : reading file₂ ≡ pass (record { start = start; model = m₂ }))
+      (entries : Along (Entries file₁ file₂) (m₁ .objects) (m₂ .objects)) where
     abbrev reading₁ : Reading
     reading₁ = record { start = start; model = m₁ }
 
@@ -150,7 +194,7 @@ module _ (file₁ table₁ file₂ table₂ : List ℕ) (tables : length table�
           second = ap answer e₂ ∙ ap₂ (λ (n c : ℕ). acceptance n c start (attributesSpan (m₂ .attributes))) (sym (objects-same m₁ m₂ same)) (sym (components-same m₁ m₂ same));
           root = maps-alike file₁ file₂ start (a₁ .header) 31 (m₁ .attributes) (m₂ .attributes) (a₁ .attributes) (a₂ .attributes)
               (ap (λ (m : Model (Unit {0})). m .attributes) same);
-          rows = rw (e₁, e₂) (table-alike file₁ file₂ start (a₁ .header) m₁ m₂ (a₁ .objects) (a₂ .objects) same (drop (roomFor m₁) table₁) (drop (roomFor m₂) table₂));
+          rows = rw (e₁, e₂) (table-alike file₁ file₂ start (a₁ .header) m₁ m₂ (a₁ .objects) (a₂ .objects) same entries (drop (roomFor m₁) table₁) (drop (roomFor m₂) table₂));
           room = h;
           whole₁ = ap (λ (k : Check Reading). length (tableAfter table₁ k)) e₁ ∙ whole m₁ table₁ h;
           whole₂ = ap (λ (k : Check Reading). length (tableAfter table₂ k)) e₂ ∙ whole m₂ table₂ (let r = room-same m₁ m₂ same in omega (arith, h, r, tables));
@@ -180,6 +224,7 @@ module _ (file₁ table₁ file₂ table₂ : List ℕ) (tables : length table�
       by (pass r₁) e₁ (pass r₂) e₂ s =
           let z : said r₁ ≡ said r₂ = cc in
           both-read (r₁ .start) (r₁ .model) (r₂ .model) (ap (λ x. x .model) z) e₁ (e₂ ∙ ap (λ n. pass (record { start = n; model = r₂ .model })) (sym (ap (λ x. x .start) z)))
+          (both-entries file₁ file₂ h r₁ r₂ e₁ e₂)
       by (pass r₁) e₁ (refuse n o c) e₂ s = absurd (let z : _≡_ {A = ℕ} 0 1 = cc in omega arith)
       by (refuse n o c) e₁ (pass r₂) e₂ s = absurd (let z : _≡_ {A = ℕ} 0 1 = cc in omega arith)
       by (refuse n o c) e₁ (refuse n′ o′ c′) e₂ s =

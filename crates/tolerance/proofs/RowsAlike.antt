@@ -1,4 +1,4 @@
--- Two models that stand in their files and are the same with annotations forgotten have rows that are alike.
+-- Two models that stand in their files, are the same with annotations forgotten and have entries that are alike have rows that are alike.
 use Prim.Native.Nat.{ℕ, zero, suc, _+_, _≤_}
 use native.Mathlib.Omega.{arith}
 use mathlib.Core.List.{List, [], _∷_, _++_, map, append-assoc}
@@ -15,11 +15,12 @@ use Rattle.meaning.specs.Model.{Word, Component, Object, Model}
 use Rattle.meaning.specs.Judge.{lettersOf}
 use Rattle.meaning.specs.Notes.{mapOption, mapWord, mapComponent, mapObject, mapModel}
 use Rattle.meaning.specs.Rows.{wordSpan, optionalSpan, attributesSpan, dimensions, objectRow, componentRow, objectRows, rowsOf, componentRows, rows, componentCount}
+use Rattle.meaning.proofs.Entries.{Along}
 use Rattle.panel.specs.Stands.{Each}
 use Rattle.shown.specs.Accepted.{IfAny, InManifest, WordStands, AttributesStand, ComponentAccepted, ObjectAccepted}
 use Rattle.view.proofs.Columns.{shape, ending, nine, objects-at}
-use Rattle.tolerance.specs.Alike.{Inside, TextAt, MapAt, TextsAlike, MapsAlike, FieldsAlike}
-use Rattle.tolerance.specs.Alike.{Field, number, textSpan, mapSpan, objectFields, componentFields, rowsThen, tableFields}
+use Rattle.tolerance.specs.Alike.{Inside, TextAt, MapAt, TextsAlike, MapsAlike, EntriesAlike, FieldsAlike}
+use Rattle.tolerance.specs.Alike.{Field, number, textSpan, mapSpan, entrySpan, objectFields, componentFields, rowsThen, tableFields}
 
 -- ---------------------------------------------------------------- what stands at a span of an accepted file
 
@@ -70,6 +71,13 @@ module _ (file₁ file₂ : List ℕ) where
   abbrev Alike : List Field → List ℕ → List ℕ → Type 0
   Alike = FieldsAlike file₁ file₂
 
+  -- entries of two components, and of two objects' components
+  abbrev pub Entry : Component Span → Component Span → Type 0
+  Entry c₁ c₂ = EntriesAlike file₁ file₂ 28 (c₁ .entry) (c₂ .entry)
+
+  abbrev pub Entries : Object Span → Object Span → Type 0
+  Entries o₁ o₂ = Along Entry (o₁ .components) (o₂ .components)
+
   -- the same numbers
   numbers-alike : (d : List ℕ) (n : ℕ) → length d ≡ n → (fs : List Field) (l k : List ℕ) → Alike fs l k → Alike (replicate n number ++ fs) (d ++ l) (d ++ k)
   numbers-alike [] zero e fs l k h = h
@@ -113,9 +121,9 @@ module _ (file₁ file₂ : List ℕ) where
     }
 
     component-alike : (i : ℕ) (c₁ c₂ : Component Span) → ComponentAccepted file₁ start c₁ → ComponentAccepted file₂ start c₂ → mapComponent nothing c₁ ≡ mapComponent nothing c₂
-        → (fs : List Field) (l k : List ℕ) → Alike fs l k → Alike (componentFields ++ fs) (componentRow i c₁ ++ l) (componentRow i c₂ ++ k)
+        → Entry c₁ c₂ → (fs : List Field) (l k : List ℕ) → Alike fs l k → Alike (componentFields ++ fs) (componentRow i c₁ ++ l) (componentRow i c₂ ++ k)
     unfolding componentRow
-    component-alike i c₁ c₂ h₁ h₂ e fs l k more = (
+    component-alike i c₁ c₂ h₁ h₂ e entries fs l k more = (
       words-alike (c₁ .name) (c₂ .name) (h₁ .name) (h₂ .name) (ap (λ (c : Component (Unit {0})). c .name .letters) e),
       (
         ap (λ (c : Component (Unit {0})). c .dtype) e,
@@ -127,7 +135,7 @@ module _ (file₁ file₂ : List ℕ) where
               ap (λ (c : Component (Unit {0})). c .length) e,
               (
                 texts-alike (c₁ .digest) (c₂ .digest) (h₁ .digest) (h₂ .digest) (ap (λ (c : Component (Unit {0})). c .digest) e),
-                (refl, more),
+                (refl, (entries, more)),
               ),
             ),
           ),
@@ -159,18 +167,18 @@ module _ (file₁ file₂ : List ℕ) where
         )
 
     rows-alike : (i : ℕ) (cs₁ cs₂ : List (Component Span)) → Each (ComponentAccepted file₁ start) cs₁ → Each (ComponentAccepted file₂ start) cs₂
-        → map (mapComponent nothing) cs₁ ≡ map (mapComponent nothing) cs₂
+        → map (mapComponent nothing) cs₁ ≡ map (mapComponent nothing) cs₂ → Along Entry cs₁ cs₂
         → (fs : List Field) (l k : List ℕ) → Alike fs l k → Alike (rowsThen (length cs₁) componentFields fs) (rowsOf i cs₁ ++ l) (rowsOf i cs₂ ++ k)
     unfolding rowsOf Each
-    rows-alike i [] [] h₁ h₂ e fs l k more = more
-    rows-alike i [] (c₂ ∷ cs₂) h₁ h₂ e fs l k more = absurd (let z : _≡_ {A = ℕ} 0 1 = cc in omega arith)
-    rows-alike i (c₁ ∷ cs₁) [] h₁ h₂ e fs l k more = absurd (let z : _≡_ {A = ℕ} 0 1 = cc in omega arith)
-    rows-alike i (c₁ ∷ cs₁) (c₂ ∷ cs₂) h₁ h₂ e fs l k more =
+    rows-alike i [] [] h₁ h₂ e es fs l k more = more
+    rows-alike i [] (c₂ ∷ cs₂) h₁ h₂ e es fs l k more = absurd (let z : _≡_ {A = ℕ} 0 1 = cc in omega arith)
+    rows-alike i (c₁ ∷ cs₁) [] h₁ h₂ e es fs l k more = absurd (let z : _≡_ {A = ℕ} 0 1 = cc in omega arith)
+    rows-alike i (c₁ ∷ cs₁) (c₂ ∷ cs₂) h₁ h₂ e es fs l k more =
         let first : mapComponent nothing c₁ ≡ mapComponent nothing c₂ = cc in
         let others : map (mapComponent nothing) cs₁ ≡ map (mapComponent nothing) cs₂ = cc in
         let done : Alike (componentFields ++ rowsThen (length cs₁) componentFields fs) (componentRow i c₁ ++ (rowsOf i cs₁ ++ l)) (componentRow i c₂ ++ (rowsOf i cs₂ ++ k)) =
-        component-alike i c₁ c₂ (h₁ .0) (h₂ .0) first (rowsThen (length cs₁) componentFields fs) (rowsOf i cs₁ ++ l) (rowsOf i cs₂ ++ k)
-        (rows-alike i cs₁ cs₂ (h₁ .1) (h₂ .1) others fs l k more) in
+        component-alike i c₁ c₂ (h₁ .0) (h₂ .0) first (es .0) (rowsThen (length cs₁) componentFields fs) (rowsOf i cs₁ ++ l) (rowsOf i cs₂ ++ k)
+        (rows-alike i cs₁ cs₂ (h₁ .1) (h₂ .1) others (es .1) fs l k more) in
         rw (append-assoc (componentRow i c₁) (rowsOf i cs₁) l, append-assoc (componentRow i c₂) (rowsOf i cs₂) k) done
 
     objects-alike : (os₁ os₂ : List (Object Span)) → Each (ObjectAccepted file₁ start) os₁ → Each (ObjectAccepted file₂ start) os₂
@@ -189,13 +197,13 @@ module _ (file₁ file₂ : List ℕ) where
         rw (append-assoc (objectRow o₁) (objectRows os₁) l, append-assoc (objectRow o₂) (objectRows os₂) k) done
 
     components-alike : (i : ℕ) (os₁ os₂ : List (Object Span)) → Each (ObjectAccepted file₁ start) os₁ → Each (ObjectAccepted file₂ start) os₂
-        → map (mapObject nothing) os₁ ≡ map (mapObject nothing) os₂
+        → map (mapObject nothing) os₁ ≡ map (mapObject nothing) os₂ → Along Entries os₁ os₂
         → (fs : List Field) (l k : List ℕ) → Alike fs l k → Alike (rowsThen (componentCount os₁) componentFields fs) (componentRows i os₁ ++ l) (componentRows i os₂ ++ k)
     unfolding componentRows componentCount Each
-    components-alike i [] [] h₁ h₂ e fs l k more = more
-    components-alike i [] (o₂ ∷ os₂) h₁ h₂ e fs l k more = absurd (let z : _≡_ {A = ℕ} 0 1 = cc in omega arith)
-    components-alike i (o₁ ∷ os₁) [] h₁ h₂ e fs l k more = absurd (let z : _≡_ {A = ℕ} 0 1 = cc in omega arith)
-    components-alike i (o₁ ∷ os₁) (o₂ ∷ os₂) h₁ h₂ e fs l k more =
+    components-alike i [] [] h₁ h₂ e es fs l k more = more
+    components-alike i [] (o₂ ∷ os₂) h₁ h₂ e es fs l k more = absurd (let z : _≡_ {A = ℕ} 0 1 = cc in omega arith)
+    components-alike i (o₁ ∷ os₁) [] h₁ h₂ e es fs l k more = absurd (let z : _≡_ {A = ℕ} 0 1 = cc in omega arith)
+    components-alike i (o₁ ∷ os₁) (o₂ ∷ os₂) h₁ h₂ e es fs l k more =
         let first : mapObject nothing o₁ ≡ mapObject nothing o₂ = cc in
         let others : map (mapObject nothing) os₁ ≡ map (mapObject nothing) os₂ = cc in
         let n : ℕ = length (o₁ .components) in
@@ -205,16 +213,16 @@ module _ (file₁ file₂ : List ℕ) where
         let more₁ : List ℕ = componentRows (suc i) os₁ in
         let more₂ : List ℕ = componentRows (suc i) os₂ in
         let done : Alike (rowsThen n componentFields (rowsThen m componentFields fs)) (own₁ ++ (more₁ ++ l)) (own₂ ++ (more₂ ++ k)) =
-        rows-alike i (o₁ .components) (o₂ .components) (h₁ .0 .components) (h₂ .0 .components) (ap (λ (o : Object (Unit {0})). o .components) first)
-        (rowsThen m componentFields fs) (more₁ ++ l) (more₂ ++ k) (components-alike (suc i) os₁ os₂ (h₁ .1) (h₂ .1) others fs l k more) in
+        rows-alike i (o₁ .components) (o₂ .components) (h₁ .0 .components) (h₂ .0 .components) (ap (λ (o : Object (Unit {0})). o .components) first) (es .0)
+        (rowsThen m componentFields fs) (more₁ ++ l) (more₂ ++ k) (components-alike (suc i) os₁ os₂ (h₁ .1) (h₂ .1) others (es .1) fs l k more) in
         rw (rows-more n m componentFields fs, append-assoc own₁ more₁ l, append-assoc own₂ more₂ k) done
 
     pub table-alike : (m₁ m₂ : Model Span) → Each (ObjectAccepted file₁ start) (m₁ .objects) → Each (ObjectAccepted file₂ start) (m₂ .objects)
-        → mapModel nothing m₁ ≡ mapModel nothing m₂
+        → mapModel nothing m₁ ≡ mapModel nothing m₂ → Along Entries (m₁ .objects) (m₂ .objects)
         → (l k : List ℕ) → Alike (tableFields (length (m₁ .objects)) (componentCount (m₁ .objects))) (rows m₁ ++ l) (rows m₂ ++ k)
-    table-alike m₁ m₂ h₁ h₂ e l k =
+    table-alike m₁ m₂ h₁ h₂ e es l k =
         let os : map (mapObject nothing) (m₁ .objects) ≡ map (mapObject nothing) (m₂ .objects) = ap (λ (m : Model (Unit {0})). m .objects) e in
         rw (objects-at m₁ l, objects-at m₂ k)
         (objects-alike (m₁ .objects) (m₂ .objects) h₁ h₂ os
         (rowsThen (componentCount (m₁ .objects)) componentFields []) (componentRows 0 (m₁ .objects) ++ l) (componentRows 0 (m₂ .objects) ++ k)
-        (components-alike 0 (m₁ .objects) (m₂ .objects) h₁ h₂ os [] l k tt))
+        (components-alike 0 (m₁ .objects) (m₂ .objects) h₁ h₂ os es [] l k tt))

@@ -1,4 +1,5 @@
--- Answers and tables that are alike: the same numbers, but for places of texts and spans of attributes, where each file has the same text or the same map.
+-- Answers and tables that are alike: the same numbers, but for places of texts, spans of attributes and spans of entries, where each file has the same text, the same map, or
+-- a map that means the same once unknown fields are dropped.
 use Prim.Native.Nat.{ℕ, zero, suc, _+_, _-_, _*_, _≤_}
 use mathlib.Core.List.{List, [], _∷_, _++_}
 use mathlib.Core.Bool.{Bool, true, false}
@@ -10,6 +11,7 @@ use Rattle.meaning.specs.Tree.{Node, Pairs, dict}
 use Rattle.meaning.specs.Check.{refuse}
 use Rattle.meaning.specs.Read.{Span, bytesAt, got, item, noNote}
 use Rattle.meaning.specs.Rows.{Answer, answer, tableAfter, readInto}
+use Rattle.meaning.specs.Drop.{dropComponent}
 
 -- ---------------------------------------------------------------- what stands in a file
 
@@ -47,17 +49,17 @@ MapAt file levels s (some t) = OneMap file levels s t
 
 -- ---------------------------------------------------------------- rows of two tables, each of its own file
 
--- a field of a row: a number, in one column; or the place and the length of a text or of attributes, in two
+-- a field of a row: a number, in one column; or the place and the length of a text, of attributes or of a component's entry, in two
 pub data Field : Type 0 where
-  number textSpan mapSpan : Field
+  number textSpan mapSpan entrySpan : Field
 
 -- name; rank and dimensions; format, attributes, number of components
 abbrev pub objectFields : List Field
 objectFields = textSpan ∷ replicate (formatColumn - rankColumn) number ++ textSpan ∷ mapSpan ∷ number ∷ []
 
--- name, storage, type, offset, length, digest, owner
+-- name, storage, type, offset, length, digest, owner, entry
 abbrev pub componentFields : List Field
-componentFields = textSpan ∷ number ∷ textSpan ∷ number ∷ number ∷ textSpan ∷ number ∷ []
+componentFields = textSpan ∷ number ∷ textSpan ∷ number ∷ number ∷ textSpan ∷ number ∷ entrySpan ∷ []
 
 -- n rows of these fields, and then more
 abbrev pub rowsThen : ℕ → List Field → List Field → List Field
@@ -68,7 +70,7 @@ rowsThen (suc n) row more = row ++ rowsThen n row more
 abbrev pub tableFields : ℕ → ℕ → List Field
 tableFields objects components = rowsThen objects objectFields (rowsThen components componentFields [])
 
--- the columns that may differ: a text's place, not its length; place and length of attributes; and whatever follows the fields
+-- the columns that may differ: a text's place, not its length; place and length of attributes and of entries; and whatever follows the fields
 abbrev pub mayDiffer : List Field → ℕ → Bool
 mayDiffer [] j = true
 mayDiffer (number ∷ fs) zero = false
@@ -79,6 +81,9 @@ mayDiffer (textSpan ∷ fs) (suc (suc j)) = mayDiffer fs j
 mayDiffer (mapSpan ∷ fs) zero = true
 mayDiffer (mapSpan ∷ fs) (suc zero) = true
 mayDiffer (mapSpan ∷ fs) (suc (suc j)) = mayDiffer fs j
+mayDiffer (entrySpan ∷ fs) zero = true
+mayDiffer (entrySpan ∷ fs) (suc zero) = true
+mayDiffer (entrySpan ∷ fs) (suc (suc j)) = mayDiffer fs j
 
 -- the place and the length that come next
 abbrev pub spanOf : List ℕ → Span
@@ -98,12 +103,21 @@ module _ (file₁ file₂ : List ℕ) where
     pub first : MapAt file₁ levels s₁ found
     pub second : MapAt file₂ levels s₂ found
 
-  -- field by field, from the front; an object's attributes are at depth 4: 29 levels are left there
+  -- a map in each span, and they mean the same once unknown fields are dropped
+  pub record EntriesAlike (levels : ℕ) (s₁ s₂ : Span) : Type 0 where
+    pub tree₁ : Node (Unit {0})
+    pub tree₂ : Node (Unit {0})
+    pub first : OneMap file₁ levels s₁ tree₁
+    pub second : OneMap file₂ levels s₂ tree₂
+    pub same : dropComponent tree₁ ≡ dropComponent tree₂
+
+  -- field by field, from the front; an object's attributes are at depth 4: 29 levels are left there; a component's entry is at depth 5: 28
   abbrev pub FieldsAlike : List Field → List ℕ → List ℕ → Type 0
   FieldsAlike [] l₁ l₂ = Unit {0}
   FieldsAlike (number ∷ fs) l₁ l₂ = (getD l₁ 0 0 ≡ getD l₂ 0 0) × FieldsAlike fs (drop 1 l₁) (drop 1 l₂)
   FieldsAlike (textSpan ∷ fs) l₁ l₂ = TextsAlike (spanOf l₁) (spanOf l₂) × FieldsAlike fs (drop 2 l₁) (drop 2 l₂)
   FieldsAlike (mapSpan ∷ fs) l₁ l₂ = MapsAlike 29 (spanOf l₁) (spanOf l₂) × FieldsAlike fs (drop 2 l₁) (drop 2 l₂)
+  FieldsAlike (entrySpan ∷ fs) l₁ l₂ = EntriesAlike 28 (spanOf l₁) (spanOf l₂) × FieldsAlike fs (drop 2 l₁) (drop 2 l₂)
 
 -- ---------------------------------------------------------------- two readings into tables
 

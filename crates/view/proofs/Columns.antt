@@ -6,7 +6,7 @@ use mathlib.Core.List.{List, [], _∷_, _++_, append-assoc}
 use mathlib.Core.Path.{_≡_, refl, sym, ap, _∙_}
 use lib.ListN.{length, drop, getD, replicate, length-append}
 use lib.Seq.{getD-drop, drop-drop, length-take-le, drop-at}
-use Rattle.meaning.specs.Columns.{objectWidth, componentWidth, dtypeColumn, offsetColumn, lengthColumn}
+use Rattle.meaning.specs.Columns.{objectWidth, componentWidth, dtypeColumn, offsetColumn, lengthColumn, entryColumn, entryLengthColumn}
 use Rattle.meaning.specs.Read.{Span}
 use Rattle.meaning.specs.Model.{Component, Object, Model}
 use Rattle.meaning.specs.Rows.{wordSpan, attributesSpan, dimensions, objectRow, componentRow, objectRows, rowsOf, componentRows, rows, componentCount}
@@ -61,6 +61,14 @@ module _ (T : List ℕ) (q i : ℕ) (c : Component Span) (Y : List ℕ) (e : dro
   pub length-is : getD T (q + lengthColumn) 0 ≡ c .length
   unfolding componentRow
   length-is = column T q (componentRow i c ++ Y) e lengthColumn
+
+  pub entry-place : getD T (q + entryColumn) 0 ≡ c .entry .place
+  unfolding componentRow
+  entry-place = column T q (componentRow i c ++ Y) e entryColumn
+
+  pub entry-size : getD T (q + entryLengthColumn) 0 ≡ c .entry .size
+  unfolding componentRow
+  entry-size = column T q (componentRow i c ++ Y) e entryLengthColumn
 
   pub component-past : drop (q + componentWidth) T ≡ Y
   unfolding componentRow

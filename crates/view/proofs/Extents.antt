@@ -67,7 +67,7 @@ module _ (room objects components index : ℕ) where
   unfolding found
   row-lies a b d = rw (lt-ltb index components a, le-leb (objectWidth * objects + componentWidth * index + componentWidth) room (omega (arith, b, d))) refl
 
--- all ten numbers of a row stand in the table
+-- all numbers of a row stand in the table
 pub RowFits : ℕ → Row → Type 0
 RowFits room Nowhere = Unit {0}
 RowFits room (At row) = row + componentWidth ≤ room

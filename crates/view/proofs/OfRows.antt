@@ -1,19 +1,19 @@
--- The view of a component in a table that begins with a model's rows is the component's blob.
+-- In a table that begins with a model's rows the view of a component is its blob, and its row says where its map stands.
 use Prim.Native.Nat.{ℕ, zero, suc, _+_, _*_, _≤_, _<_}
 use native.Mathlib.Omega.{arith}
 use mathlib.Core.List.{List, [], _∷_, _++_, append-assoc}
 use mathlib.Core.Option.{some}
 use mathlib.Core.Path.{_≡_, refl, ap, _∙_}
-use lib.ListN.{length, take, drop, getElem?, length-append}
+use lib.ListN.{length, take, drop, getD, getElem?, length-append}
 use borrow.Author.Tests.{lt-ltb, le-leb}
-use Rattle.meaning.specs.Columns.{objectWidth, componentWidth}
+use Rattle.meaning.specs.Columns.{objectWidth, componentWidth, entryColumn, entryLengthColumn}
 use Rattle.meaning.specs.Check.{pass}
 use Rattle.meaning.specs.Read.{Span}
 use Rattle.meaning.specs.Model.{Component, Object, Model}
 use Rattle.meaning.specs.Rows.{componentRow, rowsOf, componentRows, rows, componentCount}
 use Rattle.meaning.specs.View.{viewed, partAt, view}
 use Rattle.view.specs.All.{allComponents}
-use Rattle.view.proofs.Columns.{offset-is, length-is, component-past, components-at, rows-lie}
+use Rattle.view.proofs.Columns.{offset-is, length-is, entry-place, entry-size, component-past, components-at, rows-lie}
 
 module _ (T : List ℕ) (c : Component Span) where
   -- the row of c begins j rows after the place q
@@ -56,6 +56,17 @@ pub all-counted : (os : List (Object Span)) → length (allComponents os) ≡ co
 unfolding allComponents componentCount
 all-counted [] = refl
 all-counted (o ∷ os) = length-append (o .components) (allComponents os) ∙ ap (λ (n : ℕ). length (o .components) + n) (all-counted os)
+
+-- the two numbers of its row that say where its map stands
+module _ (rest : List ℕ) (m : Model Span) (j : ℕ) (c : Component Span) (there : getElem? (allComponents (m .objects)) j ≡ some c) where
+  abbrev at : ℕ
+  at = objectWidth * length (m .objects) + componentWidth * j
+
+  pub entry-of-rows : (getD (rows m ++ rest) (at + entryColumn) 0 ≡ c .entry .place) × (getD (rows m ++ rest) (at + entryLengthColumn) 0 ≡ c .entry .size)
+  unfolding Begins
+  entry-of-rows =
+      let b = in-objects (rows m ++ rest) c 0 (m .objects) (objectWidth * length (m .objects)) j rest (components-at m rest) there in
+      (entry-place (rows m ++ rest) at (b .0) c (b .1) (b .2), entry-size (rows m ++ rest) at (b .0) c (b .1) (b .2))
 
 module _ (file rest : List ℕ) (m : Model Span) (j : ℕ) (c : Component Span) (there : getElem? (allComponents (m .objects)) j ≡ some c)
     (inside : c .offset + c .length ≤ length file) where

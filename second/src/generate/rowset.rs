@@ -55,6 +55,7 @@ fn at_end_limit(rng: &mut Rng) -> RowSet {
         blob: Part { place: 0, length },
         digest: Part::default(),
         owner: 1,
+        entry: Part::default(),
     };
     let last_offset = 64 + (ROWS - 1) * SHARED;
     let last = END_LIMIT as u64 - last_offset + rng.below(2);
@@ -203,6 +204,11 @@ impl Layout<'_> {
             blob: self.blob(component.length),
             digest: self.optional(component.digest.as_deref()),
             owner,
+            // Anything: the writer doesn't look at it.
+            entry: Part {
+                place: self.rng.any_size(),
+                length: self.rng.any_size(),
+            },
         }
     }
 

@@ -23,7 +23,13 @@ put-row-spec =
     (λ c. search needs)
     (λ c. search needs)
     (λ c κs. search needs)
-    (λ c κs. search needs)
-    (λ c. rows.no-row ((c .before .before .before .before .before .args .s .now)) ((c .before .before .before .before .before .args .c .now)) (omega arith) ((c .before .before .before .before .before .args .v)) ((c .before .before .before .before .before .args .end)) ((c .before .before .before .before .before .args .owner)) ((c .before .before .before .before .before .args .i)) ((c .before .before .before .before .before .args .t .now)) _ _ ((c .enum-told .given .1)))
     (λ c. search needs)
-    (λ c. rows.a-row ((c .before .before .before .before .before .before .before .before .before .before .before .before .before .before .before .before .args .s .now)) ((c .before .before .before .before .before .before .before .before .before .before .before .before .before .before .before .before .args .c .now)) (omega (arith, (c .before .before .before .before .before .before .before .before .before .before .before .before .before .before .before .before .good))) ((c .before .before .before .before .before .before .before .before .before .before .before .before .before .before .before .before .args .v)) ((c .before .before .before .before .before .before .before .before .before .before .before .before .before .before .before .before .args .end)) ((c .before .before .before .before .before .before .before .before .before .before .before .before .before .before .before .before .args .owner)) ((c .before .before .before .before .before .before .before .before .before .before .before .before .before .before .before .before .args .i)) ((c .before .before .before .before .before .before .before .before .before .before .before .before .before .before .before .before .args .t .now)) _ _ _ _ _ _ ((c .before .before .before .before .before .before .before .before .before .before .before .v .given .1)) _ _ _ ((c .before .before .before .before .before .before .before .before .spelt .ensures)) ((c .before .before .before .before .before .before .spelt-at .ensures)) ((c .before .before .before .before .spelt-at2 .ensures)) ((c .before .before .put-ten .ensures))))
+    (λ c. search needs)
+    (λ c. search needs)
+    (λ c κs. search needs)
+    (λ c κs. search needs)
+    (λ c. let a = c .before .before .before .before .before .args in rows.no-row (a .s .now) (a .c .now) (omega arith) (a .v) (a .size) (a .end) (a .owner) (a .i) (a .t .now) _ _ (c .enum-told .given .1))
+    (λ c. search needs)
+    (λ c. let a = c .before .before .before .before .before .before .before .before .before .before .before .before .before .before .before .before .before .before .args in
+    rows.a-row (a .s .now) (a .c .now) (omega (arith, (c .before .before .before .before .before .before .before .before .before .before .before .before .before .before .before .before .before .before .good))) (a .v) (a .size) (a .end) (a .owner) (a .i) (a .t .now) _ _ _ _ _ _ (c .before .before .before .before .before .before .before .before .before .before .before .before .before .v .given .1) _ _ _ _
+    (c .before .before .before .before .before .before .before .before .before .before .spelt .ensures) (c .before .before .before .before .before .before .before .before .spelt-at .ensures) (c .before .before .before .before .before .before .spelt-at2 .ensures) (c .before .before .before .before .whole-from .ensures) (c .before .before .put-twelve .ensures)))

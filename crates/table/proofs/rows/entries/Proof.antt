@@ -57,4 +57,4 @@ entries-spec =
     (λ c. let a = walked.value-inside 28 ((c .before .before .before .before .before .before .before .before .before .before .before .before .before .before .before .before .before .before .before .before .args .mode)) ((c .before .before .before .before .before .before .before .before .before .before .before .before .before .before .before .before .before .before .before .before .args .count)) ((c .before .before .before .before .before .before .before .before .before .before .before .before .before .before .before .before .before .before .before .before .args .s .now)) (c .before .before .before .before .before .before .before .before .before .before .before .before .before .before .before .before .before .before .before .before .pre) ((c .before .before .before .before .before .before .before .before .before .before .before .before .before .before .before .before .before .loop .inv .1)) ((c .before .before .before .before .before .before .before .before .before .before .before .before .before .before .before .before .before .loop .at)) ((c .before .before .before .before .before .before .before .before .before .before .before .before .before .before .before .before .before .loop .due)) _ ((c .before .before .before .before .before .before .before .before .before .before .before .before .before .before .before .before .before .loop .inv .0)) _ ((c .before .before .before .before .before .before .before .before .before .before .before .before .before .before .before .past-key .ensures)) _ ((c .before .before .before .before .before .before .before .before .before .before .before .before .before .k .given .1)) in let b = ((c .before .before .before .before .before .before .before .before .if2 .left)) in let d = ((c .before .before .before .before .before .before .before .before .before .before .before .before .before .before .before .before .before .loop .inv .1)) in omega arith)
     (λ c. omega (arith, walked.two-due 28 ((c .before .before .before .before .before .before .before .before .before .before .before .before .before .before .before .before .before .before .before .before .args .mode)) ((c .before .before .before .before .before .before .before .before .before .before .before .before .before .before .before .before .before .before .before .before .args .count)) ((c .before .before .before .before .before .before .before .before .before .before .before .before .before .before .before .before .before .before .before .before .args .s .now)) (c .before .before .before .before .before .before .before .before .before .before .before .before .before .before .before .before .before .before .before .before .pre) ((c .before .before .before .before .before .before .before .before .before .before .before .before .before .before .before .before .before .loop .inv .1)) ((c .before .before .before .before .before .before .before .before .before .before .before .before .before .before .before .before .before .loop .at)) ((c .before .before .before .before .before .before .before .before .before .before .before .before .before .before .before .before .before .loop .due)) _ ((c .before .before .before .before .before .before .before .before .before .before .before .before .before .before .before .before .before .loop .inv .0)) _ ((c .before .before .before .before .before .before .before .before .before .before .before .before .before .before .before .past-key .ensures)) _ ((c .before .before .before .before .before .before .before .before .before .before .before .before .before .k .given .1)) _ ((c .before .before .before .before .before .before .before .before .before .before .component .ensures .0))))
     (λ c. omega (arith, walked.value-inside 28 ((c .before .before .before .before .before .before .before .before .before .before .before .before .before .before .before .before .before .before .before .before .args .mode)) ((c .before .before .before .before .before .before .before .before .before .before .before .before .before .before .before .before .before .before .before .before .args .count)) ((c .before .before .before .before .before .before .before .before .before .before .before .before .before .before .before .before .before .before .before .before .args .s .now)) (c .before .before .before .before .before .before .before .before .before .before .before .before .before .before .before .before .before .before .before .before .pre) ((c .before .before .before .before .before .before .before .before .before .before .before .before .before .before .before .before .before .loop .inv .1)) ((c .before .before .before .before .before .before .before .before .before .before .before .before .before .before .before .before .before .loop .at)) ((c .before .before .before .before .before .before .before .before .before .before .before .before .before .before .before .before .before .loop .due)) _ ((c .before .before .before .before .before .before .before .before .before .before .before .before .before .before .before .before .before .loop .inv .0)) _ ((c .before .before .before .before .before .before .before .before .before .before .before .before .before .before .before .past-key .ensures)) _ ((c .before .before .before .before .before .before .before .before .before .before .before .before .before .k .given .1)), walked.goes-on 28 ((c .before .before .before .before .before .before .before .before .before .before .before .before .before .before .before .before .before .before .before .before .args .mode)) ((c .before .before .before .before .before .before .before .before .before .before .before .before .before .before .before .before .before .before .before .before .args .count)) ((c .before .before .before .before .before .before .before .before .before .before .before .before .before .before .before .before .before .before .before .before .args .s .now)) (c .before .before .before .before .before .before .before .before .before .before .before .before .before .before .before .before .before .before .before .before .pre) ((c .before .before .before .before .before .before .before .before .before .before .before .before .before .before .before .before .before .loop .inv .1)) ((c .before .before .before .before .before .before .before .before .before .before .before .before .before .before .before .before .before .loop .at)) ((c .before .before .before .before .before .before .before .before .before .before .before .before .before .before .before .before .before .loop .due)) _ ((c .before .before .before .before .before .before .before .before .before .before .before .before .before .before .before .before .before .loop .inv .0)) _ ((c .before .before .before .before .before .before .before .before .before .before .before .before .before .before .before .past-key .ensures)) _ ((c .before .before .before .before .before .before .before .before .before .before .before .before .before .k .given .1)) _ ((c .before .before .before .before .before .before .before .before .before .before .component .ensures .0)) ((c .before .before .before .before .before .before .before .before .if2 .left))))
-    (λ c. (walked.one-more 28 ((c .before .before .before .before .before .before .before .before .before .before .before .before .before .before .before .before .before .before .before .before .args .mode)) ((c .before .before .before .before .before .before .before .before .before .before .before .before .before .before .before .before .before .before .before .before .args .count)) ((c .before .before .before .before .before .before .before .before .before .before .before .before .before .before .before .before .before .before .before .before .args .s .now)) (c .before .before .before .before .before .before .before .before .before .before .before .before .before .before .before .before .before .before .before .before .pre) ((c .before .before .before .before .before .before .before .before .before .before .before .before .before .before .before .before .before .loop .inv .1)) ((c .before .before .before .before .before .before .before .before .before .before .before .before .before .before .before .before .before .loop .at)) ((c .before .before .before .before .before .before .before .before .before .before .before .before .before .before .before .before .before .loop .due)) _ ((c .before .before .before .before .before .before .before .before .before .before .before .before .before .before .before .before .before .loop .inv .0)) _ ((c .before .before .before .before .before .before .before .before .before .before .before .before .before .before .before .past-key .ensures)) _ ((c .before .before .before .before .before .before .before .before .before .before .before .before .before .k .given .1)) _ ((c .before .before .before .before .before .before .before .before .before .before .component .ensures .0)) ((c .before .before .before .before .before .before .before .before .if2 .left)) _ (λ done p few key value kept. rowing.one-more-rowed ((c .before .before .before .before .before .before .before .before .before .before .before .before .before .before .before .before .before .before .before .before .args .start)) ((c .before .before .before .before .before .before .before .before .before .before .before .before .before .before .before .before .before .before .before .before .args .end)) ((c .before .before .before .before .before .before .before .before .before .before .before .before .before .before .before .before .before .before .before .before .args .owner)) ((c .before .before .before .before .before .before .before .before .before .before .before .before .before .before .before .before .before .before .before .before .args .from)) _ ((c .before .before .before .before .before .before .before .before .before .before .before .before .before .before .before .before .before .before .before .before .args .s .now)) ((c .before .before .before .before .before .before .before .before .before .before .before .before .before .before .before .before .before .loop .at)) _ _ _ _ _ _ ((c .before .before .before .before .before .before .before .before .before .before .before .before .before .before .before .before .before .loop .inv .2)) _ ((c .before .before .before .before .before .before .before .before .before .before .component .ensures .1)) ((c .before .before .before .before .put-row .ensures)) _ refl ((c .before .before .before .before .put-row .kept .1 .1 .1 .1 .1 .1 .0)) ((c .before .ahead .ensures)) done p _ _ key value kept), (c .before .before .before .before .before .before .before .before .before .before .before .before .before .before .before .before .before .loop .inv .1), ((c .before .before .before .before .put-row .kept .1 .1 .1 .1 .1 .1 .0)) ∙ ((c .before .before .before .before .before .before .before .before .before .before .before .before .before .before .before .before .before .loop .inv .2)))))
+    (λ c. (walked.one-more 28 ((c .before .before .before .before .before .before .before .before .before .before .before .before .before .before .before .before .before .before .before .before .args .mode)) ((c .before .before .before .before .before .before .before .before .before .before .before .before .before .before .before .before .before .before .before .before .args .count)) ((c .before .before .before .before .before .before .before .before .before .before .before .before .before .before .before .before .before .before .before .before .args .s .now)) (c .before .before .before .before .before .before .before .before .before .before .before .before .before .before .before .before .before .before .before .before .pre) ((c .before .before .before .before .before .before .before .before .before .before .before .before .before .before .before .before .before .loop .inv .1)) ((c .before .before .before .before .before .before .before .before .before .before .before .before .before .before .before .before .before .loop .at)) ((c .before .before .before .before .before .before .before .before .before .before .before .before .before .before .before .before .before .loop .due)) _ ((c .before .before .before .before .before .before .before .before .before .before .before .before .before .before .before .before .before .loop .inv .0)) _ ((c .before .before .before .before .before .before .before .before .before .before .before .before .before .before .before .past-key .ensures)) _ ((c .before .before .before .before .before .before .before .before .before .before .before .before .before .k .given .1)) _ ((c .before .before .before .before .before .before .before .before .before .before .component .ensures .0)) ((c .before .before .before .before .before .before .before .before .if2 .left)) _ (λ done p few key value kept. rowing.one-more-rowed ((c .before .before .before .before .before .before .before .before .before .before .before .before .before .before .before .before .before .before .before .before .args .start)) ((c .before .before .before .before .before .before .before .before .before .before .before .before .before .before .before .before .before .before .before .before .args .end)) ((c .before .before .before .before .before .before .before .before .before .before .before .before .before .before .before .before .before .before .before .before .args .owner)) ((c .before .before .before .before .before .before .before .before .before .before .before .before .before .before .before .before .before .before .before .before .args .from)) _ ((c .before .before .before .before .before .before .before .before .before .before .before .before .before .before .before .before .before .before .before .before .args .s .now)) ((c .before .before .before .before .before .before .before .before .before .before .before .before .before .before .before .before .before .loop .at)) _ _ _ _ _ _ ((c .before .before .before .before .before .before .before .before .before .before .before .before .before .before .before .before .before .loop .inv .2)) _ ((c .before .before .before .before .before .before .before .before .before .before .component .ensures .1)) _ ((c .before .before .before .before .before .before .before .before .before .before .component .ensures .0)) ((c .before .before .before .before .put-row .ensures)) _ refl ((c .before .before .before .before .put-row .kept .1 .1 .1 .1 .1 .1 .1 .0)) ((c .before .ahead .ensures)) done p _ _ key value kept), (c .before .before .before .before .before .before .before .before .before .before .before .before .before .before .before .before .before .loop .inv .1), ((c .before .before .before .before .put-row .kept .1 .1 .1 .1 .1 .1 .1 .0)) ∙ ((c .before .before .before .before .before .before .before .before .before .before .before .before .before .before .before .before .before .loop .inv .2)))))

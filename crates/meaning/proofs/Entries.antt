@@ -1,0 +1,268 @@
+-- The values of a manifest's `components` maps, object by object: what the components of its judgement are read from, whatever the annotations; and that dropping the manifest's
+-- unknown fields drops theirs.
+use Prim.Native.Nat.{ℕ, suc, _+_, _%_}
+use mathlib.Core.List.{List, [], _∷_, map}
+use mathlib.Core.Bool.{_&&_}
+use mathlib.Core.Option.{Option, none, some}
+use mathlib.Core.Path.{_≡_, refl, ap, ap₂, sym, _∙_, subst}
+use lib.Dec.{eqb, leb}
+use lib.ListN.{length}
+use Rattle.meaning.specs.Tree.{Node, Pair, noteOf, mapP}
+use Rattle.meaning.specs.Check.{Check, pass, refuse, _>>=_, _>>_, _unless_, inObject, inComponent, required, optional, each}
+use Rattle.meaning.specs.Text.{ascii, all, distinct, filter, utf8}
+use Rattle.meaning.specs.Refusal.{KEY, TEXT, TWICE, COUNT, ALIGN, BOUNDS}
+use Rattle.meaning.specs.Limit.{objectLimit, componentLimit, alignment}
+use Rattle.meaning.specs.Model.{Named, Component, Object, Model}
+use Rattle.meaning.specs.Kind.{Kind, number, words, list, table, null, another, kind, aNumber, aTable, aText, present}
+use Rattle.meaning.specs.Field.{rootNames, objectNames, componentNames, isSome, keyOf, count, get, fields, rootFields, objectFields, componentFields, nameKind, nameOf, names}
+use Rattle.meaning.specs.Judge.{aDtype, aType, raw, attributesOf, component, part, shapeOf, componentsOf, object, aVersion, objectsOf, judge}
+use Rattle.meaning.specs.Format.{formatRules}
+use Rattle.meaning.specs.Notes.{mapCheck, mapOption, mapPair}
+use Rattle.meaning.specs.Drop.{plainVersion, known, inMap, inText, onValue, onField, dropComponent, dropObject, dropRoot}
+use Rattle.meaning.proofs.JudgeNatural.{aTable-map, get-map, map-map}
+use Rattle.meaning.proofs.DropKeepsVerdict.{aTable-inMap, get-same, get-other, get-known}
+
+-- ---------------------------------------------------------------- the entries of a manifest
+
+module _ {P : Type 0} where
+  unfoldable pub pairsOr : Check (List (Pair P)) → List (Pair P)
+  pairsOr (pass ps) = ps
+  pairsOr (refuse n o c) = []
+
+  -- the pairs of a map, and of anything else none
+  unfoldable pub pairsIn : Node P → List (Pair P)
+  pairsIn t = pairsOr (aTable t)
+
+  unfoldable pub valuesIn : Option (Node P) → List (Node P)
+  valuesIn none = []
+  valuesIn (some t) = map (λ p. p .value) (pairsIn t)
+
+  -- of an object's map
+  unfoldable pub entriesIn : Node P → List (Node P)
+  entriesIn t = valuesIn (get (ascii "components") (pairsIn t))
+
+  -- of the root
+  unfoldable pub entriesOf : Node P → List (List (Node P))
+  entriesOf t = map entriesIn (valuesIn (get (ascii "objects") (pairsIn t)))
+
+-- two ways round a square
+around : {A B C D : Type 0} (u : A → B) (h : B → D) (g : A → C) (v : C → D) → ((a : A) → h (u a) ≡ v (g a)) → (l : List A) → map h (map u l) ≡ map v (map g l)
+around u h g v e [] = refl
+around {D} u h g v e (a ∷ l) = ap₂ {C = List D} (λ x y. x ∷ y) (e a) (around u h g v e l)
+
+-- ---------------------------------------------------------------- with other annotations
+
+module _ {P Q : Type 0} (f : P → Q) where
+  pairsIn-map : (t : Node P) → pairsIn (mapP f t) ≡ map (mapPair f) (pairsIn t)
+  unfolding pairsIn pairsOr
+  pairsIn-map t = ap pairsOr (aTable-map f t) ∙ by (aTable t)
+    where
+      by : (k : Check (List (Pair P))) → pairsOr (mapCheck (map (mapPair f)) k) ≡ map (mapPair f) (pairsOr k)
+      by (pass ps) = refl
+      by (refuse n o c) = refl
+
+  valuesIn-map : (o : Option (Node P)) → valuesIn (mapOption (mapP f) o) ≡ map (mapP f) (valuesIn o)
+  unfolding valuesIn
+  valuesIn-map none = refl
+  valuesIn-map (some t) = ap (map (λ p. p .value)) (pairsIn-map t) ∙ around (mapPair f) (λ p. p .value) (λ p. p .value) (mapP f) (λ p. refl) (pairsIn t)
+
+  field-map : (n : List ℕ) (t : Node P) → valuesIn (get n (pairsIn (mapP f t))) ≡ map (mapP f) (valuesIn (get n (pairsIn t)))
+  field-map n t = ap (λ ps. valuesIn (get n ps)) (pairsIn-map t) ∙ ap valuesIn (get-map f n (pairsIn t)) ∙ valuesIn-map (get n (pairsIn t))
+
+  entriesIn-map : (t : Node P) → entriesIn (mapP f t) ≡ map (mapP f) (entriesIn t)
+  unfolding entriesIn
+  entriesIn-map t = field-map (ascii "components") t
+
+  pub entriesOf-map : (t : Node P) → entriesOf (mapP f t) ≡ map (map (mapP f)) (entriesOf t)
+  unfolding entriesOf
+  entriesOf-map t = ap (map entriesIn) (field-map (ascii "objects") t) ∙ around (mapP f) entriesIn entriesIn (map (mapP f)) entriesIn-map (valuesIn (get (ascii "objects") (pairsIn t)))
+
+-- ---------------------------------------------------------------- with unknown fields dropped
+
+module _ {P : Type 0} where
+  pairsIn-inMap : (g : List (Pair P) → List (Pair P)) → g [] ≡ [] → (t : Node P) → pairsIn (inMap g t) ≡ g (pairsIn t)
+  unfolding pairsIn pairsOr
+  pairsIn-inMap g e t = ap pairsOr (aTable-inMap g t) ∙ by (aTable t)
+    where
+      by : (k : Check (List (Pair P))) → pairsOr (mapCheck g k) ≡ g (pairsOr k)
+      by (pass ps) = refl
+      by (refuse n o c) = sym e
+
+  valuesIn-on : (g : Node P → Node P) (o : Option (Node P)) → valuesIn (mapOption (inMap (map (onValue g))) o) ≡ map g (valuesIn o)
+  unfolding valuesIn onValue
+  valuesIn-on g none = refl
+  valuesIn-on g (some t) =
+      ap (map (λ p. p .value)) (pairsIn-inMap (map (onValue g)) refl t) ∙ around (onValue g) (λ p. p .value) (λ p. p .value) g (λ p. refl) (pairsIn t)
+
+  entriesIn-drop : (t : Node P) → entriesIn (dropObject t) ≡ map dropComponent (entriesIn t)
+  unfolding entriesIn dropObject objectNames
+  entriesIn-drop t =
+      let within : Node P → Node P = inMap (map (onValue dropComponent)) in
+      let n : List ℕ = ascii "components" in
+      ap (λ ps. valuesIn (get n ps)) (pairsIn-inMap (λ ps. map (onField n within) (filter (known objectNames) ps)) refl t)
+      ∙ ap valuesIn (get-same n within (filter (known objectNames) (pairsIn t)) ∙ ap (mapOption within) (get-known objectNames n refl (pairsIn t)))
+      ∙ valuesIn-on dropComponent (get n (pairsIn t))
+
+  pub entriesOf-drop : (t : Node P) → entriesOf (dropRoot t) ≡ map (map dropComponent) (entriesOf t)
+  unfolding entriesOf dropRoot rootNames
+  entriesOf-drop t =
+      let within : Node P → Node P = inMap (map (onValue dropObject)) in
+      let n : List ℕ = ascii "objects" in
+      let kept : List (Pair P) = filter (known rootNames) (pairsIn t) in
+      ap (λ ps. map entriesIn (valuesIn (get n ps)))
+      (pairsIn-inMap (λ ps. map (onField (ascii "version") (inText plainVersion)) (map (onField n within) (filter (known rootNames) ps))) refl t)
+      ∙ ap (λ o. map entriesIn (valuesIn o))
+      (get-other n (ascii "version") (inText plainVersion) refl (map (onField n within) kept) ∙ get-same n within kept ∙ ap (mapOption within) (get-known rootNames n refl (pairsIn t)))
+      ∙ ap (map entriesIn) (valuesIn-on dropObject (get n (pairsIn t)))
+      ∙ around dropObject entriesIn entriesIn (map dropComponent) entriesIn-drop (valuesIn (get n (pairsIn t)))
+
+-- ---------------------------------------------------------------- of what is judged
+
+-- a check whose value, if it passes, is so
+module _ {A : Type 0} where
+  abbrev Cases : (A → Type 0) → Check A → Type 0
+  Cases Q (pass a) = Q a
+  Cases Q (refuse n o c) = Unit {0}
+
+  record Gives (Q : A → Type 0) (k : Check A) : Type 0 where
+    is : Cases Q k
+
+  given : {Q : A → Type 0} {k : Check A} {a : A} → Gives Q k → k ≡ pass a → Q a
+  given {Q} h e = subst (Gives Q) e h .is
+
+  passes : {Q : A → Type 0} (a : A) → Q a → Gives Q (pass a)
+  passes a q = record { is = q }
+
+  in-component : {Q : A → Type 0} (j : ℕ) (k : Check A) → Gives Q k → Gives Q (inComponent j k)
+  in-component j (pass a) h = record { is = h .is }
+  in-component j (refuse n o c) h = record { is = tt }
+
+  in-object : {Q : A → Type 0} (j : ℕ) (k : Check A) → Gives Q k → Gives Q (inObject j k)
+  in-object j (pass a) h = record { is = h .is }
+  in-object j (refuse n o c) h = record { is = tt }
+
+module _ {A B : Type 0} {R : B → Type 0} where
+  bind : (m : Check A) (k : A → Check B) → ((a : A) → m ≡ pass a → Gives R (k a)) → Gives R (m >>= k)
+  bind (pass a) k f = f a refl
+  bind (refuse n o c) k f = record { is = tt }
+
+  then : (m : Check A) (k : Check B) → Gives R k → Gives R (m >> k)
+  then (pass a) k h = h
+  then (refuse n o c) k h = record { is = tt }
+
+-- what is required and passes is there
+required-is : {A : Type 0} (o : Option A) (a : A) → required o ≡ pass a → o ≡ some a
+required-is none a e = cc
+required-is (some b) a e = cc
+
+-- two lists, one beside the other
+module _ {A B : Type 0} where
+  abbrev pub Along : (A → B → Type 0) → List A → List B → Type 0
+  Along R [] [] = Unit {0}
+  Along R [] (b ∷ bs) = ⊥
+  Along R (a ∷ as′) [] = ⊥
+  Along R (a ∷ as′) (b ∷ bs) = R a b × Along R as′ bs
+
+-- each of a list, with what it stands for
+each-along : {A B C : Type 0} {R : B → C → Type 0} (f : ℕ → A → Check B) (h : A → C) → ((i : ℕ) (a : A) → Gives (λ b. R b (h a)) (f i a))
+    → (i : ℕ) (l : List A) → Gives (λ bs. Along R bs (map h l)) (each f i l)
+each-along f h g i [] = passes [] tt
+each-along f h g i (a ∷ l) =
+    bind (f i a) _ λ b e. bind (each f (suc i) l) _ λ bs e′. passes (b ∷ bs) (given (g i a) e, given (each-along f h g (suc i) l) e′)
+
+each-same : {A B C : Type 0} (f : ℕ → A → Check B) (h : A → C) (g : B → C) → ((i : ℕ) (a : A) → Gives (λ b. g b ≡ h a) (f i a)) → (i : ℕ) (l : List A) → Gives (λ bs. map g bs ≡ map h l) (each f i l)
+each-same f h g s i [] = passes [] refl
+each-same {C} f h g s i (a ∷ l) =
+    bind (f i a) _ λ b e. bind (each f (suc i) l) _ λ bs e′. passes (b ∷ bs) (ap₂ {C = List C} (λ x y. x ∷ y) (given (s i a) e) (given (each-same f h g s (suc i) l) e′))
+
+module _ {P : Type 0} where
+  pub record IsMap (t : Node P) : Type 0 where
+    pub pairs : List (Pair P)
+    pub is : aTable t ≡ pass pairs
+
+  -- c was read from the map x
+  pub record EntryIs (c : Component P) (x : Node P) : Type 0 where
+    pub noted : c .entry ≡ noteOf x
+    pub map : IsMap x
+
+  abbrev pub EntriesAre : Object P → List (Node P) → Type 0
+  EntriesAre o xs = Along EntryIs (o .components) xs
+
+  fields-give : (ns : List (List ℕ)) (t : Node P) → Gives (λ ps. (ps ≡ pairsIn t) × IsMap t) (fields ns t)
+  unfolding fields pairsIn pairsOr
+  fields-give ns t =
+      bind (aTable t) _ λ ps e.
+      then (KEY unless all (λ p. isSome (keyOf p)) ps) _ (then (TWICE unless all (λ n. leb (count n ps) 1) ns) _
+      (passes ps (sym (ap pairsOr e), record { pairs = ps; is = e })))
+
+  name-gives : (v : Node P) (k : Kind P) → Gives (λ n. n .value ≡ v) (nameKind v k)
+  unfolding nameKind
+  name-gives v (number n) = record { is = tt }
+  name-gives v (words w) = record { is = refl }
+  name-gives v (list l) = record { is = tt }
+  name-gives v (table l) = record { is = tt }
+  name-gives v null = record { is = tt }
+  name-gives v another = record { is = tt }
+
+  names-give : (limit : ℕ) (t : Node P) → Gives (λ ns. map (λ n. n .value) ns ≡ valuesIn (some t)) (names limit t)
+  unfolding names nameOf valuesIn pairsIn pairsOr
+  names-give limit t =
+      bind (aTable t) _ λ ps e. bind (each (λ i. nameOf) 0 ps) _ λ ns e′.
+      then (TEXT unless all (λ n. utf8 (n .name .letters)) ns) _ (then (COUNT unless leb (length ns) limit) _ (then (TWICE unless distinct (map (λ n. n .name .letters) ns)) _ (passes ns
+      (given (each-same (λ i. nameOf) (λ p. p .value) (λ n. n .value) (λ i p. name-gives (p .value) (kind (p .key))) 0 ps) e′ ∙ ap (λ k. map (λ p. p .value) (pairsOr k)) (sym e)))))
+
+  -- each kind of map, and the field that matters
+  component-map : (t : Node P) → Gives (λ c. IsMap t) (componentFields t)
+  unfolding componentFields
+  component-map t = bind (fields componentNames t) _ λ ps e. passes _ (given (fields-give componentNames t) e .1)
+
+  components-field : (t : Node P) → Gives (λ o. o .components ≡ get (ascii "components") (pairsIn t)) (objectFields t)
+  unfolding objectFields
+  components-field t = bind (fields objectNames t) _ λ ps e. passes _ (ap (get (ascii "components")) (given (fields-give objectNames t) e .0))
+
+  objects-field : (t : Node P) → Gives (λ r. r .objects ≡ get (ascii "objects") (pairsIn t)) (rootFields t)
+  unfolding rootFields
+  objects-field t = bind (fields rootNames t) _ λ ps e. passes _ (ap (get (ascii "objects")) (given (fields-give rootNames t) e .0))
+
+  component-gives : (start : ℕ) (n : Named P) → Gives (λ c. EntryIs c (n .value)) (component start n)
+  unfolding component
+  component-gives start n =
+      bind (componentFields (n .value)) _ λ c e.
+      let m = given (component-map (n .value)) e in
+      bind (required (c .dtype)) _ λ dtype e. bind (required (c .offset)) _ λ offset e. bind (required (c .length)) _ λ length e.
+      bind (aDtype dtype) _ λ d e. bind (optional (aType d) (present (c .type))) _ λ t e. bind (aNumber offset) _ λ o e. bind (aNumber length) _ λ l e.
+      then (optional aNumber (present (c .uncompressed-length))) _ (then (optional raw (c .encoding)) _ (bind (optional aText (present (c .digest))) _ λ g e.
+      then (ALIGN unless eqb (o % alignment) 0) _ (then (BOUNDS unless (leb alignment o && leb (o + l) start)) _ (passes _ (record { noted = refl; map = m })))))
+
+  components-give : (start : ℕ) (t : Node P) → Gives (λ cs. Along EntryIs cs (valuesIn (some t))) (componentsOf start t)
+  unfolding componentsOf
+  components-give start t =
+      bind (names componentLimit t) _ λ ns e.
+      subst (λ xs. Gives (λ cs. Along EntryIs cs xs) (each (λ j c. inComponent j (component start c)) 0 ns)) (given (names-give componentLimit t) e)
+      (each-along (λ j c. inComponent j (component start c)) (λ n. n .value) (λ j n. in-component j (component start n) (component-gives start n)) 0 ns)
+
+  object-gives : (start : ℕ) (n : Named P) → Gives (λ o. EntriesAre o (entriesIn (n .value))) (object start n)
+  unfolding object entriesIn
+  object-gives start n =
+      bind (objectFields (n .value)) _ λ o has. bind (required (o .shape)) _ λ shape e. bind (required (o .format)) _ λ format e. bind (required (o .components)) _ λ components there.
+      bind (shapeOf shape) _ λ s e. bind (aText format) _ λ f e. bind (optional attributesOf (o .attributes)) _ λ a e. bind (componentsOf start components) _ λ cs are.
+      then (formatRules (f .letters) s (map part cs)) _ (passes _ (subst (λ x. Along EntryIs cs (valuesIn x)) (sym (required-is (o .components) components there) ∙ given (components-field (n .value)) has) (given (components-give start components) are)))
+
+  objects-give : (start : ℕ) (t : Node P) → Gives (λ os. Along EntriesAre os (map entriesIn (valuesIn (some t)))) (objectsOf start t)
+  unfolding objectsOf
+  objects-give start t =
+      bind (names objectLimit t) _ λ ns e.
+      subst (λ xs. Gives (λ os. Along EntriesAre os xs) (each (λ i o. inObject i (object start o)) 0 ns))
+      (sym (map-map (λ n. n .value) entriesIn ns) ∙ ap (map entriesIn) (given (names-give objectLimit t) e))
+      (each-along (λ i o. inObject i (object start o)) (λ n. entriesIn (n .value)) (λ i n. in-object i (object start n) (object-gives start n)) 0 ns)
+
+  judge-gives : (start : ℕ) (t : Node P) → Gives (λ m. Along EntriesAre (m .objects) (entriesOf t)) (judge start t)
+  unfolding judge entriesOf
+  judge-gives start t =
+      bind (rootFields t) _ λ r has. bind (required (r .version)) _ λ version e. then (aVersion version) _ (bind (optional attributesOf (r .attributes)) _ λ a e.
+      bind (required (r .objects)) _ λ objects there. bind (objectsOf start objects) _ λ os are.
+      passes _ (subst (λ x. Along EntriesAre os (map entriesIn (valuesIn x))) (sym (required-is (r .objects) objects there) ∙ given (objects-field t) has) (given (objects-give start objects) are)))
+
+  -- the components of a manifest that passes were read from its entries, in order
+  pub judged-entries : (start : ℕ) (t : Node P) (m : Model P) → judge start t ≡ pass m → Along EntriesAre (m .objects) (entriesOf t)
+  judged-entries start t m e = given (judge-gives start t) e

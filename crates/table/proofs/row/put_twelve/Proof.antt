@@ -1,0 +1,24 @@
+-- `table::row::put_twelve` meets its contract: a law for each branch. Assumes nothing.
+use Rattle.table.proofs.ComponentRow as rows
+use Rattle.table.proofs.Laying as laying
+use Rattle.table.specs.Row.{twelve}
+use Rattle.table.specs.Spans.{spanned}
+use native.Mathlib.Omega.{arith}
+use mathlib.Core.Path.{sym}
+use borrow.Author.Needs.{needs}
+use Rattle.table.proofs.row.put_twelve.Statement.{statement}
+use Rattle.table.proofs.row.put_twelve.Tie as tie
+
+pub put-twelve-spec : {M : Type 1} → statement M
+put-twelve-spec =
+    tie.close
+    (tie.spec
+    (λ c κs. search needs)
+    (λ c. search needs)
+    (λ c κs. search needs)
+    (λ c. search needs)
+    (λ c κs. search needs)
+    (λ c. search needs)
+    (λ c. rows.twelve-put (c .before .before .before .before .before .before .before .before .before .before .before .before .before .before .args .t .now) _ _ _ (c .before .before .before .before .before .before .before .before .before .before .before .before .before .before .args .i) _ _ _ _ _ _ _ _ _ _ _ _ (c .before .before .before .before .before .before .before .before .before .before .five .ensures) (c .before .before .before .before .before .before .five2 .ensures) (c .before .before .two .ensures))
+    (λ c. let a = c .before .before .args in sym (laying.sets-out
+    (twelve (spanned (a .name)) (a .code) (spanned (a .kind)) (a .offset) (a .length) (spanned (a .digest)) (a .owner) (spanned (a .entry))) (a .t .now) (a .i) (omega arith))))
