@@ -103,5 +103,6 @@ fn component(
         offset,
         length,
         digest,
+        entry: entry.start..entry.end,
     })
 }

@@ -197,7 +197,7 @@ impl<'a> Judge<'a> {
     }
 
     pub fn placed(&self, offset: u64, length: u64) -> Result<(), u8> {
-        if !offset.is_multiple_of(64) {
+        if offset % 64 != 0 {
             return Err(ALIGN);
         }
         let end = u128::from(offset) + u128::from(length);

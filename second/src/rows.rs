@@ -241,17 +241,11 @@ pub fn split(
     let component_numbers = numbers_of(components, COMPONENT_ROW)?;
     let (object_rows, rest) = table.split_at_checked(object_numbers)?;
     let component_rows = rest.get(..component_numbers)?;
-    let (object_rows, _) = object_rows.as_chunks();
-    let (component_rows, _) = component_rows.as_chunks();
+    let object_of = |row: &[u64]| ObjectRow::from_numbers(row.try_into().expect("a whole row"));
+    let component_of = |row: &[u64]| ComponentRow::from_numbers(row.try_into().expect("a whole row"));
     Some((
-        object_rows
-            .iter()
-            .map(|&n| ObjectRow::from_numbers(n))
-            .collect(),
-        component_rows
-            .iter()
-            .map(|&n| ComponentRow::from_numbers(n))
-            .collect(),
+        object_rows.chunks_exact(OBJECT_ROW).map(object_of).collect(),
+        component_rows.chunks_exact(COMPONENT_ROW).map(component_of).collect(),
     ))
 }
 

@@ -270,8 +270,8 @@ fn damage(rng: &mut Rng, set: &mut RowSet) {
     let objects = OBJECT_ROW * set.objects.min(1 << 20) as usize;
     let objects = objects.min(set.rows.len());
     let (object_rows, component_rows) = set.rows.split_at_mut(objects);
-    let (object_rows, _) = object_rows.as_chunks_mut::<OBJECT_ROW>();
-    let (component_rows, _) = component_rows.as_chunks_mut::<COMPONENT_ROW>();
+    let object_rows = &mut object_rows.chunks_exact_mut(OBJECT_ROW).collect::<Vec<_>>();
+    let component_rows = &mut component_rows.chunks_exact_mut(COMPONENT_ROW).collect::<Vec<_>>();
     let odd_range = odd_range(rng, set.buffer.len() as u64);
     let way = rng.index(12);
     match (way, rng.pick_mut(object_rows), rng.pick_mut(component_rows)) {
