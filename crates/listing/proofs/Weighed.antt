@@ -10,7 +10,7 @@ use borrow.Author.Tests.{leb-true}
 use Rattle.meaning.specs.Limit.{depthLimit}
 use Rattle.meaning.specs.Tree.{Node, Pair, uint, nint, bytes, text, chunkedBytes, chunkedText, array, dict, tag, simple, float, nodes, pairs}
 use Rattle.meaning.specs.Read.{Outcome, got, refused, Reader, after, _>>=_, pure, malformed, here, byte, run, stop, times, untilBreak, toBreak}
-use Rattle.meaning.specs.Read.{Argument, known, indefinite, argument, majorOf, infoOf, chunk, joined, closed, close, pair, content, beyond, item, manifest}
+use Rattle.meaning.specs.Read.{Argument, known, indefinite, argument, majorOf, infoOf, chunk, joined, closed, reserved, close, pair, content, beyond, item, manifest}
 use Rattle.meaning.specs.Read.{Major, unsigned, negative, byteString, textString, arrayOf, mapOf, tagged, special}
 use Rattle.meaning.proofs.ReadPrefix.{Exact, Took, took-length, argument-exact, toBreak-exact, chunk-exact, chunk-hungry, byte-exact}
 use Rattle.listing.specs.Weight.{sumOf, weight, weightOfPairs, pairWeight}
@@ -103,6 +103,10 @@ module _ {P : Type 0} (note : List ℕ → List ℕ → P) where
     simply true p n w = refl
     simply false p n w = refl
 
+    unreserved : (t : Bool) (o : List ℕ) (make : P → Node P) → ((p : P) → weight (make p) ≡ 0) → Light weight (cond t (malformed o) (close note o make))
+    unreserved true o make k = λ s. record { is = tt }
+    unreserved false o make k = ending o make k
+
     content-light : (o : List ℕ) (m : Major) (a : Argument) → Light weight (content note it o m a)
     unfolding content
     content-light o unsigned (known w n) = ending o (λ p. uint p n) λ p. refl
@@ -121,7 +125,7 @@ module _ {P : Type 0} (note : List ℕ → List ℕ → P) where
         closing (sumOf pairWeight) o (toBreak (pair note it)) (λ xs p. dict p (pairs xs)) (toBreak-light pairWeight (pair note it) pair-light) λ xs p. let e = pairs-weigh xs in omega (arith, e)
     content-light o tagged (known w n) = closing weight o it (λ x p. tag p n x) h λ x p. omega arith
     content-light o tagged indefinite = λ s. record { is = tt }
-    content-light o special (known w n) = ending o (λ p. cond (leb w 1) (simple p n) (float p w n)) λ p. simply (leb w 1) p n w
+    content-light o special (known w n) = unreserved (reserved w n) o (λ p. cond (leb w 1) (simple p n) (float p w n)) λ p. simply (leb w 1) p n w
     content-light o special indefinite = λ s. record { is = tt }
 
   item-light : (d : ℕ) → Light weight (item note d)

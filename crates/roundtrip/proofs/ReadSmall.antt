@@ -47,7 +47,7 @@ module _ (d : ℕ) (every : (t : enc.Tree) (bs : List ℕ) → Encodes d t bs �
   level-small (enc.dict h e) = entries-small e
   level-small (enc.openDict e) = entries-small e
   level-small (enc.tag h e) = tt
-  level-small (enc.simple h l) = tt
+  level-small (enc.simple h l k) = tt
   level-small (enc.float h l) = tt
 
 encodes-small : (d : ℕ) (t : enc.Tree) (bs : List ℕ) → Encodes d t bs → Small t

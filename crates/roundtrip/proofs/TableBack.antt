@@ -11,7 +11,8 @@ use Rattle.meaning.specs.Check.{Check, pass, refuse, _>>=_}
 use Rattle.meaning.specs.Read.{Span, bytesAt}
 use Rattle.meaning.specs.Model.{Component, Object, Model}
 use Rattle.meaning.specs.Frame.{Reading, reading}
-use Rattle.meaning.specs.Rows.{objectWidth, componentWidth, rows, componentCount, roomFor, roomy, attributesSpan, answer, tableAfter, readInto}
+use Rattle.meaning.specs.Columns.{objectWidth, componentWidth}
+use Rattle.meaning.specs.Rows.{rows, componentCount, roomFor, roomy, attributesSpan, answer, tableAfter, readInto}
 use Rattle.meaning.specs.Asked.{AskedObject, AskedComponent, askedObject, asked}
 use Rattle.meaning.specs.Sound.{rowsSound}
 use Rattle.meaning.specs.Described.{DescribedObject, DescribedComponent, Described, blobsIn, blobs, described, describedObjects, readComponent, readObject, describedBy}

@@ -10,7 +10,7 @@ use lib.Dec.{leb}
 use borrow.Author.Tests.{leb-true}
 use Rattle.meaning.specs.Tree.{Node, nothing}
 use Rattle.meaning.specs.Check.{Check, pass, refuse, _>>=_}
-use Rattle.meaning.specs.Refusal.{ROOM}
+use Rattle.meaning.specs.Refusal.{SHORT, ROOM}
 use Rattle.meaning.specs.Read.{Span, Outcome, spanTo, manifest}
 use Rattle.meaning.specs.Model.{Object, Model}
 use Rattle.meaning.specs.Notes.{mapCheck, mapComponent, mapObject, mapModel, bare}
@@ -22,7 +22,7 @@ use Rattle.view.proofs.Columns.{objects-width, components-width}
 use Rattle.meaning.specs.Limit.{depthLimit}
 use Rattle.meaning.proofs.Entries.{Along}
 use Rattle.shown.specs.Placed.{Placed}
-use Rattle.shown.proofs.Judged.{Judged, passes, bind, passed-so}
+use Rattle.shown.proofs.Judged.{JudgedFrom, passes, bind, passed-so}
 use Rattle.shown.proofs.ReadingJudged.{frame-so, tree-so}
 use Rattle.shown.proofs.AcceptedFile.{accepted, refusals-of-reading}
 use Rattle.tolerance.specs.Manifests.{Parsed, parsed, SameOnceDropped}
@@ -89,7 +89,7 @@ record Holds (file : List ℕ) (p : Parsed) : Type 0 where
   header : 8 ≤ p .start
   placed : Placed file (p .start) depthLimit (p .tree)
 
-parsed-so : (file : List ℕ) → Judged (Holds file) (parsed file)
+parsed-so : (file : List ℕ) → JudgedFrom SHORT (Holds file) (parsed file)
 unfolding parsed
 parsed-so file =
     bind (frame file) _ (frame-so file) λ f h.
