@@ -437,6 +437,7 @@ fn second_rules(format: &str, shape: &[u64], parts: &[Part]) -> Ruling {
                 offset: 0,
                 length: part.length,
                 digest: None,
+                entry: 0..0,
             })
             .collect(),
     };
