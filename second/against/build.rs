@@ -13,6 +13,7 @@ fn main() {
         println!("cargo:rerun-if-changed={library}");
     }
     println!("cargo:rerun-if-env-changed=ROUTE");
+    println!("cargo:rustc-check-cfg=cfg(served)");
     let linked = var("CARGO_CFG_TARGET_ARCH").expect("cargo names the processor") == "x86_64";
     if linked && var("ROUTE").as_deref() != Ok("server") {
         println!("cargo:rustc-link-search=native={built}");
@@ -20,6 +21,7 @@ fn main() {
         println!("cargo:rustc-link-lib=static=zt");
         return;
     }
+    println!("cargo:rustc-cfg=served");
     println!("cargo:rerun-if-changed={here}/far");
     let out = var("OUT_DIR").expect("cargo names a folder for this");
     let words = ["-std=gnu11", "-Wall", "-Wextra", "-Werror", "-O2"];

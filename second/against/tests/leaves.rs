@@ -3,7 +3,7 @@
 
 #![forbid(unsafe_code)]
 
-use against::tally::{hex, seed, yes_or_no, Tally};
+use against::tally::{hex, rounds, seed, yes_or_no, Tally};
 use second::cbor::{skip_item, DEPTH};
 use second::frame::MAGIC;
 use second::generate::rng::Rng;
@@ -13,9 +13,9 @@ use second::utf8::is_utf8;
 use std::cmp::Ordering;
 use std::collections::HashSet;
 
-const ITEMS: u64 = 4_000_000;
-const TEXTS: u64 = 500_000;
-const LISTS: u64 = 100_000;
+const ITEMS: u64 = rounds(4_000_000);
+const TEXTS: u64 = rounds(500_000);
+const LISTS: u64 = rounds(100_000);
 
 /// Mostly all the levels, often few.
 fn levels(rng: &mut Rng) -> u32 {

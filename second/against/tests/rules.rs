@@ -3,7 +3,7 @@
 
 #![forbid(unsafe_code)]
 
-use against::tally::{hex, seed, yes_or_no, Tally};
+use against::tally::{hex, rounds, seed, yes_or_no, Tally};
 use against::{Place, Ruling};
 use second::frame::{assemble, manifest_range, set_size, SIZE_LIMIT};
 use second::generate::rng::Rng;
@@ -11,7 +11,7 @@ use second::generate::Generator;
 use second::judge::{Component, Judge, Object, RANK_LIMIT};
 use second::types::{self, Format, DTYPES, LISTED, U64};
 
-const ROUNDS: u64 = 400_000;
+const ROUNDS: u64 = rounds(400_000);
 
 const ROOT: [&str; 3] = ["version", "attributes", "objects"];
 const OBJECT: [&str; 4] = ["shape", "format", "attributes", "components"];
