@@ -1,1 +1,3 @@
 pub mod Hold
+pub mod Shuffled
+pub mod ToldApart

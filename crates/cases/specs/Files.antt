@@ -6,24 +6,24 @@ use lib.ListN.{length, replicate}
 use Rattle.meaning.specs.Text.{ascii}
 
 -- heads with an argument below 24
-abbrev text : String → List ℕ
+abbrev pub text : String → List ℕ
 text s = (0x60 + length (ascii s)) ∷ ascii s
 
-abbrev map : ℕ → List ℕ
+abbrev pub map : ℕ → List ℕ
 map n = (0xa0 + n) ∷ []
 
-abbrev list : ℕ → List ℕ
+abbrev pub list : ℕ → List ℕ
 list n = (0x80 + n) ∷ []
 
-abbrev number : ℕ → List ℕ
+abbrev pub number : ℕ → List ℕ
 number n = n ∷ []
 
 -- a number from 24 to 255
-abbrev byteNumber : ℕ → List ℕ
+abbrev pub byteNumber : ℕ → List ℕ
 byteNumber n = 0x18 ∷ n ∷ []
 
 -- k bytes of a number, the least significant first
-abbrev little : ℕ → ℕ → List ℕ
+abbrev pub little : ℕ → ℕ → List ℕ
 little zero n = []
 little (suc k) n = n % 256 ∷ little k (n / 256)
 

@@ -1,3 +1,4 @@
 pub mod Files
 pub mod Table
 pub mod Unlisted
+pub mod Old

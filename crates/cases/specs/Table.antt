@@ -8,6 +8,7 @@ use lib.ListN.{length, replicate}
 use lib.Dec.{eqb}
 use Rattle.meaning.specs.Text.{ascii, same}
 use Rattle.meaning.specs.Refusal.{FIT, LENGTH, BOUNDS, ALIGN, MAJOR, VERSION, TWICE, ROOM}
+use Rattle.meaning.specs.Layouts.{Layout, current}
 use Rattle.meaning.specs.Rows.{Answer, answer, tableAfter, readInto}
 use Rattle.meaning.specs.Listing.{printed}
 use Rattle.meaning.specs.Read.{Span}
@@ -26,16 +27,20 @@ pub record Case : Type 0 where
 abbrev refusal : ℕ → List ℕ
 refusal n = n ∷ replicate 7 0
 
-abbrev accepted : ℕ → ℕ → ℕ → List ℕ
+abbrev pub accepted : ℕ → ℕ → ℕ → List ℕ
 accepted objects components start = 0 ∷ 0 ∷ 0 ∷ objects ∷ components ∷ start ∷ 0 ∷ 0 ∷ []
 
-abbrev refused : List ℕ → ℕ → ℕ → String → Case
+abbrev pub refused : List ℕ → ℕ → ℕ → String → Case
 refused file size n line = record { file = file; size = size; answer = refusal n; rows = []; lines = line ∷ [] }
 
--- places of "w", of "dense" and of "data"; rank and dimensions. The component's map stands after its name, and takes 28 bytes in every case.
+-- places of "w", of "dense" and of "data"; rank and dimensions. The component's map stands after its name, and takes `entry` bytes.
+abbrev pub rowOf : ℕ → ℕ → ℕ → List ℕ → ℕ → ℕ → ℕ → ℕ → List ℕ
+rowOf entry name rank dims format role offset size =
+    name ∷ 1 ∷ rank ∷ dims ++ format ∷ 5 ∷ 0 ∷ 0 ∷ 1 ∷ role ∷ 4 ∷ 1 ∷ 0 ∷ 0 ∷ offset ∷ size ∷ 0 ∷ 0 ∷ 0 ∷ (role + 4) ∷ entry ∷ []
+
+-- 28 in every case
 abbrev row : ℕ → ℕ → List ℕ → ℕ → ℕ → ℕ → ℕ → List ℕ
-row name rank dims format role offset size =
-    name ∷ 1 ∷ rank ∷ dims ++ format ∷ 5 ∷ 0 ∷ 0 ∷ 1 ∷ role ∷ 4 ∷ 1 ∷ 0 ∷ 0 ∷ offset ∷ size ∷ 0 ∷ 0 ∷ 0 ∷ (role + 4) ∷ 28 ∷ []
+row = rowOf 28
 
 abbrev listed : String → List String
 listed blob = "objects 1 components 1" ∷ "object w dense" ∷ blob ∷ []
@@ -106,12 +111,14 @@ room = 30
 abbrev before : ℕ → List ℕ
 before n = replicate n 7
 
-abbrev pub holds : Case → Bool
-holds c =
+abbrev pub reads : Layout → Case → Bool
+reads L c =
     eqb (length (c .file)) (c .size)
-    && same (flat (answer (readInto (c .file) room))) (c .answer)
-    && same (tableAfter (before room) (readInto (c .file) room)) (c .rows ++ before (room - length (c .rows)))
-    && same (printed (c .file)) (text (c .lines))
+    && same (flat (answer (readInto L (c .file) room))) (c .answer)
+    && same (tableAfter (before room) (readInto L (c .file) room)) (c .rows ++ before (room - length (c .rows)))
+
+abbrev pub holds : Case → Bool
+holds c = reads current c && same (printed (c .file)) (text (c .lines))
 
 -- ---------------------------------------------------------------- written files
 

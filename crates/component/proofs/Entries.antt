@@ -5,7 +5,7 @@ use Prim.Native.Nat.{ℕ, _+_, _-_, _≤_, _<_}
 use native.Mathlib.Omega.{arith}
 use lib.ListN.{length, drop}
 use borrow.Rule.Slice.PartAt.{part-to-end}
-use Rattle.meaning.specs.Field.{componentNames}
+use Rattle.meaning.specs.Layouts.{componentNames}
 use Rattle.cbor.specs.Ending.{FAULT, code, itemEnd, rest}
 use Rattle.walk.specs.Places.{EntryIs}
 use Rattle.walk.specs.declared.Entry.{Entry}
@@ -65,7 +65,6 @@ module _ (mode count : ℕ) (s z : List ℕ) (modes : Modes mode count) (room : 
           goes-on = turns.further-on (marks componentNames) 27 mode count s z modes room at n p (w .walking) k (turned (Value k) is) e ended l
 
           pub noting-goes-on : (j : ℕ) → SlotIs componentNames (Here s at) j → (q : List ℕ) → q ≡ marked 7 p j (length s - (at + k)) → Noting mode count s z (at + k + e) (n - 2) q
-          unfolding componentNames
           noting-goes-on j slot q m = record {
             walking =
                 turns.walk-turns (marks componentNames) 27 mode count s z modes room at n p (w .walking) k (turned (Value k) is) e ended l q

@@ -10,6 +10,7 @@ use Rattle.meaning.specs.Text.{ascii, same, utf8}
 use Rattle.meaning.specs.Kind.{aNumber, aText}
 use Rattle.meaning.specs.Check.{optional}
 use Rattle.meaning.specs.Types.{fitsOver, listed, logicals}
+use Rattle.meaning.specs.Layouts.{current}
 use Rattle.meaning.specs.Judge.{codeOr, aDtype, aType, raw}
 use Rattle.types.specs.Known.{dtypeCode}
 use Rattle.types.proofs.Codes.{dtype-known, dtype-none, dtype-most}
@@ -27,7 +28,7 @@ use Rattle.component.specs.Value.{passes, fine, DtypeIs, RawIs, TextIs, 
 module _ (s : List ℕ) (l : Letters) (h : Lettered (Here s 0) l) where
   module _ (e : l ≡ NoText) where
     pub dtype-kind : DtypeIs s (NoCode 8)
-    unfolding aDtype
+    unfolding current aDtype
     dtype-kind d t q r = rw (no-word s l h e d t q r) refl
 
     pub raw-kind : RawIs s (Bad 8)
@@ -48,11 +49,11 @@ module _ (s : List ℕ) (l : Letters) (h : Lettered (Here s 0) l) where
 
     module _ (code : ℕ) (is : code ≡ dtypeCode spelled) where
       pub dtype-some : code < 13 → DtypeIs s (Code code)
-      unfolding aDtype codeOr
+      unfolding current aDtype codeOr
       dtype-some k d t q r = rw (word s l h at n e d t q r) (rw (dtype-known spelled code is k) refl)
 
       pub dtype-other : 13 ≤ code → DtypeIs s (NoCode 16)
-      unfolding aDtype codeOr
+      unfolding current aDtype codeOr
       dtype-other k d t q r =
           let m = dtype-most spelled in let z : 13 ≡ dtypeCode spelled = omega arith in
           rw (word s l h at n e d t q r) (rw (dtype-none spelled z) refl)

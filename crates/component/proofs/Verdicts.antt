@@ -17,8 +17,10 @@ use Rattle.meaning.specs.Limit.{alignment}
 use Rattle.meaning.specs.Model.{Word, Component}
 use Rattle.meaning.specs.Kind.{kind, table, aNumber, aText, aTable, asTable, present}
 use Rattle.meaning.specs.Field as field
-use Rattle.meaning.specs.Field.{componentNames, get}
+use Rattle.meaning.specs.Layouts.{componentNames, current}
+use Rattle.meaning.specs.Field.{get}
 use Rattle.meaning.specs.Judge as judge
+use Rattle.meaning.proofs.CurrentIsBase.{component-current}
 use Rattle.types.specs.Known.{position}
 use Rattle.lengths.specs.Place.{placed}
 use Rattle.walk.specs.Reading.{Ends, Chain, foldl}
@@ -105,30 +107,30 @@ module _ (mk : ℕ → Option (Word Ends) → ℕ → ℕ → Option (Word Ends)
 
 module _ (start : ℕ) (t : Node Ends) (ps : List (Pair Ends)) (kt : kind t ≡ table ps) (n : Word Ends) where
   abbrev the : Check (Component Ends)
-  the = judge.component start (record { name = n; value = t })
+  the = judge.component current start none (record { name = n; value = t })
 
   judged-odd : all (λ q. field.isSome (field.keyOf q)) ps ≡ false → No 9 ≡ judged the
-  unfolding judge.component field.componentFields field.fields aTable asTable
+  unfolding current judge.component field.componentFields field.field field.fields aTable asTable
   judged-odd e = rw kt (rw e refl)
 
   module _ (a : all (λ q. field.isSome (field.keyOf q)) ps ≡ true) where
     judged-twice : all (λ m. leb (field.count m ps) 1) componentNames ≡ false → No 11 ≡ judged the
-    unfolding judge.component field.componentFields field.fields aTable asTable
+    unfolding current judge.component field.componentFields field.field field.fields aTable asTable
     judged-twice e = rw kt (rw (a, e) refl)
 
     module _ (b : all (λ m. leb (field.count m ps) 1) componentNames ≡ true) where
       judged-no-dtype : get (ascii "dtype") ps ≡ none → No 12 ≡ judged the
-      unfolding judge.component field.componentFields field.fields aTable asTable
+      unfolding current judge.component field.componentFields field.field field.fields aTable asTable
       judged-no-dtype e = rw kt (rw (a, b) (rw e refl))
 
       module _ (dtype : Node Ends) (g₁ : get (ascii "dtype") ps ≡ some dtype) where
         judged-no-offset : get (ascii "offset") ps ≡ none → No 12 ≡ judged the
-        unfolding judge.component field.componentFields field.fields aTable asTable
+        unfolding current judge.component field.componentFields field.field field.fields aTable asTable
         judged-no-offset e = rw kt (rw (a, b) (rw (g₁, e) refl))
 
         module _ (offset : Node Ends) (g₂ : get (ascii "offset") ps ≡ some offset) where
           judged-no-length : get (ascii "length") ps ≡ none → No 12 ≡ judged the
-          unfolding judge.component field.componentFields field.fields aTable asTable
+          unfolding current judge.component field.componentFields field.field field.fields aTable asTable
           judged-no-length e = rw kt (rw (a, b) (rw (g₁, g₂, e) refl))
 
           module _ (size : Node Ends) (g₃ : get (ascii "length") ps ≡ some size) where
@@ -144,12 +146,12 @@ module _ (start : ℕ) (t : Node Ends) (ps : List (Pair Ends)) (kt : kind t ≡ 
             }
 
             judged-sound : the ≡ sound start n (noteOf t) found
-            unfolding judge.component field.componentFields field.fields aTable asTable sound storage extent extras placed
-            judged-sound = rw kt (rw (a, b) (rw (g₁, g₂, g₃)
+            unfolding current field.fields aTable asTable sound storage extent extras placed
+            judged-sound = component-current start (record { name = n; value = t }) ∙ (rw kt (rw (a, b) (rw (g₁, g₂, g₃)
                 (regroup (λ d u o l g. record { name = n; dtype = d; type = u; offset = o; length = l; digest = g; entry = noteOf t })
                 (λ o. ALIGN unless eqb (o % alignment) 0) (λ o l. BOUNDS unless (leb alignment o && leb (o + l) start))
                 (optional aNumber (present (get (ascii "uncompressed_length") ps))) (optional judge.raw (get (ascii "encoding") ps)) (optional aText (present (get (ascii "digest") ps)))
-                (judge.aDtype dtype) (λ d. optional (judge.aType d) (present (get (ascii "type") ps))) (aNumber offset) (aNumber size))))
+                (judge.aDtype current dtype) (λ d. optional (judge.aType d) (present (get (ascii "type") ps))) (aNumber offset) (aNumber size)))))
 
 -- ---------------------------------------------------------------- from the slots
 
@@ -157,43 +159,40 @@ module _ (s : List ℕ) (start : ℕ) (p : List ℕ) where
   module _ (d : ℕ) (ps : List (Pair Ends)) (q : List ℕ) (chain : Chain (suc d) s ps q) (is : p ≡ foldl (marks componentNames) (replicate 10 0) ps)
       (t : Node Ends) (kt : kind t ≡ table ps) (n : Word Ends) where
     keys : eqb (getD p 8 0) 0 ≡ all (λ q. field.isSome (field.keyOf q)) ps
-    unfolding componentNames
     keys = keys-are-text componentNames (suc d) s ps q chain p is
 
     twice : eqb (getD p 9 0) 0 ≡ all (λ m. leb (field.count m ps) 1) componentNames
-    unfolding componentNames
     twice = none-twice componentNames (suc d) s ps q chain p is
 
     at-name : (m : List ℕ) (i : ℕ) → position componentNames m ≡ i → i < 7 → Holds (suc d) s (getD p i 0) (get m ps)
-    unfolding componentNames
     at-name m i e l = subst (λ (i : ℕ). Holds (suc d) s (getD p i 0) (get m ps)) e (field-stands componentNames (suc d) s ps q chain p is m (let z : position componentNames m < 7 = omega arith in z))
 
     at-dtype : Holds (suc d) s (getD p 0 0) (get (ascii "dtype") ps)
-    unfolding componentNames position
+    unfolding position
     at-dtype = at-name (ascii "dtype") 0 refl (omega arith)
 
     at-type : Holds (suc d) s (getD p 1 0) (get (ascii "type") ps)
-    unfolding componentNames position
+    unfolding position
     at-type = at-name (ascii "type") 1 refl (omega arith)
 
     at-offset : Holds (suc d) s (getD p 2 0) (get (ascii "offset") ps)
-    unfolding componentNames position
+    unfolding position
     at-offset = at-name (ascii "offset") 2 refl (omega arith)
 
     at-length : Holds (suc d) s (getD p 3 0) (get (ascii "length") ps)
-    unfolding componentNames position
+    unfolding position
     at-length = at-name (ascii "length") 3 refl (omega arith)
 
     at-unpacked : Holds (suc d) s (getD p 4 0) (get (ascii "uncompressed_length") ps)
-    unfolding componentNames position
+    unfolding position
     at-unpacked = at-name (ascii "uncompressed_length") 4 refl (omega arith)
 
     at-encoding : Holds (suc d) s (getD p 5 0) (get (ascii "encoding") ps)
-    unfolding componentNames position
+    unfolding position
     at-encoding = at-name (ascii "encoding") 5 refl (omega arith)
 
     at-digest : Holds (suc d) s (getD p 6 0) (get (ascii "digest") ps)
-    unfolding componentNames position
+    unfolding position
     at-digest = at-name (ascii "digest") 6 refl (omega arith)
 
     abbrev verdict : Check (Component Ends)

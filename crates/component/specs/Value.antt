@@ -10,6 +10,7 @@ use Rattle.meaning.specs.Notes.{mapCheck}
 use Rattle.meaning.specs.Model.{Word}
 use Rattle.meaning.specs.Kind.{aNumber, aText, present}
 use Rattle.meaning.specs.Judge.{aDtype, aType, raw}
+use Rattle.meaning.specs.Layouts.{current}
 use Rattle.walk.specs.Reading.{Ends}
 use Rattle.walk.specs.Places.{Whatever, numeral}
 use Rattle.walk.specs.declared.Numeral.{Numeral}
@@ -48,7 +49,7 @@ passes = mapCheck nothing
 -- ---------------------------------------------------------------- the item that begins s
 
 abbrev pub DtypeIs : List ℕ → Coded → Type 0
-DtypeIs s r = Whatever s λ d t q. aDtype t ≡ coded r
+DtypeIs s r = Whatever s λ d t q. aDtype current t ≡ coded r
 
 abbrev pub RawIs : List ℕ → Fine → Type 0
 RawIs s r = Whatever s λ d t q. passes (optional raw (some t)) ≡ fine r
@@ -62,7 +63,7 @@ TypeIs s code r = Whatever s λ d t q. placeOf (optional (aType code) (some t)) 
 -- ---------------------------------------------------------------- what stands at a place
 
 abbrev pub DtypeAt : List ℕ → ℕ → Coded → Type 0
-DtypeAt s left r = ItemAt s left λ t. aDtype t ≡ coded r
+DtypeAt s left r = ItemAt s left λ t. aDtype current t ≡ coded r
 
 abbrev pub NumberAt : List ℕ → ℕ → Numeral → Type 0
 NumberAt s left r = ItemAt s left λ t. aNumber t ≡ numeral r

@@ -2,7 +2,7 @@
 use Prim.Native.Nat.{ℕ, suc}
 use mathlib.Core.List.{List}
 use mathlib.Core.Bool.{cond}
-use mathlib.Core.Option.{Option}
+use mathlib.Core.Option.{Option, none}
 use mathlib.Core.Path.{_≡_}
 use lib.ListN.{getD, replicate}
 use lib.Dec.{eqb}
@@ -12,7 +12,7 @@ use Rattle.meaning.specs.Notes.{mapCheck}
 use Rattle.meaning.specs.Refusal.{KEY, TWICE, MISSING}
 use Rattle.meaning.specs.Model.{Word, Component}
 use Rattle.meaning.specs.Kind.{kind, table, aNumber, aText, present}
-use Rattle.meaning.specs.Field.{componentNames}
+use Rattle.meaning.specs.Layouts.{componentNames, current}
 use Rattle.meaning.specs.Judge.{aDtype, aType, raw, component}
 use Rattle.lengths.specs.Place.{placed}
 use Rattle.walk.specs.Reading.{Ends, Reads, Chain, Due, foldl}
@@ -51,7 +51,7 @@ pub record Kept : Type 0 where
 
 unfoldable pub storage : Node Ends → Option (Node Ends) → Check Kept
 storage dtype type = do
-  d ← aDtype dtype
+  d ← aDtype current dtype
   t ← optional (aType d) (present type)
   pass (record { dtype = d; type = t })
 
@@ -142,7 +142,7 @@ SoundIs s start p r = (d : ℕ) (f : Fields) → Found d s p f → (n : Word End
 -- for every map of the pairs that are read from s on, where p holds their slots
 abbrev pub VerdictIs : List ℕ → ℕ → List ℕ → Judged → Type 0
 VerdictIs s start p r = (d : ℕ) (ps : List (Pair Ends)) (q : List ℕ) → Chain (suc d) s ps q → p ≡ foldl (marks componentNames) (replicate 10 0) ps
-    → (t : Node Ends) → kind t ≡ table ps → (n : Word Ends) → r ≡ judged (component start (record { name = n; value = t }))
+    → (t : Node Ends) → kind t ≡ table ps → (n : Word Ends) → r ≡ judged (component current start none (record { name = n; value = t }))
 
 abbrev pub ComponentIs : List ℕ → ℕ → Judged → Type 0
-ComponentIs s start r = (t : Node Ends) (q : List ℕ) → Reads 28 s t q → (n : Word Ends) → r ≡ judged (component start (record { name = n; value = t }))
+ComponentIs s start r = (t : Node Ends) (q : List ℕ) → Reads 28 s t q → (n : Word Ends) → r ≡ judged (component current start none (record { name = n; value = t }))

@@ -4,7 +4,7 @@ use walk::Letters;
 ghost use mathlib.Core.Path.{_≡_};
 ghost use Prim.Native.Nat.{_≤_};
 ghost use lib.ListN.{length};
-ghost use Rattle.meaning.specs.Field.{componentNames};
+ghost use Rattle.meaning.specs.Layouts.{componentNames};
 ghost use Rattle.cbor.specs.Ending.{code, rest};
 ghost use Rattle.walk.proofs.Turns.{Modes};
 ghost use Rattle.fields.specs.Slots.{SlotIs};

@@ -3,6 +3,7 @@ use Prim.Native.Nat.{ℕ, _≤_}
 use native.Mathlib.Omega.{arith}
 use mathlib.Core.List.{List, map}
 use mathlib.Core.Path.{_≡_, sym, subst}
+use mathlib.Core.Option.{none}
 use lib.ListN.{length, length-map}
 use Rattle.meaning.specs.Tree.{Node, Pair}
 use Rattle.meaning.specs.Check.{pass}
@@ -10,6 +11,7 @@ use Rattle.meaning.specs.Limit.{componentLimit}
 use Rattle.meaning.specs.Kind.{kind, table}
 use Rattle.meaning.specs.Field.{names}
 use Rattle.meaning.specs.Judge.{componentsOf}
+use Rattle.meaning.specs.Layouts.{current}
 use Rattle.walk.specs.Reading.{Ends}
 use Rattle.walk.proofs.Passed.{Here}
 use Rattle.naming.specs.Naming.{namedAnyway, told, Tallied, Judged}
@@ -34,7 +36,7 @@ module _ (m : List ℕ) (t : Tally) (first : First) (left size : List ℕ) (room
   module _ (e : x ≡ Names) where
     pub fault-concludes : (n c : ℕ) → first ≡ Fault n c → (found : Found) → found ≡ No n c → Concluded m t first left size found
     fault-concludes n c f found is start rows ps kept u ku =
-        subst (λ x. FoundIs (componentsOf start u) x rows) (sym is) (entry-fault start ps u n c rows (judged Names e ps (kept .named) u ku) (rw f at (kept .judged)))
+        subst (λ x. FoundIs (componentsOf current start (λ r. none) u) x rows) (sym is) (entry-fault start ps u n c rows (judged Names e ps (kept .named) u ku) (rw f at (kept .judged)))
 
     pub fine-concludes : first ≡ Fine → Concluded m t first left size (Yes (t .count))
     fine-concludes f start rows ps kept u ku =

@@ -4,6 +4,7 @@ use native.Mathlib.Omega.{arith}
 use mathlib.Core.List.{List, [], _∷_, _++_}
 use mathlib.Core.Bool.{_&&_}
 use mathlib.Core.Path.{_≡_, refl, ap, sym, _∙_, subst}
+use mathlib.Core.Option.{none}
 use lib.ListN.{length, take}
 use lib.Dec.{eqb}
 use Rattle.meaning.specs.Check.{Check, pass, refuse}
@@ -12,6 +13,7 @@ use Rattle.meaning.specs.Model.{Word, Component}
 use Rattle.meaning.specs.Tree.{Pair}
 use Rattle.meaning.specs.Format.{plain}
 use Rattle.meaning.specs.Judge.{component, part, lettersOf}
+use Rattle.meaning.specs.Layouts.{current}
 use borrow.Author.Tests.{ne-eqb}
 use borrow.Rule.Slice.PartAt.{part-to-end}
 use Rattle.fields.proofs.Texts.{Here}
@@ -48,9 +50,9 @@ module _ (s c : List ℕ) (v : Judged) (j : ℕ) (first : First) (rows : List �
   stays n i e start done p d q r x y h is f = fault-stays start done p n i rows rows (subst (λ f. FirstIs start done f rows) e f)
 
   pub begins : first ≡ Fine → (n : ℕ) → v ≡ No n → (at : ℕ) → at ≡ j → Keeps s c v j first rows (Fault n at) rows
-  begins e n a at here start done p d q r x y h is f = go (component start (namedAnyway p)) refl (sym a ∙ h (p .value) r y (namedAnyway p .name))
+  begins e n a at here start done p d q r x y h is f = go (component current start none (namedAnyway p)) refl (sym a ∙ h (p .value) r y (namedAnyway p .name))
     where
-      go : (k : Check (Component Ends)) → component start (namedAnyway p) ≡ k → No n ≡ judged k → FirstIs start (done ++ p ∷ []) (Fault n at) rows
+      go : (k : Check (Component Ends)) → component current start none (namedAnyway p) ≡ k → No n ≡ judged k → FirstIs start (done ++ p ∷ []) (Fault n at) rows
       go (pass k) z b = absurd (let w : _≡_ {A = ℕ} 0 1 = cc in omega arith)
       go (refuse m o i) z b =
           let w : m ≡ n = cc in
@@ -60,7 +62,7 @@ module _ (s c : List ℕ) (v : Judged) (j : ℕ) (first : First) (rows : List �
   module _ (room : length c < FAULT) (slots : length rows ≡ 64) (e : first ≡ Fine) (code left o size g : ℕ) (a : v ≡ Yes code left o size g)
       (u : ℕ) (is-u : UnitIs c code left u) (called : ℕ) (is-called : RoleIs s called) (b : ℕ) (is-b : b ≡ flag (eqb left 0 && eqb code 8)) where
     module _ (start : ℕ) (done : List (Pair Ends)) (p : Pair Ends) (d : ℕ) (q r : List ℕ) (x : Reads (suc d) s (p .key) q) (y : Reads 28 c (p .value) r) (is : j ≡ length done)
-        (k : Component Ends) (z : component start (namedAnyway p) ≡ pass k) (w : Yes code left o size g ≡ judged (pass k)) where
+        (k : Component Ends) (z : component current start none (namedAnyway p) ≡ pass k) (w : Yes code left o size g ≡ judged (pass k)) where
       typed : WordAt c (k .type)
       typed = type-at c room (p .value) r y start (namedAnyway p .name) k z
 
@@ -81,9 +83,9 @@ module _ (s c : List ℕ) (v : Judged) (j : ℕ) (first : First) (rows : List �
           (row-after rows slots j called u b size (omega arith) ∙ ap (λ l. take (4 * j) rows ++ l) row)
 
     pub row-put : Keeps s c v j first rows Fine (putRow rows j called u b size)
-    row-put start done p d q r x y h is f = go (component start (namedAnyway p)) refl (sym a ∙ h (p .value) r y (namedAnyway p .name))
+    row-put start done p d q r x y h is f = go (component current start none (namedAnyway p)) refl (sym a ∙ h (p .value) r y (namedAnyway p .name))
       where
-        go : (k : Check (Component Ends)) → component start (namedAnyway p) ≡ k → Yes code left o size g ≡ judged k → FirstIs start (done ++ p ∷ []) Fine (putRow rows j called u b size)
+        go : (k : Check (Component Ends)) → component current start none (namedAnyway p) ≡ k → Yes code left o size g ≡ judged k → FirstIs start (done ++ p ∷ []) Fine (putRow rows j called u b size)
         go (pass k) z w = still-fine start done p k rows (putRow rows j called u b size) (subst (λ f. FirstIs start done f rows) e f) z (put-so start done p d q r x y is k z w)
         go (refuse m o i) z w = absurd (let w : _≡_ {A = ℕ} 0 1 = cc in omega arith)
 

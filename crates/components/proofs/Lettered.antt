@@ -20,6 +20,7 @@ use Rattle.meaning.specs.Kind.{Kind, kind, present, presentKind}
 use Rattle.meaning.specs.Field.{get}
 use Rattle.meaning.specs.Types.{fitsOver, listed, logicals}
 use Rattle.meaning.specs.Judge.{component, aType}
+use Rattle.meaning.specs.Layouts.{current}
 use Rattle.cbor.specs.Ending.{FAULT, headOf}
 use Rattle.endian.proofs.Which.{eq-or, lt-or}
 use Rattle.walk.specs.Reading.{Ends, Reads, Chain}
@@ -115,7 +116,7 @@ presence (some u) t e = present-kind u (kind u) t e
 -- ---------------------------------------------------------------- the type and the digest of a component
 
 module _ (c : List ℕ) (room : length c < FAULT) (x : Node Ends) (q : List ℕ) (e : Reads 28 c x q) (start : ℕ) (n : Word Ends) (k : Component Ends)
-    (is : component start (record { name = n; value = x }) ≡ pass k) where
+    (is : component current start none (record { name = n; value = x }) ≡ pass k) where
   from : TextsFrom (record { name = n; value = x }) k
   from = texts-from start (record { name = n; value = x }) k is
 

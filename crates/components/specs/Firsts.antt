@@ -2,6 +2,7 @@
 use Prim.Native.Nat.{ℕ, suc, _*_, _≤_}
 use mathlib.Core.List.{List, [], _∷_, _++_, map}
 use mathlib.Core.Path.{_≡_}
+use mathlib.Core.Option.{none}
 use lib.ListN.{length, take}
 use Rattle.meaning.specs.Tree.{Node, Pair}
 use Rattle.meaning.specs.Check.{Check, pass, refuse, inComponent, each}
@@ -9,6 +10,7 @@ use Rattle.meaning.specs.Limit.{componentLimit}
 use Rattle.meaning.specs.Model.{Named, Component}
 use Rattle.meaning.specs.Judge.{component, componentsOf, part}
 use Rattle.meaning.specs.Kind.{kind, table}
+use Rattle.meaning.specs.Layouts.{current}
 use Rattle.walk.specs.Reading.{Ends, Reads, Due}
 use Rattle.component.specs.Verdict.{ComponentIs}
 use Rattle.component.specs.declared.Judged.{Judged}
@@ -22,7 +24,7 @@ use Rattle.components.specs.declared.Found.the-variants.{No, Yes}
 
 -- an entry, with its index
 unfoldable pub entry : ℕ → ℕ → Named Ends → Check (Component Ends)
-entry start j n = inComponent j (component start n)
+entry start j n = inComponent j (component current start none n)
 
 -- the entries of the pairs so far
 unfoldable pub entries : ℕ → List (Pair Ends) → Check (List (Component Ends))
@@ -58,7 +60,7 @@ Walked start mode count s names left size first rows = (ps : List (Pair Ends)) (
 -- for every map of these pairs
 abbrev pub Concluded : List ℕ → Tally → First → List ℕ → List ℕ → Found → Type 0
 Concluded m names first left size found =
-    (start : ℕ) (rows : List ℕ) (ps : List (Pair Ends)) → Kept start m names left size first rows ps → (t : Node Ends) → kind t ≡ table ps → FoundIs (componentsOf start t) found rows
+    (start : ℕ) (rows : List ℕ) (ps : List (Pair Ends)) → Kept start m names left size first rows ps → (t : Node Ends) → kind t ≡ table ps → FoundIs (componentsOf current start (λ r. none) t) found rows
 
 abbrev pub ComponentsAre : List ℕ → ℕ → Found → List ℕ → Type 0
-ComponentsAre s start found rows = (t : Node Ends) (q : List ℕ) → Reads 29 s t q → FoundIs (componentsOf start t) found rows
+ComponentsAre s start found rows = (t : Node Ends) (q : List ℕ) → Reads 29 s t q → FoundIs (componentsOf current start (λ r. none) t) found rows

@@ -9,7 +9,7 @@ use lib.Pow.{pow-add}
 use borrow.Author.Tests.{lt-ltb, le-ltb}
 use Rattle.meaning.specs.Encoding.{big}
 use Rattle.meaning.specs.Manifest.{headOf, shortestHead}
-use Rattle.meaning.specs.Layout.{littleBytes}
+use Rattle.meaning.specs.WrittenFile.{littleBytes}
 
 pub big-length : (w n : ℕ) → length (big w n) ≡ w
 unfolding big

@@ -2,7 +2,7 @@
 ghost use Prim.Native.Nat.{_<_, _≤_, _^_};
 ghost use lib.ListN.{length, replicate};
 ghost use Rattle.meaning.specs.Encoding as encoding;
-ghost use Rattle.meaning.specs.Layout.{littleBytes};
+ghost use Rattle.meaning.specs.WrittenFile.{littleBytes};
 ghost use Rattle.emit.specs.Laid.{Laid};
 
 // w bytes of n, the most significant first.

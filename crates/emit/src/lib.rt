@@ -6,9 +6,9 @@ ghost use Prim.Native.Nat.{_+_, _*_, _<_, _≤_, _^_};
 ghost use mathlib.Core.List.{map};
 ghost use Rattle.meaning.specs.Read.{joined};
 ghost use lib.ListN.{replicate};
-ghost use Rattle.meaning.specs.Frame.{magic};
+ghost use Rattle.meaning.specs.Layouts.{magic};
 ghost use Rattle.meaning.specs.Manifest.{headOf, shortestHead, numberBytes, textBytes, listBytes};
-ghost use Rattle.meaning.specs.Layout.{littleBytes};
+ghost use Rattle.meaning.specs.WrittenFile.{littleBytes};
 ghost use Rattle.emit.specs.Laid.{Room, Laid};
 
 // A head's initial byte: major type and argument size joined.

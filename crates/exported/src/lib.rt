@@ -12,7 +12,7 @@ ghost use Rattle.meaning.specs.Version as versions;
 ghost use Rattle.cbor.specs.Ending as endings;
 ghost use Rattle.text.specs.Order as orders;
 ghost use Rattle.names.specs.Names.{name, listed};
-ghost use Rattle.meaning.specs.Field as field;
+ghost use Rattle.meaning.specs.Layouts as layouts;
 ghost use Rattle.meaning.specs.Types as types;
 ghost use Rattle.meaning.specs.Format as format;
 ghost use Rattle.types.specs.Known as known;
@@ -65,7 +65,7 @@ pub extern "C" fn leaf_order(a: &[u8], b: &[u8]) -> usize
 
 #[no_mangle]
 pub extern "C" fn leaf_is_magic(part: &[u8]) -> bool
-    ensures { λ r. ⌜ r ≡ texts.same frames.magic (now (part .entry)) ⌝ }
+    ensures { λ r. ⌜ r ≡ texts.same layouts.magic (now (part .entry)) ⌝ }
 {
     text::is_magic(part)
 }
@@ -92,21 +92,21 @@ pub extern "C" fn leaf_no_twice(
 
 #[no_mangle]
 pub extern "C" fn leaf_root_key(k: &[u8]) -> usize
-    ensures { λ r. ⌜ r ≡ known.position field.rootNames (now (k .entry)) ⌝ }
+    ensures { λ r. ⌜ r ≡ known.position layouts.rootNames (now (k .entry)) ⌝ }
 {
     types::root_key(k)
 }
 
 #[no_mangle]
 pub extern "C" fn leaf_object_key(k: &[u8]) -> usize
-    ensures { λ r. ⌜ r ≡ known.position field.objectNames (now (k .entry)) ⌝ }
+    ensures { λ r. ⌜ r ≡ known.position layouts.objectNames (now (k .entry)) ⌝ }
 {
     types::object_key(k)
 }
 
 #[no_mangle]
 pub extern "C" fn leaf_component_key(k: &[u8]) -> usize
-    ensures { λ r. ⌜ r ≡ known.position field.componentNames (now (k .entry)) ⌝ }
+    ensures { λ r. ⌜ r ≡ known.position layouts.componentNames (now (k .entry)) ⌝ }
 {
     types::component_key(k)
 }
@@ -242,7 +242,7 @@ pub struct Place {
 
 #[no_mangle]
 pub extern "C" fn leaf_frame(file: &[u8]) -> Place
-    ensures { λ r. ⌜ r ≡ place (frames.frame (now (file .entry))) ⌝ }
+    ensures { λ r. ⌜ r ≡ place (frames.frame layouts.current (now (file .entry))) ⌝ }
 {
     match frame::frame(file) {
         frame::Framed::No(number) => Place {
@@ -260,7 +260,7 @@ pub extern "C" fn leaf_frame(file: &[u8]) -> Place
 
 #[no_mangle]
 pub extern "C" fn leaf_accept(file: &[u8]) -> Verdict
-    ensures { λ r. ⌜ r ≡ verdict (frames.reading (now (file .entry))) ⌝ }
+    ensures { λ r. ⌜ r ≡ verdict (frames.reading layouts.current (now (file .entry))) ⌝ }
 {
     reader::accept(file)
 }

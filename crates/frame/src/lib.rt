@@ -1,6 +1,7 @@
 // The file frame (document 01): magic at both ends, the manifest's size before the last, and where the manifest starts.
 ghost use mathlib.Core.Path.{_≡_};
 ghost use Rattle.meaning.specs.Frame as meant;
+ghost use Rattle.meaning.specs.Layouts as layouts;
 ghost use Rattle.frame.specs.Told as spec;
 
 // The manifest's start and size, or the refusal.
@@ -11,7 +12,7 @@ pub enum Framed {
 
 // The frame of a file.
 pub fn frame(file: &[u8]) -> Framed
-    ensures { λ r. ⌜ meant.frame (now (file .entry)) ≡ spec.told r ⌝ }
+    ensures { λ r. ⌜ meant.frame layouts.current (now (file .entry)) ≡ spec.told r ⌝ }
 {
     let n = file.len();
     if n < 24 {

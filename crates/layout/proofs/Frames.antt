@@ -5,8 +5,8 @@ use mathlib.Core.List.{List, _++_}
 use mathlib.Core.Path.{_≡_, sym, ap, _∙_, subst}
 use lib.ListN.{length, drop}
 use Rattle.meaning.specs.Columns.{objectWidth}
-use Rattle.meaning.specs.Frame.{magic}
-use Rattle.meaning.specs.Layout.{littleBytes}
+use Rattle.meaning.specs.Layouts.{magic}
+use Rattle.meaning.specs.WrittenFile.{littleBytes}
 use Rattle.emit.specs.Laid.{Room, Laid}
 use Rattle.emit.proofs.Laying.{part, back, as-bytes, room-as, room-first, room-next, then, lent}
 use Rattle.layout.specs.Pieces.{blobsOf, manifestFrom, wholeOf}

@@ -14,14 +14,13 @@ use Rattle.meaning.specs.Text.{ascii, all}
 use Rattle.meaning.specs.Read.{joined}
 use Rattle.meaning.specs.Notes.{mapOption}
 use Rattle.meaning.specs.Types.{storageOf}
-use Rattle.meaning.specs.Field.{rootNames, objectNames, componentNames}
-use Rattle.meaning.specs.Frame.{magic}
+use Rattle.meaning.specs.Layouts.{rootNames, objectNames, componentNames, magic}
 use Rattle.meaning.specs.Placement.{aligned, placedFrom, placement}
 use Rattle.meaning.specs.Asked.{AskedObject, AskedComponent, eachRow, askedObject, askedComponent, asked, presentAt}
 use Rattle.meaning.specs.Sound.{componentSound, rowsSound}
 use Rattle.meaning.specs.Described.{DescribedComponent, DescribedObject, Described, blobs, describedComponent, describedObject, describedObjects, described}
 use Rattle.meaning.specs.Manifest.{Keyed, under, given, entryBytes, mapBytes, shortestHead, numberBytes, textBytes, listBytes, componentBytes, manifestBytes}
-use Rattle.meaning.specs.Layout.{littleBytes, blobsFrom, closing, fileOf}
+use Rattle.meaning.specs.WrittenFile.{littleBytes, blobsFrom, closing, fileOf}
 use Rattle.rows.specs.Running.{reached, blobLengths, entriesFrom, objectFrom, objectsFrom, counted}
 use Rattle.rows.proofs.EachRow.{how-many, later-rows, all-dropped}
 use Rattle.rows.proofs.Running.{manifest-placed}
@@ -42,7 +41,7 @@ component-fields : (t g : Bool) (D T O L G : List ℕ)
     → mapBytes (given componentNames (some D ∷ mapOption textBytes (cond t none (some T)) ∷ some O ∷ some L ∷ none ∷ none ∷ mapOption textBytes (cond g none (some G)) ∷ []))
     ≡ shortestHead 5 (3 + cond t 0 1 + cond g 0 1)
     ++ (field "dtype" D ++ (cond t [] (field "type" (textBytes T)) ++ (field "offset" O ++ (field "length" L ++ cond g [] (field "digest" (textBytes G))))))
-unfolding mapBytes given entryBytes componentNames
+unfolding mapBytes given entryBytes
 component-fields true true D T O L G = refl
 component-fields true false D T O L G = simp append-nil
 component-fields false true D T O L G = refl
@@ -51,14 +50,14 @@ component-fields false false D T O L G = simp append-nil
 object-fields : (t : Bool) (S F A C : List ℕ)
     → mapBytes (given objectNames (some S ∷ some F ∷ cond t none (some A) ∷ some C ∷ []))
     ≡ shortestHead 5 (3 + cond t 0 1) ++ (field "shape" S ++ (field "format" F ++ (cond t [] (field "attributes" A) ++ field "components" C)))
-unfolding mapBytes given entryBytes objectNames
+unfolding mapBytes given entryBytes
 object-fields true S F A C = simp append-nil
 object-fields false S F A C = simp append-nil
 
 root-fields : (t : Bool) (N A O : List ℕ)
     → mapBytes (given rootNames (some N ∷ cond t none (some A) ∷ some O ∷ []))
     ≡ shortestHead 5 (2 + cond t 0 1) ++ (field "version" N ++ (cond t [] (field "attributes" A) ++ field "objects" O))
-unfolding mapBytes given entryBytes rootNames
+unfolding mapBytes given entryBytes
 root-fields true N A O = simp append-nil
 root-fields false N A O = simp append-nil
 

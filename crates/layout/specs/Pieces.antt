@@ -9,8 +9,8 @@ use Rattle.meaning.specs.Text.{ascii}
 use Rattle.meaning.specs.Types.{storageOf}
 use Rattle.meaning.specs.Placement.{aligned}
 use Rattle.meaning.specs.Manifest.{shortestHead, numberBytes, textBytes, listBytes}
-use Rattle.meaning.specs.Layout.{littleBytes}
-use Rattle.meaning.specs.Frame.{magic}
+use Rattle.meaning.specs.WrittenFile.{littleBytes}
+use Rattle.meaning.specs.Layouts.{magic}
 use Rattle.meaning.specs.Asked.{eachRow, askedComponent}
 use Rattle.rows.specs.Running.{reached, blobSizes}
 

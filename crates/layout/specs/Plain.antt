@@ -5,7 +5,7 @@ use lib.ListN.{length}
 use Rattle.meaning.specs.Asked.{asked}
 use Rattle.meaning.specs.Described.{Described, blobs, described}
 use Rattle.meaning.specs.Placement.{placement, lastEnd}
-use Rattle.meaning.specs.Layout.{fileOf}
+use Rattle.meaning.specs.WrittenFile.{fileOf}
 use Rattle.meaning.specs.Read.{Span}
 
 abbrev pub rootAttributes : ℕ → ℕ → Span

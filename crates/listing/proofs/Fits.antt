@@ -13,6 +13,7 @@ use Rattle.meaning.specs.Text.{ascii, within}
 use Rattle.meaning.specs.Limit.{programFile, programTable}
 use Rattle.meaning.specs.Model.{Component, Object, Model}
 use Rattle.meaning.specs.Types.{Storage, storages, storageOf}
+use Rattle.meaning.specs.Layouts.{current}
 use Rattle.meaning.specs.Frame.{Reading, reading}
 use Rattle.meaning.specs.Rows.{componentCount, roomFor, roomy, readInto}
 use Rattle.meaning.specs.Listing.{digits, decimal, hex, shown, shownText, blanked, line, blobLine, blobLines, objectLine, objectLines, listing, listingOf, printed}
@@ -124,9 +125,9 @@ refusal-fits n o c =
 -- ---- what is printed
 
 module _ (file : List ℕ) (short : length file ≤ programFile) where
-  read-fits : length (listingOf (readInto file programTable)) ≤ lentText
+  read-fits : length (listingOf (readInto current file programTable)) ≤ lentText
   unfolding listingOf readInto roomy roomFor
-  read-fits = by (reading file) refl
+  read-fits = by (reading current file) refl
     where
       roomed : (r : Reading) → modelWeight (r .model) ≤ length file → (b : Bool) → leb (roomFor (r .model)) programTable ≡ b → length (listingOf ((ROOM unless b) >> pass r)) ≤ lentText
       roomed r w true e =
@@ -135,7 +136,7 @@ module _ (file : List ℕ) (short : length file ≤ programFile) where
           omega (arith, l, w, short, room)
       roomed r w false e = let l = refusal-fits ROOM 0 0 in omega (arith, l)
 
-      by : (k : Check Reading) → reading file ≡ k → length (listingOf (k >>= roomy programTable)) ≤ lentText
+      by : (k : Check Reading) → reading current file ≡ k → length (listingOf (k >>= roomy programTable)) ≤ lentText
       by (pass r) e = roomed r (passed-so (reading-weighs file) e) (leb (roomFor (r .model)) programTable) refl
       by (refuse n o c) e = let l = refusal-fits n o c in omega (arith, l)
 
@@ -143,7 +144,7 @@ pub printed-fits : (file : List ℕ) → length (printed file) ≤ lentText
 unfolding printed line blanked
 printed-fits file = by (leb (length file) programFile) refl
   where
-    by : (b : Bool) → leb (length file) programFile ≡ b → length (cond b (listingOf (readInto file programTable)) (line (ascii "too") (ascii "long" ∷ []))) ≤ lentText
+    by : (b : Bool) → leb (length file) programFile ≡ b → length (cond b (listingOf (readInto current file programTable)) (line (ascii "too") (ascii "long" ∷ []))) ≤ lentText
     by true e = read-fits file (leb-true (length file) programFile e)
     by false e = omega arith
 

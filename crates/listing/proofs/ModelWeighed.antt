@@ -8,16 +8,17 @@ use mathlib.Core.Path.{_≡_, refl, sym, ap, subst, _∙_}
 use lib.ListN.{length, take, drop, length-take, length-drop}
 use lib.Dec.{eqb, leb}
 use Rattle.meaning.specs.Tree.{Node, Pairs, Pair, uint, nint, bytes, text, chunkedBytes, chunkedText, array, dict, tag, simple, float, ∅, _⇒_▸_, pairList}
-use Rattle.meaning.specs.Check.{Check, pass, refuse, _>>=_, _>>_, inObject, inComponent, required, optional, each}
+use Rattle.meaning.specs.Check.{Check, pass, refuse, _>>=_, _>>_, inObject, inComponent, required, requiredIn, optional, each}
 use Rattle.meaning.specs.Text.{ascii, same, all, distinct, utf8}
 use Rattle.meaning.specs.Refusal.{KEY, TEXT, TWICE, COUNT, ALIGN, BOUNDS}
 use Rattle.meaning.specs.Limit.{objectLimit, componentLimit, alignment}
 use Rattle.meaning.specs.Read.{Span, spanTo, Outcome, got, refused, manifest}
 use Rattle.meaning.specs.Model.{Word, Named, Component, Object, Model, RootFields, ObjectFields}
 use Rattle.meaning.specs.Kind.{Kind, number, words, list, table, null, another, kind, asWord, asTable, aNumber, aWord, aTable, aText, present}
-use Rattle.meaning.specs.Field.{isSome, isKey, keyOf, count, named, get, fields, rootFields, objectFields, componentFields, nameKind, nameOf, names, rootNames, objectNames}
+use Rattle.meaning.specs.Layouts.{Slots, slot, somes, current, dtypeAt}
+use Rattle.meaning.specs.Field.{isSome, isKey, keyOf, count, named, get, field, fields, rootFields, objectFields, componentFields, nameKind, nameOf, names}
 use Rattle.meaning.specs.Format.{formatRules}
-use Rattle.meaning.specs.Judge.{aDtype, aType, raw, attributesOf, component, part, shapeOf, componentsOf, object, aVersion, objectsOf, judge}
+use Rattle.meaning.specs.Judge.{orElse, inherited, aDtype, aType, raw, attributesOf, component, part, shapeOf, componentsOf, object, aVersion, objectsOf, judge}
 use Rattle.meaning.specs.Frame.{frame, checked, Reading, reading}
 use Rattle.text.proofs.SameIsEqual.{same-eq}
 use Rattle.readback.specs.Spelled.{IfAny}
@@ -149,11 +150,11 @@ module _ {P : Type 0} where
 
   -- ---- maps
 
-  fields-weigh : (known : List (List ℕ)) (t : Node P) → If (Within (sumOf pairWeight) (weight t)) (fields known t)
+  fields-weigh : (known : Slots) (t : Node P) → If (Within (sumOf pairWeight) (weight t)) (fields known t)
   unfolding fields
   fields-weigh known t =
       bind (aTable t) _ (table-weighs t) λ ps q.
-      tested KEY (all (λ p. isSome (keyOf p)) ps) _ λ e. tested TWICE (all (λ n. leb (count n ps) 1) known) _ λ f. passes ps q
+      tested KEY (all (λ p. isSome (keyOf p)) ps) _ λ e. tested TWICE (all (λ n. leb (count n ps) 1) (somes known)) _ λ f. passes ps q
 
   name-weighs : (p : Pair P) → If (Within namedWeight (pairWeight p)) (nameOf p)
   unfolding nameOf nameKind
@@ -176,14 +177,15 @@ module _ {P : Type 0} where
       tested COUNT (leb (length ns) limit) _ λ f.
       tested TWICE (distinct (map (λ n. n .name .letters) ns)) _ λ g. passes ns (omega (arith, q, r))
 
-  component-weighs : (start : ℕ) (n : Named P) → If (Within componentWeight (namedWeight n)) (component start n)
+  component-weighs : (start : ℕ) (above : Option ℕ) (n : Named P) → If (Within componentWeight (namedWeight n)) (component current start above n)
   unfolding component
-  component-weighs start n =
-      bind (componentFields (n .value)) _ (anyhow (componentFields (n .value))) λ c u₁.
-      bind (required (c .dtype)) _ (anyhow (required (c .dtype))) λ dtype u₂.
+  component-weighs start above n =
+      bind (componentFields (current .component) (n .value)) _ (anyhow (componentFields (current .component) (n .value))) λ c u₁.
+      bind (requiredIn (slot dtypeAt (current .component)) (c .dtype)) _ (anyhow (requiredIn (slot dtypeAt (current .component)) (c .dtype))) λ dtype u₂.
       bind (required (c .offset)) _ (anyhow (required (c .offset))) λ offset u₃.
       bind (required (c .length)) _ (anyhow (required (c .length))) λ length u₄.
-      bind (aDtype dtype) _ (anyhow (aDtype dtype)) λ d u₅.
+      bind (optional (aDtype current) dtype) _ (anyhow (optional (aDtype current) dtype)) λ own u₅.
+      bind (required (orElse own above)) _ (anyhow (required (orElse own above))) λ d u₀.
       bind (optional (aType d) (present (c .type))) _ (anyhow (optional (aType d) (present (c .type)))) λ t u₆.
       bind (aNumber offset) _ (anyhow (aNumber offset)) λ o u₇.
       bind (aNumber length) _ (anyhow (aNumber length)) λ l u₈.
@@ -192,62 +194,67 @@ module _ {P : Type 0} where
       (bind (optional aText (present (c .digest))) _ (anyhow (optional aText (present (c .digest)))) λ g u₉.
       tested ALIGN (eqb (o % alignment) 0) _ λ even. tested BOUNDS (leb alignment o && leb (o + l) start) _ λ inside. passes _ (omega arith)))
 
-  components-weigh : (start : ℕ) (t : Node P) → If (Within (sumOf componentWeight) (weight t)) (componentsOf start t)
+  components-weigh : (start : ℕ) (above : List ℕ → Option ℕ) (t : Node P) → If (Within (sumOf componentWeight) (weight t)) (componentsOf current start above t)
   unfolding componentsOf
-  components-weigh start t =
+  components-weigh start above t =
       bind (names componentLimit t) _ (names-weigh componentLimit t) λ ns q.
-      lighter (sumOf namedWeight ns) (each (λ j c. inComponent j (component start c)) 0 ns) q
-      (each-weighs namedWeight componentWeight (λ j c. inComponent j (component start c)) (λ j c. in-component j (component start c) (component-weighs start c)) 0 ns)
+      lighter (sumOf namedWeight ns) (each (λ j c. inComponent j (one c)) 0 ns) q
+      (each-weighs namedWeight componentWeight (λ j c. inComponent j (one c)) (λ j c. in-component j (one c) (component-weighs start (above (c .name .letters)) c)) 0 ns)
+    where
+      one : Named P → Check (Component P)
+      one c = component current start (above (c .name .letters)) c
 
   record ObjectFieldsWeigh (v : Node P) (o : ObjectFields P) : Type 0 where
     both : optionWeight (o .format) + optionWeight (o .components) ≤ weight v
 
-  objectFields-weigh : (v : Node P) → If (ObjectFieldsWeigh v) (objectFields v)
-  unfolding objectFields
+  objectFields-weigh : (v : Node P) → If (ObjectFieldsWeigh v) (objectFields (current .object) v)
+  unfolding objectFields field current
   objectFields-weigh v =
-      bind (fields objectNames v) _ (fields-weigh objectNames v) λ ps q.
+      bind (fields (current .object) v) _ (fields-weigh (current .object) v) λ ps q.
       passes _ (record { both = let g = get-two (ascii "format") (ascii "components") refl ps in omega (arith, g, q) })
 
-  object-weighs : (start : ℕ) (n : Named P) → If (Within objectWeight (namedWeight n)) (object start n)
+  object-weighs : (start : ℕ) (n : Named P) → If (Within objectWeight (namedWeight n)) (object current start n)
   unfolding object
   object-weighs start n =
-      bind (objectFields (n .value)) _ (objectFields-weigh (n .value)) λ o p.
+      bind (objectFields (current .object) (n .value)) _ (objectFields-weigh (n .value)) λ o p.
+      bind (requiredIn (slot dtypeAt (current .object)) (o .dtype)) _ (anyhow (requiredIn (slot dtypeAt (current .object)) (o .dtype))) λ dtype u₄.
       bind (required (o .shape)) _ (anyhow (required (o .shape))) λ shape u₁.
       bind (required (o .format)) _ (taken (o .format)) λ format at-format.
       bind (required (o .components)) _ (taken (o .components)) λ components at-components.
+      bind (optional (aDtype current) dtype) _ (anyhow (optional (aDtype current) dtype)) λ d u₅.
       bind (shapeOf shape) _ (anyhow (shapeOf shape)) λ s u₂.
       bind (aText format) _ (text-weighs format) λ f spelt.
       bind (optional attributesOf (o .attributes)) _ (anyhow (optional attributesOf (o .attributes))) λ a u₃.
-      bind (componentsOf start components) _ (components-weigh start components) λ cs all.
+      bind (componentsOf current start (inherited (f .letters) d) components) _ (components-weigh start (inherited (f .letters) d) components) λ cs all.
       then (formatRules (f .letters) s (map part cs)) _ (passes _ (let b = p .both in omega (arith, b, at-format, at-components, spelt, all)))
 
-  objects-weigh : (start : ℕ) (t : Node P) → If (Within (sumOf objectWeight) (weight t)) (objectsOf start t)
+  objects-weigh : (start : ℕ) (t : Node P) → If (Within (sumOf objectWeight) (weight t)) (objectsOf current start t)
   unfolding objectsOf
   objects-weigh start t =
       bind (names objectLimit t) _ (names-weigh objectLimit t) λ ns q.
-      lighter (sumOf namedWeight ns) (each (λ i o. inObject i (object start o)) 0 ns) q
-      (each-weighs namedWeight objectWeight (λ i o. inObject i (object start o)) (λ i o. in-object i (object start o) (object-weighs start o)) 0 ns)
+      lighter (sumOf namedWeight ns) (each (λ i o. inObject i (object current start o)) 0 ns) q
+      (each-weighs namedWeight objectWeight (λ i o. inObject i (object current start o)) (λ i o. in-object i (object current start o) (object-weighs start o)) 0 ns)
 
-  judge-weighs : (start : ℕ) (t : Node P) → If (Within modelWeight (weight t)) (judge start t)
-  unfolding judge rootFields
+  judge-weighs : (start : ℕ) (t : Node P) → If (Within modelWeight (weight t)) (judge current start t)
+  unfolding judge rootFields field current
   judge-weighs start t =
-      bind (rootFields t) _ (bind (fields rootNames t) _ (fields-weigh rootNames t) λ ps q. passes {Q = λ (r : RootFields P). optionWeight (r .objects) ≤ weight t} _ (let g = get-one (ascii "objects") ps in omega (arith, g, q))) λ r p.
+      bind (rootFields (current .root) t) _ (bind (fields (current .root) t) _ (fields-weigh (current .root) t) λ ps q. passes {Q = λ (r : RootFields P). optionWeight (r .objects) ≤ weight t} _ (let g = get-one (ascii "objects") ps in omega (arith, g, q))) λ r p.
       bind (required (r .version)) _ (anyhow (required (r .version))) λ version u₁.
       then (aVersion version) _
       (bind (optional attributesOf (r .attributes)) _ (anyhow (optional attributesOf (r .attributes))) λ a u₂.
       bind (required (r .objects)) _ (taken (r .objects)) λ objects at-objects.
-      bind (objectsOf start objects) _ (objects-weigh start objects) λ os q. passes _ (omega (arith, p, at-objects, q)))
+      bind (objectsOf current start objects) _ (objects-weigh start objects) λ os q. passes _ (omega (arith, p, at-objects, q)))
 
 -- ---- a file
 
-pub reading-weighs : (file : List ℕ) → If (λ (r : Reading). modelWeight (r .model) ≤ length file) (reading file)
+pub reading-weighs : (file : List ℕ) → If (λ (r : Reading). modelWeight (r .model) ≤ length file) (reading current file)
 unfolding reading checked
 reading-weighs file =
-    bind (frame file) _ (anyhow (frame file)) λ f u.
+    bind (frame current file) _ (anyhow (frame current file)) λ f u.
     let s : List ℕ = take (f .size) (drop (f .start) file) in
     let shorter : length s ≤ length file = simp (length-take, length-drop) (omega arith) in
     bind (checked (manifest (spanTo (f .start + f .size)) s)) _ (tree (manifest (spanTo (f .start + f .size)) s) (manifest-light (spanTo (f .start + f .size)) s)) λ t p.
-    bind (judge (f .start) t) _ (judge-weighs (f .start) t) λ m q. passes _ (omega (arith, shorter, p, q))
+    bind (judge current (f .start) t) _ (judge-weighs (f .start) t) λ m q. passes _ (omega (arith, shorter, p, q))
   where
     tree : {n : ℕ} (o : Outcome (Node Span)) → Got (λ (t : Node Span) (r : List ℕ). weight t ≤ n) o → If (Within weight n) (checked o)
     tree (got t r) h = passes t (h .is)

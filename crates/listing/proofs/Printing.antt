@@ -15,6 +15,7 @@ use Rattle.meaning.specs.Frame.{Reading}
 use Rattle.meaning.specs.Rows as rows
 use Rattle.meaning.specs.Rows.{readInto, tableAfter}
 use Rattle.meaning.specs.Listing.{line, blanked, decimal, listing, listingOf, printed}
+use Rattle.meaning.specs.Layouts.{current}
 use Rattle.reader.specs.declared.into.Answer.{Answer}
 use Rattle.reader.specs.Answer.{answered}
 use Rattle.panel.specs.declared.Listed.{Listed}
@@ -48,15 +49,15 @@ module _ (file : List ℕ) where
 
   -- read into a table of 8,192 numbers
   module _ (short : length file ≤ 65536) (table after : List ℕ) (size : length table ≡ 8192) (a : Answer)
-      (told : (a ≡ answered (readInto file (length table))) × (after ≡ tableAfter table (readInto file (length table)))) where
-    by-reading : printed file ≡ listingOf (readInto file (length table))
+      (told : (a ≡ answered (readInto current file (length table))) × (after ≡ tableAfter table (readInto current file (length table)))) where
+    by-reading : printed file ≡ listingOf (readInto current file (length table))
     unfolding printed
     by-reading = rw (le-leb (length file) 65536 short, size) refl
 
     pub printed-refused : ((a .number ≡ 0) → ⊥)
         → pass (printed file) ≡ pass (line (ascii "refused") (decimal (a .number) ∷ decimal (a .object) ∷ decimal (a .component) ∷ []))
     unfolding listingOf rows.answer
-    printed-refused some = ap (λ (l : List ℕ). pass l) (by-reading ∙ by (readInto file (length table)) (told .0))
+    printed-refused some = ap (λ (l : List ℕ). pass l) (by-reading ∙ by (readInto current file (length table)) (told .0))
       where
         by : (k : Check Reading) → a ≡ answered k
             → listingOf k ≡ line (ascii "refused") (decimal (a .number) ∷ decimal (a .object) ∷ decimal (a .component) ∷ [])
@@ -68,6 +69,6 @@ module _ (file : List ℕ) where
     printed-listed zero =
         let q = read-zero file (length table) (sym (ap (λ (b : Answer). b .number) (told .0)) ∙ zero) in
         sym (ap (λ (b : Answer). listed file after (b .objects) (b .components)) (told .0)
-        ∙ ap (λ (t : List ℕ). listed file t (answered (readInto file (length table)) .objects) (answered (readInto file (length table)) .components)) (told .1)
+        ∙ ap (λ (t : List ℕ). listed file t (answered (readInto current file (length table)) .objects) (answered (readInto current file (length table)) .components)) (told .1)
         ∙ read-listing file table (q .0) (q .1)
         ∙ ap (λ (l : List ℕ). pass l) (sym (by-reading ∙ ap listingOf (q .1))))

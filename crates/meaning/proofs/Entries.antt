@@ -2,25 +2,27 @@
 -- unknown fields drops theirs.
 use Prim.Native.Nat.{ℕ, suc, _+_, _%_}
 use mathlib.Core.List.{List, [], _∷_, map}
-use mathlib.Core.Bool.{_&&_}
+use mathlib.Core.Bool.{true, _&&_}
 use mathlib.Core.Option.{Option, none, some}
 use mathlib.Core.Path.{_≡_, refl, ap, ap₂, sym, _∙_, subst}
 use lib.Dec.{eqb, leb}
 use lib.ListN.{length}
+use native.Mathlib.Omega.{arith}
 use Rattle.meaning.specs.Tree.{Node, Pair, noteOf, mapP}
-use Rattle.meaning.specs.Check.{Check, pass, refuse, _>>=_, _>>_, _unless_, inObject, inComponent, required, optional, each}
+use Rattle.meaning.specs.Check.{Check, pass, refuse, _>>=_, _>>_, _unless_, inObject, inComponent, required, requiredIn, optional, each}
 use Rattle.meaning.specs.Text.{ascii, all, distinct, filter, utf8}
 use Rattle.meaning.specs.Refusal.{KEY, TEXT, TWICE, COUNT, ALIGN, BOUNDS}
 use Rattle.meaning.specs.Limit.{objectLimit, componentLimit, alignment}
 use Rattle.meaning.specs.Model.{Named, Component, Object, Model}
 use Rattle.meaning.specs.Kind.{Kind, number, words, list, table, null, another, kind, aNumber, aTable, aText, present}
-use Rattle.meaning.specs.Field.{rootNames, objectNames, componentNames, isSome, keyOf, count, get, fields, rootFields, objectFields, componentFields, nameKind, nameOf, names}
-use Rattle.meaning.specs.Judge.{aDtype, aType, raw, attributesOf, component, part, shapeOf, componentsOf, object, aVersion, objectsOf, judge}
+use Rattle.meaning.specs.Layouts.{Slots, slot, somes, Layout, versionAt, objectsAt, dtypeAt, componentsAt}
+use Rattle.meaning.specs.Field.{isSome, keyOf, count, field, fields, rootFields, objectFields, componentFields, nameKind, nameOf, names}
+use Rattle.meaning.specs.Judge.{orElse, inherited, aDtype, aType, raw, attributesOf, component, part, shapeOf, componentsOf, object, aVersion, objectsOf, judge}
 use Rattle.meaning.specs.Format.{formatRules}
 use Rattle.meaning.specs.Notes.{mapCheck, mapOption, mapPair}
-use Rattle.meaning.specs.Drop.{plainVersion, known, inMap, inText, onValue, onField, dropComponent, dropObject, dropRoot}
-use Rattle.meaning.proofs.JudgeNatural.{aTable-map, get-map, map-map}
-use Rattle.meaning.proofs.DropKeepsVerdict.{aTable-inMap, get-same, get-other, get-known}
+use Rattle.meaning.specs.Drop.{plainVersion, known, holds, inMap, inText, onValue, onField, dropComponent, dropObject, dropRoot}
+use Rattle.meaning.proofs.JudgeNatural.{aTable-map, field-map, map-map}
+use Rattle.meaning.proofs.DropFields.{aTable-inMap, field-known, field-changed, value-same, value-apart, key-same}
 
 -- ---------------------------------------------------------------- the entries of a manifest
 
@@ -38,12 +40,12 @@ module _ {P : Type 0} where
   valuesIn (some t) = map (λ p. p .value) (pairsIn t)
 
   -- of an object's map
-  unfoldable pub entriesIn : Node P → List (Node P)
-  entriesIn t = valuesIn (get (ascii "components") (pairsIn t))
+  unfoldable pub entriesIn : Layout → Node P → List (Node P)
+  entriesIn L t = valuesIn (field (slot componentsAt (L .object)) (pairsIn t))
 
   -- of the root
-  unfoldable pub entriesOf : Node P → List (List (Node P))
-  entriesOf t = map entriesIn (valuesIn (get (ascii "objects") (pairsIn t)))
+  unfoldable pub entriesOf : Layout → Node P → List (List (Node P))
+  entriesOf L t = map (entriesIn L) (valuesIn (field (slot objectsAt (L .root)) (pairsIn t)))
 
 -- two ways round a square
 around : {A B C D : Type 0} (u : A → B) (h : B → D) (g : A → C) (v : C → D) → ((a : A) → h (u a) ≡ v (g a)) → (l : List A) → map h (map u l) ≡ map v (map g l)
@@ -66,16 +68,18 @@ module _ {P Q : Type 0} (f : P → Q) where
   valuesIn-map none = refl
   valuesIn-map (some t) = ap (map (λ p. p .value)) (pairsIn-map t) ∙ around (mapPair f) (λ p. p .value) (λ p. p .value) (mapP f) (λ p. refl) (pairsIn t)
 
-  field-map : (n : List ℕ) (t : Node P) → valuesIn (get n (pairsIn (mapP f t))) ≡ map (mapP f) (valuesIn (get n (pairsIn t)))
-  field-map n t = ap (λ ps. valuesIn (get n ps)) (pairsIn-map t) ∙ ap valuesIn (get-map f n (pairsIn t)) ∙ valuesIn-map (get n (pairsIn t))
+  values-map : (s : Option (List ℕ)) (t : Node P) → valuesIn (field s (pairsIn (mapP f t))) ≡ map (mapP f) (valuesIn (field s (pairsIn t)))
+  values-map s t = ap (λ ps. valuesIn (field s ps)) (pairsIn-map t) ∙ ap valuesIn (field-map f s (pairsIn t)) ∙ valuesIn-map (field s (pairsIn t))
 
-  entriesIn-map : (t : Node P) → entriesIn (mapP f t) ≡ map (mapP f) (entriesIn t)
+  entriesIn-map : (L : Layout) (t : Node P) → entriesIn L (mapP f t) ≡ map (mapP f) (entriesIn L t)
   unfolding entriesIn
-  entriesIn-map t = field-map (ascii "components") t
+  entriesIn-map L t = values-map (slot componentsAt (L .object)) t
 
-  pub entriesOf-map : (t : Node P) → entriesOf (mapP f t) ≡ map (map (mapP f)) (entriesOf t)
+  pub entriesOf-map : (L : Layout) (t : Node P) → entriesOf L (mapP f t) ≡ map (map (mapP f)) (entriesOf L t)
   unfolding entriesOf
-  entriesOf-map t = ap (map entriesIn) (field-map (ascii "objects") t) ∙ around (mapP f) entriesIn entriesIn (map (mapP f)) entriesIn-map (valuesIn (get (ascii "objects") (pairsIn t)))
+  entriesOf-map L t =
+      let s : Option (List ℕ) = slot objectsAt (L .root) in
+      ap (map (entriesIn L)) (values-map s t) ∙ around (mapP f) (entriesIn L) (entriesIn L) (map (mapP f)) (entriesIn-map L) (valuesIn (field s (pairsIn t)))
 
 -- ---------------------------------------------------------------- with unknown fields dropped
 
@@ -94,27 +98,32 @@ module _ {P : Type 0} where
   valuesIn-on g (some t) =
       ap (map (λ p. p .value)) (pairsIn-inMap (map (onValue g)) refl t) ∙ around (onValue g) (λ p. p .value) (λ p. p .value) g (λ p. refl) (pairsIn t)
 
-  entriesIn-drop : (t : Node P) → entriesIn (dropObject t) ≡ map dropComponent (entriesIn t)
-  unfolding entriesIn dropObject objectNames
-  entriesIn-drop t =
-      let within : Node P → Node P = inMap (map (onValue dropComponent)) in
-      let n : List ℕ = ascii "components" in
-      ap (λ ps. valuesIn (get n ps)) (pairsIn-inMap (λ ps. map (onField n within) (filter (known objectNames) ps)) refl t)
-      ∙ ap valuesIn (get-same n within (filter (known objectNames) (pairsIn t)) ∙ ap (mapOption within) (get-known objectNames n refl (pairsIn t)))
-      ∙ valuesIn-on dropComponent (get n (pairsIn t))
+  module _ (L : Layout) where
+    entriesIn-drop : (t : Node P) → entriesIn L (dropObject L t) ≡ map (dropComponent L) (entriesIn L t)
+    unfolding entriesIn dropObject
+    entriesIn-drop t =
+        let within : Node P → Node P = inMap (map (onValue (dropComponent L))) in
+        let s : Option (List ℕ) = slot componentsAt (L .object) in
+        let kept : List (Pair P) = filter (known (L .object)) (pairsIn t) in
+        ap (λ ps. valuesIn (field s ps)) (pairsIn-inMap (λ ps. map (onField s within) (filter (known (L .object)) ps)) refl t)
+        ∙ ap valuesIn (field-changed s (onField s within) within (key-same s within) (value-same s within) kept ∙ ap (mapOption within) (field-known (L .object) componentsAt (pairsIn t)))
+        ∙ valuesIn-on (dropComponent L) (field s (pairsIn t))
 
-  pub entriesOf-drop : (t : Node P) → entriesOf (dropRoot t) ≡ map (map dropComponent) (entriesOf t)
-  unfolding entriesOf dropRoot rootNames
-  entriesOf-drop t =
-      let within : Node P → Node P = inMap (map (onValue dropObject)) in
-      let n : List ℕ = ascii "objects" in
-      let kept : List (Pair P) = filter (known rootNames) (pairsIn t) in
-      ap (λ ps. map entriesIn (valuesIn (get n ps)))
-      (pairsIn-inMap (λ ps. map (onField (ascii "version") (inText plainVersion)) (map (onField n within) (filter (known rootNames) ps))) refl t)
-      ∙ ap (λ o. map entriesIn (valuesIn o))
-      (get-other n (ascii "version") (inText plainVersion) refl (map (onField n within) kept) ∙ get-same n within kept ∙ ap (mapOption within) (get-known rootNames n refl (pairsIn t)))
-      ∙ ap (map entriesIn) (valuesIn-on dropObject (get n (pairsIn t)))
-      ∙ around dropObject entriesIn entriesIn (map dropComponent) entriesIn-drop (valuesIn (get n (pairsIn t)))
+    pub entriesOf-drop : (t : Node P) → entriesOf L (dropRoot L t) ≡ map (map (dropComponent L)) (entriesOf L t)
+    unfolding entriesOf dropRoot
+    entriesOf-drop t =
+        let within : Node P → Node P = inMap (map (onValue (dropObject L))) in
+        let s : Option (List ℕ) = slot objectsAt (L .root) in
+        let v : Option (List ℕ) = slot versionAt (L .root) in
+        let u : Pair P → Pair P = λ p. onField v (inText plainVersion) (onField s within p) in
+        let kept : List (Pair P) = filter (known (L .root)) (pairsIn t) in
+        let keys : (p : Pair P) → (u p) .key ≡ p .key = λ p. key-same v (inText plainVersion) (onField s within p) ∙ key-same s within p in
+        let values : (p : Pair P) → holds s p ≡ true → (u p) .value ≡ within (p .value) =
+        λ p h. value-apart (L .root) (L .rootApart) objectsAt versionAt (λ e. omega arith) (inText plainVersion) p (onField s within p) (sym (key-same s within p)) h ∙ value-same s within p h in
+        ap (λ ps. map (entriesIn L) (valuesIn (field s ps))) (pairsIn-inMap (λ ps. map u (filter (known (L .root)) ps)) refl t)
+        ∙ ap (λ o. map (entriesIn L) (valuesIn o)) (field-changed s u within keys values kept ∙ ap (mapOption within) (field-known (L .root) objectsAt (pairsIn t)))
+        ∙ ap (map (entriesIn L)) (valuesIn-on (dropObject L) (field s (pairsIn t)))
+        ∙ around (dropObject L) (entriesIn L) (entriesIn L) (map (dropComponent L)) entriesIn-drop (valuesIn (field s (pairsIn t)))
 
 -- ---------------------------------------------------------------- of what is judged
 
@@ -188,11 +197,11 @@ module _ {P : Type 0} where
   abbrev pub EntriesAre : Object P → List (Node P) → Type 0
   EntriesAre o xs = Along EntryIs (o .components) xs
 
-  fields-give : (ns : List (List ℕ)) (t : Node P) → Gives (λ ps. (ps ≡ pairsIn t) × IsMap t) (fields ns t)
+  fields-give : (slots : Slots) (t : Node P) → Gives (λ ps. (ps ≡ pairsIn t) × IsMap t) (fields slots t)
   unfolding fields pairsIn pairsOr
-  fields-give ns t =
+  fields-give slots t =
       bind (aTable t) _ λ ps e.
-      then (KEY unless all (λ p. isSome (keyOf p)) ps) _ (then (TWICE unless all (λ n. leb (count n ps) 1) ns) _
+      then (KEY unless all (λ p. isSome (keyOf p)) ps) _ (then (TWICE unless all (λ n. leb (count n ps) 1) (somes slots)) _
       (passes ps (sym (ap pairsOr e), record { pairs = ps; is = e })))
 
   name-gives : (v : Node P) (k : Kind P) → Gives (λ n. n .value ≡ v) (nameKind v k)
@@ -212,57 +221,63 @@ module _ {P : Type 0} where
       (given (each-same (λ i. nameOf) (λ p. p .value) (λ n. n .value) (λ i p. name-gives (p .value) (kind (p .key))) 0 ps) e′ ∙ ap (λ k. map (λ p. p .value) (pairsOr k)) (sym e)))))
 
   -- each kind of map, and the field that matters
-  component-map : (t : Node P) → Gives (λ c. IsMap t) (componentFields t)
-  unfolding componentFields
-  component-map t = bind (fields componentNames t) _ λ ps e. passes _ (given (fields-give componentNames t) e .1)
+  module _ (L : Layout) where
+    component-map : (t : Node P) → Gives (λ c. IsMap t) (componentFields (L .component) t)
+    unfolding componentFields
+    component-map t = bind (fields (L .component) t) _ λ ps e. passes _ (given (fields-give (L .component) t) e .1)
 
-  components-field : (t : Node P) → Gives (λ o. o .components ≡ get (ascii "components") (pairsIn t)) (objectFields t)
-  unfolding objectFields
-  components-field t = bind (fields objectNames t) _ λ ps e. passes _ (ap (get (ascii "components")) (given (fields-give objectNames t) e .0))
+    components-field : (t : Node P) → Gives (λ o. o .components ≡ field (slot componentsAt (L .object)) (pairsIn t)) (objectFields (L .object) t)
+    unfolding objectFields
+    components-field t = bind (fields (L .object) t) _ λ ps e. passes _ (ap (field (slot componentsAt (L .object))) (given (fields-give (L .object) t) e .0))
 
-  objects-field : (t : Node P) → Gives (λ r. r .objects ≡ get (ascii "objects") (pairsIn t)) (rootFields t)
-  unfolding rootFields
-  objects-field t = bind (fields rootNames t) _ λ ps e. passes _ (ap (get (ascii "objects")) (given (fields-give rootNames t) e .0))
+    objects-field : (t : Node P) → Gives (λ r. r .objects ≡ field (slot objectsAt (L .root)) (pairsIn t)) (rootFields (L .root) t)
+    unfolding rootFields
+    objects-field t = bind (fields (L .root) t) _ λ ps e. passes _ (ap (field (slot objectsAt (L .root))) (given (fields-give (L .root) t) e .0))
 
-  component-gives : (start : ℕ) (n : Named P) → Gives (λ c. EntryIs c (n .value)) (component start n)
-  unfolding component
-  component-gives start n =
-      bind (componentFields (n .value)) _ λ c e.
-      let m = given (component-map (n .value)) e in
-      bind (required (c .dtype)) _ λ dtype e. bind (required (c .offset)) _ λ offset e. bind (required (c .length)) _ λ length e.
-      bind (aDtype dtype) _ λ d e. bind (optional (aType d) (present (c .type))) _ λ t e. bind (aNumber offset) _ λ o e. bind (aNumber length) _ λ l e.
-      then (optional aNumber (present (c .uncompressed-length))) _ (then (optional raw (c .encoding)) _ (bind (optional aText (present (c .digest))) _ λ g e.
-      then (ALIGN unless eqb (o % alignment) 0) _ (then (BOUNDS unless (leb alignment o && leb (o + l) start)) _ (passes _ (record { noted = refl; map = m })))))
+    component-gives : (start : ℕ) (above : Option ℕ) (n : Named P) → Gives (λ c. EntryIs c (n .value)) (component L start above n)
+    unfolding component
+    component-gives start above n =
+        bind (componentFields (L .component) (n .value)) _ λ c e.
+        let m = given (component-map (n .value)) e in
+        bind (requiredIn (slot dtypeAt (L .component)) (c .dtype)) _ λ dtype e. bind (required (c .offset)) _ λ offset e. bind (required (c .length)) _ λ length e.
+        bind (optional (aDtype L) dtype) _ λ own e. bind (required (orElse own above)) _ λ d e.
+        bind (optional (aType d) (present (c .type))) _ λ t e. bind (aNumber offset) _ λ o e. bind (aNumber length) _ λ l e.
+        then (optional aNumber (present (c .uncompressed-length))) _ (then (optional raw (c .encoding)) _ (bind (optional aText (present (c .digest))) _ λ g e.
+        then (ALIGN unless eqb (o % alignment) 0) _ (then (BOUNDS unless (leb alignment o && leb (o + l) start)) _ (passes _ (record { noted = refl; map = m })))))
 
-  components-give : (start : ℕ) (t : Node P) → Gives (λ cs. Along EntryIs cs (valuesIn (some t))) (componentsOf start t)
-  unfolding componentsOf
-  components-give start t =
-      bind (names componentLimit t) _ λ ns e.
-      subst (λ xs. Gives (λ cs. Along EntryIs cs xs) (each (λ j c. inComponent j (component start c)) 0 ns)) (given (names-give componentLimit t) e)
-      (each-along (λ j c. inComponent j (component start c)) (λ n. n .value) (λ j n. in-component j (component start n) (component-gives start n)) 0 ns)
+    components-give : (start : ℕ) (above : List ℕ → Option ℕ) (t : Node P) → Gives (λ cs. Along EntryIs cs (valuesIn (some t))) (componentsOf L start above t)
+    unfolding componentsOf
+    components-give start above t =
+        let one : ℕ → Named P → Check (Component P) = λ j c. inComponent j (component L start (above (c .name .letters)) c) in
+        bind (names componentLimit t) _ λ ns e.
+        subst (λ xs. Gives (λ cs. Along EntryIs cs xs) (each one 0 ns)) (given (names-give componentLimit t) e)
+        (each-along one (λ n. n .value) (λ j n. in-component j (component L start (above (n .name .letters)) n) (component-gives start (above (n .name .letters)) n)) 0 ns)
 
-  object-gives : (start : ℕ) (n : Named P) → Gives (λ o. EntriesAre o (entriesIn (n .value))) (object start n)
-  unfolding object entriesIn
-  object-gives start n =
-      bind (objectFields (n .value)) _ λ o has. bind (required (o .shape)) _ λ shape e. bind (required (o .format)) _ λ format e. bind (required (o .components)) _ λ components there.
-      bind (shapeOf shape) _ λ s e. bind (aText format) _ λ f e. bind (optional attributesOf (o .attributes)) _ λ a e. bind (componentsOf start components) _ λ cs are.
-      then (formatRules (f .letters) s (map part cs)) _ (passes _ (subst (λ x. Along EntryIs cs (valuesIn x)) (sym (required-is (o .components) components there) ∙ given (components-field (n .value)) has) (given (components-give start components) are)))
+    object-gives : (start : ℕ) (n : Named P) → Gives (λ o. EntriesAre o (entriesIn L (n .value))) (object L start n)
+    unfolding object entriesIn
+    object-gives start n =
+        bind (objectFields (L .object) (n .value)) _ λ o has. bind (requiredIn (slot dtypeAt (L .object)) (o .dtype)) _ λ dtype e.
+        bind (required (o .shape)) _ λ shape e. bind (required (o .format)) _ λ format e. bind (required (o .components)) _ λ components there.
+        bind (optional (aDtype L) dtype) _ λ d e. bind (shapeOf shape) _ λ s e. bind (aText format) _ λ f e. bind (optional attributesOf (o .attributes)) _ λ a e.
+        bind (componentsOf L start (inherited (f .letters) d) components) _ λ cs are.
+        then (formatRules (f .letters) s (map part cs)) _ (passes _ (subst (λ x. Along EntryIs cs (valuesIn x))
+        (sym (required-is (o .components) components there) ∙ given (components-field (n .value)) has) (given (components-give start (inherited (f .letters) d) components) are)))
 
-  objects-give : (start : ℕ) (t : Node P) → Gives (λ os. Along EntriesAre os (map entriesIn (valuesIn (some t)))) (objectsOf start t)
-  unfolding objectsOf
-  objects-give start t =
-      bind (names objectLimit t) _ λ ns e.
-      subst (λ xs. Gives (λ os. Along EntriesAre os xs) (each (λ i o. inObject i (object start o)) 0 ns))
-      (sym (map-map (λ n. n .value) entriesIn ns) ∙ ap (map entriesIn) (given (names-give objectLimit t) e))
-      (each-along (λ i o. inObject i (object start o)) (λ n. entriesIn (n .value)) (λ i n. in-object i (object start n) (object-gives start n)) 0 ns)
+    objects-give : (start : ℕ) (t : Node P) → Gives (λ os. Along EntriesAre os (map (entriesIn L) (valuesIn (some t)))) (objectsOf L start t)
+    unfolding objectsOf
+    objects-give start t =
+        bind (names objectLimit t) _ λ ns e.
+        subst (λ xs. Gives (λ os. Along EntriesAre os xs) (each (λ i o. inObject i (object L start o)) 0 ns))
+        (sym (map-map (λ n. n .value) (entriesIn L) ns) ∙ ap (map (entriesIn L)) (given (names-give objectLimit t) e))
+        (each-along (λ i o. inObject i (object L start o)) (λ n. entriesIn L (n .value)) (λ i n. in-object i (object L start n) (object-gives start n)) 0 ns)
 
-  judge-gives : (start : ℕ) (t : Node P) → Gives (λ m. Along EntriesAre (m .objects) (entriesOf t)) (judge start t)
-  unfolding judge entriesOf
-  judge-gives start t =
-      bind (rootFields t) _ λ r has. bind (required (r .version)) _ λ version e. then (aVersion version) _ (bind (optional attributesOf (r .attributes)) _ λ a e.
-      bind (required (r .objects)) _ λ objects there. bind (objectsOf start objects) _ λ os are.
-      passes _ (subst (λ x. Along EntriesAre os (map entriesIn (valuesIn x))) (sym (required-is (r .objects) objects there) ∙ given (objects-field t) has) (given (objects-give start objects) are)))
+    judge-gives : (start : ℕ) (t : Node P) → Gives (λ m. Along EntriesAre (m .objects) (entriesOf L t)) (judge L start t)
+    unfolding judge entriesOf
+    judge-gives start t =
+        bind (rootFields (L .root) t) _ λ r has. bind (required (r .version)) _ λ version e. then (aVersion version) _ (bind (optional attributesOf (r .attributes)) _ λ a e.
+        bind (required (r .objects)) _ λ objects there. bind (objectsOf L start objects) _ λ os are.
+        passes _ (subst (λ x. Along EntriesAre os (map (entriesIn L) (valuesIn x))) (sym (required-is (r .objects) objects there) ∙ given (objects-field t) has) (given (objects-give start objects) are)))
 
-  -- the components of a manifest that passes were read from its entries, in order
-  pub judged-entries : (start : ℕ) (t : Node P) (m : Model P) → judge start t ≡ pass m → Along EntriesAre (m .objects) (entriesOf t)
-  judged-entries start t m e = given (judge-gives start t) e
+    -- the components of a manifest that passes were read from its entries, in order
+    pub judged-entries : (start : ℕ) (t : Node P) (m : Model P) → judge L start t ≡ pass m → Along EntriesAre (m .objects) (entriesOf L t)
+    judged-entries start t m e = given (judge-gives start t) e

@@ -7,11 +7,12 @@ use mathlib.Core.Path.{_≡_, refl, ap, sym}
 use lib.Dec.{eqb, leb}
 use lib.ListN.{length-map}
 use Rattle.meaning.specs.Tree.{Node, Nodes, Pairs, uint, nint, bytes, text, chunkedBytes, chunkedText, array, dict, tag, simple, float, ε, _▸_, ∅, _⇒_▸_, Pair, noteOf, mapP, mapNodes, mapPairs, nodeList, pairList}
-use Rattle.meaning.specs.Check.{Check, pass, refuse, _>>=_, _>>_, inObject, inComponent, required, optional, each}
+use Rattle.meaning.specs.Check.{Check, pass, refuse, _>>=_, _>>_, inObject, inComponent, required, requiredIn, optional, each}
 use Rattle.meaning.specs.Text.{all}
 use Rattle.meaning.specs.Model.{Word, Named, Component}
 use Rattle.meaning.specs.Kind.{Kind, number, words, list, table, null, another, kind, asNumber, asWord, asList, asTable, presentKind, present, aNumber, aWord, aList, aTable, aText}
-use Rattle.meaning.specs.Field.{isSome, keyKind, keyOf, named, count, get, fields, rootFields, objectFields, componentFields, nameKind, nameOf, names}
+use Rattle.meaning.specs.Layouts.{Slots, somes, Layout}
+use Rattle.meaning.specs.Field.{isSome, keyKind, keyOf, named, count, get, field, fields, rootFields, objectFields, componentFields, nameKind, nameOf, names}
 use Rattle.meaning.specs.Judge.{aDtype, aType, raw, component, part, lettersOf, attributesOf, shapeOf, componentsOf, object, aVersion, objectsOf, judge}
 use Rattle.meaning.specs.Notes.{mapCheck, mapOption, mapWord, mapPair, mapNamed, mapKind, mapRoot, mapObjectFields, mapComponentFields, mapComponent, mapObject, mapModel}
 
@@ -56,6 +57,11 @@ module _ {A B : Type 0} where
   required-map u none = refl
   required-map u (some a) = refl
 
+  pub requiredIn-map : (s : Option (List ℕ)) (u : A → B) (o : Option A) → requiredIn s (mapOption u o) ≡ mapCheck (mapOption u) (requiredIn s o)
+  requiredIn-map none u o = refl
+  requiredIn-map (some n) u none = refl
+  requiredIn-map (some n) u (some a) = refl
+
   pub all-map : (u : A → B) (p : B → Bool) (l : List A) → all p (map u l) ≡ all (λ a. p (u a)) l
   all-map u p [] = refl
   all-map u p (a ∷ l) = ap (λ r. p (u a) && r) (all-map u p l)
@@ -64,7 +70,7 @@ module _ {A B : Type 0} where
   map-map u v [] = refl
   map-map {C} u v (a ∷ l) = ap {B = List C} (λ r. v (u a) ∷ r) (map-map u v l)
 
-pub ruleset Bind = (map-bind, bind-map, map-then, then-map, required-map, inComponent-map, inObject-map)
+pub ruleset Bind = (map-bind, bind-map, map-then, then-map, required-map, requiredIn-map, inComponent-map, inObject-map)
 
 module _ {P Q : Type 0} (f : P → Q) where
   nodeList-map : (ns : Nodes P) → nodeList (mapNodes f ns) ≡ map (mapP f) (nodeList ns)
@@ -201,21 +207,26 @@ module _ {P Q : Type 0} (f : P → Q) where
   repeats-map : (ns : List (List ℕ)) (ps : List (Pair P)) → all (λ n. leb (count n (map (mapPair f) ps)) 1) ns ≡ all (λ n. leb (count n ps) 1) ns
   repeats-map ns ps = simp count-map
 
-  fields-map : (ns : List (List ℕ)) (t : Node P) → fields ns (mapP f t) ≡ mapCheck (map (mapPair f)) (fields ns t)
+  pub field-map : (s : Option (List ℕ)) (ps : List (Pair P)) → field s (map (mapPair f) ps) ≡ mapOption (mapP f) (field s ps)
+  unfolding field
+  field-map none ps = refl
+  field-map (some n) ps = get-map n ps
+
+  fields-map : (slots : Slots) (t : Node P) → fields slots (mapP f t) ≡ mapCheck (map (mapPair f)) (fields slots t)
   unfolding fields
-  fields-map ns t = simp (aTable-map, keys-map, repeats-map, map-bind, bind-map, map-then, then-map)
+  fields-map slots t = simp (aTable-map, keys-map, repeats-map, map-bind, bind-map, map-then, then-map)
 
-  rootFields-map : (t : Node P) → rootFields (mapP f t) ≡ mapCheck (mapRoot f) (rootFields t)
+  rootFields-map : (slots : Slots) (t : Node P) → rootFields slots (mapP f t) ≡ mapCheck (mapRoot f) (rootFields slots t)
   unfolding rootFields
-  rootFields-map t = simp (fields-map, get-map, map-bind, bind-map)
+  rootFields-map slots t = simp (fields-map, field-map, map-bind, bind-map)
 
-  objectFields-map : (t : Node P) → objectFields (mapP f t) ≡ mapCheck (mapObjectFields f) (objectFields t)
+  objectFields-map : (slots : Slots) (t : Node P) → objectFields slots (mapP f t) ≡ mapCheck (mapObjectFields f) (objectFields slots t)
   unfolding objectFields
-  objectFields-map t = simp (fields-map, get-map, map-bind, bind-map)
+  objectFields-map slots t = simp (fields-map, field-map, map-bind, bind-map)
 
-  componentFields-map : (t : Node P) → componentFields (mapP f t) ≡ mapCheck (mapComponentFields f) (componentFields t)
+  componentFields-map : (slots : Slots) (t : Node P) → componentFields slots (mapP f t) ≡ mapCheck (mapComponentFields f) (componentFields slots t)
   unfolding componentFields
-  componentFields-map t = simp (fields-map, get-map, map-bind, bind-map)
+  componentFields-map slots t = simp (fields-map, field-map, map-bind, bind-map)
 
   nameKind-map : (v : Node P) (k : Kind P) → nameKind (mapP f v) (mapKind f k) ≡ mapCheck (mapNamed f) (nameKind v k)
   unfolding nameKind
@@ -235,9 +246,9 @@ module _ {P Q : Type 0} (f : P → Q) where
   names-map limit t =
       simp (aTable-map, each-map (mapPair f) (mapNamed f) (λ i. nameOf) (λ i. nameOf) (λ i. nameOf-map), all-map, map-map, length-map, Bind)
 
-  aDtype-map : (t : Node P) → aDtype (mapP f t) ≡ aDtype t
+  aDtype-map : (L : Layout) (t : Node P) → aDtype L (mapP f t) ≡ aDtype L t
   unfolding aDtype
-  aDtype-map t = simp (aWord-map, Bind)
+  aDtype-map L t = simp (aWord-map, Bind)
 
   aType-map : (d : ℕ) (t : Node P) → aType d (mapP f t) ≡ mapCheck (mapWord f) (aType d t)
   unfolding aType
@@ -270,10 +281,21 @@ module _ {P Q : Type 0} (f : P → Q) where
   note-map (simple p n) = refl
   note-map (float p w b) = refl
 
-  component-map : (start : ℕ) (n : Named P) → component start (mapNamed f n) ≡ mapCheck (mapComponent f) (component start n)
+  component-map : (L : Layout) (start : ℕ) (above : Option ℕ) (n : Named P) → component L start above (mapNamed f n) ≡ mapCheck (mapComponent f) (component L start above n)
   unfolding component
-  component-map start n =
-      simp (note-map, componentFields-map, aDtype-map, present-map, optional-type, optional-text, aNumber-map, optional-same aNumber aNumber aNumber-map, optional-same raw raw raw-map, Bind)
+  component-map L start above n =
+      simp (
+        note-map,
+        componentFields-map,
+        optional-same (aDtype L) (aDtype L) (aDtype-map L),
+        present-map,
+        optional-type,
+        optional-text,
+        aNumber-map,
+        optional-same aNumber aNumber aNumber-map,
+        optional-same raw raw raw-map,
+        Bind,
+      )
 
   attributesOf-map : (t : Node P) → attributesOf (mapP f t) ≡ mapCheck (mapP f) (attributesOf t)
   unfolding attributesOf
@@ -295,36 +317,39 @@ module _ {P Q : Type 0} (f : P → Q) where
   unfolding part
   part-map c = simp letters-map
 
-  components-map : (start i : ℕ) (ns : List (Named P))
-      → each (λ j c. inComponent j (component start c)) i (map (mapNamed f) ns) ≡ mapCheck (map (mapComponent f)) (each (λ j c. inComponent j (component start c)) i ns)
-  components-map start =
-      each-map (mapNamed f) (mapComponent f) (λ j c. inComponent j (component start c)) (λ j c. inComponent j (component start c)) (λ j c. simp (component-map, Bind))
-
   shapeOf-map : (t : Node P) → shapeOf (mapP f t) ≡ shapeOf t
   unfolding shapeOf
   shapeOf-map t = simp (aList-map, each-number, Bind)
 
-  componentsOf-map : (start : ℕ) (t : Node P) → componentsOf start (mapP f t) ≡ mapCheck (map (mapComponent f)) (componentsOf start t)
+  componentsOf-map : (L : Layout) (start : ℕ) (above : List ℕ → Option ℕ) (t : Node P)
+      → componentsOf L start above (mapP f t) ≡ mapCheck (map (mapComponent f)) (componentsOf L start above t)
   unfolding componentsOf
-  componentsOf-map start t = simp (names-map, components-map, Bind)
+  componentsOf-map L start above t =
+      simp (
+        names-map,
+        each-map (mapNamed f) (mapComponent f) (λ j c. inComponent j (component L start (above (c .name .letters)) c)) (λ j c. inComponent j (component L start (above (c .name .letters)) c))
+            (λ j c. simp (component-map, Bind)),
+        Bind,
+      )
 
-  object-map : (start : ℕ) (n : Named P) → object start (mapNamed f n) ≡ mapCheck (mapObject f) (object start n)
+  object-map : (L : Layout) (start : ℕ) (n : Named P) → object L start (mapNamed f n) ≡ mapCheck (mapObject f) (object L start n)
   unfolding object
-  object-map start n = simp (objectFields-map, shapeOf-map, aText-map, optional-attributes, componentsOf-map, map-map, part-map, Bind)
-
-  objects-map : (start i : ℕ) (ns : List (Named P))
-      → each (λ j c. inObject j (object start c)) i (map (mapNamed f) ns) ≡ mapCheck (map (mapObject f)) (each (λ j c. inObject j (object start c)) i ns)
-  objects-map start =
-      each-map (mapNamed f) (mapObject f) (λ j c. inObject j (object start c)) (λ j c. inObject j (object start c)) (λ j c. simp (object-map, Bind))
+  object-map L start n =
+      simp (objectFields-map, optional-same (aDtype L) (aDtype L) (aDtype-map L), shapeOf-map, aText-map, optional-attributes, componentsOf-map, map-map, part-map, Bind)
 
   aVersion-map : (t : Node P) → aVersion (mapP f t) ≡ aVersion t
   unfolding aVersion
   aVersion-map t = simp (aWord-map, Bind)
 
-  objectsOf-map : (start : ℕ) (t : Node P) → objectsOf start (mapP f t) ≡ mapCheck (map (mapObject f)) (objectsOf start t)
+  objectsOf-map : (L : Layout) (start : ℕ) (t : Node P) → objectsOf L start (mapP f t) ≡ mapCheck (map (mapObject f)) (objectsOf L start t)
   unfolding objectsOf
-  objectsOf-map start t = simp (names-map, objects-map, Bind)
+  objectsOf-map L start t =
+      simp (
+        names-map,
+        each-map (mapNamed f) (mapObject f) (λ j c. inObject j (object L start c)) (λ j c. inObject j (object L start c)) (λ j c. simp (object-map, Bind)),
+        Bind,
+      )
 
-  pub judge-map : (start : ℕ) (t : Node P) → judge start (mapP f t) ≡ mapCheck (mapModel f) (judge start t)
+  pub judge-map : (L : Layout) (start : ℕ) (t : Node P) → judge L start (mapP f t) ≡ mapCheck (mapModel f) (judge L start t)
   unfolding judge
-  judge-map start t = simp (rootFields-map, aVersion-map, optional-attributes, objectsOf-map, Bind)
+  judge-map L start t = simp (rootFields-map, aVersion-map, optional-attributes, objectsOf-map, Bind)

@@ -42,6 +42,11 @@ module _ {A : Type 0} where
   required none = fault MISSING
   required (some a) = pass a
 
+  -- required where the layout has the field
+  abbrev pub requiredIn : Option (List ℕ) → Option A → Check (Option A)
+  requiredIn none o = pass o
+  requiredIn (some n) o = required o >>= λ a. pass (some a)
+
 module _ {A B : Type 0} where
   -- a check of what may be absent
   abbrev pub optional : (A → Check B) → Option A → Check (Option B)

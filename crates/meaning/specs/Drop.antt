@@ -6,7 +6,8 @@ use mathlib.Core.Option.{Option, none, some}
 use Rattle.meaning.specs.Tree.{Node, Pair, uint, nint, bytes, text, chunkedBytes, chunkedText, array, dict, tag, simple, float, pairs, pairList}
 use Rattle.meaning.specs.Text.{filter, oneOf, ascii}
 use Rattle.meaning.specs.Version.{versionShape, majorOne}
-use Rattle.meaning.specs.Field.{keyOf, named, rootNames, objectNames, componentNames}
+use Rattle.meaning.specs.Layouts.{Slots, slot, somes, Layout, versionAt, objectsAt, componentsAt}
+use Rattle.meaning.specs.Field.{keyOf, named}
 
 -- whole text and none of the names
 unfoldable pub isUnknown : List (List ℕ) → Option (List ℕ) → Bool
@@ -17,8 +18,13 @@ unfoldable pub plainVersion : List ℕ → List ℕ
 plainVersion v = cond (versionShape v && majorOne v) (ascii "1.0") v
 
 module _ {P : Type 0} where
-  unfoldable pub known : List (List ℕ) → Pair P → Bool
-  known names p = not (isUnknown names (keyOf p))
+  unfoldable pub known : Slots → Pair P → Bool
+  known slots p = not (isUnknown (somes slots) (keyOf p))
+
+  -- a pair of this field
+  unfoldable pub holds : Option (List ℕ) → Pair P → Bool
+  holds none p = false
+  holds (some n) p = named n p
 
   -- a change of the pairs of a map
   unfoldable pub inMap : (List (Pair P) → List (Pair P)) → Node P → Node P
@@ -52,15 +58,16 @@ module _ {P : Type 0} where
   onValue g p = record { key = p .key; value = g (p .value) }
 
   -- a change of the values of a field
-  unfoldable pub onField : List ℕ → (Node P → Node P) → Pair P → Pair P
-  onField n g p = record { key = p .key; value = cond (named n p) (g (p .value)) (p .value) }
+  unfoldable pub onField : Option (List ℕ) → (Node P → Node P) → Pair P → Pair P
+  onField s g p = record { key = p .key; value = cond (holds s p) (g (p .value)) (p .value) }
 
+module _ (L : Layout) {P : Type 0} where
   unfoldable pub dropComponent : Node P → Node P
-  dropComponent = inMap (filter (known componentNames))
+  dropComponent = inMap (filter (known (L .component)))
 
   unfoldable pub dropObject : Node P → Node P
-  dropObject = inMap (λ ps. map (onField (ascii "components") (inMap (map (onValue dropComponent)))) (filter (known objectNames) ps))
+  dropObject = inMap (λ ps. map (onField (slot componentsAt (L .object)) (inMap (map (onValue dropComponent)))) (filter (known (L .object)) ps))
 
   unfoldable pub dropRoot : Node P → Node P
   dropRoot =
-      inMap (λ ps. map (onField (ascii "version") (inText plainVersion)) (map (onField (ascii "objects") (inMap (map (onValue dropObject)))) (filter (known rootNames) ps)))
+      inMap (λ ps. map (λ p. onField (slot versionAt (L .root)) (inText plainVersion) (onField (slot objectsAt (L .root)) (inMap (map (onValue dropObject))) p)) (filter (known (L .root)) ps))

@@ -10,17 +10,8 @@ use Rattle.meaning.specs.Check.{Check, pass, _>>=_, _>>_, _unless_, faul
 use Rattle.meaning.specs.Text.{ascii, same, all, distinct, utf8}
 use Rattle.meaning.specs.Refusal.{KEY, TEXT, TWICE, COUNT}
 use Rattle.meaning.specs.Model.{Named, RootFields, ObjectFields, ComponentFields}
+use Rattle.meaning.specs.Layouts.{Slots, slot, Layout, somes}
 use Rattle.meaning.specs.Kind.{Kind, number, words, list, table, null, another, kind, aTable}
-
--- the known fields, in checking and writing order
-unfoldable pub rootNames : List (List ℕ)
-rootNames = ascii "version" ∷ ascii "attributes" ∷ ascii "objects" ∷ []
-
-unfoldable pub objectNames : List (List ℕ)
-objectNames = ascii "shape" ∷ ascii "format" ∷ ascii "attributes" ∷ ascii "components" ∷ []
-
-unfoldable pub componentNames : List (List ℕ)
-componentNames = ascii "dtype" ∷ ascii "type" ∷ ascii "offset" ∷ ascii "length" ∷ ascii "uncompressed_length" ∷ ascii "encoding" ∷ ascii "digest" ∷ []
 
 unfoldable pub isSome : {A : Type 0} → Option A → Bool
 isSome none = false
@@ -54,40 +45,46 @@ module _ {P : Type 0} where
   get n [] = none
   get n (p ∷ ps) = let r = get n ps in cond (named n p) (some (p .value)) r
 
+  -- a field that the layout may lack
+  unfoldable pub field : Option (List ℕ) → List (Pair P) → Option (Node P)
+  field none ps = none
+  field (some n) ps = get n ps
+
   -- kind, keys, repeats
-  unfoldable pub fields : List (List ℕ) → Node P → Check (List (Pair P))
+  unfoldable pub fields : Slots → Node P → Check (List (Pair P))
   fields known t = do
     ps ← aTable t
     KEY unless all (λ p. isSome (keyOf p)) ps
-    TWICE unless all (λ n. leb (count n ps) 1) known
+    TWICE unless all (λ n. leb (count n ps) 1) (somes known)
     pass ps
 
-  unfoldable pub rootFields : Node P → Check (RootFields P)
-  rootFields t = do
-    ps ← fields rootNames t
-    pass (record { version = get (ascii "version") ps; attributes = get (ascii "attributes") ps; objects = get (ascii "objects") ps })
+  unfoldable pub rootFields : Slots → Node P → Check (RootFields P)
+  rootFields known t = do
+    ps ← fields known t
+    pass (record { version = field (slot 0 known) ps; attributes = field (slot 1 known) ps; objects = field (slot 2 known) ps })
 
-  unfoldable pub objectFields : Node P → Check (ObjectFields P)
-  objectFields t = do
-    ps ← fields objectNames t
+  unfoldable pub objectFields : Slots → Node P → Check (ObjectFields P)
+  objectFields known t = do
+    ps ← fields known t
     pass (record {
-      shape = get (ascii "shape") ps;
-      format = get (ascii "format") ps;
-      attributes = get (ascii "attributes") ps;
-      components = get (ascii "components") ps;
+      dtype = field (slot 0 known) ps;
+      shape = field (slot 1 known) ps;
+      format = field (slot 2 known) ps;
+      attributes = field (slot 3 known) ps;
+      components = field (slot 4 known) ps;
     })
 
-  unfoldable pub componentFields : Node P → Check (ComponentFields P)
-  componentFields t = do
-    ps ← fields componentNames t
+  unfoldable pub componentFields : Slots → Node P → Check (ComponentFields P)
+  componentFields known t = do
+    ps ← fields known t
     pass (record {
-      dtype = get (ascii "dtype") ps;
-      type = get (ascii "type") ps;
-      offset = get (ascii "offset") ps;
-      length = get (ascii "length") ps;
-      uncompressed-length = get (ascii "uncompressed_length") ps;
-      encoding = get (ascii "encoding") ps;
-      digest = get (ascii "digest") ps;
+      dtype = field (slot 0 known) ps;
+      type = field (slot 1 known) ps;
+      offset = field (slot 2 known) ps;
+      length = field (slot 3 known) ps;
+      uncompressed-length = field (slot 4 known) ps;
+      encoding = field (slot 5 known) ps;
+      digest = field (slot 6 known) ps;
     })
 
   -- ---------------------------------------------------------------- maps of names

@@ -5,16 +5,13 @@ use mathlib.Core.Bool.{_&&_}
 use lib.ListN.{length, take, drop}
 use lib.Dec.{leb}
 use Rattle.meaning.specs.Check.{Check, pass, _>>=_, _>>_, _unless_, fault}
-use Rattle.meaning.specs.Text.{ascii, same}
+use Rattle.meaning.specs.Text.{same}
 use Rattle.meaning.specs.Refusal.{SHORT, HEADER, FOOTER, BIG, FIT}
 use Rattle.meaning.specs.Limit.{manifestLimit}
 use Rattle.meaning.specs.Read.{Span, spanTo, Outcome, got, refused, manifest}
 use Rattle.meaning.specs.Model.{Model}
+use Rattle.meaning.specs.Layouts.{Layout, magic}
 use Rattle.meaning.specs.Judge.{judge}
-
--- the first 8 bytes and the last 8
-unfoldable pub magic : List ℕ
-magic = ascii "ZTEN1000"
 
 -- a number, the least significant byte first
 unfoldable pub little : List ℕ → ℕ
@@ -26,16 +23,16 @@ pub record Frame : Type 0 where
   pub start : ℕ
   pub size : ℕ
 
-unfoldable pub frame : List ℕ → Check Frame
-frame file = do
+unfoldable pub frame : Layout → List ℕ → Check Frame
+frame L file = do
   let n = length file
-  SHORT unless leb 24 n
+  SHORT unless leb (L .least) n
   HEADER unless same magic (take 8 file)
-  FOOTER unless same magic (drop (n - 8) file)
-  let size = little (take 8 (drop (n - 16) file))
+  FOOTER unless same (L .footer) (drop (n - length (L .footer)) file)
+  let size = little (take 8 (drop (n - L .sizeBack) file))
   BIG unless leb size manifestLimit
-  FIT unless (leb 1 size && leb size (n - 24))
-  pass (record { start = n - 16 - size; size = size })
+  FIT unless (leb 1 size && leb size (n - L .least))
+  pass (record { start = n - L .sizeBack - size; size = size })
 
 unfoldable pub checked : {A : Type 0} → Outcome A → Check A
 checked (got a s) = pass a
@@ -46,9 +43,9 @@ pub record Reading : Type 0 where
   pub start : ℕ
   pub model : Model Span
 
-unfoldable pub reading : List ℕ → Check Reading
-reading file = do
-  f ← frame file
+unfoldable pub reading : Layout → List ℕ → Check Reading
+reading L file = do
+  f ← frame L file
   t ← checked (manifest (spanTo (f .start + f .size)) (take (f .size) (drop (f .start) file)))
-  m ← judge (f .start) t
+  m ← judge L (f .start) t
   pass (record { start = f .start; model = m })

@@ -1,32 +1,50 @@
 -- Document 01, "Order": the judgement of a manifest that is well-formed, over trees with any annotation. One line for each item of that paragraph.
 use Prim.Native.Nat.{ℕ, _+_, _%_}
 use mathlib.Core.List.{List, map}
-use mathlib.Core.Bool.{_&&_}
+use mathlib.Core.Bool.{Bool, cond, _&&_, _||_}
 use mathlib.Core.Option.{Option, none, some}
 use lib.ListN.{length}
 use lib.Dec.{eqb, leb}
 use Rattle.meaning.specs.Tree.{Node, noteOf}
-use Rattle.meaning.specs.Check.{Check, pass, _>>=_, _>>_, _unless_, fault, inObject, inComponent, required, optional, each}
+use Rattle.meaning.specs.Check.{Check, pass, _>>=_, _>>_, _unless_, fault, inObject, inComponent, required, requiredIn, optional, each}
 use Rattle.meaning.specs.Text.{ascii, same}
 use Rattle.meaning.specs.Version.{versionShape, majorOne}
 use Rattle.meaning.specs.Refusal.{VERSION, MAJOR, COUNT, DTYPE, ENCODING, TYPE, ALIGN, BOUNDS}
 use Rattle.meaning.specs.Limit.{objectLimit, componentLimit, rankLimit, alignment}
 use Rattle.meaning.specs.Model.{Word, Named, Component, Object, Model}
+use Rattle.meaning.specs.Layouts.{Layout, slot, dtypeAt}
 use Rattle.meaning.specs.Kind.{aNumber, aWord, aList, aTable, aText, present}
 use Rattle.meaning.specs.Field.{rootFields, objectFields, componentFields, names}
-use Rattle.meaning.specs.Types.{storages, codeFrom, logicals, listed, fitsOver}
+use Rattle.meaning.specs.Types.{u64, codeFrom, logicals, listed, fitsOver}
 use Rattle.meaning.specs.Format.{Part, formatRules}
 
 unfoldable pub codeOr : Option ℕ → Check ℕ
 codeOr none = fault DTYPE
 codeOr (some c) = pass c
 
-module _ {P : Type 0} where
+-- the first that is there
+unfoldable pub orElse : Option ℕ → Option ℕ → Option ℕ
+orElse none o = o
+orElse (some c) o = some c
+
+-- is this role of this format needed as an index?
+unfoldable pub isIndex : List ℕ → List ℕ → Bool
+isIndex format role =
+    same (ascii "sparse_csr") format && (same (ascii "indices") role || same (ascii "indptr") role)
+    || same (ascii "sparse_coo") format && same (ascii "coords") role
+
+-- the code that a dtype on the object gives to a component: u64 to an index role, else the object's
+unfoldable pub inherited : List ℕ → Option ℕ → List ℕ → Option ℕ
+inherited format none role = none
+inherited format (some c) role = some (cond (isIndex format role) u64 c)
+
+module _ (L : Layout) {P : Type 0} where
   unfoldable pub aDtype : Node P → Check ℕ
   aDtype t = do
     w ← aWord t
-    codeOr (codeFrom 0 storages (w .letters))
+    codeOr (codeFrom 0 (L .dtypes) (w .letters))
 
+module _ {P : Type 0} where
   unfoldable pub aType : ℕ → Node P → Check (Word P)
   aType d t = do
     w ← aText t
@@ -43,14 +61,15 @@ module _ {P : Type 0} where
     aTable t
     pass t
 
-  -- a component of a file whose manifest begins at `start`
-  unfoldable pub component : ℕ → Named P → Check (Component P)
-  component start n = do
-    c ← componentFields (n .value)
-    dtype ← required (c .dtype)
+  -- a component of a file whose manifest begins at `start`, with the code that its object gives it
+  unfoldable pub component : Layout → ℕ → Option ℕ → Named P → Check (Component P)
+  component L start above n = do
+    c ← componentFields (L .component) (n .value)
+    dtype ← requiredIn (slot dtypeAt (L .component)) (c .dtype)
     offset ← required (c .offset)
     length ← required (c .length)
-    d ← aDtype dtype
+    own ← optional (aDtype L) dtype
+    d ← required (orElse own above)
     t ← optional (aType d) (present (c .type))
     o ← aNumber offset
     l ← aNumber length
@@ -77,21 +96,23 @@ module _ {P : Type 0} where
     pass s
 
   -- names, then each component in turn
-  unfoldable pub componentsOf : ℕ → Node P → Check (List (Component P))
-  componentsOf start t = do
+  unfoldable pub componentsOf : Layout → ℕ → (List ℕ → Option ℕ) → Node P → Check (List (Component P))
+  componentsOf L start above t = do
     ns ← names componentLimit t
-    each (λ j c. inComponent j (component start c)) 0 ns
+    each (λ j c. inComponent j (component L start (above (c .name .letters)) c)) 0 ns
 
-  unfoldable pub object : ℕ → Named P → Check (Object P)
-  object start n = do
-    o ← objectFields (n .value)
+  unfoldable pub object : Layout → ℕ → Named P → Check (Object P)
+  object L start n = do
+    o ← objectFields (L .object) (n .value)
+    dtype ← requiredIn (slot dtypeAt (L .object)) (o .dtype)
     shape ← required (o .shape)
     format ← required (o .format)
     components ← required (o .components)
+    d ← optional (aDtype L) dtype
     s ← shapeOf shape
     f ← aText format
     a ← optional attributesOf (o .attributes)
-    cs ← componentsOf start components
+    cs ← componentsOf L start (inherited (f .letters) d) components
     formatRules (f .letters) s (map part cs)
     pass (record { name = n .name; shape = s; format = f; attributes = a; components = cs })
 
@@ -102,17 +123,17 @@ module _ {P : Type 0} where
     MAJOR unless majorOne (v .letters)
 
   -- names, then each object in turn, finished before the next
-  unfoldable pub objectsOf : ℕ → Node P → Check (List (Object P))
-  objectsOf start t = do
+  unfoldable pub objectsOf : Layout → ℕ → Node P → Check (List (Object P))
+  objectsOf L start t = do
     ns ← names objectLimit t
-    each (λ i o. inObject i (object start o)) 0 ns
+    each (λ i o. inObject i (object L start o)) 0 ns
 
-  unfoldable pub judge : ℕ → Node P → Check (Model P)
-  judge start t = do
-    r ← rootFields t
+  unfoldable pub judge : Layout → ℕ → Node P → Check (Model P)
+  judge L start t = do
+    r ← rootFields (L .root) t
     version ← required (r .version)
     aVersion version
     a ← optional attributesOf (r .attributes)
     objects ← required (r .objects)
-    os ← objectsOf start objects
+    os ← objectsOf L start objects
     pass (record { attributes = a; objects = os })

@@ -7,8 +7,9 @@ pub mod Text
 pub mod Version
 pub mod Model
 pub mod Kind
-pub mod Field
 pub mod Types
+pub mod Layouts
+pub mod Field
 pub mod Format
 pub mod Judge
 pub mod Frame
@@ -17,6 +18,8 @@ pub mod Rows
 pub mod View
 pub mod Listing
 pub mod Drop
+pub mod Moved
+pub mod Parsed
 pub mod Notes
 pub mod Encoding
 pub mod Asked
@@ -24,6 +27,6 @@ pub mod Described
 pub mod Sound
 pub mod Placement
 pub mod Manifest
-pub mod Layout
+pub mod WrittenFile
 pub mod Write
 pub mod Computed

@@ -10,6 +10,7 @@ use Rattle.meaning.specs.Limit.{programFile, programTable}
 use Rattle.meaning.specs.Model.{Component, Object, Model}
 use Rattle.meaning.specs.Types.{storageOf}
 use Rattle.meaning.specs.Frame.{Reading}
+use Rattle.meaning.specs.Layouts.{current}
 use Rattle.meaning.specs.Rows.{componentCount, readInto}
 
 -- decimal digits of a number below 10 ^ (1 + more)
@@ -68,5 +69,5 @@ listingOf (refuse n o c) = line (ascii "refused") (decimal n ∷ decimal o ∷ d
 -- what the small program prints of a file
 unfoldable pub printed : List ℕ → List ℕ
 printed file =
-    let r = listingOf (readInto file programTable) in
+    let r = listingOf (readInto current file programTable) in
     cond (leb (length file) programFile) r (line (ascii "too") (ascii "long" ∷ []))

@@ -8,7 +8,7 @@ use lib.Dec.{ltb}
 use Rattle.meaning.specs.Text.{ascii}
 use Rattle.meaning.specs.Read.{joined}
 use Rattle.meaning.specs.Notes.{mapOption}
-use Rattle.meaning.specs.Field.{rootNames, objectNames, componentNames}
+use Rattle.meaning.specs.Layouts.{rootNames, objectNames, componentNames}
 use Rattle.meaning.specs.Types.{storageOf}
 use Rattle.meaning.specs.Encoding.{big}
 use Rattle.meaning.specs.Described.{DescribedComponent, DescribedObject, Described}

@@ -42,6 +42,7 @@ pub record RootFields (P : Type 0) : Type 0 where
   pub objects : Option (Node P)
 
 pub record ObjectFields (P : Type 0) : Type 0 where
+  pub dtype : Option (Node P)
   pub shape : Option (Node P)
   pub format : Option (Node P)
   pub attributes : Option (Node P)

@@ -38,6 +38,7 @@ module _ {P Q : Type 0} (f : P → Q) where
 
   abbrev pub mapObjectFields : ObjectFields P → ObjectFields Q
   mapObjectFields r = record {
+    dtype = mapOption (mapP f) (r .dtype);
     shape = mapOption (mapP f) (r .shape);
     format = mapOption (mapP f) (r .format);
     attributes = mapOption (mapP f) (r .attributes);

@@ -3,7 +3,7 @@ use Prim.Native.Nat.{ℕ, _+_, _-_, _*_, _/_}
 use mathlib.Core.List.{List, [], _∷_}
 use lib.ListN.{length}
 use Rattle.meaning.specs.Limit.{alignment}
-use Rattle.meaning.specs.Frame.{magic}
+use Rattle.meaning.specs.Layouts.{magic}
 
 -- the least multiple of 64 not below a place
 unfoldable pub aligned : ℕ → ℕ

@@ -10,6 +10,7 @@ use Rattle.meaning.specs.Refusal.{ROOM}
 use Rattle.meaning.specs.Limit.{rankLimit}
 use Rattle.meaning.specs.Read.{Span}
 use Rattle.meaning.specs.Model.{Word, Component, Object, Model}
+use Rattle.meaning.specs.Layouts.{Layout}
 use Rattle.meaning.specs.Frame.{Reading, reading}
 use Rattle.meaning.specs.Columns.{objectWidth, componentWidth}
 
@@ -104,5 +105,5 @@ tableAfter table (refuse n o c) = table
 tableAfter table (pass r) = rows (r .model) ++ drop (roomFor (r .model)) table
 
 -- a file read into a lent table
-unfoldable pub readInto : List ℕ → ℕ → Check Reading
-readInto file room = reading file >>= roomy room
+unfoldable pub readInto : Layout → List ℕ → ℕ → Check Reading
+readInto L file room = reading L file >>= roomy room

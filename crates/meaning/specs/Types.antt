@@ -22,9 +22,10 @@ storages =
     ∷ stored (ascii "u64") 8 ∷ stored (ascii "u32") 4 ∷ stored (ascii "u16") 2 ∷ stored (ascii "u8") 1
     ∷ stored (ascii "bool") 1 ∷ []
 
-unfoldable pub codeFrom : ℕ → List Storage → List ℕ → Option ℕ
+-- the place of a name in a list of names, counted from i on
+unfoldable pub codeFrom : ℕ → List (List ℕ) → List ℕ → Option ℕ
 codeFrom i [] n = none
-codeFrom i (s ∷ ss) n = let r = codeFrom (suc i) ss n in cond (same (s .called) n) (some i) r
+codeFrom i (s ∷ ss) n = let r = codeFrom (suc i) ss n in cond (same s n) (some i) r
 
 unfoldable pub storageOf : ℕ → Storage
 storageOf c = getD storages c (stored [] 0)

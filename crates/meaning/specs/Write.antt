@@ -7,20 +7,21 @@ use Rattle.meaning.specs.Check.{Check, pass, refuse, _>>=_, _>>_, _unles
 use Rattle.meaning.specs.Refusal.{BIG, COUNT, ROOM, ROW}
 use Rattle.meaning.specs.Limit.{manifestLimit, endLimit}
 use Rattle.meaning.specs.Read.{Span}
+use Rattle.meaning.specs.Layouts.{current}
 use Rattle.meaning.specs.Frame.{reading}
 use Rattle.meaning.specs.Asked.{asked}
 use Rattle.meaning.specs.Described.{Described, blobs, described}
 use Rattle.meaning.specs.Sound.{rowsSound}
 use Rattle.meaning.specs.Placement.{placement, lastEnd}
 use Rattle.meaning.specs.Manifest.{manifestBytes}
-use Rattle.meaning.specs.Layout.{fileOf}
+use Rattle.meaning.specs.WrittenFile.{fileOf}
 
 -- with its blobs at these offsets, into an output of `room` bytes: BIG, the refusal that the reader gives that file, ROOM
 unfoldable pub writtenAt : Described → List ℕ → ℕ → Check (List ℕ)
 writtenAt d offsets room = do
   BIG unless leb (length (manifestBytes d offsets)) manifestLimit
   let file = fileOf d offsets
-  reading file
+  reading current file
   ROOM unless leb (length file) room
   pass file
 

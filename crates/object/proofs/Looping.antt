@@ -6,7 +6,7 @@ use mathlib.Core.Path.{_≡_, refl, ap, _∙_, subst}
 use lib.ListN.{length, getD, replicate}
 use borrow.Rule.Slice.PartAt.{part-to-end}
 use Rattle.meaning.specs.Text.{ascii}
-use Rattle.meaning.specs.Field.{objectNames}
+use Rattle.meaning.specs.Layouts.{objectNames}
 use Rattle.types.specs.Known.{position}
 use Rattle.cbor.specs.Ending.{FAULT, code, itemEnd, rest}
 use Rattle.walk.specs.Places.{EntryIs}
@@ -21,11 +21,11 @@ use Rattle.components.specs.Firsts.{ComponentsAre}
 use Rattle.object.specs.Verdict.{Says, Walked, ValueIs}
 
 pub known : position objectNames (ascii "components") < length objectNames
-unfolding objectNames position
+unfolding position
 known = omega arith
 
 slot-three : position objectNames (ascii "components") ≡ 3
-unfolding objectNames position
+unfolding position
 slot-three = refl
 
 -- ---------------------------------------------------------------- one value
@@ -47,7 +47,6 @@ pub record Looping (start mode count : ℕ) (s : List ℕ) (at n : ℕ) (p : Lis
 
 module _ (start mode count : ℕ) (s : List ℕ) (modes : Modes mode count) where
   pub loop-starts : (p : List ℕ) (found : Found) (rows : List ℕ) → p ≡ replicate 7 0 → length rows ≡ 64 → Looping start mode count s 0 count p found rows
-  unfolding objectNames
   loop-starts p found rows e l = record { keeps = keeping.loop-starts objectNames (ascii "components") known (Says start) 28 mode count s modes p (found, rows) e; slots = ap length e; room = l }
 
   module _ (room : length s < FAULT) (at n : ℕ) (p : List ℕ) (found : Found) (rows : List ℕ) (w : Looping start mode count s at n p found rows) where
@@ -81,7 +80,7 @@ module _ (start mode count : ℕ) (s : List ℕ) (modes : Modes mode count) wher
 
             pub loops-on : (j : ℕ) → SlotIs objectNames (Here s at) j → (found′ : Found) (rows′ : List ℕ) → length rows′ ≡ 64 → ValueIs start j (getD p 3 0) (Here s (at + k)) found rows found′ rows′
                 → (q : List ℕ) → q ≡ marked 4 p j (length s - (at + k)) → Looping start mode count s (at + k + e) (n - 2) q found′ rows′
-            unfolding objectNames position
+            unfolding position
             loops-on j slot found′ rows′ sized valued q m =
                 let z = keeping.loops-on objectNames (ascii "components") known (Says start) 28 mode count s modes room at n p (found, rows) (w .keeps) x h k is e ended l j slot (found′, rows′) valued q m in
                 record { keeps = z; slots = z .slots; room = sized }

@@ -1,6 +1,7 @@
 -- The judgement of an object that has all it needs, from its pieces, a branch each.
 use mathlib.Core.Path.{_≡_, refl, sym, ap, _∙_, subst}
 use mathlib.Core.List.{List, map}
+use mathlib.Core.Option.{none}
 use Prim.Native.Nat.{ℕ}
 use native.Mathlib.Omega.{arith}
 use lib.ListN.{length, take, getD}
@@ -10,6 +11,7 @@ use Rattle.meaning.specs.Notes.{mapCheck}
 use Rattle.meaning.specs.Model.{Object}
 use Rattle.meaning.specs.Format.{formatRules}
 use Rattle.meaning.specs.Judge.{shapeOf, componentsOf, part}
+use Rattle.meaning.specs.Layouts.{current}
 use Rattle.walk.specs.Reading.{Ends}
 use Rattle.fields.proofs.Texts.{Here}
 use Rattle.shape.specs.Shape.{ShapeIs}
@@ -53,7 +55,7 @@ module _ (s p : List ℕ) (found : Found) (rows dims : List ℕ) (r₁ : Shaped)
       has-description : (f : Fields) → Standing s p f → Passed codeOf (described (f .format) (f .attributes)) code
       has-description f x = passed-so codeOf (described (f .format) (f .attributes)) code (described-as (Code code) e₂ f x)
 
-      found-so : (start : ℕ) (f : Fields) (q : Found) → found ≡ q → FoundIs (componentsOf start (f .components)) found rows → FoundIs (componentsOf start (f .components)) q rows
+      found-so : (start : ℕ) (f : Fields) (q : Found) → found ≡ q → FoundIs (componentsOf current start (λ r. none) (f .components)) found rows → FoundIs (componentsOf current start (λ r. none) (f .components)) q rows
       found-so start f q e held = rw e at held
 
       pub no-components : (n c : ℕ) → found ≡ Refused n c → SoundIs s p found rows (No n c)

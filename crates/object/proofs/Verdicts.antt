@@ -15,7 +15,8 @@ use Rattle.meaning.specs.Text.{ascii, all}
 use Rattle.meaning.specs.Model.{Word, Object}
 use Rattle.meaning.specs.Kind.{kind, table, aText, aTable, asTable}
 use Rattle.meaning.specs.Field as field
-use Rattle.meaning.specs.Field.{objectNames, get}
+use Rattle.meaning.specs.Layouts.{objectNames, current}
+use Rattle.meaning.specs.Field.{get}
 use Rattle.meaning.specs.Format.{formatRules}
 use Rattle.meaning.specs.Judge as judge
 use Rattle.types.specs.Known.{position}
@@ -79,30 +80,30 @@ module _ (next : List ℕ → Word Ends → Option (Node Ends) → Check (Object
 
 module _ (start : ℕ) (t : Node Ends) (ps : List (Pair Ends)) (kt : kind t ≡ table ps) (n : Word Ends) where
   abbrev the : Check (Object Ends)
-  the = judge.object start (record { name = n; value = t })
+  the = judge.object current start (record { name = n; value = t })
 
   judged-odd : all (λ q. field.isSome (field.keyOf q)) ps ≡ false → No 9 0 ≡ judged the
-  unfolding judge.object field.objectFields field.fields aTable asTable
+  unfolding current judge.object field.objectFields field.field field.fields aTable asTable
   judged-odd e = rw kt (rw e refl)
 
   module _ (a : all (λ q. field.isSome (field.keyOf q)) ps ≡ true) where
     judged-twice : all (λ m. leb (field.count m ps) 1) objectNames ≡ false → No 11 0 ≡ judged the
-    unfolding judge.object field.objectFields field.fields aTable asTable
+    unfolding current judge.object field.objectFields field.field field.fields aTable asTable
     judged-twice e = rw kt (rw (a, e) refl)
 
     module _ (b : all (λ m. leb (field.count m ps) 1) objectNames ≡ true) where
       judged-no-shape : get (ascii "shape") ps ≡ none → No 12 0 ≡ judged the
-      unfolding judge.object field.objectFields field.fields aTable asTable
+      unfolding current judge.object field.objectFields field.field field.fields aTable asTable
       judged-no-shape e = rw kt (rw (a, b) (rw e refl))
 
       module _ (shape : Node Ends) (g₁ : get (ascii "shape") ps ≡ some shape) where
         judged-no-format : get (ascii "format") ps ≡ none → No 12 0 ≡ judged the
-        unfolding judge.object field.objectFields field.fields aTable asTable
+        unfolding current judge.object field.objectFields field.field field.fields aTable asTable
         judged-no-format e = rw kt (rw (a, b) (rw (g₁, e) refl))
 
         module _ (format : Node Ends) (g₂ : get (ascii "format") ps ≡ some format) where
           judged-no-components : get (ascii "components") ps ≡ none → No 12 0 ≡ judged the
-          unfolding judge.object field.objectFields field.fields aTable asTable
+          unfolding current judge.object field.objectFields field.field field.fields aTable asTable
           judged-no-components e = rw kt (rw (a, b) (rw (g₁, g₂, e) refl))
 
           module _ (components : Node Ends) (g₃ : get (ascii "components") ps ≡ some components) where
@@ -110,9 +111,9 @@ module _ (start : ℕ) (t : Node Ends) (ps : List (Pair Ends)) (kt : kind t ≡ 
             found = record { shape = shape; format = format; attributes = get (ascii "attributes") ps; components = components }
 
             judged-sound : the ≡ sound start n found
-            unfolding judge.object field.objectFields field.fields aTable asTable sound described
+            unfolding current judge.object judge.inherited field.objectFields field.field field.fields aTable asTable sound described
             judged-sound = rw kt (rw (a, b) (rw (g₁, g₂, g₃)
-                (regroup (λ s f a. judge.componentsOf start components >>= λ cs. formatRules (f .letters) s (map judge.part cs) >> pass (record { name = n; shape = s; format = f; attributes = a; components = cs }))
+                (regroup (λ s f a. judge.componentsOf current start (λ r. none) components >>= λ cs. formatRules (f .letters) s (map judge.part cs) >> pass (record { name = n; shape = s; format = f; attributes = a; components = cs }))
                 (judge.shapeOf shape) (aText format) (optional judge.attributesOf (get (ascii "attributes") ps)))))
 
 -- ---------------------------------------------------------------- from the slots
@@ -121,31 +122,28 @@ module _ (s p : List ℕ) (found-there : Found) (rows : List ℕ) where
   module _ (start : ℕ) (ps : List (Pair Ends)) (q : List ℕ) (chain : Chain 29 s ps q) (is : p ≡ foldl (marks objectNames) (replicate 7 0) ps)
       (t : Node Ends) (kt : kind t ≡ table ps) (n : Word Ends) where
     keys : eqb (getD p 5 0) 0 ≡ all (λ q. field.isSome (field.keyOf q)) ps
-    unfolding objectNames
     keys = keys-are-text objectNames 29 s ps q chain p is
 
     twice : eqb (getD p 6 0) 0 ≡ all (λ m. leb (field.count m ps) 1) objectNames
-    unfolding objectNames
     twice = none-twice objectNames 29 s ps q chain p is
 
     at-name : (m : List ℕ) (i : ℕ) → position objectNames m ≡ i → i < 4 → Holds 29 s (getD p i 0) (get m ps)
-    unfolding objectNames
     at-name m i e l = subst (λ (i : ℕ). Holds 29 s (getD p i 0) (get m ps)) e (field-stands objectNames 29 s ps q chain p is m (let z : position objectNames m < 4 = omega arith in z))
 
     at-shape : Holds 29 s (getD p 0 0) (get (ascii "shape") ps)
-    unfolding objectNames position
+    unfolding position
     at-shape = at-name (ascii "shape") 0 refl (omega arith)
 
     at-format : Holds 29 s (getD p 1 0) (get (ascii "format") ps)
-    unfolding objectNames position
+    unfolding position
     at-format = at-name (ascii "format") 1 refl (omega arith)
 
     at-attributes : Holds 29 s (getD p 2 0) (get (ascii "attributes") ps)
-    unfolding objectNames position
+    unfolding position
     at-attributes = at-name (ascii "attributes") 2 refl (omega arith)
 
     at-components : Holds 29 s (getD p 3 0) (get (ascii "components") ps)
-    unfolding objectNames position
+    unfolding position
     at-components = at-name (ascii "components") 3 refl (omega arith)
 
     abbrev verdict : Check (Object Ends)
@@ -200,7 +198,6 @@ module _ (s p : List ℕ) (found-there : Found) (rows : List ℕ) where
     slots-say = is ∙ ap known (part-to-end p 0)
 
     slots-are : (start : ℕ) (ps : List (Pair Ends)) → Noted start p found-there rows ps → p ≡ foldl (marks objectNames) (replicate 7 0) ps
-    unfolding objectNames
     slots-are start ps noted = noted .0
 
     pub refused : (m : ℕ) → f ≡ Bad m → VerdictIs s p found-there rows (No m 0)

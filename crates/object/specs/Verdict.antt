@@ -2,7 +2,7 @@
 use Prim.Native.Nat.{ℕ, suc, _*_, _≤_}
 use mathlib.Core.List.{List, map}
 use mathlib.Core.Bool.{cond}
-use mathlib.Core.Option.{Option}
+use mathlib.Core.Option.{Option, none}
 use mathlib.Core.Path.{_≡_}
 use lib.ListN.{length, getD, take}
 use lib.Dec.{eqb}
@@ -14,7 +14,7 @@ use Rattle.meaning.specs.Refusal.{KEY, TWICE, MISSING}
 use Rattle.meaning.specs.Limit.{componentLimit}
 use Rattle.meaning.specs.Model.{Word, Object}
 use Rattle.meaning.specs.Kind.{kind, table, aText}
-use Rattle.meaning.specs.Field.{objectNames}
+use Rattle.meaning.specs.Layouts.{objectNames, current}
 use Rattle.meaning.specs.Format.{Part, formatRules}
 use Rattle.meaning.specs.Judge.{attributesOf, shapeOf, componentsOf, part, object}
 use Rattle.types.specs.Known.{position, formatNames}
@@ -93,16 +93,16 @@ unfoldable pub sound : ℕ → Word Ends → Fields → Check (Object Ends)
 sound start n f = do
   s ← shapeOf (f .shape)
   d ← described (f .format) (f .attributes)
-  cs ← componentsOf start (f .components)
+  cs ← componentsOf current start (λ r. none) (f .components)
   formatRules (d .format .letters) s (map part cs)
   pass (record { name = n; shape = s; format = d .format; attributes = d .attributes; components = cs })
 
 abbrev pub SoundIs : List ℕ → List ℕ → Found → List ℕ → Judged → Type 0
-SoundIs s p found rows r = (start : ℕ) (f : Fields) → Standing s p f → FoundIs (componentsOf start (f .components)) found rows → (n : Word Ends) → r ≡ judged (sound start n f)
+SoundIs s p found rows r = (start : ℕ) (f : Fields) → Standing s p f → FoundIs (componentsOf current start (λ r. none) (f .components)) found rows → (n : Word Ends) → r ≡ judged (sound start n f)
 
 -- what was found in the components x, and the rows that were put
 abbrev pub Says : ℕ → Node Ends → Found × List ℕ → Type 0
-Says start x (found, rows) = FoundIs (componentsOf start x) found rows
+Says start x (found, rows) = FoundIs (componentsOf current start (λ r. none) x) found rows
 
 -- what is noted of pairs: their slots, and what was found in their components
 abbrev pub Noted : ℕ → List ℕ → Found → List ℕ → List (Pair Ends) → Type 0
@@ -112,10 +112,10 @@ Noted start p found rows = keeping.Noted objectNames (ascii "components") (Says 
 abbrev pub VerdictIs : List ℕ → List ℕ → Found → List ℕ → Judged → Type 0
 VerdictIs s p found rows r =
     (start : ℕ) (ps : List (Pair Ends)) (q : List ℕ) → Chain 29 s ps q → Noted start p found rows ps → (t : Node Ends) → kind t ≡ table ps → (n : Word Ends)
-    → r ≡ judged (object start (record { name = n; value = t }))
+    → r ≡ judged (object current start (record { name = n; value = t }))
 
 abbrev pub ObjectIs : List ℕ → ℕ → Judged → Type 0
-ObjectIs s start r = (t : Node Ends) (q : List ℕ) → Reads 30 s t q → (n : Word Ends) → r ≡ judged (object start (record { name = n; value = t }))
+ObjectIs s start r = (t : Node Ends) (q : List ℕ) → Reads 30 s t q → (n : Word Ends) → r ≡ judged (object current start (record { name = n; value = t }))
 
 -- what is noted of all pairs that are due at s
 pub record Walked (start mode count : ℕ) (s p : List ℕ) (found : Found) (rows : List ℕ) : Type 0 where

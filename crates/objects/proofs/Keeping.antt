@@ -12,6 +12,7 @@ use Rattle.meaning.specs.Model.{Object}
 use Rattle.meaning.specs.Field.{names}
 use Rattle.meaning.specs.Judge.{object, objectsOf}
 use Rattle.meaning.specs.Rows.{componentCount}
+use Rattle.meaning.specs.Layouts.{current}
 use Rattle.walk.specs.Reading.{Ends}
 use Rattle.naming.specs.Naming.{namedAnyway, told}
 use Rattle.naming.specs.declared.Named.the-variants.{No as NoNames, Yes as Names}
@@ -35,15 +36,15 @@ module _ (start : ℕ) (done : List (Pair Ends)) (p : Pair Ends) where
   fault-stays : (n o c : ℕ) → FirstIs start done (Fault n o c) → FirstIs start (done ++ p ∷ []) (Fault n o c)
   fault-stays n o c h = one-more ∙ (rw h refl)
 
-  first-fault : (total n o c : ℕ) → FirstIs start done (Fine total) → object start (namedAnyway p) ≡ refuse n o c → FirstIs start (done ++ p ∷ []) (Fault n (length done) c)
+  first-fault : (total n o c : ℕ) → FirstIs start done (Fine total) → object current start (namedAnyway p) ≡ refuse n o c → FirstIs start (done ++ p ∷ []) (Fault n (length done) c)
   unfolding entry
   first-fault total n o c h e = let z = h .passed in one-more ∙ (rw (z, e) refl)
 
-  still-fine : (total : ℕ) (o : Object Ends) → FirstIs start done (Fine total) → object start (namedAnyway p) ≡ pass o → FirstIs start (done ++ p ∷ []) (Fine (plus total (length (o .components))))
+  still-fine : (total : ℕ) (o : Object Ends) → FirstIs start done (Fine total) → object current start (namedAnyway p) ≡ pass o → FirstIs start (done ++ p ∷ []) (Fine (plus total (length (o .components))))
   unfolding entry
   still-fine total o h e =
       let z = h .passed in
-      let m = few-in-object start (namedAnyway p) o e in
+      let m = few-in-object current start (namedAnyway p) o e in
       let f = h .few in
       let l : length (h .found ++ o ∷ []) ≡ length (h .found) + 1 = length-append (h .found) (o ∷ []) in
       let c = count-snoc (h .found) o in
@@ -60,9 +61,9 @@ module _ (v : Judged) (j : ℕ) (first : First) where
 
   module _ (total : ℕ) (e : first ≡ Fine total) where
     pub begins : (n c : ℕ) → v ≡ NoObject n c → (r : First) → r ≡ Fault n j c → Keeps v j first r
-    begins n c a r here start done p b q x is at h = go (object start (namedAnyway p)) refl (sym a ∙ is (p .value) q x (namedAnyway p .name))
+    begins n c a r here start done p b q x is at h = go (object current start (namedAnyway p)) refl (sym a ∙ is (p .value) q x (namedAnyway p .name))
       where
-        go : (k : Check (Object Ends)) → object start (namedAnyway p) ≡ k → NoObject n c ≡ objects.judged k → FirstIs start (done ++ p ∷ []) r
+        go : (k : Check (Object Ends)) → object current start (namedAnyway p) ≡ k → NoObject n c ≡ objects.judged k → FirstIs start (done ++ p ∷ []) r
         go (pass o) z w = absurd (let y : _≡_ {A = ℕ} 0 1 = cc in omega arith)
         go (refuse m o l) z w =
             let f : FirstIs start (done ++ p ∷ []) (Fault m (length done) l) = first-fault start done p total m o l (rw e at h) z in
@@ -70,27 +71,27 @@ module _ (v : Judged) (j : ℕ) (first : First) where
             subst (FirstIs start (done ++ p ∷ [])) (sym here) (rw (← a, ← b, at) f)
 
     pub goes-on : (m r : ℕ) → v ≡ AnObject m → r ≡ plus total m → Keeps v j first (Fine r)
-    goes-on m r a is-r start done p b q x is at h = go (object start (namedAnyway p)) refl (sym a ∙ is (p .value) q x (namedAnyway p .name))
+    goes-on m r a is-r start done p b q x is at h = go (object current start (namedAnyway p)) refl (sym a ∙ is (p .value) q x (namedAnyway p .name))
       where
-        go : (k : Check (Object Ends)) → object start (namedAnyway p) ≡ k → AnObject m ≡ objects.judged k → FirstIs start (done ++ p ∷ []) (Fine r)
+        go : (k : Check (Object Ends)) → object current start (namedAnyway p) ≡ k → AnObject m ≡ objects.judged k → FirstIs start (done ++ p ∷ []) (Fine r)
         go (pass o) z w = let y : length (o .components) ≡ m = cc in subst (λ r. FirstIs start (done ++ p ∷ []) (Fine r)) (ap (plus total) y ∙ sym is-r) (still-fine start done p total o (rw e at h) z)
         go (refuse n o i) z w = absurd (let y : _≡_ {A = ℕ} 0 1 = cc in omega arith)
 
 -- the whole map: its names, and then its entries
 module _ (start : ℕ) (done : List (Pair Ends)) (x : Node Ends) where
-  pub names-fault : (n : ℕ) → names objectLimit x ≡ told done (NoNames n) → No n 0 0 ≡ judged (objectsOf start x)
+  pub names-fault : (n : ℕ) → names objectLimit x ≡ told done (NoNames n) → No n 0 0 ≡ judged (objectsOf current start x)
   unfolding objectsOf
   names-fault n h = rw h refl
 
   module _ (h : names objectLimit x ≡ told done Names) where
-    named : objectsOf start x ≡ entries start done
+    named : objectsOf current start x ≡ entries start done
     unfolding objectsOf entries entry
-    named = named-entries.names-pass (λ i o. inObject i (object start o)) done objectLimit x h
+    named = named-entries.names-pass (λ i o. inObject i (object current start o)) done objectLimit x h
 
-    pub entry-fault : (n o c : ℕ) → FirstIs start done (Fault n o c) → No n o c ≡ judged (objectsOf start x)
+    pub entry-fault : (n o c : ℕ) → FirstIs start done (Fault n o c) → No n o c ≡ judged (objectsOf current start x)
     entry-fault n o c f = sym (ap judged (named ∙ f))
 
-    pub all-fine : (m total : ℕ) → m ≡ length done → FirstIs start done (Fine total) → Yes m total ≡ judged (objectsOf start x)
+    pub all-fine : (m total : ℕ) → m ≡ length done → FirstIs start done (Fine total) → Yes m total ≡ judged (objectsOf current start x)
     unfolding entries
     all-fine m total is f =
         let same = named-entries.each-length (λ i p. entry start i (namedAnyway p)) 0 done (f .found) (f .passed) in

@@ -12,6 +12,7 @@ use Rattle.meaning.specs.Model.{Named, Object}
 use Rattle.meaning.specs.Kind.{kind, table}
 use Rattle.meaning.specs.Judge.{object, objectsOf}
 use Rattle.meaning.specs.Rows.{componentCount}
+use Rattle.meaning.specs.Layouts.{current}
 use Rattle.walk.specs.Reading.{Ends, Reads, Due}
 use Rattle.naming.specs.Naming.{namedAnyway, Tallied}
 use Rattle.naming.specs.declared.Tally.{Tally}
@@ -28,7 +29,7 @@ plus total m = cond (leb m 16) (cond (leb total 16368) (total + m) total) total
 
 -- an entry, with its index
 unfoldable pub entry : ℕ → ℕ → Named Ends → Check (Object Ends)
-entry start i n = inObject i (object start n)
+entry start i n = inObject i (object current start n)
 
 -- the entries of the pairs so far
 unfoldable pub entries : ℕ → List (Pair Ends) → Check (List (Object Ends))
@@ -62,4 +63,4 @@ Walked start mode count s names left size first = (ps : List (Pair Ends)) (r : L
 -- for every map of these pairs
 abbrev pub Concluded : List ℕ → Tally → First → List ℕ → List ℕ → Found → Type 0
 Concluded m names first left size found =
-    (start : ℕ) (ps : List (Pair Ends)) → Kept start m names left size first ps → (t : Node Ends) → kind t ≡ table ps → found ≡ judged (objectsOf start t)
+    (start : ℕ) (ps : List (Pair Ends)) → Kept start m names left size first ps → (t : Node Ends) → kind t ≡ table ps → found ≡ judged (objectsOf current start t)

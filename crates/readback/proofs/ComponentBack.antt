@@ -1,7 +1,7 @@
 -- A component's entry is judged as its description says, and tells it back.
 use Prim.Native.Nat.{ℕ, zero, suc, _+_, _%_, _<_}
 use native.Mathlib.Omega.{arith}
-use mathlib.Core.List.{List, []}
+use mathlib.Core.List.{List, [], map}
 use mathlib.Core.Bool.{Bool, true, false, _&&_}
 use mathlib.Core.Option.{Option, none, some}
 use mathlib.Core.Path.{_≡_, refl, ap, sym, _∙_, subst}
@@ -24,6 +24,7 @@ use Rattle.meaning.specs.Judge as judge
 use Rattle.meaning.specs.Judge.{component, lettersOf}
 use Rattle.meaning.specs.Described.{DescribedComponent, readComponent}
 use Rattle.meaning.specs.Manifest.{given}
+use Rattle.meaning.specs.Layouts.{current}
 use Rattle.readback.specs.Trees.{numberPiece, textPiece, several, entryPiece, mapPiece, componentPiece}
 use Rattle.readback.specs.Judged.{judgedType, judgedText, judgedComponent}
 use Rattle.readback.specs.Agrees.{Agrees, passes, refuses}
@@ -56,9 +57,9 @@ below-holds p (suc n) i h l = go (eqb i n) refl (below-holds p n i (and-right (p
     go true e ih = rw (eqb-true i n e) (and-left (p n) (below p n) h)
     go false e ih = ih (omega (arith, eqb-false i n e))
 
-pub dtype-back : (c : ℕ) → c < length storages → codeFrom 0 storages (storageOf c .called) ≡ some c
+pub dtype-back : (c : ℕ) → c < length storages → codeFrom 0 (map (λ s. s .called) storages) (storageOf c .called) ≡ some c
 unfolding storages storageOf codeFrom isCode below
-dtype-back c h = is-code c (codeFrom 0 storages (storageOf c .called)) (below-holds (λ i. isCode i (codeFrom 0 storages (storageOf i .called))) 13 c refl h)
+dtype-back c h = is-code c (codeFrom 0 (map (λ s. s .called) storages) (storageOf c .called)) (below-holds (λ i. isCode i (codeFrom 0 (map (λ s. s .called) storages) (storageOf i .called))) 13 c refl h)
 
 -- ---- the fields
 
@@ -87,7 +88,7 @@ record Found (offset : ℕ) (c : DescribedComponent) (t : Node Span) : Type 0 wh
   digest : Option (Word Span)
   type-is : lettersOf type ≡ c .type
   digest-is : lettersOf digest ≡ c .digest
-  is : field.componentFields t ≡ pass (record {
+  is : field.componentFields (current .component) t ≡ pass (record {
     dtype = some (text (fieldNote (ascii "dtype") t) (storageOf (c .dtype) .called));
     type = mapOption node type;
     offset = some (uint (fieldNote (ascii "offset") t) offset);
@@ -105,7 +106,7 @@ module _ (note : List ℕ → List ℕ → Span) (offset : ℕ) (c : DescribedCo
   word n w = record { note = fieldNote n tree; letters = w }
 
   fields-found : Found offset c tree
-  unfolding componentPiece mapPiece several given entryPiece textPiece numberPiece lettersOf fieldNote noteIn field.componentNames field.componentFields field.fields field.keyOf field.keyKind field.isSome field.named field.isKey field.count field.get kinds.kind kinds.aTable kinds.asTable
+  unfolding componentPiece mapPiece several given entryPiece textPiece numberPiece lettersOf fieldNote noteIn current field.field field.componentFields field.fields field.keyOf field.keyKind field.isSome field.named field.isKey field.count field.get kinds.kind kinds.aTable kinds.asTable
   fields-found = go (c .type) (c .digest) refl refl
     where
       go : (t g : Option (List ℕ)) → c .type ≡ t → c .digest ≡ g → Found offset c tree
@@ -167,8 +168,8 @@ module _ (file : List ℕ) (start : ℕ) (note : List ℕ → List ℕ → Span)
   unfolding model readComponent
   tells t g et eg = record { same = described-is c e et eg (b .stands); size = refl }
 
-  pub component-agrees : Agrees (Tells file c) (component start (record { name = w; value = componentPiece note offset c .meant x })) (judgedComponent c)
-  unfolding component judge.aDtype judge.codeOr kinds.aNumber kinds.asNumber kinds.aWord kinds.asWord kinds.kind kinds.present judgedComponent T model
+  pub component-agrees : Agrees (Tells file c) (component current start none (record { name = w; value = componentPiece note offset c .meant x })) (judgedComponent c)
+  unfolding current component judge.aDtype judge.codeOr judge.orElse kinds.aNumber kinds.asNumber kinds.aWord kinds.asWord kinds.kind kinds.present judgedComponent T model
   component-agrees =
       rw (found .is, dtype-back (c .dtype) h, eq-eqb (offset % alignment) 0 (b .multiple), le-leb alignment offset (b .low), le-leb (offset + length (c .blob)) start (b .inside))
       (agrees-bind (type-agrees-as (c .dtype) (found .type) (found .type-is)) (λ t et. agrees-map (model t) (digest-agrees-as (found .digest) (found .digest-is))

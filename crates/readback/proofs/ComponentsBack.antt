@@ -1,7 +1,7 @@
 -- The components of an object are judged as their descriptions say, and tell them back.
 use Prim.Native.Nat.{ℕ, suc}
 use mathlib.Core.List.{List, [], _∷_, map}
-use mathlib.Core.Option.{Option}
+use mathlib.Core.Option.{Option, none}
 use mathlib.Core.Path.{_≡_, refl, ap, ap₂}
 use lib.ListN.{drop, getD}
 use Rattle.meaning.specs.Limit.{componentLimit}
@@ -11,6 +11,7 @@ use Rattle.meaning.specs.Model.{Component}
 use Rattle.meaning.specs.Format.{Part}
 use Rattle.meaning.specs.Judge.{component, componentsOf, part}
 use Rattle.meaning.specs.Described.{DescribedComponent, readComponent}
+use Rattle.meaning.specs.Layouts.{current}
 use Rattle.readback.specs.Every.{Every}
 use Rattle.readback.specs.Trees.{mapPiece, componentPieces}
 use Rattle.readback.specs.Judged.{judgedNames, judgedComponent, partOf}
@@ -23,11 +24,11 @@ use Rattle.readback.proofs.ComponentBack.{component-agrees}
 
 module _ (file : List ℕ) (start : ℕ) (note : List ℕ → List ℕ → Span) where
   components-agree : (j : ℕ) (offsets : List ℕ) (cs : List DescribedComponent) (x : List ℕ) → Every FineComponent cs → Stand file start offsets cs
-      → Agrees (AllTell file cs) (each (λ j n. inComponent j (component start n)) j (namedOf note (componentPieces note offsets cs) x)) (each (λ j c. inComponent j (judgedComponent c)) j cs)
+      → Agrees (AllTell file cs) (each (λ j n. inComponent j (component current start none n)) j (namedOf note (componentPieces note offsets cs) x)) (each (λ j c. inComponent j (judgedComponent c)) j cs)
   unfolding componentPieces
   components-agree j offsets [] x f s = passes tt
   components-agree j offsets (c ∷ cs) x (f, fs) (s, ss) =
-      each-agrees (λ j n. inComponent j (component start n)) (λ j c. inComponent j (judgedComponent c)) j _ (namedOf note (componentPieces note (drop 1 offsets) cs) x) c cs
+      each-agrees (λ j n. inComponent j (component current start none n)) (λ j c. inComponent j (judgedComponent c)) j _ (namedOf note (componentPieces note (drop 1 offsets) cs) x) c cs
       (agrees-in-component j (component-agrees file start note (getD offsets 0 0) c _ _ refl (f .dtype) s))
       (components-agree (suc j) (drop 1 offsets) cs x fs ss) (λ m ms t ts. (t, ts))
 
@@ -37,7 +38,7 @@ module _ (file : List ℕ) (start : ℕ) (note : List ℕ → List ℕ → Span)
   component-keys offsets (c ∷ cs) = ap (λ (r : List (List ℕ)). c .name ∷ r) (component-keys (drop 1 offsets) cs)
 
   pub components-of-agree : (offsets : List ℕ) (cs : List DescribedComponent) (x : List ℕ) → Every FineComponent cs → Stand file start offsets cs
-      → Agrees (AllTell file cs) (componentsOf start (mapPiece note (componentPieces note offsets cs) .meant x))
+      → Agrees (AllTell file cs) (componentsOf current start (λ r. none) (mapPiece note (componentPieces note offsets cs) .meant x))
       (judgedNames componentLimit (map (λ c. c .name) cs) >> each (λ j c. inComponent j (judgedComponent c)) 0 cs)
   unfolding componentsOf
   components-of-agree offsets cs x f s =

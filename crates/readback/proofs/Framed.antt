@@ -11,11 +11,13 @@ use Rattle.meaning.specs.Check.{Check, pass, _>>=_}
 use Rattle.meaning.specs.Limit.{manifestLimit}
 use Rattle.meaning.specs.Read.{spanTo, manifest}
 use Rattle.meaning.specs.Judge.{judge}
-use Rattle.meaning.specs.Frame.{magic, little, Frame, frame, checked, Reading, reading}
+use Rattle.meaning.specs.Layouts.{magic, current}
+use Rattle.meaning.specs.Frame.{little, Frame, frame, checked, Reading, reading}
 use Rattle.meaning.specs.Placement.{lastEnd}
 use Rattle.meaning.specs.Described.{Described, blobs}
 use Rattle.meaning.specs.Manifest.{manifestBytes}
-use Rattle.meaning.specs.Layout.{littleBytes, blobsFrom, closing, fileOf}
+use Rattle.meaning.specs.WrittenFile.{littleBytes, blobsFrom, closing, fileOf}
+use Rattle.meaning.proofs.CurrentIsBase.{frame-current}
 use Rattle.readback.specs.Lies.{Rises}
 use Rattle.readback.proofs.Placed.{between, little-length, closing-length, body-length}
 
@@ -29,10 +31,10 @@ abbrev found : ℕ → ℕ → Frame
 found start size = record { start = start; size = size }
 
 frame-by : (F : List ℕ) (size : ℕ) → 24 + size ≤ length F → take 8 F ≡ magic → drop (length F - 8) F ≡ magic → little (take 8 (drop (length F - 16) F)) ≡ size
-    → 1 ≤ size → size ≤ manifestLimit → frame F ≡ pass (record { start = length F - 16 - size; size = size })
-unfolding frame magic
+    → 1 ≤ size → size ≤ manifestLimit → frame current F ≡ pass (record { start = length F - 16 - size; size = size })
+unfolding magic
 frame-by F size long first last e some small =
-    rw (le-leb 24 (length F) (omega arith), first, last, e, le-leb size manifestLimit small, le-leb 1 size some, le-leb size (length F - 24) (omega arith))
+    frame-current F ∙ rw (le-leb 24 (length F) (omega arith), first, last, e, le-leb size manifestLimit small, le-leb 1 size some, le-leb size (length F - 24) (omega arith))
 
 -- what stands before the manifest, then the manifest with its size and the footer
 module _ (X m : List ℕ) (some : 1 ≤ length m) (small : length m ≤ manifestLimit) where
@@ -82,7 +84,7 @@ module _ (X m : List ℕ) (some : 1 ≤ length m) (small : length m ≤ manifest
   size-is : little (take 8 (drop (length F - 16) F)) ≡ length m
   size-is = ap little size-at ∙ little-back 8 (length m) (omega arith)
 
-  pub frame-is : frame F ≡ pass (record { start = length B; size = length m })
+  pub frame-is : frame current F ≡ pass (record { start = length B; size = length m })
   frame-is =
       frame-by F (length m) (omega (arith, total, header)) first last size-is some small
       ∙ ap (λ (k : ℕ). pass (found k (length m))) (omega (arith, total))
@@ -96,15 +98,15 @@ module _ (X m : List ℕ) (some : 1 ≤ length m) (small : length m ≤ manifest
 
 -- the reading of a file with this frame and manifest
 abbrev pub readingOf : ℕ → List ℕ → Check Reading
-readingOf start m = checked (manifest (spanTo (start + length m)) m) >>= λ t. judge start t >>= λ o. pass (record { start = start; model = o })
+readingOf start m = checked (manifest (spanTo (start + length m)) m) >>= λ t. judge current start t >>= λ o. pass (record { start = start; model = o })
 
-pub reading-by : (F m : List ℕ) (start : ℕ) → frame F ≡ pass (found start (length m)) → take (length m) (drop start F) ≡ m → reading F ≡ readingOf start m
+pub reading-by : (F m : List ℕ) (start : ℕ) → frame current F ≡ pass (found start (length m)) → take (length m) (drop start F) ≡ m → reading current F ≡ readingOf start m
 unfolding reading
 reading-by F m start e k = rw (e, k)
 
 -- a written file is read as its manifest, which begins where the last blob ends
 pub reading-written : (d : Described) (offsets : List ℕ) → Rises 8 offsets (map length (blobs d)) → 1 ≤ length (manifestBytes d offsets)
-    → length (manifestBytes d offsets) ≤ manifestLimit → reading (fileOf d offsets) ≡ readingOf (lastEnd offsets (map length (blobs d))) (manifestBytes d offsets)
+    → length (manifestBytes d offsets) ≤ manifestLimit → reading current (fileOf d offsets) ≡ readingOf (lastEnd offsets (map length (blobs d))) (manifestBytes d offsets)
 unfolding fileOf
 reading-written d offsets rises some small =
     let X : List ℕ = blobsFrom (length magic) offsets (blobs d) in

@@ -20,6 +20,7 @@ use Rattle.meaning.specs.Judge.{aVersion, object, objectsOf, judge}
 use Rattle.meaning.specs.Sound.{rootLevels, objectLevels}
 use Rattle.meaning.specs.Described.{DescribedObject, Described, readObject, describedBy}
 use Rattle.meaning.specs.Manifest.{Keyed, under, given}
+use Rattle.meaning.specs.Layouts.{rootNames, current}
 use Rattle.readback.specs.Every.{Every}
 use Rattle.readback.specs.Piece.{Piece, allWritten}
 use Rattle.readback.specs.Trees.{textPiece, several, copiedPiece, entryPiece, mapPiece, objectPiece, objectPieces, manifestPiece}
@@ -54,14 +55,14 @@ module _ (file pre M post : List ℕ) (split : file ≡ pre ++ (M ++ post)) (sta
 
   objects-agree : (i : ℕ) (offsets : List ℕ) (os : List DescribedObject) (x : List ℕ) → Every FineObject os → anyTooDeep os ≡ false → StandAll file start offsets os
       → Suffix M (allWritten (map (entryPiece span) (objectPieces span offsets os)) ++ x)
-      → Agrees (λ ms. map (readObject file) ms ≡ os) (each (λ i n. inObject i (object start n)) i (namedOf span (objectPieces span offsets os) x)) (each (λ i o. inObject i (judgedObject o)) i os)
+      → Agrees (λ ms. map (readObject file) ms ≡ os) (each (λ i n. inObject i (object current start n)) i (namedOf span (objectPieces span offsets os) x)) (each (λ i o. inObject i (judgedObject o)) i os)
   unfolding objectPieces anyTooDeep
   objects-agree i offsets [] x f k s h = passes refl
   objects-agree i offsets (o ∷ os) x (f, fs) k (s, ss) h =
       let n : ℕ = length (o .components) in
       let rest : List (Keyed (Piece (Node Span))) = objectPieces span (drop n offsets) os in
       let y : List ℕ = allWritten (map (entryPiece span) rest) ++ x in
-      each-agrees (λ i n. inObject i (object start n)) (λ i o. inObject i (judgedObject o)) i _ (namedOf span rest x) o os
+      each-agrees (λ i n. inObject i (object current start n)) (λ i o. inObject i (judgedObject o)) i _ (namedOf span rest x) o os
       (agrees-in-object i (object-agrees file pre M post split start (take n offsets) o y _ refl f (cond-first (deepOption objectLevels (o .attributes)) (anyTooDeep os) k) s
       (entry-suffix span M (under (o .name) (objectPiece span (take n offsets) o)) (map (entryPiece span) rest) x h)))
       (objects-agree (suc i) (drop n offsets) os x fs (cond-second (deepOption objectLevels (o .attributes)) (anyTooDeep os) k) ss
@@ -75,7 +76,7 @@ module _ (file pre M post : List ℕ) (split : file ≡ pre ++ (M ++ post)) (sta
 
   objects-of-agree : (offsets : List ℕ) (os : List DescribedObject) (x : List ℕ) → Every FineObject os → anyTooDeep os ≡ false → StandAll file start offsets os
       → Suffix M (allWritten (map (entryPiece span) (objectPieces span offsets os)) ++ x)
-      → Agrees (λ ms. map (readObject file) ms ≡ os) (objectsOf start (mapPiece span (objectPieces span offsets os) .meant x))
+      → Agrees (λ ms. map (readObject file) ms ≡ os) (objectsOf current start (mapPiece span (objectPieces span offsets os) .meant x))
       (judgedNames objectLimit (map (λ o. o .name) os) >> each (λ i o. inObject i (judgedObject o)) 0 os)
   unfolding objectsOf
   objects-of-agree offsets os x f k s h =
@@ -89,21 +90,21 @@ module _ (file pre M post : List ℕ) (split : file ≡ pre ++ (M ++ post)) (sta
     tree = manifestPiece span d offsets .meant x
 
     abbrev entriesOf : Option (List ℕ) → List (Keyed (Piece (Node Span)))
-    entriesOf a = given field.rootNames (some (textPiece span (ascii "1.2.0")) ∷ mapOption (copiedPiece span rootLevels) a ∷ some (mapPiece span (objectPieces span offsets (d .objects))) ∷ [])
+    entriesOf a = given rootNames (some (textPiece span (ascii "1.2.0")) ∷ mapOption (copiedPiece span rootLevels) a ∷ some (mapPiece span (objectPieces span offsets (d .objects))) ∷ [])
 
     -- what follows the attributes
     abbrev past : List ℕ
     past = allWritten (map (entryPiece span) (drop 2 (entriesOf (d .attributes)))) ++ x
 
-    fields-found : field.rootFields tree ≡ pass (record {
+    fields-found : field.rootFields (current .root) tree ≡ pass (record {
       version = some (text (fieldNote (ascii "version") tree) (ascii "1.2.0"));
       attributes = mapOption (copied file pre M post split 30 past) (d .attributes);
       objects = some (mapPiece span (objectPieces span offsets (d .objects)) .meant x);
     })
-    unfolding manifestPiece mapPiece several given entryPiece textPiece fieldNote noteIn field.rootNames field.rootFields field.fields field.keyOf field.keyKind field.isSome field.named field.isKey field.count field.get kinds.kind kinds.aTable kinds.asTable
+    unfolding manifestPiece mapPiece several given entryPiece textPiece fieldNote noteIn current field.field field.rootFields field.fields field.keyOf field.keyKind field.isSome field.named field.isKey field.count field.get kinds.kind kinds.aTable kinds.asTable
     fields-found = go (d .attributes) refl
       where
-        go : (a : Option (List ℕ)) → d .attributes ≡ a → field.rootFields tree ≡ pass (record {
+        go : (a : Option (List ℕ)) → d .attributes ≡ a → field.rootFields (current .root) tree ≡ pass (record {
           version = some (text (fieldNote (ascii "version") tree) (ascii "1.2.0"));
           attributes = mapOption (copied file pre M post split 30 past) (d .attributes);
           objects = some (mapPiece span (objectPieces span offsets (d .objects)) .meant x);
@@ -120,7 +121,7 @@ module _ (file pre M post : List ℕ) (split : file ≡ pre ++ (M ++ post)) (sta
       objectsEntry = under (ascii "objects") (mapPiece span (objectPieces span offsets (d .objects)))
 
       attributes-within : Within file pre M post split past (d .attributes)
-      unfolding given field.rootNames copiedPiece
+      unfolding given copiedPiece
       attributes-within = go (d .attributes) entries-within
         where
           go : (a : Option (List ℕ)) → Suffix M (allWritten (map (entryPiece span) (entriesOf a)) ++ x)
@@ -135,7 +136,7 @@ module _ (file pre M post : List ℕ) (split : file ≡ pre ++ (M ++ post)) (sta
       last-within h = map-suffix span M (objectPieces span offsets (d .objects)) x (entry-suffix span M objectsEntry [] x h)
 
       objects-within : Suffix M (allWritten (map (entryPiece span) (objectPieces span offsets (d .objects))) ++ x)
-      unfolding given field.rootNames
+      unfolding given
       objects-within = go (d .attributes) entries-within
         where
           go : (a : Option (List ℕ)) → Suffix M (allWritten (map (entryPiece span) (entriesOf a)) ++ x)
@@ -164,7 +165,7 @@ module _ (file pre M post : List ℕ) (split : file ≡ pre ++ (M ++ post)) (sta
       abbrev each-one : Check (List (Unit {0}))
       each-one = each (λ i o. inObject i (judgedObject o)) 0 (d .objects)
 
-      pub manifest-agrees : Agrees (λ m. describedBy file m ≡ d) (judge start tree) (judgedObjects (d .objects))
+      pub manifest-agrees : Agrees (λ m. describedBy file m ≡ d) (judge current start tree) (judgedObjects (d .objects))
       unfolding judge judgedObjects
       manifest-agrees =
           rw (fields-found, version-passes (fieldNote (ascii "version") tree), attributes-pass file pre M post split 30 (d .attributes) past (f .attributes) root-shallow, ← then-then names each-one (pass (tt {0})))

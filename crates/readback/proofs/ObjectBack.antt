@@ -17,10 +17,11 @@ use Rattle.meaning.specs.Model.{Word, Component, Object}
 use Rattle.meaning.specs.Kind as kinds
 use Rattle.meaning.specs.Field as field
 use Rattle.meaning.specs.Format.{formatRules}
-use Rattle.meaning.specs.Judge.{shapeOf, componentsOf, part, object}
+use Rattle.meaning.specs.Judge.{shapeOf, componentsOf, part, object, inherited}
 use Rattle.meaning.specs.Sound.{objectLevels}
 use Rattle.meaning.specs.Described.{DescribedComponent, DescribedObject, readObject}
 use Rattle.meaning.specs.Manifest.{shortestHead, textBytes, Keyed, under, given}
+use Rattle.meaning.specs.Layouts.{objectNames, current}
 use Rattle.readback.specs.Piece.{Piece, allWritten, allMeant}
 use Rattle.readback.specs.Trees.{numberPiece, textPiece, several, listPiece, copiedPiece, entryPiece, mapPiece, componentPieces, objectPiece}
 use Rattle.readback.specs.Judged.{judgedNames, judgedComponent, partOf, judgedObject, deepOption}
@@ -51,23 +52,25 @@ module _ (note : List ℕ → List ℕ → Span) (offsets : List ℕ) (o : Descr
 
   -- the entries, with these attributes
   abbrev entriesOf : Option (List ℕ) → List (Keyed (Piece (Node Span)))
-  entriesOf a = given field.objectNames (some (listPiece note (o .shape)) ∷ some (textPiece note (o .format)) ∷ mapOption (copiedPiece note objectLevels) a
+  entriesOf a = given objectNames (some (listPiece note (o .shape)) ∷ some (textPiece note (o .format)) ∷ mapOption (copiedPiece note objectLevels) a
       ∷ some (mapPiece note (componentPieces note offsets (o .components))) ∷ [])
 
   -- what follows the n-th entry
   abbrev past : ℕ → List ℕ
   past n = allWritten (map (entryPiece note) (drop n (entriesOf (o .attributes)))) ++ x
 
-  fields-found : field.objectFields tree ≡ pass (record {
+  fields-found : field.objectFields (current .object) tree ≡ pass (record {
+    dtype = none;
     shape = some (listPiece note (o .shape) .meant (past 1));
     format = some (text (fieldNote (ascii "format") tree) (o .format));
     attributes = mapOption (λ bs. copiedPiece note objectLevels bs .meant (past 3)) (o .attributes);
     components = some (mapPiece note (componentPieces note offsets (o .components)) .meant x);
   })
-  unfolding objectPiece mapPiece several given entryPiece textPiece fieldNote noteIn field.objectNames field.objectFields field.fields field.keyOf field.keyKind field.isSome field.named field.isKey field.count field.get kinds.kind kinds.aTable kinds.asTable
+  unfolding objectPiece mapPiece several given entryPiece textPiece fieldNote noteIn current field.field field.objectFields field.fields field.keyOf field.keyKind field.isSome field.named field.isKey field.count field.get kinds.kind kinds.aTable kinds.asTable
   fields-found = go (o .attributes) refl
     where
-      go : (a : Option (List ℕ)) → o .attributes ≡ a → field.objectFields tree ≡ pass (record {
+      go : (a : Option (List ℕ)) → o .attributes ≡ a → field.objectFields (current .object) tree ≡ pass (record {
+        dtype = none;
         shape = some (listPiece note (o .shape) .meant (past 1));
         format = some (text (fieldNote (ascii "format") tree) (o .format));
         attributes = mapOption (λ bs. copiedPiece note objectLevels bs .meant (past 3)) (o .attributes);
@@ -111,7 +114,7 @@ module _ (file pre M post : List ℕ) (split : file ≡ pre ++ (M ++ post)) (sta
   module _ (offsets : List ℕ) (o : DescribedObject) (x : List ℕ) (w : Word Span) (e : w .letters ≡ o .name) (f : FineObject o)
       (shallow : deepOption objectLevels (o .attributes) ≡ false) (s : Stand file start offsets (o .components)) (inside : Suffix M (objectPiece span offsets o .written ++ x)) where
     attributes-within : Within file pre M post split (past span offsets o x 3) (o .attributes)
-    unfolding objectPiece given field.objectNames copiedPiece
+    unfolding objectPiece given copiedPiece
     attributes-within =
         go (o .attributes) (suffix-pieces M 2 (map (entryPiece span) (entriesOf span offsets o x (o .attributes))) x
         (map-suffix span M (entriesOf span offsets o x (o .attributes)) x inside))
@@ -149,15 +152,15 @@ module _ (file pre M post : List ℕ) (split : file ≡ pre ++ (M ++ post)) (sta
     rules g = formatRules g (o .shape) (map partOf (o .components))
 
     rules-agree : (F : Word Span) → F .letters ≡ o .format
-        → Agrees (λ m. readObject file m ≡ o) (componentsOf start (mapPiece span (componentPieces span offsets (o .components)) .meant x) >>= lastly F) (names >> (each-one >> rules (o .format)))
+        → Agrees (λ m. readObject file m ≡ o) (componentsOf current start (λ r. none) (mapPiece span (componentPieces span offsets (o .components)) .meant x) >>= lastly F) (names >> (each-one >> rules (o .format)))
     rules-agree F ef =
-        let check : Check (Object Span) = componentsOf start (mapPiece span (componentPieces span offsets (o .components)) .meant x) >>= lastly F in
+        let check : Check (Object Span) = componentsOf current start (λ r. none) (mapPiece span (componentPieces span offsets (o .components)) .meant x) >>= lastly F in
         subst (λ (g : List ℕ). Agrees (λ m. readObject file m ≡ o) check (names >> (each-one >> rules g))) ef
         (subst (Agrees (λ m. readObject file m ≡ o) check) (then-then names each-one (rules (F .letters)))
         (agrees-bind {k = lastly F} (components-of-agree file start span offsets (o .components) x (f .components) s) (λ ms t. lastly-agrees F ms ef t)))
 
-    pub object-agrees : Agrees (λ m. readObject file m ≡ o) (object start (record { name = w; value = objectPiece span offsets o .meant x })) (judgedObject o)
-    unfolding object kinds.aText kinds.aWord kinds.asWord kinds.kind judgedObject
+    pub object-agrees : Agrees (λ m. readObject file m ≡ o) (object current start (record { name = w; value = objectPiece span offsets o .meant x })) (judgedObject o)
+    unfolding current object inherited kinds.aText kinds.aWord kinds.asWord kinds.kind judgedObject
     object-agrees =
         rw (
           fields-found span offsets o x,

@@ -13,7 +13,7 @@ use Rattle.meaning.specs.Text.{all, ascii}
 use Rattle.meaning.specs.Tree.{Node, text, array, dict, nodes, pairs, mapP, nothing}
 use Rattle.meaning.specs.Read.{Outcome, got, refused, Reader, _>>=_, pure, run, times, known, majors, special, close, pair, content, item, noNote}
 use Rattle.meaning.specs.Notes.{mapOption}
-use Rattle.meaning.specs.Field.{rootNames, objectNames, componentNames}
+use Rattle.meaning.specs.Layouts.{rootNames, objectNames, componentNames}
 use Rattle.meaning.specs.Types.{Storage, storages, storageOf}
 use Rattle.meaning.specs.Sound.{aMap, fillsOrDeep, beginsAsMap, rootLevels, objectLevels, absentOr}
 use Rattle.meaning.specs.Described.{DescribedComponent, DescribedObject, Described}
@@ -182,7 +182,7 @@ module _ {P : Type 0} (note : List ℕ → List ℕ → P) where
   copied-option-goes levels (some s) h = copied-goes levels s h
 
   component-goes : (offset : ℕ) (c : DescribedComponent) → Fits offset → FineComponent c → Goes (it 28) (componentPiece note offset c)
-  unfolding componentPiece componentNames
+  unfolding componentPiece
   component-goes offset c h f =
       fields-go 26 componentNames _ (omega arith) (all-brief componentNames refl) (
         text-goes 26 (storageOf (c .dtype) .called) (dtype-brief (c .dtype)),
@@ -206,7 +206,7 @@ module _ {P : Type 0} (note : List ℕ → List ℕ → P) where
   component-pieces-length offsets (c ∷ cs) = ap suc (component-pieces-length (drop 1 offsets) cs)
 
   object-goes : (offsets : List ℕ) (o : DescribedObject) → Every Fits offsets → FineObject o → Goes (it 30) (objectPiece note offsets o)
-  unfolding objectPiece objectNames
+  unfolding objectPiece
   object-goes offsets o h f =
       fields-go 28 objectNames _ (omega arith) (all-brief objectNames refl) (
         list-goes 27 (o .shape) (omega (arith, f .rank)) (f .shape),
@@ -232,7 +232,7 @@ module _ {P : Type 0} (note : List ℕ → List ℕ → P) where
   object-pieces-length offsets (o ∷ os) = ap suc (object-pieces-length (drop (length (o .components)) offsets) os)
 
   pub manifest-goes : (d : Described) (offsets : List ℕ) → Every Fits offsets → Fine d → Goes (it 32) (manifestPiece note d offsets)
-  unfolding manifestPiece rootNames
+  unfolding manifestPiece
   manifest-goes d offsets h f =
       fields-go 30 rootNames _ (omega arith) (all-brief rootNames refl) (
         text-goes 30 (ascii "1.2.0") (omega arith),

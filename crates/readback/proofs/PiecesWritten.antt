@@ -9,7 +9,7 @@ use Rattle.meaning.specs.Text.{ascii}
 use Rattle.meaning.specs.Tree.{Node}
 use Rattle.meaning.specs.Read.{joined}
 use Rattle.meaning.specs.Notes.{mapOption}
-use Rattle.meaning.specs.Field.{rootNames, objectNames, componentNames}
+use Rattle.meaning.specs.Layouts.{rootNames, objectNames, componentNames}
 use Rattle.meaning.specs.Types.{storageOf}
 use Rattle.meaning.specs.Sound.{rootLevels, objectLevels}
 use Rattle.meaning.specs.Described.{DescribedComponent, DescribedObject, Described}
@@ -105,7 +105,7 @@ module _ {P : Type 0} (note : List ℕ → List ℕ → P) where
   list-not-deep ns = numbers-not-deep ns
 
   component-not-deep : (offset : ℕ) (c : DescribedComponent) → componentPiece note offset c .deep ≡ false
-  unfolding componentPiece mapPiece several given componentNames entryPiece textPiece numberPiece
+  unfolding componentPiece mapPiece several given entryPiece textPiece numberPiece
   component-not-deep offset c = go (c .type) (c .digest)
     where
       go : (t g : Option (List ℕ)) → anyDeep (map (entryPiece note) (given componentNames (some (textPiece note (storageOf (c .dtype) .called)) ∷ mapOption (textPiece note) t
@@ -125,7 +125,7 @@ module _ {P : Type 0} (note : List ℕ → List ℕ → P) where
   cond-id false = refl
 
   object-deep : (offsets : List ℕ) (o : DescribedObject) → objectPiece note offsets o .deep ≡ deepOption objectLevels (o .attributes)
-  unfolding objectPiece mapPiece several given objectNames entryPiece textPiece copiedPiece deepOption
+  unfolding objectPiece mapPiece several given entryPiece textPiece copiedPiece deepOption
   object-deep offsets o = go (o .attributes)
     where
       go : (a : Option (List ℕ)) → anyDeep (map (entryPiece note) (given objectNames (some (listPiece note (o .shape)) ∷ some (textPiece note (o .format)) ∷ mapOption (copiedPiece note objectLevels) a
@@ -139,7 +139,7 @@ module _ {P : Type 0} (note : List ℕ → List ℕ → P) where
   objects-deep offsets (o ∷ os) = rw (object-deep (take (length (o .components)) offsets) o, objects-deep (drop (length (o .components)) offsets) os)
 
   pub manifest-deep : (d : Described) (offsets : List ℕ) → manifestPiece note d offsets .deep ≡ tooDeep d
-  unfolding manifestPiece mapPiece several given rootNames entryPiece textPiece copiedPiece deepOption tooDeep
+  unfolding manifestPiece mapPiece several given entryPiece textPiece copiedPiece deepOption tooDeep
   manifest-deep d offsets = go (d .attributes)
     where
       go : (a : Option (List ℕ)) → anyDeep (map (entryPiece note) (given rootNames (some (textPiece note (ascii "1.2.0")) ∷ mapOption (copiedPiece note rootLevels) a

@@ -7,11 +7,11 @@ use mathlib.Core.Option.{some}
 use mathlib.Core.Path.{_≡_, refl, ap, _∙_, subst}
 use lib.ListN.{length, take, drop, replicate, getElem?, length-append, length-replicate, length-map}
 use lib.Seq.{take-at, drop-at}
-use Rattle.meaning.specs.Frame.{magic}
+use Rattle.meaning.specs.Layouts.{magic}
 use Rattle.meaning.specs.Placement.{aligned, placedFrom, placement, endFrom, lastEnd}
 use Rattle.meaning.specs.Described.{Described, blobs}
 use Rattle.meaning.specs.Manifest.{manifestBytes}
-use Rattle.meaning.specs.Layout.{littleBytes, blobsFrom, closing, fileOf}
+use Rattle.meaning.specs.WrittenFile.{littleBytes, blobsFrom, closing, fileOf}
 use Rattle.readback.specs.Lies.{Rises, none, next, Lies, sum}
 use Rattle.readback.specs.Lies as lies
 

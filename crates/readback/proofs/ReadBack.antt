@@ -13,11 +13,12 @@ use Rattle.meaning.specs.Check.{Check, pass, refuse, _>>=_, _>>_, _unless_, fau
 use Rattle.meaning.specs.Tree.{Node}
 use Rattle.meaning.specs.Read.{Span, spanTo, manifest}
 use Rattle.meaning.specs.Judge.{judge}
-use Rattle.meaning.specs.Frame.{magic, checked, Reading, reading}
+use Rattle.meaning.specs.Layouts.{magic, current}
+use Rattle.meaning.specs.Frame.{checked, Reading, reading}
 use Rattle.meaning.specs.Placement.{placement, lastEnd}
 use Rattle.meaning.specs.Described.{Described, blobs, describedBy}
 use Rattle.meaning.specs.Manifest.{manifestBytes}
-use Rattle.meaning.specs.Layout.{littleBytes, blobsFrom, closing, fileOf}
+use Rattle.meaning.specs.WrittenFile.{littleBytes, blobsFrom, closing, fileOf}
 use Rattle.meaning.specs.Write.{writtenAt, writtenPlain}
 use Rattle.readback.specs.Lies.{Rises}
 use Rattle.readback.specs.Trees.{manifestPiece}
@@ -65,7 +66,7 @@ module _ (d : Described) (offsets X : List ℕ) (fine : Fine d) where
     checked-is = manifest-read span d offsets (offsets-fit file (length before) offsets (blobs d) stand (omega arith)) fine
 
     abbrev finish : Node Span → Check Reading
-    finish t = judge (length before) t >>= λ m. pass (record { start = length before; model = m })
+    finish t = judge current (length before) t >>= λ m. pass (record { start = length before; model = m })
 
     finish-agrees : (b : Bool) → tooDeep d ≡ b
         → Agrees (λ r. describedBy file (r .model) ≡ d) (cond b (fault DEEP) (pass tree) >>= finish) ((DEEP unless not b) >> judgedObjects (d .objects))
@@ -74,7 +75,7 @@ module _ (d : Described) (offsets X : List ℕ) (fine : Fine d) where
         agrees-map (λ m. record { start = length before; model = m })
         (manifest-agrees file before M (littleBytes 8 (length M) ++ magic) split (length before) d offsets [] fine e (stand-all file (length before) offsets (d .objects) stand) whole) (λ m r. r)
 
-    pub reading-agrees : Agrees (λ r. describedBy file (r .model) ≡ d) (reading file) (judged d)
+    pub reading-agrees : Agrees (λ r. describedBy file (r .model) ≡ d) (reading current file) (judged d)
     unfolding judged
     reading-agrees =
         subst (λ (c : Check Reading). Agrees (λ r. describedBy file (r .model) ≡ d) c ((DEEP unless not (tooDeep d)) >> judgedObjects (d .objects)))
@@ -101,7 +102,7 @@ module _ (d : Described) (offsets : List ℕ) (fine : Fine d) (rises : Rises 8 o
   unfolding lastEnd magic
   at-offsets start e = all-at laid start 8 offsets (blobs d) rises (blobs-lie d offsets rises) (omega arith) (omega arith)
 
-  pub written-agrees : size ≤ manifestLimit → Agrees (λ r. describedBy laid (r .model) ≡ d) (reading laid) (judged d)
+  pub written-agrees : size ≤ manifestLimit → Agrees (λ r. describedBy laid (r .model) ≡ d) (reading current laid) (judged d)
   unfolding fileOf
   written-agrees small =
       let X : List ℕ = blobsFrom (length magic) offsets (blobs d) in
@@ -114,12 +115,12 @@ module _ (d : Described) (offsets : List ℕ) (fine : Fine d) (rises : Rises 8 o
   written-at-is room = go (leb size manifestLimit) refl
     where
       go : (b : Bool) → leb size manifestLimit ≡ b
-          → ((BIG unless b) >> (reading laid >> ((ROOM unless leb (length laid) room) >> pass laid))) ≡ ((BIG unless b) >> (judged d >> ((ROOM unless leb (length laid) room) >> pass laid)))
+          → ((BIG unless b) >> (reading current laid >> ((ROOM unless leb (length laid) room) >> pass laid))) ≡ ((BIG unless b) >> (judged d >> ((ROOM unless leb (length laid) room) >> pass laid)))
       go true e = agrees-then (written-agrees (leb-true size manifestLimit e)) ((ROOM unless leb (length laid) room) >> pass laid)
       go false e = refl
 
   -- a file that the reader accepts reads back
-  reads-back : size ≤ manifestLimit → (r : Check Reading) → reading laid ≡ r → (f : List ℕ) → (r >> pass laid) ≡ pass f → ReadsBack f d
+  reads-back : size ≤ manifestLimit → (r : Check Reading) → reading current laid ≡ r → (f : List ℕ) → (r >> pass laid) ≡ pass f → ReadsBack f d
   reads-back small (pass r) e f h =
       let same : laid ≡ f = cc in
       subst (λ (g : List ℕ). ReadsBack g d) same (record { read = r; is = e; back = passed-has (written-agrees small) e })
@@ -129,9 +130,9 @@ module _ (d : Described) (offsets : List ℕ) (fine : Fine d) (rises : Rises 8 o
   unfolding writtenAt
   written-at-reads-back room f = go (leb size manifestLimit) refl (leb (length laid) room)
     where
-      go : (b : Bool) → leb size manifestLimit ≡ b → (b′ : Bool) → ((BIG unless b) >> (reading laid >> ((ROOM unless b′) >> pass laid))) ≡ pass f → ReadsBack f d
-      go true e true h = reads-back (leb-true size manifestLimit e) (reading laid) refl f h
-      go true e false h = absurd (nothing-passes ROOM (reading laid) h)
+      go : (b : Bool) → leb size manifestLimit ≡ b → (b′ : Bool) → ((BIG unless b) >> (reading current laid >> ((ROOM unless b′) >> pass laid))) ≡ pass f → ReadsBack f d
+      go true e true h = reads-back (leb-true size manifestLimit e) (reading current laid) refl f h
+      go true e false h = absurd (nothing-passes ROOM (reading current laid) h)
       go false e b′ h = absurd (refused-is-not h)
 
 -- ---- by 01's placement

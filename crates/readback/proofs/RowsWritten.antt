@@ -18,7 +18,7 @@ use Rattle.meaning.specs.Sound.{owners, inside, componentSound, rowsSound}
 use Rattle.meaning.specs.Placement.{placement, lastEnd}
 use Rattle.meaning.specs.Described.{Described, blobsIn, blobs, describedComponent, describedObject, describedObjects, described}
 use Rattle.meaning.specs.Manifest.{manifestBytes}
-use Rattle.meaning.specs.Layout.{fileOf}
+use Rattle.meaning.specs.WrittenFile.{fileOf}
 use Rattle.meaning.specs.Write.{writtenPlain, written}
 use Rattle.readback.specs.Every.{Every}
 use Rattle.readback.specs.Lies.{sum}

@@ -9,6 +9,7 @@ use Rattle.meaning.specs.Model.{Component}
 use Rattle.meaning.specs.Check.{pass}
 use Rattle.meaning.specs.Frame.{Reading, reading}
 use Rattle.meaning.specs.Described.{DescribedComponent, DescribedObject, Described, readComponent, describedBy}
+use Rattle.meaning.specs.Layouts.{current}
 
 -- a blob at its offset, before the manifest
 pub record BlobAt (file : List ℕ) (start offset : ℕ) (b : List ℕ) : Type 0 where
@@ -47,5 +48,5 @@ AllTell file (c ∷ cs) (m ∷ ms) = Tells file c m × AllTell file cs ms
 -- the file is accepted, and what was read describes d
 pub record ReadsBack (file : List ℕ) (d : Described) : Type 0 where
   pub read : Reading
-  pub is : reading file ≡ pass read
+  pub is : reading current file ≡ pass read
   pub back : describedBy file (read .model) ≡ d

@@ -10,7 +10,7 @@ use Rattle.meaning.specs.Text.{ascii}
 use Rattle.meaning.specs.Tree.{Node, Pair, uint, text, array, dict, nodes, pairs}
 use Rattle.meaning.specs.Read.{Outcome, got, refused, item, noNote}
 use Rattle.meaning.specs.Notes.{mapOption}
-use Rattle.meaning.specs.Field.{rootNames, objectNames, componentNames}
+use Rattle.meaning.specs.Layouts.{rootNames, objectNames, componentNames}
 use Rattle.meaning.specs.Types.{storageOf}
 use Rattle.meaning.specs.Sound.{rootLevels, objectLevels}
 use Rattle.meaning.specs.Described.{DescribedComponent, DescribedObject, Described}

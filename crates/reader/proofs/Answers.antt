@@ -21,7 +21,8 @@ use Rattle.meaning.specs.Notes.{mapOption, mapModel, mapObject}
 use Rattle.meaning.specs.Kind as kinds
 use Rattle.meaning.specs.Kind.{kind, table, aTable, asTable}
 use Rattle.meaning.specs.Field as field
-use Rattle.meaning.specs.Field.{rootNames, rootFields, isSome, keyOf, count, get}
+use Rattle.meaning.specs.Layouts.{rootNames, current}
+use Rattle.meaning.specs.Field.{rootFields, isSome, keyOf, count, get}
 use Rattle.meaning.specs.Judge.{judge, aVersion, attributesOf, objectsOf}
 use Rattle.meaning.specs.Frame.{Reading, frame, reading}
 use Rattle.meaning.specs.Rows.{attributesSpan, componentCount, roomFor, roomy, answer, tableAfter, readInto}
@@ -86,7 +87,7 @@ record Parts (start : ℕ) (t : Node Ends) (m : Model Ends) : Type 0 where
   pub kind-is : kind t ≡ table pairs
   pub objects : Node Ends
   pub objects-there : get (ascii "objects") pairs ≡ some objects
-  pub objects-judged : objectsOf start objects ≡ pass (m .objects)
+  pub objects-judged : objectsOf current start objects ≡ pass (m .objects)
   pub attributes-are : m .attributes ≡ get (ascii "attributes") pairs
 
 table-kind : (k : kinds.Kind Ends) (ps : List (Pair Ends)) → asTable k ≡ pass ps → k ≡ table ps
@@ -98,15 +99,15 @@ table-kind (kinds.table l) ps e = ap table (pass-same e)
 table-kind kinds.null ps e = absurd (let z : _≡_ {A = ℕ} 0 1 = cc in omega arith)
 table-kind kinds.another ps e = absurd (let z : _≡_ {A = ℕ} 0 1 = cc in omega arith)
 
-parts-of : (start : ℕ) (t : Node Ends) (m : Model Ends) → judge start t ≡ pass m → Parts start t m
-unfolding judge rootFields field.fields aTable
+parts-of : (start : ℕ) (t : Node Ends) (m : Model Ends) → judge current start t ≡ pass m → Parts start t m
+unfolding current judge rootFields field.field field.fields aTable
 parts-of start t m e =
-    let root = passed (rootFields t) _ m e in
+    let root = passed (rootFields (current .root) t) _ m e in
     let version = passed (required (root .value .version)) _ m (root .then) in
     let attributes = passed (optional attributesOf (root .value .attributes)) _ m (passed-on (aVersion (version .value)) _ m (version .then)) in
     let objects = passed (required (root .value .objects)) _ m (attributes .then) in
-    let found = passed (objectsOf start (objects .value)) _ m (objects .then) in
-    let listed = passed (field.fields rootNames t) _ (root .value) (root .is) in
+    let found = passed (objectsOf current start (objects .value)) _ m (objects .then) in
+    let listed = passed (field.fields (current .root) t) _ (root .value) (root .is) in
     let mapped = passed (asTable (kind t)) _ (listed .value) (listed .is) in
     let keyed = passed-on (KEY unless all (λ p. isSome (keyOf p)) (mapped .value)) _ (listed .value) (mapped .then) in
     let pairs : mapped .value ≡ listed .value = pass-same (passed-on (TWICE unless all (λ n. leb (count n (mapped .value)) 1) rootNames) _ (listed .value) keyed) in
@@ -214,8 +215,8 @@ module _ (start : ℕ) (m before : List ℕ) (x : Told) (h : (end : ℕ) → Man
         written start m before objects components left at (told-there (Yes objects components left at) e) room f place here after w s (subst (λ u. AttributesIs u left (start + length m) s) (part-to-end m 0) a)
 
 -- from the frame on
-module _ (file before : List ℕ) (r : Framed) (asked : frame (Here file 0) ≡ framed-told r) where
-  pub no-frame-read : (n : ℕ) → r ≡ NoFrame n → (a : Answer) → a ≡ refused n 0 0 → (a ≡ answered (readInto file (length before))) × (before ≡ tableAfter before (readInto file (length before)))
+module _ (file before : List ℕ) (r : Framed) (asked : frame current (Here file 0) ≡ framed-told r) where
+  pub no-frame-read : (n : ℕ) → r ≡ NoFrame n → (a : Answer) → a ≡ refused n 0 0 → (a ≡ answered (readInto current file (length before))) × (before ≡ tableAfter before (readInto current file (length before)))
   unfolding readInto reading answer tableAfter
   no-frame-read n e a is = let z = framed file r asked (NoFrame n) e in (is ∙ (rw z refl), rw z refl)
 
@@ -227,9 +228,9 @@ module _ (file before : List ℕ) (r : Framed) (asked : frame (Here file 0) ≡ 
     manifest-short l = let i = inside file r asked start size e in let n = manifest-length in omega arith
 
     pub frame-read : (m : List ℕ) → m ≡ take (start + size - start) (drop start file) → (a : Answer) (after : List ℕ) → Filled start m before a after
-        → (a ≡ answered (readInto file (length before))) × (after ≡ tableAfter before (readInto file (length before)))
+        → (a ≡ answered (readInto current file (length before))) × (after ≡ tableAfter before (readInto current file (length before)))
     unfolding readInto
     frame-read m is a after f =
         let l : length m ≡ size = ap length is ∙ manifest-length in
-        let z : reading file ≡ manifestReading (start + length m) start m = manifest-read file r asked start size e ∙ ap₂ (λ i u. manifestReading i start u) (ap (λ n. start + n) (sym l)) (sym is) in
+        let z : reading current file ≡ manifestReading (start + length m) start m = manifest-read file r asked start size e ∙ ap₂ (λ i u. manifestReading i start u) (ap (λ n. start + n) (sym l)) (sym is) in
         (f .0 ∙ ap (λ k. answered (k >>= roomy (length before))) (sym z), f .1 ∙ ap (λ k. tableAfter before (k >>= roomy (length before))) (sym z))

@@ -12,7 +12,9 @@ use Rattle.meaning.specs.Check.{pass, refuse, _>>=_, _>>_, _unless_}
 use Rattle.meaning.specs.Text.{same}
 use Rattle.meaning.specs.Refusal.{SHORT, HEADER, FOOTER, BIG, FIT}
 use Rattle.meaning.specs.Limit.{manifestLimit}
-use Rattle.meaning.specs.Frame.{Frame, frame, magic, little, reading}
+use Rattle.meaning.specs.Layouts.{magic, current}
+use Rattle.meaning.specs.Frame.{Frame, frame, little, reading}
+use Rattle.meaning.proofs.CurrentIsBase.{frame-current}
 use Rattle.frame.specs.Told.{told}
 use Rattle.frame.specs.declared.Framed.{Framed}
 use Rattle.frame.specs.declared.Framed.the-variants.{No, At}
@@ -27,9 +29,8 @@ module _ (file : List ℕ) where
   abbrev size : ℕ
   size = little (take 8 (drop (n - 16) file))
 
-  framed-inside : (f : Frame) → frame file ≡ pass f → f .start + f .size ≤ n
-  unfolding frame
-  framed-inside f e = go (leb 24 n) refl (same magic (take 8 file)) (same magic (drop (n - 8) file)) (leb size manifestLimit) (leb 1 size) (leb size (n - 24)) refl e
+  framed-inside : (f : Frame) → frame current file ≡ pass f → f .start + f .size ≤ n
+  framed-inside f e = go (leb 24 n) refl (same magic (take 8 file)) (same magic (drop (n - 8) file)) (leb size manifestLimit) (leb 1 size) (leb size (n - 24)) refl (sym (frame-current file) ∙ e)
     where
       go : (x₁ : Bool) → leb 24 n ≡ x₁ → (x₂ x₃ x₄ x₅ x₆ : Bool) → leb size (n - 24) ≡ x₆
           → ((SHORT unless x₁) >> ((HEADER unless x₂) >> ((FOOTER unless x₃) >> ((BIG unless x₄) >> ((FIT unless (x₅ && x₆)) >> pass (record { start = n - 16 - size; size = size })))))) ≡ pass f
@@ -47,11 +48,11 @@ module _ (file : List ℕ) where
           let v : size ≡ f .size = cc in
           omega arith
 
-  module _ (r : Framed) (asked : frame (Here file 0) ≡ told r) where
-    pub framed : (q : Framed) → r ≡ q → frame file ≡ told q
-    framed q e = ap frame (sym (part-to-end file 0)) ∙ asked ∙ ap told e
+  module _ (r : Framed) (asked : frame current (Here file 0) ≡ told r) where
+    pub framed : (q : Framed) → r ≡ q → frame current file ≡ told q
+    framed q e = ap (frame current) (sym (part-to-end file 0)) ∙ asked ∙ ap told e
 
-    pub no-frame : (number : ℕ) → r ≡ No number → refusal number 0 0 ≡ verdict (reading file)
+    pub no-frame : (number : ℕ) → r ≡ No number → refusal number 0 0 ≡ verdict (reading current file)
     unfolding reading
     no-frame number e = rw (framed (No number) e) refl
 
@@ -60,18 +61,18 @@ module _ (file : List ℕ) where
       inside = framed-inside (record { start = start; size = sized }) (framed (At start sized) e)
 
       -- the file's reading is that of its manifest
-      pub manifest-read : reading file ≡ manifestReading (start + sized) start (take (start + sized - start) (drop start file))
+      pub manifest-read : reading current file ≡ manifestReading (start + sized) start (take (start + sized - start) (drop start file))
       unfolding reading
       manifest-read =
           let z : start + sized - start ≡ sized = omega arith in
           (rw (framed (At start sized) e) refl) ∙ ap (λ (i : ℕ). manifestReading (start + sized) start (take i (drop start file))) (sym z)
 
       module _ (m : List ℕ) (is : m ≡ take (start + sized - start) (drop start file)) where
-        there : reading file ≡ manifestReading (start + sized) start m
+        there : reading current file ≡ manifestReading (start + sized) start m
         there = manifest-read ∙ ap (manifestReading (start + sized) start) (sym is)
 
-        pub accept-refuses : (n o c : ℕ) → manifestReading (start + sized) start m ≡ refuse n o c → refusal n o c ≡ verdict (reading file)
+        pub accept-refuses : (n o c : ℕ) → manifestReading (start + sized) start m ≡ refuse n o c → refusal n o c ≡ verdict (reading current file)
         accept-refuses n o c h = sym (ap verdict (there ∙ h))
 
-        pub accept-accepts : (objects components left at : ℕ) → Accepted (start + sized) start m objects components left at → refusal 0 0 0 ≡ verdict (reading file)
+        pub accept-accepts : (objects components left at : ℕ) → Accepted (start + sized) start m objects components left at → refusal 0 0 0 ≡ verdict (reading current file)
         accept-accepts objects components left at h = sym (ap verdict (there ∙ h .is))

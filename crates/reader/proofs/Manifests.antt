@@ -14,6 +14,7 @@ use Rattle.meaning.specs.Notes.{mapCheck, mapModel}
 use Rattle.meaning.specs.Read.{Outcome, got, refused, after, Span, item, noNote, closed, manifest}
 use Rattle.meaning.specs.Judge.{judge}
 use Rattle.meaning.specs.Frame.{Reading, checked}
+use Rattle.meaning.specs.Layouts.{current}
 use Rattle.meaning.proofs.ReadNatural.{mapOut, item-follows}
 use Rattle.meaning.proofs.JudgeNatural.{judge-map}
 use Rattle.cbor.specs.Ending.{took, FAULT, code, ending, itemEnd}
@@ -32,7 +33,7 @@ module _ (end start : ℕ) where
 
   -- the rest of a reading, once the manifest's item is read
   abbrev judging : Check (Node Span) → Check Reading
-  judging c = c >>= λ t. judge start t >>= λ m. pass (record { start = start; model = m })
+  judging c = c >>= λ t. judge current start t >>= λ m. pass (record { start = start; model = m })
 
   abbrev closing : Outcome (Node Span) → Check Reading
   closing o = judging (checked (after o closed))
@@ -97,7 +98,7 @@ module _ (end start : ℕ) where
           pub tree : Node Ends
           pub rest : List ℕ
           pub reads : Reads 32 s tree rest
-          pub is : manifestReading end start s ≡ (mapCheck (mapModel spans) (judge start tree) >>= λ m. pass (record { start = start; model = m }))
+          pub is : manifestReading end start s ≡ (mapCheck (mapModel spans) (judge current start tree) >>= λ m. pass (record { start = start; model = m }))
 
         module _ (l : length s ≡ e) where
           filling : Filling
@@ -111,18 +112,18 @@ module _ (end start : ℕ) where
                     tree = t;
                     rest = r;
                     reads = h;
-                    is = read-so (got t r) h ∙ closed-passes (mapP spans t) r y ∙ ap (λ k. k >>= λ m. pass (record { start = start; model = m })) (judge-map spans start t);
+                    is = read-so (got t r) h ∙ closed-passes (mapP spans t) r y ∙ ap (λ k. k >>= λ m. pass (record { start = start; model = m })) (judge-map spans current start t);
                   }
               go (refused n q) h = let z : e ≡ FAULT + n = ended-so (refused n q) h in absurd (omega arith)
 
           module _ (u : Judged) (told : RootIs (Here s 0) start u) where
-            root : (v : Judged) → u ≡ v → v ≡ judged (judge start (filling .tree))
+            root : (v : Judged) → u ≡ v → v ≡ judged (judge current start (filling .tree))
             root v same = subst (λ m. RootIs m start v) (part-to-end s 0) (subst (RootIs (Here s 0) start) same told) (filling .tree) (filling .rest) (filling .reads)
 
             pub root-refuses : (n o c : ℕ) → u ≡ No n o c → manifestReading end start s ≡ refuse n o c
-            root-refuses n o c same = go (judge start (filling .tree)) refl
+            root-refuses n o c same = go (judge current start (filling .tree)) refl
               where
-                go : (k : Check (Model Ends)) → judge start (filling .tree) ≡ k → manifestReading end start s ≡ refuse n o c
+                go : (k : Check (Model Ends)) → judge current start (filling .tree) ≡ k → manifestReading end start s ≡ refuse n o c
                 go (pass m) h = let z : No n o c ≡ judged (pass m) = root (No n o c) same ∙ ap judged h in absurd (let y : _≡_ {A = ℕ} 0 1 = cc in omega arith)
                 go (refuse n′ o′ c′) h =
                     let z : No n o c ≡ judged (refuse n′ o′ c′) = root (No n o c) same ∙ ap judged h in
@@ -130,9 +131,9 @@ module _ (end start : ℕ) where
                     filling .is ∙ (rw (h, a, b, d) refl)
 
             pub root-accepts : (objects components left at : ℕ) → u ≡ Yes objects components left → ObjectsAt (Here s 0) at → Accepted end start s objects components left at
-            root-accepts objects components left at same stand = go (judge start (filling .tree)) refl
+            root-accepts objects components left at same stand = go (judge current start (filling .tree)) refl
               where
-                go : (k : Check (Model Ends)) → judge start (filling .tree) ≡ k → Accepted end start s objects components left at
+                go : (k : Check (Model Ends)) → judge current start (filling .tree) ≡ k → Accepted end start s objects components left at
                 go (refuse n o c) h = let z : Yes objects components left ≡ judged (refuse n o c) = root (Yes objects components left) same ∙ ap judged h in absurd (let y : _≡_ {A = ℕ} 0 1 = cc in omega arith)
                 go (pass m) h =
                     let z : Yes objects components left ≡ judged (pass m) = root (Yes objects components left) same ∙ ap judged h in

@@ -11,6 +11,7 @@ use Rattle.meaning.specs.Notes.{mapModel}
 use Rattle.meaning.specs.Judge.{judge}
 use Rattle.meaning.specs.Frame.{Reading, checked}
 use Rattle.meaning.specs.Rows.{componentCount}
+use Rattle.meaning.specs.Layouts.{current}
 use Rattle.walk.specs.Reading.{Ends, Reads, leftAt}
 use Rattle.root.specs.Verdict.{ObjectsAt}
 use Rattle.reader.specs.declared.Verdict.{Verdict}
@@ -31,7 +32,7 @@ spanOf end n = spanTo end (n .start) (n .rest)
 abbrev pub manifestReading : ℕ → ℕ → List ℕ → Check Reading
 manifestReading end start s = do
   t ← checked (manifest (spanTo end) s)
-  m ← judge start t
+  m ← judge current start t
   pass (record { start = start; model = m })
 
 -- a manifest m that is accepted: the tree it is read as, the model, and what was answered of them
@@ -40,7 +41,7 @@ pub record Accepted (end start : ℕ) (m : List ℕ) (objects components left at
   pub rest : List ℕ
   pub reads : Reads 32 m tree rest
   pub model : Model Ends
-  pub judged : judge start tree ≡ pass model
+  pub judged : judge current start tree ≡ pass model
   pub is : manifestReading end start m ≡ pass (record { start = start; model = mapModel (spanOf end) model })
   pub objects-are : objects ≡ length (model .objects)
   pub components-are : components ≡ componentCount (model .objects)

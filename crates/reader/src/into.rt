@@ -12,6 +12,7 @@ ghost use lib.Dec.{leb};
 ghost use Rattle.meaning.specs.Columns.{objectWidth, componentWidth};
 ghost use Rattle.meaning.specs.Check.{refuse};
 ghost use Rattle.meaning.specs.Rows.{readInto, tableAfter};
+ghost use Rattle.meaning.specs.Layouts.{current};
 ghost use Rattle.cbor.specs.Ending.{FAULT};
 ghost use Rattle.reader.specs.Answer as is;
 
@@ -90,7 +91,7 @@ fn fill(m: &[u8], start: usize, t: &mut [u64]) -> Answer
 
 // A file, lent whole, read into a lent table.
 pub fn read(file: &[u8], t: &mut [u64]) -> Answer
-    ensures { λ r. ⌜ (r ≡ is.answered (readInto (now (file .entry)) (length (now (t .entry))))) × (now (t .exit) ≡ tableAfter (now (t .entry)) (readInto (now (file .entry)) (length (now (t .entry))))) ⌝ }
+    ensures { λ r. ⌜ (r ≡ is.answered (readInto current (now (file .entry)) (length (now (t .entry))))) × (now (t .exit) ≡ tableAfter (now (t .entry)) (readInto current (now (file .entry)) (length (now (t .entry))))) ⌝ }
 {
     match frame::frame(&file[0..]) {
         Framed::No(n) => refused(n, 0, 0),

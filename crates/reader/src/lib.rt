@@ -6,6 +6,7 @@ use root::Judged;
 ghost use mathlib.Core.Path.{_≡_};
 ghost use Prim.Native.Nat.{ℕ};
 ghost use Rattle.meaning.specs.Frame.{reading};
+ghost use Rattle.meaning.specs.Layouts.{current};
 ghost use Rattle.reader.specs.Verdict as is;
 
 // 2^63, above every length: `cbor` adds it to the number of a refusal.
@@ -56,7 +57,7 @@ pub fn manifest(m: &[u8], start: u64) -> Told
 
 // The verdict on a file, which is lent whole.
 pub fn accept(file: &[u8]) -> Verdict
-    ensures { λ r. ⌜ r ≡ is.verdict (reading (now (file .entry))) ⌝ }
+    ensures { λ r. ⌜ r ≡ is.verdict (reading current (now (file .entry))) ⌝ }
 {
     match frame::frame(&file[0..]) {
         Framed::No(n) => refusal(n, 0, 0),

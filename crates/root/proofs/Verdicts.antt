@@ -16,7 +16,8 @@ use Rattle.meaning.specs.Refusal.{KIND}
 use Rattle.meaning.specs.Model.{Object}
 use Rattle.meaning.specs.Kind.{kind, table, aTable, asTable}
 use Rattle.meaning.specs.Field as field
-use Rattle.meaning.specs.Field.{rootNames, get}
+use Rattle.meaning.specs.Layouts.{rootNames, current}
+use Rattle.meaning.specs.Field.{get}
 use Rattle.meaning.specs.Judge.{attributesOf, aVersion, objectsOf, judge}
 use Rattle.types.specs.Known.{position}
 use Rattle.walk.specs.Reading.{Ends, Chain, leftAt}
@@ -70,38 +71,38 @@ module _ (map : Bool) (left at : ℕ) (found : Found) where
 -- ---------------------------------------------------------------- the judgement of a map of these pairs
 
 module _ (start : ℕ) (t : Node Ends) (ps : List (Pair Ends)) (kt : kind t ≡ table ps) where
-  judged-odd : all (λ q. field.isSome (field.keyOf q)) ps ≡ false → No 9 0 0 ≡ judged (judge start t)
-  unfolding judge field.rootFields field.fields aTable asTable
+  judged-odd : all (λ q. field.isSome (field.keyOf q)) ps ≡ false → No 9 0 0 ≡ judged (judge current start t)
+  unfolding current judge field.rootFields field.field field.fields aTable asTable
   judged-odd e = rw kt (rw e refl)
 
   module _ (a : all (λ q. field.isSome (field.keyOf q)) ps ≡ true) where
-    judged-twice : all (λ m. leb (field.count m ps) 1) rootNames ≡ false → No 11 0 0 ≡ judged (judge start t)
-    unfolding judge field.rootFields field.fields aTable asTable
+    judged-twice : all (λ m. leb (field.count m ps) 1) rootNames ≡ false → No 11 0 0 ≡ judged (judge current start t)
+    unfolding current judge field.rootFields field.field field.fields aTable asTable
     judged-twice e = rw kt (rw (a, e) refl)
 
     module _ (b : all (λ m. leb (field.count m ps) 1) rootNames ≡ true) where
-      judged-no-version : get (ascii "version") ps ≡ none → No 12 0 0 ≡ judged (judge start t)
-      unfolding judge field.rootFields field.fields aTable asTable
+      judged-no-version : get (ascii "version") ps ≡ none → No 12 0 0 ≡ judged (judge current start t)
+      unfolding current judge field.rootFields field.field field.fields aTable asTable
       judged-no-version e = rw kt (rw (a, b) (rw e refl))
 
       module _ (version : Node Ends) (g : get (ascii "version") ps ≡ some version) where
-        judged-version : (n : ℕ) → aVersion version ≡ fault n → No n 0 0 ≡ judged (judge start t)
-        unfolding judge field.rootFields field.fields aTable asTable
+        judged-version : (n : ℕ) → aVersion version ≡ fault n → No n 0 0 ≡ judged (judge current start t)
+        unfolding current judge field.rootFields field.field field.fields aTable asTable
         judged-version n e = rw kt (rw (a, b) (rw g (rw e refl)))
 
         module _ (v : aVersion version ≡ pass tt) where
-          judged-attributes : optional attributesOf (get (ascii "attributes") ps) ≡ fault KIND → No 8 0 0 ≡ judged (judge start t)
-          unfolding judge field.rootFields field.fields aTable asTable
+          judged-attributes : optional attributesOf (get (ascii "attributes") ps) ≡ fault KIND → No 8 0 0 ≡ judged (judge current start t)
+          unfolding current judge field.rootFields field.field field.fields aTable asTable
           judged-attributes e = rw kt (rw (a, b) (rw g (rw v (rw e refl))))
 
           module _ (w : optional attributesOf (get (ascii "attributes") ps) ≡ pass (get (ascii "attributes") ps)) where
-            judged-no-objects : get (ascii "objects") ps ≡ none → No 12 0 0 ≡ judged (judge start t)
-            unfolding judge field.rootFields field.fields aTable asTable
+            judged-no-objects : get (ascii "objects") ps ≡ none → No 12 0 0 ≡ judged (judge current start t)
+            unfolding current judge field.rootFields field.field field.fields aTable asTable
             judged-no-objects e = rw kt (rw (a, b) (rw g (rw v (rw w (rw e refl)))))
 
             module _ (o : Node Ends) (x : get (ascii "objects") ps ≡ some o) where
-              judged-objects : (left : ℕ) → left ≡ leftAt (get (ascii "attributes") ps) → (k : Check (List (Object Ends))) → objectsOf start o ≡ k → counted left (objects.judged k) ≡ judged (judge start t)
-              unfolding judge field.rootFields field.fields aTable asTable
+              judged-objects : (left : ℕ) → left ≡ leftAt (get (ascii "attributes") ps) → (k : Check (List (Object Ends))) → objectsOf current start o ≡ k → counted left (objects.judged k) ≡ judged (judge current start t)
+              unfolding current judge field.rootFields field.field field.fields aTable asTable
               judged-objects left l (pass os) e = rw kt (rw (a, b) (rw g (rw v (rw w (rw x (rw e (rw l refl)))))))
               judged-objects left l (refuse n i j) e = rw kt (rw (a, b) (rw g (rw v (rw w (rw x (rw e refl))))))
 
@@ -116,27 +117,24 @@ module _ (s p : List ℕ) (found : Found) where
   module _ (start d : ℕ) (ps : List (Pair Ends)) (q : List ℕ) (chain : Chain (suc d) s ps q) (noted : Noted start p found ps)
       (t : Node Ends) (kt : kind t ≡ table ps) where
     keys : eqb (getD p 4 0) 0 ≡ all (λ q. field.isSome (field.keyOf q)) ps
-    unfolding rootNames
     keys = keys-are-text rootNames (suc d) s ps q chain p (noted .0)
 
     twice : eqb (getD p 5 0) 0 ≡ all (λ m. leb (field.count m ps) 1) rootNames
-    unfolding rootNames
     twice = none-twice rootNames (suc d) s ps q chain p (noted .0)
 
     at-name : (m : List ℕ) (i : ℕ) → position rootNames m ≡ i → i < 3 → Holds (suc d) s (getD p i 0) (get m ps)
-    unfolding rootNames
     at-name m i e l = subst (λ (i : ℕ). Holds (suc d) s (getD p i 0) (get m ps)) e (field-stands rootNames (suc d) s ps q chain p (noted .0) m (let z : position rootNames m < 3 = omega arith in z))
 
     at-version : Holds (suc d) s (getD p 0 0) (get (ascii "version") ps)
-    unfolding rootNames position
+    unfolding position
     at-version = at-name (ascii "version") 0 refl (omega arith)
 
     at-attributes : Holds (suc d) s (getD p 1 0) (get (ascii "attributes") ps)
-    unfolding rootNames position
+    unfolding position
     at-attributes = at-name (ascii "attributes") 1 refl (omega arith)
 
     at-objects : Holds (suc d) s (getD p 2 0) (get (ascii "objects") ps)
-    unfolding rootNames position
+    unfolding position
     at-objects = at-name (ascii "objects") 2 refl (omega arith)
 
     -- a version stands there, and keys and repeats are right
@@ -146,7 +144,7 @@ module _ (s p : List ℕ) (found : Found) where
       pub version : Item (suc d) s (getD p 0 0) (get (ascii "version") ps)
 
     abbrev Told : Fine → Type 0
-    Told (Bad m) = No m 0 0 ≡ judged (judge start t)
+    Told (Bad m) = No m 0 0 ≡ judged (judge current start t)
     Told Good = Ready
 
     slots-told : Told (known p)
@@ -164,21 +162,21 @@ module _ (s p : List ℕ) (found : Found) where
         }
 
     module _ (r : Ready) where
-      version-told : (m : ℕ) → aVersion (r .version .item) ≡ fault m → No m 0 0 ≡ judged (judge start t)
+      version-told : (m : ℕ) → aVersion (r .version .item) ≡ fault m → No m 0 0 ≡ judged (judge current start t)
       version-told m e = judged-version start t ps kt (r .text-keys) (r .no-repeats) (r .version .item) (r .version .is) m e
 
       all-told : aVersion (r .version .item) ≡ pass tt → (map : Bool) → optional attributesOf (get (ascii "attributes") ps) ≡ cond map (pass (get (ascii "attributes") ps)) (fault KIND)
-          → told map (getD p 1 0) (getD p 2 0) found ≡ judged (judge start t)
+          → told map (getD p 1 0) (getD p 2 0) found ≡ judged (judge current start t)
       all-told v false w = judged-attributes start t ps kt (r .text-keys) (r .no-repeats) (r .version .item) (r .version .is) v w
       all-told v true w = go (eqb (getD p 2 0) 0) refl
         where
-          go : (x : Bool) → eqb (getD p 2 0) 0 ≡ x → cond x (No 12 0 0) (counted (getD p 1 0) found) ≡ judged (judge start t)
+          go : (x : Bool) → eqb (getD p 2 0) 0 ≡ x → cond x (No 12 0 0) (counted (getD p 1 0) found) ≡ judged (judge current start t)
           go true e = judged-no-objects start t ps kt (r .text-keys) (r .no-repeats) (r .version .item) (r .version .is) v w (hold-none (suc d) s (getD p 2 0) (get (ascii "objects") ps) at-objects (eqb-true (getD p 2 0) 0 e))
           go false e =
               let o = hold-some (suc d) s (getD p 2 0) (get (ascii "objects") ps) at-objects (eqb-false (getD p 2 0) 0 e) in
               ap (counted (getD p 1 0)) (noted .1 (o .item) (o .is))
               ∙ judged-objects start t ps kt (r .text-keys) (r .no-repeats) (r .version .item) (r .version .is) v w (o .item) (o .is)
-              (getD p 1 0) (left-of (suc d) s (getD p 1 0) (get (ascii "attributes") ps) at-attributes) (objectsOf start (o .item)) refl
+              (getD p 1 0) (left-of (suc d) s (getD p 1 0) (get (ascii "attributes") ps) at-attributes) (objectsOf current start (o .item)) refl
 
   module _ (f : Fine) (asked : f ≡ known (Here p 0)) where
     slots-say : f ≡ known p

@@ -13,7 +13,8 @@ use Rattle.meaning.specs.Tree.{Node, Pair}
 use Rattle.meaning.specs.Check.{pass, fault}
 use Rattle.meaning.specs.Refusal.{KIND}
 use Rattle.meaning.specs.Kind.{table, aTable, asTable}
-use Rattle.meaning.specs.Field.{rootNames, rootFields, fields, get}
+use Rattle.meaning.specs.Layouts.{rootNames}
+use Rattle.meaning.specs.Field.{rootFields, fields, get}
 use Rattle.meaning.specs.Judge.{judge}
 use Rattle.types.specs.Known.{position}
 use Rattle.cbor.specs.Ending.{FAULT, code, itemEnd, rest}
@@ -40,17 +41,17 @@ use Rattle.root.specs.Verdict.{VerdictIs, RootIs, ObjectsAt}
 
 module _ (start k seen : ℕ) (c : List ℕ) (found : Found) where
   pub first-objects : k ≡ 2 → seen ≡ 0 → (found′ : Found) → ObjectsIs (Here c 0) start found′ → ValueIs start k seen c found found′
-  unfolding rootNames position
+  unfolding position
   first-objects a b found′ h = record { first = λ x y. subst (λ u. ObjectsIs u start found′) (part-to-end c 0) h; other = λ n. absurd (n a b) }
 
   pub other-value : (k ≡ 2 → seen ≡ 0 → ⊥) → ValueIs start k seen c found found
-  unfolding rootNames position
+  unfolding position
   other-value n = record { first = λ x y. absurd (n x y); other = λ n. refl }
 
 -- ---------------------------------------------------------------- the loop
 
 pub objects-known : position rootNames (ascii "objects") < length rootNames
-unfolding rootNames position
+unfolding position
 objects-known = omega arith
 
 -- up to `at`, with n items due, the slots p and what was found
@@ -59,12 +60,10 @@ Looping start = keeping.Looping rootNames (ascii "objects") objects-known (Says 
 
 module _ (start mode count : ℕ) (s : List ℕ) (modes : Modes mode count) where
   pub loop-starts : (p : List ℕ) (found : Found) → p ≡ replicate 6 0 → Looping start mode count s 0 count p found
-  unfolding rootNames
   loop-starts p found e = keeping.loop-starts rootNames (ascii "objects") objects-known (Says start) 30 mode count s modes p found e
 
   module _ (room : length s < FAULT) (at n : ℕ) (p : List ℕ) (found : Found) (w : Looping start mode count s at n p found) where
     pub six-slots : length p ≡ 6
-    unfolding rootNames
     six-slots = w .slots
 
     pub still-due : 1 ≤ mode → 0 < n
@@ -94,7 +93,7 @@ module _ (start mode count : ℕ) (s : List ℕ) (modes : Modes mode count) wher
 
             pub loops-on : (j : ℕ) → SlotIs rootNames (Here s at) j → (found′ : Found) → ValueIs start j (getD p 2 0) (Here s (at + k)) found found′
                 → (q : List ℕ) → q ≡ marked 3 p j (length s - (at + k)) → Looping start mode count s (at + k + e) (n - 2) q found′
-            unfolding rootNames position
+            unfolding position
             loops-on j slot found′ valued q m = keeping.loops-on rootNames (ascii "objects") objects-known (Says start) 30 mode count s modes room at n p found w x h k is e ended l j slot found′ valued q m
 
 -- ---------------------------------------------------------------- the whole value
@@ -127,7 +126,7 @@ module _ (c : List ℕ) (start : ℕ) (x : Opening) (h : MapIs (Here c 0) x) whe
       absurd (let y : _≡_ {A = ℕ} 0 1 = cc in omega arith)
 
   pub objects-stand : (mode count size : ℕ) → x ≡ Opened mode count size → (p : List ℕ) (found : Found) → Walked start mode count (Here c size) p found → (left : ℕ) → left ≡ getD p 2 0 → ObjectsAt c left
-  unfolding rootNames position
+  unfolding position
   objects-stand mode count size is p found walked left e t q r ps kt =
       let o = opens.opened c x h mode count size is in
       let m = o .trees 31 t q r in

@@ -14,6 +14,7 @@ use Rattle.meaning.specs.Field.{get}
 use Rattle.meaning.specs.Kind.{kind, table}
 use Rattle.meaning.specs.Judge.{aVersion, judge}
 use Rattle.meaning.specs.Rows.{componentCount}
+use Rattle.meaning.specs.Layouts.{current}
 use Rattle.walk.specs.Reading.{Ends, Reads, Chain, leftAt}
 use Rattle.walk.specs.Places.{Whatever}
 use Rattle.fields.specs.Slots.{ItemAt, Holds}
@@ -57,10 +58,10 @@ judged (refuse n o c) = No n o c
 -- for every map of the pairs that are read from s on, where p holds their slots, and `found` what the objects say
 abbrev pub VerdictIs : List ℕ → List ℕ → Found → Judged → Type 0
 VerdictIs s p found r = (start d : ℕ) (ps : List (Pair Ends)) (q : List ℕ) → Chain (suc d) s ps q → Noted start p found ps
-    → (t : Node Ends) → kind t ≡ table ps → r ≡ judged (judge start t)
+    → (t : Node Ends) → kind t ≡ table ps → r ≡ judged (judge current start t)
 
 abbrev pub RootIs : List ℕ → ℕ → Judged → Type 0
-RootIs s start r = (t : Node Ends) (q : List ℕ) → Reads 32 s t q → r ≡ judged (judge start t)
+RootIs s start r = (t : Node Ends) (q : List ℕ) → Reads 32 s t q → r ≡ judged (judge current start t)
 
 -- the place of the objects of whatever map s is read as
 abbrev pub ObjectsAt : List ℕ → ℕ → Type 0

@@ -4,7 +4,7 @@ use mathlib.Core.List.{List}
 use mathlib.Core.Path.{_≡_}
 use Rattle.meaning.specs.Tree.{Node, Pair}
 use Rattle.meaning.specs.Text.{ascii}
-use Rattle.meaning.specs.Field.{rootNames}
+use Rattle.meaning.specs.Layouts.{rootNames, current}
 use Rattle.meaning.specs.Judge.{objectsOf}
 use Rattle.walk.specs.Reading.{Ends}
 use Rattle.fields.specs.Keeping as keeping
@@ -12,7 +12,7 @@ use Rattle.objects.specs.declared.Found.{Found}
 use Rattle.objects.specs.Found.{judged}
 
 abbrev pub Says : ℕ → Node Ends → Found → Type 0
-Says start t found = found ≡ judged (objectsOf start t)
+Says start t found = found ≡ judged (objectsOf current start t)
 
 abbrev pub Noted : ℕ → List ℕ → Found → List (Pair Ends) → Type 0
 Noted start = keeping.Noted rootNames (ascii "objects") (Says start)

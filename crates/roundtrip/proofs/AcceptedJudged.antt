@@ -8,7 +8,7 @@ use mathlib.Core.Path.{_≡_, refl, sym, ap, ap₂, _∙_, subst}
 use lib.ListN.{length, take, drop, length-take, length-drop}
 use lib.Dec.{eqb, leb}
 use Rattle.meaning.specs.Tree.{Node, noteOf}
-use Rattle.meaning.specs.Check.{Check, pass, refuse, _>>=_, _>>_, _unless_, inObject, inComponent, required, optional, each}
+use Rattle.meaning.specs.Check.{Check, pass, refuse, _>>=_, _>>_, _unless_, inObject, inComponent, required, requiredIn, optional, each}
 use Rattle.meaning.specs.Text.{all, distinct, utf8}
 use Rattle.meaning.specs.Refusal.{KEY, TEXT, TWICE, COUNT, TYPE, ALIGN, BOUNDS}
 use Rattle.meaning.specs.Limit.{objectLimit, componentLimit, alignment}
@@ -16,10 +16,11 @@ use Rattle.meaning.specs.Read.{Span, spanTo, manifest}
 use Rattle.meaning.specs.Notes.{mapOption}
 use Rattle.meaning.specs.Model.{Word, Named, Component, Object, Model}
 use Rattle.meaning.specs.Kind.{aWord, aText, aNumber, aTable, present}
+use Rattle.meaning.specs.Layouts.{slot, Layout, dtypeAt}
 use Rattle.meaning.specs.Field.{rootFields, objectFields, componentFields, nameOf, names}
 use Rattle.meaning.specs.Types.{logicals, listed, fitsOver}
 use Rattle.meaning.specs.Format.{Part, formatRules}
-use Rattle.meaning.specs.Judge.{aDtype, aType, raw, attributesOf, component, lettersOf, part, shapeOf, componentsOf, object, aVersion, objectsOf, judge}
+use Rattle.meaning.specs.Judge.{orElse, inherited, aDtype, aType, raw, attributesOf, component, lettersOf, part, shapeOf, componentsOf, object, aVersion, objectsOf, judge}
 use Rattle.meaning.specs.Frame.{frame, checked, Reading, reading}
 use Rattle.readback.specs.Every.{Every}
 use Rattle.readback.specs.Judged.{judgedNames, judgedType, judgedText}
@@ -112,14 +113,15 @@ module _ {P : Type 0} where
   abbrev FromName : Named P → Component P → Type 0
   FromName n c = (c .name .letters ≡ n .name .letters) × GoodComponent c
 
-  component-held : (start : ℕ) (n : Named P) → If (FromName n) (component start n)
+  component-held : (L : Layout) (start : ℕ) (above : Option ℕ) (n : Named P) → If (FromName n) (component L start above n)
   unfolding component
-  component-held start n =
-      bind (componentFields (n .value)) _ (anyhow (componentFields (n .value))) λ c u₁.
-      bind (required (c .dtype)) _ (anyhow (required (c .dtype))) λ dtype u₂.
+  component-held L start above n =
+      bind (componentFields (L .component) (n .value)) _ (anyhow (componentFields (L .component) (n .value))) λ c u₁.
+      bind (requiredIn (slot dtypeAt (L .component)) (c .dtype)) _ (anyhow (requiredIn (slot dtypeAt (L .component)) (c .dtype))) λ dtype u₂.
       bind (required (c .offset)) _ (anyhow (required (c .offset))) λ offset u₃.
       bind (required (c .length)) _ (anyhow (required (c .length))) λ length u₄.
-      bind (aDtype dtype) _ (anyhow (aDtype dtype)) λ d u₅.
+      bind (optional (aDtype L) dtype) _ (anyhow (optional (aDtype L) dtype)) λ own u₅.
+      bind (required (orElse own above)) _ (anyhow (required (orElse own above))) λ d u₈.
       bind (optional (aType d) (present (c .type))) _ (type-held d (present (c .type))) λ t type.
       bind (aNumber offset) _ (anyhow (aNumber offset)) λ o u₆.
       bind (aNumber length) _ (anyhow (aNumber length)) λ l u₇.
@@ -137,13 +139,16 @@ module _ {P : Type 0} where
     pub names : judgedNames componentLimit (namesOf cs) ≡ pass tt
     pub each-good : Every GoodComponent cs
 
-  components-held : (start : ℕ) (t : Node P) → If GoodComponents (componentsOf start t)
+  components-held : (L : Layout) (start : ℕ) (above : List ℕ → Option ℕ) (t : Node P) → If GoodComponents (componentsOf L start above t)
   unfolding componentsOf
-  components-held start t =
+  components-held L start above t =
       bind (names componentLimit t) _ (names-held componentLimit t) λ ns h.
-      good ns h (each (λ j c. inComponent j (component start c)) 0 ns)
-      (each-beside FromName (λ j c. inComponent j (component start c)) (λ j c. in-component j (component start c) (component-held start c)) 0 ns)
+      good ns h (each (λ j c. inComponent j (one c)) 0 ns)
+      (each-beside FromName (λ j c. inComponent j (one c)) (λ j c. in-component j (one c) (component-held L start (above (c .name .letters)) c)) 0 ns)
     where
+      one : Named P → Check (Component P)
+      one c = component L start (above (c .name .letters)) c
+
       good : (ns : List (Named P)) → judgedNames componentLimit (map called ns) ≡ pass tt → (k : Check (List (Component P))) → If (Beside FromName ns) k → If GoodComponents k
       good ns h (pass cs) b = passes cs (record {
         names = ap (judgedNames componentLimit) (beside-map FromName called (λ c. c .name .letters) (λ n c r. r .0) ns cs (b .is)) ∙ h;
@@ -159,32 +164,34 @@ module _ {P : Type 0} where
   abbrev FromNamed : Named P → Object P → Type 0
   FromNamed n o = (o .name .letters ≡ n .name .letters) × GoodObject o
 
-  object-held : (start : ℕ) (n : Named P) → If (FromNamed n) (object start n)
+  object-held : (L : Layout) (start : ℕ) (n : Named P) → If (FromNamed n) (object L start n)
   unfolding object
-  object-held start n =
-      bind (objectFields (n .value)) _ (anyhow (objectFields (n .value))) λ o u₁.
+  object-held L start n =
+      bind (objectFields (L .object) (n .value)) _ (anyhow (objectFields (L .object) (n .value))) λ o u₁.
+      bind (requiredIn (slot dtypeAt (L .object)) (o .dtype)) _ (anyhow (requiredIn (slot dtypeAt (L .object)) (o .dtype))) λ dtype u₇.
       bind (required (o .shape)) _ (anyhow (required (o .shape))) λ shape u₂.
       bind (required (o .format)) _ (anyhow (required (o .format))) λ format u₃.
       bind (required (o .components)) _ (anyhow (required (o .components))) λ components u₄.
+      bind (optional (aDtype L) dtype) _ (anyhow (optional (aDtype L) dtype)) λ d u₈.
       bind (shapeOf shape) _ (anyhow (shapeOf shape)) λ s u₅.
       bind (aText format) _ (text-held format) λ f spelt.
       bind (optional attributesOf (o .attributes)) _ (anyhow (optional attributesOf (o .attributes))) λ a u₆.
-      bind (componentsOf start components) _ (components-held start components) λ cs good.
+      bind (componentsOf L start (inherited (f .letters) d) components) _ (components-held L start (inherited (f .letters) d) components) λ cs good.
       then-held (formatRules (f .letters) s (map part cs)) _ λ rules. passes _ (refl, record { format = spelt; components = good; rules = rules })
 
   pub record GoodModel (m : Model P) : Type 0 where
     pub names : judgedNames objectLimit (map (λ o. o .name .letters) (m .objects)) ≡ pass tt
     pub objects : Every GoodObject (m .objects)
 
-  judge-held : (start : ℕ) (t : Node P) → If GoodModel (judge start t)
+  judge-held : (L : Layout) (start : ℕ) (t : Node P) → If GoodModel (judge L start t)
   unfolding judge objectsOf
-  judge-held start t =
-      bind (rootFields t) _ (anyhow (rootFields t)) λ r u₁.
+  judge-held L start t =
+      bind (rootFields (L .root) t) _ (anyhow (rootFields (L .root) t)) λ r u₁.
       bind (required (r .version)) _ (anyhow (required (r .version))) λ version u₂.
       then (aVersion version) _
       (bind (optional attributesOf (r .attributes)) _ (anyhow (optional attributesOf (r .attributes))) λ a u₃.
       bind (required (r .objects)) _ (anyhow (required (r .objects))) λ objects u₄.
-      bind (objectsOf start objects) _ (objects-held objects) λ os q. passes _ (record { names = q .0; objects = q .1 }))
+      bind (objectsOf L start objects) _ (objects-held objects) λ os q. passes _ (record { names = q .0; objects = q .1 }))
     where
       good : (ns : List (Named P)) → judgedNames objectLimit (map called ns) ≡ pass tt → (k : Check (List (Object P))) → If (Beside FromNamed ns) k
           → If (λ (os : List (Object P)). (judgedNames objectLimit (map (λ o. o .name .letters) os) ≡ pass tt) × Every GoodObject os) k
@@ -194,15 +201,15 @@ module _ {P : Type 0} where
       )
       good ns h (refuse n o c) b = record { is = tt }
 
-      objects-held : (objects : Node P) → If (λ (os : List (Object P)). (judgedNames objectLimit (map (λ o. o .name .letters) os) ≡ pass tt) × Every GoodObject os) (objectsOf start objects)
+      objects-held : (objects : Node P) → If (λ (os : List (Object P)). (judgedNames objectLimit (map (λ o. o .name .letters) os) ≡ pass tt) × Every GoodObject os) (objectsOf L start objects)
       objects-held objects =
           bind (names objectLimit objects) _ (names-held objectLimit objects) λ ns h.
-          good ns h (each (λ i o. inObject i (object start o)) 0 ns)
-          (each-beside FromNamed (λ i o. inObject i (object start o)) (λ i o. in-object i (object start o) (object-held start o)) 0 ns)
+          good ns h (each (λ i o. inObject i (object L start o)) 0 ns)
+          (each-beside FromNamed (λ i o. inObject i (object L start o)) (λ i o. in-object i (object L start o) (object-held L start o)) 0 ns)
 
-pub reading-good : (file : List ℕ) → If (λ (r : Reading). GoodModel (r .model)) (reading file)
+pub reading-good : (L : Layout) (file : List ℕ) → If (λ (r : Reading). GoodModel (r .model)) (reading L file)
 unfolding reading
-reading-good file =
-    bind (frame file) _ (anyhow (frame file)) λ f u.
+reading-good L file =
+    bind (frame L file) _ (anyhow (frame L file)) λ f u.
     bind (checked (manifest (spanTo (f .start + f .size)) (take (f .size) (drop (f .start) file)))) _ (anyhow (checked (manifest (spanTo (f .start + f .size)) (take (f .size) (drop (f .start) file))))) λ t v.
-    bind (judge (f .start) t) _ (judge-held (f .start) t) λ m s. passes _ s
+    bind (judge L (f .start) t) _ (judge-held L (f .start) t) λ m s. passes _ s

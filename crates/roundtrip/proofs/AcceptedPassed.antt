@@ -16,6 +16,7 @@ use Rattle.meaning.specs.Read.{Span, bytesAt, item, noNote}
 use Rattle.meaning.specs.Notes.{mapOption}
 use Rattle.meaning.specs.Model.{Component, Object, Model}
 use Rattle.meaning.specs.Format.{Part, formatRules}
+use Rattle.meaning.specs.Layouts.{current}
 use Rattle.meaning.specs.Judge.{lettersOf, part}
 use Rattle.meaning.specs.Frame.{Reading, reading}
 use Rattle.meaning.specs.Sound.{rootLevels, objectLevels}
@@ -112,7 +113,7 @@ module _ (file : List ℕ) where
     shallow-option levels none h = refl
     shallow-option levels (some t) h = rw (h .stands .read) refl
 
-    shallow-objects : (os : List (Object Span)) → Each (ObjectAccepted file start) os → anyTooDeep (map (readObject file) os) ≡ false
+    shallow-objects : (os : List (Object Span)) → Each (ObjectAccepted current file start) os → anyTooDeep (map (readObject file) os) ≡ false
     unfolding anyTooDeep readObject Each
     shallow-objects [] h = refl
     shallow-objects (o ∷ os) h = rw (shallow-option objectLevels (o .attributes) (h .0 .attributes)) (shallow-objects os (h .1))
@@ -137,7 +138,7 @@ pub read-passed : {file : List ℕ} {d : Described} → ReadsBack file d → Pas
 unfolding describedBy
 read-passed {file} b =
     let r : Reading = b .read in
-    let g : GoodModel (r .model) = passed-so (reading-good file) (b .is) in
+    let g : GoodModel (r .model) = passed-so (reading-good current file) (b .is) in
     let a = accepted file r (b .is) in
     subst Passed (b .back) (record {
       shallow = shallow-option file (r .start) rootLevels (r .model .attributes) (a .attributes);
@@ -151,9 +152,9 @@ unfolding judgedNames
 names-left limit ns h = sym (rw (names-texts limit ns h) refl) ∙ h
 
 -- the reader's refusal of the file that the writer makes of it: none
-pub accepted-judged : (file : List ℕ) (r : Reading) → reading file ≡ pass r → judged (describedBy file (r .model)) ≡ pass tt
+pub accepted-judged : (file : List ℕ) (r : Reading) → reading current file ≡ pass r → judged (describedBy file (r .model)) ≡ pass tt
 unfolding describedBy
 accepted-judged file r e =
-    let g : GoodModel (r .model) = passed-so (reading-good file) e in
+    let g : GoodModel (r .model) = passed-so (reading-good current file) e in
     passed-judged (describedBy file (r .model)) (read-passed (record { read = r; is = e; back = refl }))
     ∙ rw (object-names file (r .model .objects)) (names-left objectLimit (map (λ o. o .name .letters) (r .model .objects)) (g .names))

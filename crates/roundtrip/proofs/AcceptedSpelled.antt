@@ -10,6 +10,7 @@ use Rattle.meaning.specs.Tree.{Node, noteOf}
 use Rattle.meaning.specs.Read.{Span, bytesAt}
 use Rattle.meaning.specs.Model.{Word, Component, Object}
 use Rattle.meaning.specs.Types.{storages}
+use Rattle.meaning.specs.Layouts.{current}
 use Rattle.meaning.specs.Frame.{Reading, reading}
 use Rattle.readback.specs.Every.{Every}
 use Rattle.readback.specs.Spelled as back
@@ -36,7 +37,7 @@ module _ (file : List ℕ) (start : ℕ) (header : 8 ≤ start) (inside : start 
     well-formed = map-is-well-formed d (bytesAt file (noteOf t)) t (h .pairs) (h .stands .read) (h .map);
   }
 
-  component-spelled : (c : Component Span) → ComponentAccepted file start c → SpelledComponent file c
+  component-spelled : (c : Component Span) → ComponentAccepted current file start c → SpelledComponent file c
   unfolding storages
   component-spelled c h = record {
     name = word-spelled (c .name) (h .name);
@@ -51,7 +52,7 @@ module _ (file : List ℕ) (start : ℕ) (header : 8 ≤ start) (inside : start 
   each-every [] f h = tt
   each-every (a ∷ l) f h = (f a (h .0), each-every l f (h .1))
 
-  object-spelled : (o : Object Span) → ObjectAccepted file start o → SpelledObject file o
+  object-spelled : (o : Object Span) → ObjectAccepted current file start o → SpelledObject file o
   object-spelled o h = record {
     name = word-spelled (o .name) (h .name);
     rank = h .rank;
@@ -60,7 +61,7 @@ module _ (file : List ℕ) (start : ℕ) (header : 8 ≤ start) (inside : start 
     components = each-every (o .components) component-spelled (h .components);
   }
 
-pub accepted-spelled : (file : List ℕ) (r : Reading) → reading file ≡ pass r → Spelled file (r .model)
+pub accepted-spelled : (file : List ℕ) (r : Reading) → reading current file ≡ pass r → Spelled file (r .model)
 accepted-spelled file r e =
     let h = accepted file r e in let f = h .footer in
     let inside : r .start ≤ length file = omega (arith, f) in

@@ -3,6 +3,7 @@ use Prim.Native.Nat.{ℕ, _≤_}
 use mathlib.Core.List.{List}
 use mathlib.Core.Path.{_≡_, subst}
 use lib.ListN.{length}
+use Rattle.meaning.specs.Layouts.{current}
 use Rattle.meaning.specs.Limit.{objectLimit}
 use Rattle.meaning.specs.Check.{pass}
 use Rattle.meaning.specs.Frame.{Reading, reading}
@@ -18,7 +19,7 @@ use Rattle.roundtrip.proofs.SpelledFine.{spelled-fine, count-within}
 
 module _ {file : List ℕ} {d : Described} (h : Held file) (b : ReadsBack file d) where
   sized : Sized (b .read .model)
-  sized = passed-so (reading-sized file (h .bytes)) (b .is)
+  sized = passed-so (reading-sized current file (h .bytes)) (b .is)
 
   pub held-fine : Fine d
   held-fine = subst Fine (b .back) (spelled-fine file (h .brief) (b .read .model) (accepted-spelled file (b .read) (b .is)) sized)

@@ -8,16 +8,17 @@ use lib.ListN.{length, take, drop}
 use lib.Dec.{eqb, leb}
 use borrow.Author.Tests.{leb-true}
 use Rattle.meaning.specs.Tree.{Node, Nodes, Pairs, uint, nint, bytes, text, chunkedBytes, chunkedText, array, dict, tag, simple, float, ε, _▸_, ∅, _⇒_▸_, Pair, nodeList, pairList}
-use Rattle.meaning.specs.Check.{Check, pass, refuse, _>>_, inObject, inComponent, required, optional, each}
+use Rattle.meaning.specs.Check.{Check, pass, refuse, _>>_, inObject, inComponent, required, requiredIn, optional, each}
 use Rattle.meaning.specs.Text.{all, distinct, utf8}
 use Rattle.meaning.specs.Refusal.{KEY, TEXT, TWICE, COUNT}
 use Rattle.meaning.specs.Limit.{objectLimit, componentLimit, rankLimit}
 use Rattle.meaning.specs.Read.{Span, spanTo, Outcome, got, refused, manifest}
 use Rattle.meaning.specs.Model.{Word, Named, Component, Object, Model, RootFields, ObjectFields}
 use Rattle.meaning.specs.Kind.{Kind, number, words, list, table, null, another, kind, asNumber, asList, asTable, aNumber, aList, aTable, aText}
-use Rattle.meaning.specs.Field.{isSome, keyOf, count, named, get, fields, rootFields, objectFields, nameKind, nameOf, names, rootNames, objectNames}
+use Rattle.meaning.specs.Layouts.{Slots, slot, somes, Layout, dtypeAt}
+use Rattle.meaning.specs.Field.{isSome, keyOf, count, named, get, field, fields, rootFields, objectFields, nameKind, nameOf, names}
 use Rattle.meaning.specs.Format.{formatRules}
-use Rattle.meaning.specs.Judge.{attributesOf, component, part, shapeOf, componentsOf, object, aVersion, objectsOf, judge}
+use Rattle.meaning.specs.Judge.{inherited, aDtype, attributesOf, component, part, shapeOf, componentsOf, object, aVersion, objectsOf, judge}
 use Rattle.meaning.specs.Frame.{frame, checked, Reading, reading}
 use Rattle.meaning.specs.Encoding.{Bytes}
 use Rattle.readback.specs.Every.{Every}
@@ -123,11 +124,16 @@ module _ {P : Type 0} where
       by true r q = h
       by false r q = q
 
-  fields-so : (known : List (List ℕ)) (t : Node P) → Small t → If (Every SmallValue) (fields known t)
+  field-so : (s : Option (List ℕ)) (ps : List (Pair P)) → Every SmallValue ps → IfAny Small (field s ps)
+  unfolding field
+  field-so none ps h = tt
+  field-so (some n) ps h = get-so n ps h
+
+  fields-so : (known : Slots) (t : Node P) → Small t → If (Every SmallValue) (fields known t)
   unfolding fields
   fields-so known t h =
       bind (aTable t) _ (table-so t h) λ ps q.
-      tested KEY (all (λ p. isSome (keyOf p)) ps) _ λ e. tested TWICE (all (λ n. leb (count n ps) 1) known) _ λ f. passes ps q
+      tested KEY (all (λ p. isSome (keyOf p)) ps) _ λ e. tested TWICE (all (λ n. leb (count n ps) 1) (somes known)) _ λ f. passes ps q
 
   abbrev Names : ℕ → List (Named P) → Type 0
   Names limit ns = Every SmallNamed ns × (length ns ≤ limit)
@@ -148,13 +154,16 @@ module _ {P : Type 0} where
       bind (each (λ i. aNumber) 0 dims) _ (each-so (λ i. aNumber) (λ i a v. asNumber-so (kind a) (kind-so a v)) 0 dims u) λ s v.
       tested COUNT (leb (length s) rankLimit) _ λ e. passes s (v .0)
 
-  components-so : (start : ℕ) (t : Node P) → Small t → If (λ (cs : List (Component P)). length cs ≤ componentLimit) (componentsOf start t)
+  components-so : (L : Layout) (start : ℕ) (above : List ℕ → Option ℕ) (t : Node P) → Small t → If (λ (cs : List (Component P)). length cs ≤ componentLimit) (componentsOf L start above t)
   unfolding componentsOf
-  components-so start t h =
+  components-so L start above t h =
       bind (names componentLimit t) _ (names-so componentLimit t h) λ ns q.
-      bound ns (q .1) (each (λ j c. inComponent j (component start c)) 0 ns)
-      (each-so {Q = Any} {R = Any} (λ j c. inComponent j (component start c)) (λ j c a. anyhow (inComponent j (component start c))) 0 ns (any-every ns))
+      bound ns (q .1) (each one 0 ns)
+      (each-so {Q = Any} {R = Any} one (λ j c a. anyhow (one j c)) 0 ns (any-every ns))
     where
+      one : ℕ → Named P → Check (Component P)
+      one j c = inComponent j (component L start (above (c .name .letters)) c)
+
       bound : (ns : List (Named P)) → length ns ≤ componentLimit → (k : Check (List (Component P)))
           → If (λ (cs : List (Component P)). Every Any cs × (length cs ≡ length ns)) k → If (λ (cs : List (Component P)). length cs ≤ componentLimit) k
       bound ns l (pass cs) h = passes cs (within componentLimit ns cs (h .is .1) l)
@@ -164,48 +173,50 @@ module _ {P : Type 0} where
     shape : IfAny Small (o .shape)
     components : IfAny Small (o .components)
 
-  objectFields-so : (t : Node P) → Small t → If ObjectFieldsSo (objectFields t)
+  objectFields-so : (known : Slots) (t : Node P) → Small t → If ObjectFieldsSo (objectFields known t)
   unfolding objectFields
-  objectFields-so t h = bind (fields objectNames t) _ (fields-so objectNames t h) λ ps q. passes _ (record { shape = get-so _ ps q; components = get-so _ ps q })
+  objectFields-so known t h = bind (fields known t) _ (fields-so known t h) λ ps q. passes _ (record { shape = field-so _ ps q; components = field-so _ ps q })
 
-  object-so : (start : ℕ) (n : Named P) → SmallNamed n → If SizedObject (object start n)
+  object-so : (L : Layout) (start : ℕ) (n : Named P) → SmallNamed n → If SizedObject (object L start n)
   unfolding object
-  object-so start n h =
-      bind (objectFields (n .value)) _ (objectFields-so (n .value) h) λ o p.
+  object-so L start n h =
+      bind (objectFields (L .object) (n .value)) _ (objectFields-so (L .object) (n .value) h) λ o p.
+      bind (requiredIn (slot dtypeAt (L .object)) (o .dtype)) _ (anyhow (requiredIn (slot dtypeAt (L .object)) (o .dtype))) λ dtype x.
       bind (required (o .shape)) _ (is-required (o .shape) (p .shape)) λ shape at-shape.
       bind (required (o .format)) _ (anyhow (required (o .format))) λ format u.
       bind (required (o .components)) _ (is-required (o .components) (p .components)) λ components at-components.
+      bind (optional (aDtype L) dtype) _ (anyhow (optional (aDtype L) dtype)) λ d y.
       bind (shapeOf shape) _ (shape-so shape at-shape) λ s fits.
       bind (aText format) _ (anyhow (aText format)) λ f v.
       bind (optional attributesOf (o .attributes)) _ (anyhow (optional attributesOf (o .attributes))) λ a w.
-      bind (componentsOf start components) _ (components-so start components at-components) λ cs few.
+      bind (componentsOf L start (inherited (f .letters) d) components) _ (components-so L start (inherited (f .letters) d) components at-components) λ cs few.
       then (formatRules (f .letters) s (map part cs)) _ (passes _ (record { shape = fits; count = few }))
 
-  objects-so : (start : ℕ) (t : Node P) → Small t → If (λ (os : List (Object P)). Every SizedObject os × (length os ≤ objectLimit)) (objectsOf start t)
+  objects-so : (L : Layout) (start : ℕ) (t : Node P) → Small t → If (λ (os : List (Object P)). Every SizedObject os × (length os ≤ objectLimit)) (objectsOf L start t)
   unfolding objectsOf
-  objects-so start t h =
+  objects-so L start t h =
       bind (names objectLimit t) _ (names-so objectLimit t h) λ ns q.
-      bound ns (q .1) (each (λ i o. inObject i (object start o)) 0 ns)
-      (each-so (λ i o. inObject i (object start o)) (λ i o a. in-object i (object start o) (object-so start o a)) 0 ns (q .0))
+      bound ns (q .1) (each (λ i o. inObject i (object L start o)) 0 ns)
+      (each-so (λ i o. inObject i (object L start o)) (λ i o a. in-object i (object L start o) (object-so L start o a)) 0 ns (q .0))
     where
       bound : (ns : List (Named P)) → length ns ≤ objectLimit → (k : Check (List (Object P)))
           → If (λ (os : List (Object P)). Every SizedObject os × (length os ≡ length ns)) k → If (λ (os : List (Object P)). Every SizedObject os × (length os ≤ objectLimit)) k
       bound ns l (pass os) h = passes os (h .is .0, within objectLimit ns os (h .is .1) l)
       bound ns l (refuse n o c) h = record { is = tt }
 
-  rootObjects-so : (t : Node P) → Small t → If (λ (r : RootFields P). IfAny Small (r .objects)) (rootFields t)
+  rootObjects-so : (known : Slots) (t : Node P) → Small t → If (λ (r : RootFields P). IfAny Small (r .objects)) (rootFields known t)
   unfolding rootFields
-  rootObjects-so t h = bind (fields rootNames t) _ (fields-so rootNames t h) λ ps q. passes _ (get-so _ ps q)
+  rootObjects-so known t h = bind (fields known t) _ (fields-so known t h) λ ps q. passes _ (field-so _ ps q)
 
-  judge-sized : (start : ℕ) (t : Node P) → Small t → If Sized (judge start t)
+  judge-sized : (L : Layout) (start : ℕ) (t : Node P) → Small t → If Sized (judge L start t)
   unfolding judge
-  judge-sized start t h =
-      bind (rootFields t) _ (rootObjects-so t h) λ r p.
+  judge-sized L start t h =
+      bind (rootFields (L .root) t) _ (rootObjects-so (L .root) t h) λ r p.
       bind (required (r .version)) _ (anyhow (required (r .version))) λ version u.
       then (aVersion version) _
       (bind (optional attributesOf (r .attributes)) _ (anyhow (optional attributesOf (r .attributes))) λ a v.
       bind (required (r .objects)) _ (is-required (r .objects) p) λ objects at-objects.
-      bind (objectsOf start objects) _ (objects-so start objects at-objects) λ os q.
+      bind (objectsOf L start objects) _ (objects-so L start objects at-objects) λ os q.
       passes _ (record { count = q .1; objects = q .0 }))
 
 checked-small : (note : List ℕ → List ℕ → Span) (s : List ℕ) → Bytes s → If Small (checked (manifest note s))
@@ -216,11 +227,11 @@ checked-small note s h = go (manifest note s) refl
     go (got t r) e = passes t (manifest-small note s t r h e)
     go (refused n r) e = record { is = tt }
 
-pub reading-sized : (file : List ℕ) → Bytes file → If (λ (r : Reading). Sized (r .model)) (reading file)
+pub reading-sized : (L : Layout) (file : List ℕ) → Bytes file → If (λ (r : Reading). Sized (r .model)) (reading L file)
 unfolding reading
-reading-sized file h =
-    bind (frame file) _ (anyhow (frame file)) λ f u.
+reading-sized L file h =
+    bind (frame L file) _ (anyhow (frame L file)) λ f u.
     bind (checked (manifest (spanTo (f .start + f .size)) (take (f .size) (drop (f .start) file)))) _
     (checked-small (spanTo (f .start + f .size)) (take (f .size) (drop (f .start) file)) (bytes-take (f .size) (drop (f .start) file) (bytes-drop (f .start) file h))) λ t small.
-    bind (judge (f .start) t) _ (judge-sized (f .start) t small) λ m s.
+    bind (judge L (f .start) t) _ (judge-sized L (f .start) t small) λ m s.
     passes _ s

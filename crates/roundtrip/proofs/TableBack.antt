@@ -10,6 +10,7 @@ use borrow.Author.Tests.{le-leb}
 use Rattle.meaning.specs.Check.{Check, pass, refuse, _>>=_}
 use Rattle.meaning.specs.Read.{Span, bytesAt}
 use Rattle.meaning.specs.Model.{Component, Object, Model}
+use Rattle.meaning.specs.Layouts.{current}
 use Rattle.meaning.specs.Frame.{Reading, reading}
 use Rattle.meaning.specs.Columns.{objectWidth, componentWidth}
 use Rattle.meaning.specs.Rows.{rows, componentCount, roomFor, roomy, attributesSpan, answer, tableAfter, readInto}
@@ -49,7 +50,7 @@ module _ {file : List ℕ} {d : Described} (back : ReadsBack file d) where
 
   module _ {objects components : ℕ} (o : length (m .objects) ≡ objects) (c : componentCount (m .objects) ≡ components)
       (table : List ℕ) (room : objectWidth * objects + componentWidth * components ≤ length table) where
-    reads : readInto file (length table) ≡ pass (back .read)
+    reads : readInto current file (length table) ≡ pass (back .read)
     unfolding readInto roomy roomFor
     reads = rw (back .is, le-leb (objectWidth * length (m .objects) + componentWidth * componentCount (m .objects)) (length table) (omega (arith, o, c, room))) refl
 

@@ -3,6 +3,7 @@ use Prim.Native.Nat.{ℕ}
 use mathlib.Core.List.{List}
 use mathlib.Core.Path.{_≡_, refl, sym, _∙_}
 use Rattle.meaning.specs.Check.{pass}
+use Rattle.meaning.specs.Layouts.{current}
 use Rattle.meaning.specs.Frame.{Reading, reading}
 use Rattle.meaning.specs.Described.{Described, describedBy}
 use Rattle.meaning.specs.Write.{writtenPlain}
@@ -15,7 +16,7 @@ use Rattle.roundtrip.proofs.AcceptedSpelled.{accepted-spelled}
 use Rattle.roundtrip.proofs.HeldFine.{held-fine}
 use Rattle.roundtrip.proofs.AcceptedPassed.{accepted-judged}
 
-module _ (file : List ℕ) (r : Reading) (accepts : reading file ≡ pass r) (R : List ℕ) where
+module _ (file : List ℕ) (r : Reading) (accepts : reading current file ≡ pass r) (R : List ℕ) where
   pub rows-sound : soundAgain file (r .model) R
   rows-sound = rows-laws.rows-sound file (r .model) R (accepted-spelled file r accepts)
 

@@ -17,7 +17,7 @@ use Rattle.meaning.specs.Write.{written}
 use Rattle.meaning.specs.Described.{Described, blobs, described}
 use Rattle.meaning.specs.Placement.{placement, lastEnd}
 use Rattle.meaning.specs.Manifest.{manifestBytes}
-use Rattle.meaning.specs.Layout.{fileOf}
+use Rattle.meaning.specs.WrittenFile.{fileOf}
 
 module _ (d : Described) where
   -- where the rule places the blobs

@@ -5,6 +5,7 @@ use mathlib.Core.Bool.{true}
 use mathlib.Core.Path.{_≡_}
 use lib.ListN.{length}
 use Rattle.meaning.specs.Check.{Check}
+use Rattle.meaning.specs.Layouts.{current}
 use Rattle.meaning.specs.Frame.{Reading}
 use Rattle.meaning.specs.Rows.{Answer, answer, tableAfter, readInto}
 use Rattle.meaning.specs.Asked.{asked}
@@ -13,10 +14,10 @@ use Rattle.meaning.specs.Described.{Described, described}
 
 module _ (file table : List ℕ) where
   abbrev pub answerThen : Answer
-  answerThen = answer (readInto file (length table))
+  answerThen = answer (readInto current file (length table))
 
   abbrev pub tableThen : List ℕ
-  tableThen = tableAfter table (readInto file (length table))
+  tableThen = tableAfter table (readInto current file (length table))
 
   pub record TableBack (objects components : ℕ) (d : Described) : Type 0 where
     pub number : answerThen .number ≡ 0

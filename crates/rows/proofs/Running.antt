@@ -8,8 +8,7 @@ use lib.ListN.{length, take, drop, getD}
 use lib.Seq.{getD-drop}
 use Rattle.meaning.specs.Columns.{componentWidth, lengthColumn}
 use Rattle.meaning.specs.Text.{ascii}
-use Rattle.meaning.specs.Field.{rootNames}
-use Rattle.meaning.specs.Frame.{magic}
+use Rattle.meaning.specs.Layouts.{rootNames, magic}
 use Rattle.meaning.specs.Asked.{AskedComponent, askedComponent}
 use Rattle.meaning.specs.Placement.{aligned, placedFrom, placement, endFrom, lastEnd}
 use Rattle.meaning.specs.Described.{DescribedComponent, DescribedObject, Described, blobsIn, blobs}

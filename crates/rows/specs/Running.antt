@@ -3,7 +3,7 @@ use Prim.Native.Nat.{ℕ, _+_}
 use mathlib.Core.List.{List, [], _∷_, map}
 use mathlib.Core.Option.{some}
 use lib.ListN.{length}
-use Rattle.meaning.specs.Field.{objectNames}
+use Rattle.meaning.specs.Layouts.{objectNames}
 use Rattle.meaning.specs.Asked.{AskedObject, AskedComponent}
 use Rattle.meaning.specs.Placement.{aligned}
 use Rattle.meaning.specs.Described.{DescribedComponent, DescribedObject}

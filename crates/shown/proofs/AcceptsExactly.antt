@@ -18,6 +18,7 @@ use Rattle.meaning.specs.Read.{Span, spanTo, Outcome, got, refused, after, clos
 use Rattle.meaning.specs.Encoding.{Bytes, Tree, Encodes}
 use Rattle.meaning.specs.Model.{Model}
 use Rattle.meaning.specs.Notes.{mapModel, mapCheck}
+use Rattle.meaning.specs.Layouts.{current}
 use Rattle.meaning.specs.Judge.{judge}
 use Rattle.meaning.specs.Frame.{Frame, frame, checked, Reading, reading}
 use Rattle.meaning.proofs.Exact.{exactly-the-encodings-are-read}
@@ -95,22 +96,22 @@ module _ (file : List ℕ) (h : Bytes file) where
   part : (f : Frame) → Bytes (manifestIn file f)
   part f = bytes-take (f .size) (drop (f .start) file) (bytes-drop (f .start) file h)
 
-  judged-as : (f : Frame) {t : Tree} (a : ReadAs (endOf f) (manifestIn file f) t) → judge (f .start) t ≡ mapCheck (mapModel nothing) (judge (f .start) (a .node))
-  judged-as f a = ap (judge (f .start)) (sym (a .means)) ∙ judge-map nothing (f .start) (a .node)
+  judged-as : (f : Frame) {t : Tree} (a : ReadAs (endOf f) (manifestIn file f) t) → judge current (f .start) t ≡ mapCheck (mapModel nothing) (judge current (f .start) (a .node))
+  judged-as f a = ap (judge current (f .start)) (sym (a .means)) ∙ judge-map nothing current (f .start) (a .node)
 
   -- the reading of a file whose manifest is read as this node
   abbrev rest : Frame → Node Span → Check Reading
-  rest f t = judge (f .start) t >>= λ m. pass (record { start = f .start; model = m })
+  rest f t = judge current (f .start) t >>= λ m. pass (record { start = f .start; model = m })
 
   -- of one whose frame is this
   abbrev step : Frame → Check Reading
   step f = checked (manifest (spanTo (endOf f)) (manifestIn file f)) >>= rest f
 
-  step-of : (k : Check Frame) → frame file ≡ k → reading file ≡ (k >>= step)
+  step-of : (k : Check Frame) → frame current file ≡ k → reading current file ≡ (k >>= step)
   unfolding reading
   step-of k e = ap (λ (k : Check Frame). k >>= step) e
 
-  reading-of : (f : Frame) → frame file ≡ pass f → (t : Node Span) → manifest (spanTo (endOf f)) (manifestIn file f) ≡ got t [] → reading file ≡ rest f t
+  reading-of : (f : Frame) → frame current file ≡ pass f → (t : Node Span) → manifest (spanTo (endOf f)) (manifestIn file f) ≡ got t [] → reading current file ≡ rest f t
   unfolding checked
   reading-of f e t i = step-of (pass f) e ∙ ap (λ (o : Outcome (Node Span)). checked o >>= rest f) i
 
@@ -118,7 +119,7 @@ module _ (file : List ℕ) (h : Bytes file) where
   sound-accepted s =
       let a = encoded-reads (endOf (s .framing)) (manifestIn file (s .framing)) (part (s .framing)) (s .tree) (s .encodes) in
       ap (λ (k : Check Reading). verdict k .number) (reading-of (s .framing) (s .framed) (a .node) (a .read))
-      ∙ go (judge (s .framing .start) (a .node)) (sym (judged-as (s .framing) a) ∙ s .judged)
+      ∙ go (judge current (s .framing .start) (a .node)) (sym (judged-as (s .framing) a) ∙ s .judged)
     where
       go : (k : Check (Model Span)) → mapCheck (mapModel nothing) k ≡ pass (s .model) → verdict (k >>= λ m. pass (record { start = s .framing .start; model = m })) .number ≡ 0
       go (pass m) e = refl
@@ -126,12 +127,12 @@ module _ (file : List ℕ) (h : Bytes file) where
 
   accepted-sound : number file ≡ 0 → Sound file
   unfolding checked
-  accepted-sound z = let q = accept-zero file z in framing (frame file) refl (q .0) (q .1)
+  accepted-sound z = let q = accept-zero file z in framing (frame current file) refl (q .0) (q .1)
     where
       never-passed : {A : Type 0} {n o c : ℕ} {r : A} → refuse n o c ≡ pass r → ⊥
       never-passed e = let z : _≡_ {A = ℕ} 0 1 = cc in omega arith
 
-      judging : (f : Frame) → frame file ≡ pass f → (t : Node Span) → Encodes depthLimit (meaning t) (manifestIn file f) → (k : Check (Model Span)) → judge (f .start) t ≡ k → (r : Reading)
+      judging : (f : Frame) → frame current file ≡ pass f → (t : Node Span) → Encodes depthLimit (meaning t) (manifestIn file f) → (k : Check (Model Span)) → judge current (f .start) t ≡ k → (r : Reading)
           → (k >>= λ m. pass (record { start = f .start; model = m })) ≡ pass r → Sound file
       judging f e t i (pass m) j r g = record {
         framing = f;
@@ -139,33 +140,33 @@ module _ (file : List ℕ) (h : Bytes file) where
         tree = meaning t;
         encodes = i;
         model = mapModel nothing m;
-        judged = judge-map nothing (f .start) t ∙ ap (mapCheck (mapModel nothing)) j;
+        judged = judge-map nothing current (f .start) t ∙ ap (mapCheck (mapModel nothing)) j;
       }
       judging f e t i (refuse n o c) j r g = absurd (never-passed g)
 
-      treeing : (f : Frame) → frame file ≡ pass f → (o : Outcome (Node Span)) → manifest (spanTo (endOf f)) (manifestIn file f) ≡ o → (r : Reading)
+      treeing : (f : Frame) → frame current file ≡ pass f → (o : Outcome (Node Span)) → manifest (spanTo (endOf f)) (manifestIn file f) ≡ o → (r : Reading)
           → (checked o >>= rest f) ≡ pass r → Sound file
-      treeing f e (got t q) i r g = judging f e t (read-encodes (endOf f) (manifestIn file f) (part f) t q i) (judge (f .start) t) refl r g
+      treeing f e (got t q) i r g = judging f e t (read-encodes (endOf f) (manifestIn file f) (part f) t q i) (judge current (f .start) t) refl r g
       treeing f e (refused n q) i r g = absurd (never-passed g)
 
-      framing : (k : Check Frame) → frame file ≡ k → (r : Reading) → reading file ≡ pass r → Sound file
+      framing : (k : Check Frame) → frame current file ≡ k → (r : Reading) → reading current file ≡ pass r → Sound file
       framing (pass f) e r g = treeing f e (manifest (spanTo (endOf f)) (manifestIn file f)) refl r (sym (step-of (pass f) e) ∙ g)
       framing (refuse n o c) e r g = absurd (never-passed (sym (step-of (refuse n o c) e) ∙ g))
 
-  module _ (f : Frame) (e : frame file ≡ pass f) where
+  module _ (f : Frame) (e : frame current file ≡ pass f) where
     so : Framed file f
     so = passed-so (frame-so file) e
 
     -- the judgement of a tree refuses with neither
     judged-late : (t : Node Span) → Placed file (f .start) depthLimit t → (number-is : ℕ) → verdict (rest f t) .number ≡ number-is → (number-is ≡ CBOR) ⊎ (number-is ≡ DEEP) → ⊥
-    judged-late t p n v = go (judge (f .start) t) refl v
+    judged-late t p n v = go (judge current (f .start) t) refl v
       where
         late : (n : ℕ) → KIND ≤ n → (n ≡ CBOR) ⊎ (n ≡ DEEP) → ⊥
         late n h k = ⊎-elim (λ z. omega (arith, h, z)) (λ z. omega (arith, h, z)) k
 
-        go : (k : Check (Model Span)) → judge (f .start) t ≡ k → verdict (k >>= λ m. pass (record { start = f .start; model = m })) .number ≡ n → (n ≡ CBOR) ⊎ (n ≡ DEEP) → ⊥
+        go : (k : Check (Model Span)) → judge current (f .start) t ≡ k → verdict (k >>= λ m. pass (record { start = f .start; model = m })) .number ≡ n → (n ≡ CBOR) ⊎ (n ≡ DEEP) → ⊥
         go (pass m) j v w = ⊎-elim (λ z. omega (arith, v, z)) (λ z. omega (arith, v, z)) w
-        go (refuse m o c) j v w = let b = between m (refused-so (judge-so file (f .start) t p) j) .0 in late n (omega (arith, b, v)) w
+        go (refuse m o c) j v w = let b = between m (refused-so (judge-so current file (f .start) t p) j) .0 in late n (omega (arith, b, v)) w
 
     malformed-none : (number file ≡ CBOR) ⊎ (number file ≡ DEEP) → NoTree file f
     unfolding checked
@@ -185,7 +186,7 @@ module _ (file : List ℕ) (h : Bytes file) where
         go (got t q) i = absurd (none (meaning t) (read-encodes (endOf f) (manifestIn file f) (part f) t q i))
         go (refused n q) i =
             let b = manifest-refusals file f so i in
-            let is : reading file ≡ refuse n 0 0 = step-of (pass f) e ∙ ap (λ (o : Outcome (Node Span)). checked o >>= rest f) i in
+            let is : reading current file ≡ refuse n 0 0 = step-of (pass f) e ∙ ap (λ (o : Outcome (Node Span)). checked o >>= rest f) i in
             let v : number file ≡ n = ap (λ (k : Check Reading). verdict k .number) is in
             ⊎-elim (λ z. inl (v ∙ z)) (λ z. inr (v ∙ z)) (either n (b .0) (b .1))
 

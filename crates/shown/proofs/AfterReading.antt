@@ -3,8 +3,8 @@ use Prim.Native.Nat.{ℕ, zero, suc, _+_, _≤_, _<_}
 use native.Mathlib.Omega.{arith}
 use mathlib.Core.List.{List, [], _∷_}
 use mathlib.Core.Bool.{Bool, true, false}
-use mathlib.Core.Option.{some}
-use mathlib.Core.Path.{_≡_, refl, ap, ap₂, subst, _∙_}
+use mathlib.Core.Option.{Option, none, some}
+use mathlib.Core.Path.{_≡_, refl, ap, ap₂, sym, subst, _∙_}
 use lib.ListN.{length, drop, getElem?}
 use lib.Dec.{leb}
 use borrow.Author.Tests.{le-ltb}
@@ -16,6 +16,8 @@ use Rattle.meaning.specs.Frame.{Reading, reading}
 use Rattle.meaning.specs.Rows.{roomFor, roomy, componentCount, answer, tableAfter, readInto}
 use Rattle.meaning.specs.View.{viewed, partAt, view}
 use Rattle.meaning.specs.Listing.{listing}
+use Rattle.meaning.specs.Layouts.{slot, current, dtypeAt}
+use Rattle.meaning.specs.Judge.{component}
 use Rattle.view.specs.All.{allComponents}
 use Rattle.view.proofs.OfRows.{all-counted, entry-of-rows, viewed-of-rows, view-of-rows}
 use Rattle.panel.proofs.OfRows.{listed-of-rows}
@@ -24,9 +26,9 @@ use Rattle.shown.proofs.AcceptedFile.{refusals-of-reading, accepted-sta
 
 -- a reading into a table is an accepted one, if there is room
 module _ (file : List ℕ) (room : ℕ) where
-  accepts : (r : Reading) → readInto file room ≡ pass r → reading file ≡ pass r
+  accepts : (r : Reading) → readInto current file room ≡ pass r → reading current file ≡ pass r
   unfolding readInto roomy
-  accepts r = by (reading file)
+  accepts r = by (reading current file)
     where
       roomy-same : (q : Reading) (b : Bool) → (ROOM unless b >> pass q) ≡ pass r → pass q ≡ pass r
       roomy-same q true e = e
@@ -37,20 +39,20 @@ module _ (file : List ℕ) (room : ℕ) where
       by (refuse n o c) e = absurd (let z : _≡_ {A = ℕ} 0 1 = cc in omega arith)
 
   -- an answer of 0 is no refusal
-  pub read-zero : answer (readInto file room) .number ≡ 0 → (r : Reading) × (readInto file room ≡ pass r)
+  pub read-zero : answer (readInto current file room) .number ≡ 0 → (r : Reading) × (readInto current file room ≡ pass r)
   unfolding readInto roomy answer
-  read-zero = by (reading file) refl
+  read-zero = by (reading current file) refl
     where
       fits : (q : Reading) (b : Bool) → answer (ROOM unless b >> pass q) .number ≡ 0 → (r : Reading) × ((ROOM unless b >> pass q) ≡ pass r)
       fits q true z = (q, refl)
       fits q false z = absurd (omega (arith, z))
 
-      by : (k : Check Reading) → reading file ≡ k → answer (k >>= roomy room) .number ≡ 0 → (r : Reading) × ((k >>= roomy room) ≡ pass r)
+      by : (k : Check Reading) → reading current file ≡ k → answer (k >>= roomy room) .number ≡ 0 → (r : Reading) × ((k >>= roomy room) ≡ pass r)
       by (pass q) e z = fits q (leb (roomFor (q .model)) room) z
       by (refuse n o c) e z = let h = refusals-of-reading file n o c e .0 in absurd (omega (arith, h, z))
 
-module _ (file table : List ℕ) (r : Reading) (reads : readInto file (length table) ≡ pass r) where
-  read-so : reading file ≡ pass r
+module _ (file table : List ℕ) (r : Reading) (reads : readInto current file (length table) ≡ pass r) where
+  read-so : reading current file ≡ pass r
   read-so = accepts file (length table) r reads
 
   pub read-view : (j : ℕ) (c : Component Span) → getElem? (allComponents (r .model .objects)) j ≡ some c → Shown file table r j c
@@ -67,6 +69,11 @@ module _ (file table : List ℕ) (r : Reading) (reads : readInto file (length ta
         bytes = rw reads (view-of-rows file rest (r .model) j c there inside);
       }
 
+  -- an object of 1.2.0 has no dtype
+  no-dtype : slot dtypeAt (current .object) ≡ none
+  unfolding current
+  no-dtype = refl
+
   pub read-entry : (j : ℕ) (c : Component Span) → getElem? (allComponents (r .model .objects)) j ≡ some c → EntryShown file table r j c
   unfolding answer tableAfter
   read-entry j c there =
@@ -75,6 +82,7 @@ module _ (file table : List ℕ) (r : Reading) (reads : readInto file (length ta
       let said : entryThen file table j ≡ c .entry = rw reads (ap₂ (λ (p s : ℕ). record { place = p; size = s }) (n .0) (n .1)) in
       record {
         entry = own;
+        judged = ap (λ (above : Option ℕ). component current (r .start) above (record { name = c .name; value = own .node })) (sym (own .ungiven no-dtype)) ∙ own .judged;
         said = said;
         alone = ap (λ (s : Span). item noNote 28 (bytesAt file s)) (said ∙ own .noted) ∙ own .stands .stands .read;
       }
@@ -84,7 +92,7 @@ module _ (file table : List ℕ) (r : Reading) (reads : readInto file (length ta
   read-listing = rw reads (listed-of-rows file (drop (roomFor (r .model)) table) (r .model) (accepted-stands file r read-so))
 
   -- every index below the count is a component's
-  pub read-index : (j : ℕ) → j < answer (readInto file (length table)) .components → (c : Component Span) × (getElem? (allComponents (r .model .objects)) j ≡ some c)
+  pub read-index : (j : ℕ) → j < answer (readInto current file (length table)) .components → (c : Component Span) × (getElem? (allComponents (r .model .objects)) j ≡ some c)
   unfolding answer
   read-index j h =
       let a : j < componentCount (r .model .objects) = subst (λ (k : Check Reading). j < answer k .components) reads h in
@@ -97,10 +105,10 @@ module _ (file table : List ℕ) (r : Reading) (reads : readInto file (length ta
       has (c ∷ l) (suc j) h = has l j (omega (arith, h))
 
 -- from the count on, whatever the answer was
-module _ (file table : List ℕ) (j : ℕ) (past : answer (readInto file (length table)) .components ≤ j) where
+module _ (file table : List ℕ) (j : ℕ) (past : answer (readInto current file (length table)) .components ≤ j) where
   pub read-view-past : viewedThen file table j ≡ refuse INDEX 0 0
   unfolding viewed
-  read-view-past = rw (le-ltb j (answer (readInto file (length table)) .components) past) refl
+  read-view-past = rw (le-ltb j (answer (readInto current file (length table)) .components) past) refl
 
   pub read-view-none : viewThen file table j ≡ []
   unfolding view partAt

@@ -4,13 +4,13 @@ use native.Mathlib.Omega.{arith}
 use mathlib.Core.List.{List, [], _∷_, map}
 use mathlib.Core.Bool.{Bool, true, false, cond, _&&_}
 use mathlib.Core.Option.{Option, none, some}
-use mathlib.Core.Path.{_≡_, refl, ap, sym, _∙_}
+use mathlib.Core.Path.{_≡_, refl, ap, sym, subst, _∙_}
 use lib.ListN.{length}
 use lib.Dec.{eqb, leb}
 use borrow.Author.Tests.{leb-true, eqb-true}
 use Rattle.types.proofs.Tagged.{both-left, both-right}
 use Rattle.meaning.specs.Tree.{Node, Pairs, uint, nint, bytes, text, chunkedBytes, chunkedText, array, dict, tag, simple, float, ∅, _⇒_▸_, Pair, pairList, noteOf}
-use Rattle.meaning.specs.Check.{Check, pass, refuse, _>>_, inObject, inComponent, required, optional, each}
+use Rattle.meaning.specs.Check.{Check, pass, refuse, _>>_, inObject, inComponent, required, requiredIn, optional, each}
 use Rattle.meaning.specs.Text.{ascii, same, all, distinct, utf8}
 use Rattle.meaning.specs.Refusal.{KIND, KEY, TEXT, TWICE, VERSION, MAJOR, COUNT, DTYPE, ENCODING, TYPE, ALIGN, BOUNDS}
 use Rattle.meaning.specs.Limit.{objectLimit, componentLimit, alignment}
@@ -18,10 +18,11 @@ use Rattle.meaning.specs.Read.{Span}
 use Rattle.meaning.specs.Model.{Word, Named, Component, Model, RootFields, ObjectFields, ComponentFields}
 use Rattle.meaning.specs.Kind.{Kind, number, words, list, table, null, another, kind, asNumber, asWord, asList, asTable, aNumber, aWord, aList, aTable, aText, presentKind, present}
 use Rattle.meaning.specs.Version.{versionShape, majorOne}
-use Rattle.meaning.specs.Field.{isSome, keyOf, count, named, get, fields, rootFields, objectFields, componentFields, nameKind, nameOf, names, rootNames, objectNames, componentNames}
-use Rattle.meaning.specs.Types.{Storage, storages, codeFrom, logicals, listed, fitsOver}
+use Rattle.meaning.specs.Layouts.{Slots, slot, somes, Layout, dtypeAt, componentsAt, objectsAt, thirteen}
+use Rattle.meaning.specs.Field.{isSome, keyOf, count, named, get, field, fields, rootFields, objectFields, componentFields, nameKind, nameOf, names}
+use Rattle.meaning.specs.Types.{u64, codeFrom, logicals, listed, fitsOver}
 use Rattle.meaning.specs.Format.{formatRules}
-use Rattle.meaning.specs.Judge.{codeOr, aDtype, aType, raw, attributesOf, component, part, shapeOf, componentsOf, object, aVersion, objectsOf, judge}
+use Rattle.meaning.specs.Judge.{codeOr, orElse, isIndex, inherited, aDtype, aType, raw, attributesOf, component, part, shapeOf, componentsOf, object, aVersion, objectsOf, judge}
 use Rattle.meaning.proofs.Entries.{pairsOr, pairsIn, valuesIn, entriesIn, entriesOf}
 use Rattle.panel.specs.Stands.{Each}
 use Rattle.shown.specs.Accepted.{IfAny, WordStands, AttributesStand, BlobLies, ComponentAccepted, ObjectAccepted}
@@ -31,10 +32,10 @@ use Rattle.shown.proofs.FormatNumbered.{format-so}
 
 -- ---------------------------------------------------------------- storage codes
 
-code-so : (i : ℕ) (ss : List Storage) (n : List ℕ) → IfAny (λ (c : ℕ). c < i + length ss) (codeFrom i ss n)
+code-so : (i : ℕ) (ss : List (List ℕ)) (n : List ℕ) → IfAny (λ (c : ℕ). c < i + length ss) (codeFrom i ss n)
 unfolding codeFrom
 code-so i [] n = tt
-code-so i (s ∷ ss) n = by (same (s .called) n) (codeFrom (suc i) ss n) (code-so (suc i) ss n)
+code-so i (s ∷ ss) n = by (same s n) (codeFrom (suc i) ss n) (code-so (suc i) ss n)
   where
     further : (o : Option ℕ) → IfAny (λ (c : ℕ). c < suc i + length ss) o → IfAny (λ (c : ℕ). c < i + suc (length ss)) o
     further none h = tt
@@ -49,9 +50,44 @@ unfolding codeOr
 codeOr-so none h = faults DTYPE tt
 codeOr-so (some c) h = passes c h
 
+-- of a code that is a storage's, if there is one
+abbrev Stored : Option ℕ → Type 0
+Stored = IfAny (λ (c : ℕ). c < 13)
+
+orElse-so : (o r : Option ℕ) → Stored o → Stored r → Stored (orElse o r)
+unfolding orElse
+orElse-so none r h k = k
+orElse-so (some c) r h k = h
+
+inherited-so : (format : List ℕ) (o : Option ℕ) (role : List ℕ) → Stored o → Stored (inherited format o role)
+unfolding inherited u64
+inherited-so format none role h = tt
+inherited-so format (some c) role h = by (isIndex format role)
+  where
+    by : (b : Bool) → cond b 8 c < 13
+    by true = omega arith
+    by false = h
+
+-- what is absent stays so
+absent : {A B : Type 0} (f : A → Check B) (o : Option A) (r : Option B) → optional f o ≡ pass r → o ≡ none → r ≡ none
+absent f none none e i = refl
+absent f none (some b) e i = cc
+absent f (some a) r e i = cc
+
+absent-in : {A : Type 0} (name : Option (List ℕ)) (o r : Option A) → requiredIn name o ≡ pass r → name ≡ none → o ≡ none → r ≡ none
+absent-in none none none e i j = refl
+absent-in none none (some b) e i j = cc
+absent-in none (some a) r e i j = cc
+absent-in (some n) o r e i j = cc
+
+required-in : {A : Type 0} {Q : A → Type 0} (name : Option (List ℕ)) (o : Option A) → IfAny Q o → Judged (IfAny Q) (requiredIn name o)
+required-in none o h = record { is = h }
+required-in (some n) none h = record { is = tt }
+required-in (some n) (some a) h = record { is = h }
+
 -- ---------------------------------------------------------------- the manifest's maps
 
-module _ (file : List ℕ) (start : ℕ) where
+module _ (L : Layout) (file : List ℕ) (start : ℕ) where
   -- with d levels left
   abbrev At : ℕ → Node Span → Type 0
   At = Placed file start
@@ -181,11 +217,20 @@ module _ (file : List ℕ) (start : ℕ) where
       by true r q = h .0 .1
       by false r q = q
 
-  fields-so : (d : ℕ) (known : List (List ℕ)) (t : Node Span) → At d t → Judged (λ ps. (aTable t ≡ pass ps) × Each (Pairing (less d)) ps) (fields known t)
+  field-so : (d : ℕ) (s : Option (List ℕ)) (ps : List (Pair Span)) → Each (Pairing d) ps → IfAny (At d) (field s ps)
+  unfolding field
+  field-so d none ps h = tt
+  field-so d (some n) ps h = get-so d n ps h
+
+  no-field : (s : Option (List ℕ)) (ps : List (Pair Span)) → s ≡ none → field s ps ≡ none
+  unfolding field
+  no-field s ps e = ap (λ (s : Option (List ℕ)). field s ps) e
+
+  fields-so : (d : ℕ) (known : Slots) (t : Node Span) → At d t → Judged (λ ps. (aTable t ≡ pass ps) × Each (Pairing (less d)) ps) (fields known t)
   unfolding fields
   fields-so d known t h =
       bind (aTable t) _ (with-verdict (aTable t) (table-so d t h)) λ ps q.
-      tested KEY (all (λ p. isSome (keyOf p)) ps) _ tt λ e. tested TWICE (all (λ n. leb (count n ps) 1) known) _ tt λ f. passes ps q
+      tested KEY (all (λ p. isSome (keyOf p)) ps) _ tt λ e. tested TWICE (all (λ n. leb (count n ps) 1) (somes known)) _ tt λ f. passes ps q
 
   names-so : (d limit : ℕ) (t : Node Span) → At d t → Judged (Each (Naming (less d))) (names limit t)
   unfolding names nameOf
@@ -198,9 +243,14 @@ module _ (file : List ℕ) (start : ℕ) where
 
   -- ---- components: their fields have 27 levels left
 
-  dtype-so : (t : Node Span) → At 27 t → Judged (λ (d : ℕ). d < 13) (aDtype t)
-  unfolding aDtype storages
-  dtype-so t h = bind (aWord t) _ (word-so 27 t h) λ w q. codeOr-so _ (code-so 0 storages (w .letters))
+  codes-below : (w : List ℕ) → Stored (codeFrom 0 (L .dtypes) w)
+  codes-below w =
+      let e : 0 + length (L .dtypes) ≡ 13 = omega (arith, L .allNamed ∙ thirteen) in
+      subst (λ (n : ℕ). IfAny (λ (c : ℕ). c < n) (codeFrom 0 (L .dtypes) w)) e (code-so 0 (L .dtypes) w)
+
+  dtype-so : (d : ℕ) (t : Node Span) → At d t → Judged (λ (c : ℕ). c < 13) (aDtype L t)
+  unfolding aDtype
+  dtype-so d t h = bind (aWord t) _ (word-so d t h) λ w q. codeOr-so _ (codes-below (w .letters))
 
   type-so : (d : ℕ) (t : Node Span) → At 27 t → Judged Spelt (aType d t)
   unfolding aType
@@ -220,17 +270,17 @@ module _ (file : List ℕ) (start : ℕ) where
     encoding : IfAny (At 27) (c .encoding)
     digest : IfAny (At 27) (c .digest)
 
-  componentFields-so : (t : Node Span) → At 28 t → Judged (ComponentFieldsAt t) (componentFields t)
+  componentFields-so : (t : Node Span) → At 28 t → Judged (ComponentFieldsAt t) (componentFields (L .component) t)
   unfolding componentFields
-  componentFields-so t h = bind (fields componentNames t) _ (fields-so 28 componentNames t h) λ ps q. passes _ (record {
+  componentFields-so t h = bind (fields (L .component) t) _ (fields-so 28 (L .component) t h) λ ps q. passes _ (record {
     map = record { stands = h .0; pairs = ps; map = q .0 };
-    dtype = get-so 27 _ ps (q .1);
-    type = get-so 27 _ ps (q .1);
-    offset = get-so 27 _ ps (q .1);
-    length = get-so 27 _ ps (q .1);
-    size = get-so 27 _ ps (q .1);
-    encoding = get-so 27 _ ps (q .1);
-    digest = get-so 27 _ ps (q .1);
+    dtype = field-so 27 _ ps (q .1);
+    type = field-so 27 _ ps (q .1);
+    offset = field-so 27 _ ps (q .1);
+    length = field-so 27 _ ps (q .1);
+    size = field-so 27 _ ps (q .1);
+    encoding = field-so 27 _ ps (q .1);
+    digest = field-so 27 _ ps (q .1);
   })
 
   -- all but the verdict itself
@@ -244,14 +294,15 @@ module _ (file : List ℕ) (start : ℕ) where
     digest : IfAny Spelt (c .digest)
     blob : BlobLies start c
 
-  found-so : (n : Named Span) → Naming 28 n → Judged (Found n) (component start n)
+  found-so : (above : Option ℕ) → Stored above → (n : Named Span) → Naming 28 n → Judged (Found n) (component L start above n)
   unfolding component
-  found-so n h =
-      bind (componentFields (n .value)) _ (componentFields-so (n .value) (h .1)) λ c p.
-      bind (required (c .dtype)) _ (is-required (c .dtype) (p .dtype)) λ dtype at-dtype.
+  found-so above given n h =
+      bind (componentFields (L .component) (n .value)) _ (componentFields-so (n .value) (h .1)) λ c p.
+      bind (requiredIn (slot dtypeAt (L .component)) (c .dtype)) _ (required-in (slot dtypeAt (L .component)) (c .dtype) (p .dtype)) λ dtype at-dtype.
       bind (required (c .offset)) _ (is-required (c .offset) (p .offset)) λ offset at-offset.
       bind (required (c .length)) _ (is-required (c .length) (p .length)) λ length at-length.
-      bind (aDtype dtype) _ (dtype-so dtype at-dtype) λ d storage.
+      bind (optional (aDtype L) dtype) _ (if-any (aDtype L) dtype at-dtype (dtype-so 27)) λ own stored.
+      bind (required (orElse own above)) _ (is-required (orElse own above) (orElse-so own above stored given)) λ d storage.
       bind (optional (aType d) (present (c .type))) _ (if-any (aType d) (present (c .type)) (present-so 27 (c .type) (p .type)) (type-so d)) λ t type.
       bind (aNumber offset) _ (number-so offset) λ o u.
       bind (aNumber length) _ (number-so length) λ l v.
@@ -274,10 +325,15 @@ module _ (file : List ℕ) (start : ℕ) where
         };
       })))
 
-  component-so : (n : Named Span) → Naming 28 n → Judged (ComponentAccepted file start) (component start n)
-  component-so n h = so-too (component start n) accepted (with-verdict (component start n) (found-so n h))
+  -- of the code that an object gives to a component: an object that can have no dtype gives none
+  record Given (above : Option ℕ) : Type 0 where
+    stored : Stored above
+    ungiven : slot dtypeAt (L .object) ≡ none → above ≡ none
+
+  component-so : (above : Option ℕ) → Given above → (n : Named Span) → Naming 28 n → Judged (ComponentAccepted L file start) (component L start above n)
+  component-so above given n h = so-too (component L start above n) accepted (with-verdict (component L start above n) (found-so above (given .stored) n h))
     where
-      accepted : (c : Component Span) → (component start n ≡ pass c) × Found n c → ComponentAccepted file start c
+      accepted : (c : Component Span) → (component L start above n ≡ pass c) × Found n c → ComponentAccepted L file start c
       accepted c q =
           let f = q .1 in
           record {
@@ -290,15 +346,17 @@ module _ (file : List ℕ) (start : ℕ) where
               node = n .value;
               noted = f .noted;
               stands = f .map;
-              judged = ap (λ (w : Word Span). component start (record { name = w; value = n .value })) (sym (f .named)) ∙ q .0;
+              above = above;
+              ungiven = given .ungiven;
+              judged = ap (λ (w : Word Span). component L start above (record { name = w; value = n .value })) (sym (f .named)) ∙ q .0;
             };
           }
 
-  components-so : (t : Node Span) → At 29 t → Judged (Each (ComponentAccepted file start)) (componentsOf start t)
+  components-so : (above : List ℕ → Option ℕ) → ((role : List ℕ) → Given (above role)) → (t : Node Span) → At 29 t → Judged (Each (ComponentAccepted L file start)) (componentsOf L start above t)
   unfolding componentsOf
-  components-so t h =
+  components-so above given t h =
       bind (names componentLimit t) _ (names-so 29 componentLimit t h)
-      λ ns q. each-so (λ j c. inComponent j (component start c)) (λ j c a. in-component j (component start c) (component-so c a)) 0 ns q
+      λ ns q. each-so (λ j c. inComponent j (component L start (above (c .name .letters)) c)) (λ j c a. in-component j (component L start (above (c .name .letters)) c) (component-so (above (c .name .letters)) (given (c .name .letters)) c a)) 0 ns q
 
   -- ---- objects: their fields have 29 levels left
 
@@ -318,36 +376,50 @@ module _ (file : List ℕ) (start : ℕ) where
       by (refuse n o c) e j = record { is = j .is }
 
   record ObjectFieldsAt (o : ObjectFields Span) : Type 0 where
+    dtype : IfAny (At 29) (o .dtype)
+    ungiven : slot dtypeAt (L .object) ≡ none → o .dtype ≡ none
     shape : IfAny (At 29) (o .shape)
     format : IfAny (At 29) (o .format)
     attributes : IfAny (At 29) (o .attributes)
     components : IfAny (At 29) (o .components)
 
-  objectFields-so : (t : Node Span) → At 30 t → Judged ObjectFieldsAt (objectFields t)
+  objectFields-so : (t : Node Span) → At 30 t → Judged ObjectFieldsAt (objectFields (L .object) t)
   unfolding objectFields
   objectFields-so t h =
-      bind (fields objectNames t) _ (fields-so 30 objectNames t h)
-      λ ps q. passes _ (record { shape = get-so 29 _ ps (q .1); format = get-so 29 _ ps (q .1); attributes = get-so 29 _ ps (q .1); components = get-so 29 _ ps (q .1) })
+      bind (fields (L .object) t) _ (fields-so 30 (L .object) t h)
+      λ ps q. passes _ (record {
+        dtype = field-so 29 _ ps (q .1);
+        ungiven = λ e. no-field (slot dtypeAt (L .object)) ps e;
+        shape = field-so 29 _ ps (q .1);
+        format = field-so 29 _ ps (q .1);
+        attributes = field-so 29 _ ps (q .1);
+        components = field-so 29 _ ps (q .1);
+      })
 
-  object-so : (n : Named Span) → Naming 30 n → Judged (ObjectAccepted file start) (object start n)
-  unfolding object
+  object-so : (n : Named Span) → Naming 30 n → Judged (ObjectAccepted L file start) (object L start n)
+  unfolding object inherited
   object-so n h =
-      bind (objectFields (n .value)) _ (objectFields-so (n .value) (h .1)) λ o p.
+      bind (objectFields (L .object) (n .value)) _ (objectFields-so (n .value) (h .1)) λ o p.
+      let place : Option (List ℕ) = slot dtypeAt (L .object) in
+      bind (requiredIn place (o .dtype)) _ (with-verdict (requiredIn place (o .dtype)) (required-in place (o .dtype) (p .dtype))) λ dtype at-dtype.
       bind (required (o .shape)) _ (is-required (o .shape) (p .shape)) λ shape at-shape.
       bind (required (o .format)) _ (is-required (o .format) (p .format)) λ format at-format.
       bind (required (o .components)) _ (is-required (o .components) (p .components)) λ components at-components.
+      bind (optional (aDtype L) dtype) _ (with-verdict (optional (aDtype L) dtype) (if-any (aDtype L) dtype (at-dtype .1) (dtype-so 29))) λ d code.
+      let ungiven : place ≡ none → d ≡ none = λ e. absent (aDtype L) dtype d (code .0) (absent-in place (o .dtype) dtype (at-dtype .0) e (p .ungiven e)) in
       bind (shapeOf shape) _ (shape-so shape) λ s rank.
       bind (aText format) _ (text-so 29 format at-format) λ f spelt.
       bind (optional attributesOf (o .attributes)) _ (if-any attributesOf (o .attributes) (p .attributes) (attributes-so 29)) λ a lie.
-      bind (componentsOf start components) _ (components-so components at-components) λ cs accepted.
+      bind (componentsOf L start (inherited (f .letters) d) components) _
+      (components-so (inherited (f .letters) d) (λ role. record { stored = inherited-so (f .letters) d role (code .1); ungiven = λ e. ap (λ (d : Option ℕ). inherited (f .letters) d role) (ungiven e) }) components at-components) λ cs accepted.
       then (formatRules (f .letters) s (map part cs)) _ (format-so (f .letters) s (map part cs))
       (passes _ (record { name = h .0; rank = rank; format = spelt; attributes = lie; components = accepted }))
 
-  objects-so : (t : Node Span) → At 31 t → Judged (Each (ObjectAccepted file start)) (objectsOf start t)
+  objects-so : (t : Node Span) → At 31 t → Judged (Each (ObjectAccepted L file start)) (objectsOf L start t)
   unfolding objectsOf
   objects-so t h =
       bind (names objectLimit t) _ (names-so 31 objectLimit t h)
-      λ ns q. each-so (λ i o. inObject i (object start o)) (λ i o a. in-object i (object start o) (object-so o a)) 0 ns q
+      λ ns q. each-so (λ i o. inObject i (object L start o)) (λ i o a. in-object i (object L start o) (object-so o a)) 0 ns q
 
   -- ---- the root: its fields have 31 levels left
 
@@ -360,24 +432,24 @@ module _ (file : List ℕ) (start : ℕ) where
     attributes : IfAny (At 31) (r .attributes)
     objects : IfAny (At 31) (r .objects)
 
-  rootFields-so : (t : Node Span) → At 32 t → Judged RootFieldsAt (rootFields t)
+  rootFields-so : (t : Node Span) → At 32 t → Judged RootFieldsAt (rootFields (L .root) t)
   unfolding rootFields
   rootFields-so t h =
-      bind (fields rootNames t) _ (fields-so 32 rootNames t h) λ ps q. passes _ (record { version = get-so 31 _ ps (q .1); attributes = get-so 31 _ ps (q .1); objects = get-so 31 _ ps (q .1) })
+      bind (fields (L .root) t) _ (fields-so 32 (L .root) t h) λ ps q. passes _ (record { version = field-so 31 _ ps (q .1); attributes = field-so 31 _ ps (q .1); objects = field-so 31 _ ps (q .1) })
 
   pub record ModelStands (m : Model Span) : Type 0 where
     pub attributes : IfAny (AttributesStand file start 31) (m .attributes)
-    pub objects : Each (ObjectAccepted file start) (m .objects)
+    pub objects : Each (ObjectAccepted L file start) (m .objects)
 
-  pub judge-so : (t : Node Span) → At 32 t → Judged ModelStands (judge start t)
+  pub judge-so : (t : Node Span) → At 32 t → Judged ModelStands (judge L start t)
   unfolding judge
   judge-so t h =
-      bind (rootFields t) _ (rootFields-so t h) λ r p.
+      bind (rootFields (L .root) t) _ (rootFields-so t h) λ r p.
       bind (required (r .version)) _ (is-required (r .version) (p .version)) λ version at-version.
       then (aVersion version) _ (version-so version at-version)
       (bind (optional attributesOf (r .attributes)) _ (if-any attributesOf (r .attributes) (p .attributes) (attributes-so 31)) λ a lie.
       bind (required (r .objects)) _ (is-required (r .objects) (p .objects)) λ objects at-objects.
-      bind (objectsOf start objects) _ (objects-so objects at-objects) λ os accepted.
+      bind (objectsOf L start objects) _ (objects-so objects at-objects) λ os accepted.
       passes _ (record { attributes = lie; objects = accepted }))
 
   -- ---- the entries of its components have 28 levels left
@@ -399,17 +471,17 @@ module _ (file : List ℕ) (start : ℕ) where
       by [] h = tt
       by (p ∷ ps) h = (h .0 .1, by ps (h .1))
 
-  entries-in-so : (t : Node Span) → At 30 t → Each (At 28) (entriesIn t)
+  entries-in-so : (t : Node Span) → At 30 t → Each (At 28) (entriesIn L t)
   unfolding entriesIn
-  entries-in-so t h = values-so 29 (get (ascii "components") (pairsIn t)) (get-so 29 (ascii "components") (pairsIn t) (pairs-in-so 30 t h))
+  entries-in-so t h = values-so 29 (field (slot componentsAt (L .object)) (pairsIn t)) (field-so 29 (slot componentsAt (L .object)) (pairsIn t) (pairs-in-so 30 t h))
 
-  pub entries-so : (t : Node Span) → At 32 t → Each (Each (At 28)) (entriesOf t)
+  pub entries-so : (t : Node Span) → At 32 t → Each (Each (At 28)) (entriesOf L t)
   unfolding entriesOf Each
-  entries-so t h = by (valuesIn objects) (values-so 31 objects (get-so 31 (ascii "objects") (pairsIn t) (pairs-in-so 32 t h)))
+  entries-so t h = by (valuesIn objects) (values-so 31 objects (field-so 31 (slot objectsAt (L .root)) (pairsIn t) (pairs-in-so 32 t h)))
     where
       objects : Option (Node Span)
-      objects = get (ascii "objects") (pairsIn t)
+      objects = field (slot objectsAt (L .root)) (pairsIn t)
 
-      by : (ts : List (Node Span)) → Each (At 30) ts → Each (Each (At 28)) (map entriesIn ts)
+      by : (ts : List (Node Span)) → Each (At 30) ts → Each (Each (At 28)) (map (entriesIn L) ts)
       by [] h = tt
       by (o ∷ ts) h = (entries-in-so o (h .0), by ts (h .1))

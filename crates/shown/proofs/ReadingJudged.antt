@@ -15,7 +15,8 @@ use Rattle.meaning.specs.Limit.{manifestLimit, depthLimit}
 use Rattle.meaning.specs.Tree.{Node}
 use Rattle.meaning.specs.Read.{Span, spanTo, Outcome, got, refused, manifest}
 use Rattle.meaning.specs.Judge.{judge}
-use Rattle.meaning.specs.Frame.{magic, little, Frame, frame, checked, reading}
+use Rattle.meaning.specs.Layouts.{magic, current}
+use Rattle.meaning.specs.Frame.{little, Frame, frame, checked, reading}
 use Rattle.shown.specs.Accepted.{Accepted}
 use Rattle.shown.specs.Placed.{Placed}
 use Rattle.shown.proofs.Judged.{JudgedFrom, between, is-between, widened, passes, bind, tested}
@@ -28,8 +29,8 @@ pub record Framed (file : List ℕ) (f : Frame) : Type 0 where
   pub some-bytes : 1 ≤ f .size
   pub ends : f .start + f .size + 16 ≡ length file
 
-pub frame-so : (file : List ℕ) → JudgedFrom SHORT (Framed file) (frame file)
-unfolding frame
+pub frame-so : (file : List ℕ) → JudgedFrom SHORT (Framed file) (frame current file)
+unfolding frame current magic
 frame-so file =
     let n : ℕ = length file in
     let size : ℕ = little (take 8 (drop (n - 16) file)) in
@@ -80,11 +81,11 @@ module _ (file : List ℕ) (f : Frame) (h : Framed file f) where
   pub tree-so : JudgedFrom SHORT (Placed file start depthLimit) (checked (manifest (spanTo end) bytes))
   tree-so = checked-so (manifest (spanTo end) bytes) placed-so
 
-pub reading-so : (file : List ℕ) → JudgedFrom SHORT (Accepted file) (reading file)
+pub reading-so : (file : List ℕ) → JudgedFrom SHORT (Accepted file) (reading current file)
 unfolding reading
 reading-so file =
-    bind (frame file) _ (frame-so file) λ f h.
+    bind (frame current file) _ (frame-so file) λ f h.
     bind (checked (manifest (spanTo (f .start + f .size)) (take (f .size) (drop (f .start) file)))) _ (tree-so file f h) λ t placed.
-    bind (judge (f .start) t) _ (widened (judge (f .start) t) (judge-so file (f .start) t placed)) λ m s.
+    bind (judge current (f .start) t) _ (widened (judge current (f .start) t) (judge-so current file (f .start) t placed)) λ m s.
     let e = h .ends in let b = h .some-bytes in
     passes _ (record { header = h .header; footer = omega (arith, e, b); attributes = s .attributes; objects = s .objects })

@@ -9,6 +9,7 @@ use Rattle.meaning.specs.Check.{pass}
 use Rattle.meaning.specs.Read.{Span, got, item, noNote}
 use Rattle.meaning.specs.Kind.{aTable}
 use Rattle.meaning.specs.Model.{Word, Component, Object}
+use Rattle.meaning.specs.Layouts.{slot, Layout, current, dtypeAt}
 use Rattle.meaning.specs.Judge.{component}
 use Rattle.meaning.specs.Frame.{Reading}
 use Rattle.meaning.specs.Rows.{wordSpan}
@@ -47,27 +48,31 @@ module _ (file : List ℕ) (start : ℕ) where
     pub pairs : List (Pair Span)
     pub map : aTable t ≡ pass pairs
 
-  -- the entry of a component's row is one whole map of the manifest, at depth 5: 28 levels are left there; under the component's name that map is this component
+module _ (L : Layout) (file : List ℕ) (start : ℕ) where
+  -- the entry of a component's row is one whole map of the manifest, at depth 5: 28 levels are left there; under the component's name, with the code that its object gives it, that
+  -- map is this component; an object that can have no dtype gives none
   pub record EntryStands (c : Component Span) : Type 0 where
     pub node : Node Span
     pub noted : c .entry ≡ noteOf node
-    pub stands : AttributesStand 28 node
-    pub judged : component start (record { name = c .name; value = node }) ≡ pass c
+    pub stands : AttributesStand file start 28 node
+    pub above : Option ℕ
+    pub ungiven : slot dtypeAt (L .object) ≡ none → above ≡ none
+    pub judged : component L start above (record { name = c .name; value = node }) ≡ pass c
 
   pub record ComponentAccepted (c : Component Span) : Type 0 where
-    pub name : WordStands (c .name)
+    pub name : WordStands file start (c .name)
     pub storage : c .dtype < 13
-    pub type : IfAny WordStands (c .type)
-    pub digest : IfAny WordStands (c .digest)
+    pub type : IfAny (WordStands file start) (c .type)
+    pub digest : IfAny (WordStands file start) (c .digest)
     pub blob : BlobLies start c
     pub entry : EntryStands c
 
   -- its attributes are at depth 4: 29 levels are left there
   pub record ObjectAccepted (o : Object Span) : Type 0 where
-    pub name : WordStands (o .name)
+    pub name : WordStands file start (o .name)
     pub rank : length (o .shape) ≤ 8
-    pub format : WordStands (o .format)
-    pub attributes : IfAny (AttributesStand 29) (o .attributes)
+    pub format : WordStands file start (o .format)
+    pub attributes : IfAny (AttributesStand file start 29) (o .attributes)
     pub components : Each ComponentAccepted (o .components)
 
 -- the root's attributes are at depth 2: 31 levels are left there
@@ -76,4 +81,4 @@ pub record Accepted (file : List ℕ) (r : Reading) : Type 0 where
   -- a manifest of a byte at least, its size and the footer
   pub footer : r .start + 1 + 16 ≤ length file
   pub attributes : IfAny (AttributesStand file (r .start) 31) (r .model .attributes)
-  pub objects : Each (ObjectAccepted file (r .start)) (r .model .objects)
+  pub objects : Each (ObjectAccepted current file (r .start)) (r .model .objects)

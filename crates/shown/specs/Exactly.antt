@@ -9,6 +9,7 @@ use Rattle.meaning.specs.Refusal.{CBOR, DEEP}
 use Rattle.meaning.specs.Limit.{depthLimit}
 use Rattle.meaning.specs.Encoding.{Tree, Encodes}
 use Rattle.meaning.specs.Model.{Model}
+use Rattle.meaning.specs.Layouts.{current}
 use Rattle.meaning.specs.Judge.{judge}
 use Rattle.meaning.specs.Frame.{Frame, frame, reading}
 use Rattle.reader.specs.Verdict.{verdict}
@@ -16,7 +17,7 @@ use Rattle.reader.specs.Verdict.{verdict}
 module _ (file : List ℕ) where
   -- the number that the acceptance check answers
   abbrev pub number : ℕ
-  number = verdict (reading file) .number
+  number = verdict (reading current file) .number
 
   -- the manifest's bytes
   abbrev pub manifestIn : Frame → List ℕ
@@ -25,11 +26,11 @@ module _ (file : List ℕ) where
   -- there is a frame, a tree that the manifest encodes where the root is at depth 1 of 32, and a model that the judgement passes
   pub record Sound : Type 0 where
     pub framing : Frame
-    pub framed : frame file ≡ pass framing
+    pub framed : frame current file ≡ pass framing
     pub tree : Tree
     pub encodes : Encodes depthLimit tree (manifestIn framing)
     pub model : Model (Unit {0})
-    pub judged : judge (framing .start) tree ≡ pass model
+    pub judged : judge current (framing .start) tree ≡ pass model
 
   abbrev pub NoTree : Frame → Type 0
   NoTree f = (t : Tree) → Encodes depthLimit t (manifestIn f) → ⊥
@@ -38,4 +39,4 @@ module _ (file : List ℕ) where
     -- accepted: these files and no others
     pub accepted : (number ≡ 0) ↔ Sound
     -- past the frame CBOR or DEEP: those that encode no tree and no others
-    pub malformed : (f : Frame) → frame file ≡ pass f → ((number ≡ CBOR) ⊎ (number ≡ DEEP)) ↔ NoTree f
+    pub malformed : (f : Frame) → frame current file ≡ pass f → ((number ≡ CBOR) ⊎ (number ≡ DEEP)) ↔ NoTree f

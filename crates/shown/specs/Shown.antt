@@ -1,6 +1,7 @@
 -- What a view and a row show of one component after a reading: the table and both counts are those that the reading left.
 use Prim.Native.Nat.{ℕ, _+_, _*_, _≤_}
 use mathlib.Core.List.{List, []}
+use mathlib.Core.Option.{none}
 use mathlib.Core.Path.{_≡_}
 use lib.ListN.{length, take, drop, getD}
 use Rattle.meaning.specs.Columns.{objectWidth, componentWidth, entryColumn, entryLengthColumn}
@@ -8,15 +9,17 @@ use Rattle.meaning.specs.Tree.{meaning}
 use Rattle.meaning.specs.Check.{Check, pass}
 use Rattle.meaning.specs.Read.{Span, bytesAt, got, item, noNote}
 use Rattle.meaning.specs.Model.{Component}
+use Rattle.meaning.specs.Judge.{component}
 use Rattle.meaning.specs.Frame.{Reading}
 use Rattle.meaning.specs.Rows.{answer, tableAfter, readInto}
 use Rattle.meaning.specs.View.{viewed, view}
+use Rattle.meaning.specs.Layouts.{current}
 use Rattle.panel.specs.Lines.{listed}
 use Rattle.shown.specs.Accepted.{BlobLies, EntryStands}
 
 module _ (file table : List ℕ) where
   abbrev afterwards : Check Reading
-  afterwards = readInto file (length table)
+  afterwards = readInto current file (length table)
 
   -- asked with what the reading left
   abbrev pub viewedThen : ℕ → Check Span
@@ -36,7 +39,9 @@ module _ (file table : List ℕ) where
 
   -- the bytes there, read alone, are one map and nothing more: the component's own
   pub record EntryShown (r : Reading) (j : ℕ) (c : Component Span) : Type 0 where
-    pub entry : EntryStands file (r .start) c
+    pub entry : EntryStands current file (r .start) c
+    -- under the component's name that map is this component
+    pub judged : component current (r .start) none (record { name = c .name; value = entry .node }) ≡ pass c
     pub said : entryThen j ≡ c .entry
     pub alone : item noNote 28 (bytesAt file (entryThen j)) ≡ got (meaning (entry .node)) []
 

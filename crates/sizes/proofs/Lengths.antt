@@ -11,7 +11,7 @@ use borrow.Author.Tests.{ltb-true}
 use Rattle.meaning.specs.Text.{ascii, all}
 use Rattle.meaning.specs.Read.{Span, joined, bytesAt}
 use Rattle.meaning.specs.Notes.{mapOption}
-use Rattle.meaning.specs.Field.{rootNames, objectNames, componentNames}
+use Rattle.meaning.specs.Layouts.{rootNames, objectNames, componentNames}
 use Rattle.meaning.specs.Types.{Storage, storages, storageOf}
 use Rattle.meaning.specs.Encoding.{big}
 use Rattle.meaning.specs.Asked.{presentAt}
@@ -153,7 +153,7 @@ called-size c = text-length (storageOf c .called) ∙ text-small (length (storag
 pub component-bytes : (offset : ℕ) (d : DescribedComponent) → length (componentBytes offset d)
     ≡ 21 + length (textBytes (storageOf (d .dtype) .called)) + fieldSize 5 (mapOption textBytes (d .type)) + length (numberBytes offset)
     + length (numberBytes (length (d .blob))) + fieldSize 7 (mapOption textBytes (d .digest))
-unfolding componentBytes componentNames textSize headSize
+unfolding componentBytes textSize headSize
 component-bytes offset d =
     fields-length componentNames
     (some (textBytes (storageOf (d .dtype) .called)) ∷ mapOption textBytes (d .type) ∷ some (numberBytes offset) ∷ some (numberBytes (length (d .blob)))
@@ -162,14 +162,14 @@ component-bytes offset d =
 
 pub object-bytes : (n : ℕ) (d : DescribedObject) → length (objectFrom n d)
     ≡ 25 + length (listBytes (d .shape)) + length (textBytes (d .format)) + fieldSize 11 (d .attributes) + length (mapBytes (entriesFrom n (d .components)))
-unfolding objectFrom objectNames textSize headSize
+unfolding objectFrom textSize headSize
 object-bytes n d =
     fields-length objectNames
     (some (listBytes (d .shape)) ∷ some (textBytes (d .format)) ∷ d .attributes ∷ some (mapBytes (entriesFrom n (d .components))) ∷ []) (omega arith)
     ∙ omega arith
 
 pub manifest-bytes : (d : Described) → manifestLength d ≡ 23 + fieldSize 11 (d .attributes) + length (mapBytes (objectsFrom 8 (d .objects)))
-unfolding rootNames textSize headSize
+unfolding textSize headSize
 manifest-bytes d =
     ap length (manifest-placed d)
     ∙ fields-length rootNames (some (textBytes (ascii "1.2.0")) ∷ d .attributes ∷ some (mapBytes (objectsFrom 8 (d .objects))) ∷ []) (omega arith)

@@ -3,6 +3,7 @@ use Prim.Native.Nat.{ℕ, _+_, _<_}
 use native.Mathlib.Omega.{arith}
 use mathlib.Core.List.{List, [], _∷_}
 use mathlib.Core.Path.{_≡_, refl, ap, sym, _∙_, subst}
+use mathlib.Core.Option.{none}
 use lib.ListN.{length}
 use lib.Seq.{sets}
 use borrow.Rule.Slice.PartAt.{part-to-end}
@@ -15,6 +16,7 @@ use Rattle.meaning.specs.Kind.{Kind, kind}
 use Rattle.meaning.specs.Field.{nameOf, nameKind}
 use Rattle.meaning.specs.Judge.{component}
 use Rattle.meaning.specs.Rows.{componentRow}
+use Rattle.meaning.specs.Layouts.{current}
 use Rattle.cbor.specs.Ending.{FAULT}
 use Rattle.walk.specs.Reading.{Ends}
 use Rattle.component.specs.Value.{leftWord}
@@ -67,7 +69,7 @@ module _ (s c : List ℕ) (room : length c < FAULT) (v : Judged) (size end owner
   pub no-row : (m : ℕ) → v ≡ No m → RowPut s c v size end owner i before after
   no-row m e start says p d q r key value sized n name k passes =
       let so = named-pair p n name in
-      let j : No m ≡ judged (pass k) = sym e ∙ says (p .value) r value (n .name) ∙ ap judged (ap (component start) (sym (so .is)) ∙ passes) in
+      let j : No m ≡ judged (pass k) = sym e ∙ says (p .value) r value (n .name) ∙ ap judged (ap (component current start none) (sym (so .is)) ∙ passes) in
       absurd (let z : _≡_ {A = ℕ} 0 1 = cc in omega arith)
 
   pub a-row : (code t o l g : ℕ) → v ≡ Yes code t o l g → (x y z w : Span) → SpeltIs (Here s 0) end x → SpeltAt (Here c 0) t end y → SpeltAt (Here c 0) g end z → WholeFrom (Here c 0) size end w
@@ -75,7 +77,7 @@ module _ (s c : List ℕ) (room : length c < FAULT) (v : Judged) (size end owner
   unfolding componentRow
   a-row code t o l g e x y z w sx sy sz sw put start says p d q r key value sized n name k passes =
       let so = named-pair p n name in
-      let is : component start (record { name = n .name; value = p .value }) ≡ pass k = ap (component start) (sym (so .is)) ∙ passes in
+      let is : component current start none (record { name = n .name; value = p .value }) ≡ pass k = ap (component current start none) (sym (so .is)) ∙ passes in
       let j : Yes code t o l g ≡ Yes (k .dtype) (leftWord (k .type)) (k .offset) (k .length) (leftWord (k .digest)) = sym e ∙ says (p .value) r value (n .name) ∙ ap judged is in
       let code-is : code ≡ k .dtype = cc in
       let type-is : leftWord (k .type) ≡ t = cc in

@@ -13,9 +13,10 @@ use Rattle.meaning.specs.Refusal.{KEY, TWICE}
 use Rattle.meaning.specs.Model.{Word, Object, ObjectFields}
 use Rattle.meaning.specs.Kind as kinds
 use Rattle.meaning.specs.Kind.{kind}
-use Rattle.meaning.specs.Field.{objectNames, objectFields, fields, get, count, isSome, keyOf}
+use Rattle.meaning.specs.Layouts.{objectNames, current}
+use Rattle.meaning.specs.Field.{objectFields, fields, field, get, count, isSome, keyOf}
 use Rattle.meaning.specs.Format.{formatRules}
-use Rattle.meaning.specs.Judge.{object, shapeOf, attributesOf, componentsOf, part}
+use Rattle.meaning.specs.Judge.{object, shapeOf, attributesOf, componentsOf, part, inherited}
 use Rattle.types.specs.Known.{position}
 use Rattle.walk.specs.Reading.{Ends, Chain, leftAt, foldl}
 use Rattle.fields.specs.Slots.{marks, Holds}
@@ -45,8 +46,8 @@ unfolding kinds.aTable kinds.asTable
 a-table t ps e = rw e refl
 
 module _ (t : Node Ends) (ps : List (Pair Ends)) (is : kind t ≡ kinds.table ps) where
-  fields-are : (qs : List (Pair Ends)) → fields objectNames t ≡ pass qs → ps ≡ qs
-  unfolding fields
+  fields-are : (qs : List (Pair Ends)) → fields (current .object) t ≡ pass qs → ps ≡ qs
+  unfolding fields current
   fields-are qs e =
       let a = passed (kinds.aTable t) (λ ps. (KEY unless all (λ p. isSome (keyOf p)) ps) >> ((TWICE unless all (λ n. leb (count n ps) 1) objectNames) >> pass ps)) qs e in
       let b = passed-on (KEY unless all (λ p. isSome (keyOf p)) (a .value)) ((TWICE unless all (λ n. leb (count n (a .value)) 1) objectNames) >> pass (a .value)) qs (a .then) in
@@ -54,12 +55,12 @@ module _ (t : Node Ends) (ps : List (Pair Ends)) (is : kind t ≡ kinds.table ps
       pass-same (sym (a-table t ps is) ∙ a .is) ∙ pass-same c
 
   abbrev fieldsOf : List (Pair Ends) → ObjectFields Ends
-  fieldsOf ps = record { shape = get (ascii "shape") ps; format = get (ascii "format") ps; attributes = get (ascii "attributes") ps; components = get (ascii "components") ps }
+  fieldsOf ps = record { dtype = none; shape = get (ascii "shape") ps; format = get (ascii "format") ps; attributes = get (ascii "attributes") ps; components = get (ascii "components") ps }
 
-  object-fields : (f : ObjectFields Ends) → objectFields t ≡ pass f → fieldsOf ps ≡ f
-  unfolding objectFields
+  object-fields : (f : ObjectFields Ends) → objectFields (current .object) t ≡ pass f → fieldsOf ps ≡ f
+  unfolding objectFields current field
   object-fields f e =
-      let a = passed (fields objectNames t) (λ ps. pass (fieldsOf ps)) f e in
+      let a = passed (fields (current .object) t) (λ ps. pass (fieldsOf ps)) f e in
       ap fieldsOf (fields-are (a .value) (a .is)) ∙ pass-same (a .then)
 
 -- what an object of these pairs holds
@@ -74,32 +75,32 @@ pub record Made (start : ℕ) (w : Word Ends) (ps : List (Pair Ends)) (o : Objec
   pub attributes-got : get (ascii "attributes") ps ≡ o .attributes
   pub components : Node Ends
   pub components-got : get (ascii "components") ps ≡ some components
-  pub components-are : componentsOf start components ≡ pass (o .components)
+  pub components-are : componentsOf current start (λ r. none) components ≡ pass (o .components)
 
-pub made : (start : ℕ) (w : Word Ends) (t : Node Ends) (ps : List (Pair Ends)) → kind t ≡ kinds.table ps → (o : Object Ends) → object start (record { name = w; value = t }) ≡ pass o → Made start w ps o
-unfolding object
+pub made : (start : ℕ) (w : Word Ends) (t : Node Ends) (ps : List (Pair Ends)) → kind t ≡ kinds.table ps → (o : Object Ends) → object current start (record { name = w; value = t }) ≡ pass o → Made start w ps o
+unfolding object current inherited
 made start w t ps is o e =
-    let a = passed (objectFields t) _ o e in
+    let a = passed (objectFields (current .object) t) _ o e in
     let f : fieldsOf t ps is ps ≡ a .value = object-fields t ps is (a .value) (a .is) in
-    let b = passed (required (a .value .shape)) _ o (a .then) in
-    let c = passed (required (a .value .format)) _ o (b .then) in
-    let d = passed (required (a .value .components)) _ o (c .then) in
+    let b = passed (required (get (ascii "shape") ps)) _ o (rw (← f) at (a .then)) in
+    let c = passed (required (get (ascii "format") ps)) _ o (b .then) in
+    let d = passed (required (get (ascii "components") ps)) _ o (c .then) in
     let g = passed (shapeOf (b .value)) _ o (d .then) in
     let h = passed (kinds.aText (c .value)) _ o (g .then) in
-    let i = passed (optional attributesOf (a .value .attributes)) _ o (h .then) in
-    let j = passed (componentsOf start (d .value)) _ o (i .then) in
+    let i = passed (optional attributesOf (get (ascii "attributes") ps)) _ o (h .then) in
+    let j = passed (componentsOf current start (λ r. none) (d .value)) _ o (i .then) in
     let x = pass-same (passed-on (formatRules (h .value .letters) (g .value) (map part (j .value))) _ o (j .then)) in
     record {
       named = ap (λ (o : Object Ends). o .name) x;
       shape = b .value;
-      shape-got = ap (λ (f : ObjectFields Ends). f .shape) f ∙ required-some (a .value .shape) (b .value) (b .is);
+      shape-got = required-some (get (ascii "shape") ps) (b .value) (b .is);
       shape-is = g .is ∙ ap (λ (o : Object Ends). pass (o .shape)) x;
       format = c .value;
-      format-got = ap (λ (f : ObjectFields Ends). f .format) f ∙ required-some (a .value .format) (c .value) (c .is);
+      format-got = required-some (get (ascii "format") ps) (c .value) (c .is);
       format-is = text-word (c .value) (h .value) (h .is) ∙ ap (λ (o : Object Ends). pass (o .format)) x;
-      attributes-got = ap (λ (f : ObjectFields Ends). f .attributes) f ∙ attributes-same (a .value .attributes) (i .value) (i .is) ∙ ap (λ (o : Object Ends). o .attributes) x;
+      attributes-got = attributes-same (get (ascii "attributes") ps) (i .value) (i .is) ∙ ap (λ (o : Object Ends). o .attributes) x;
       components = d .value;
-      components-got = ap (λ (f : ObjectFields Ends). f .components) f ∙ required-some (a .value .components) (d .value) (d .is);
+      components-got = required-some (get (ascii "components") ps) (d .value) (d .is);
       components-are = j .is ∙ ap (λ (o : Object Ends). pass (o .components)) x;
     }
 
@@ -107,19 +108,18 @@ made start w t ps is o e =
 
 module _ (m : List ℕ) (ps : List (Pair Ends)) (q : List ℕ) (chain : Chain 29 m ps q) (p : List ℕ) (is : p ≡ foldl (marks objectNames) (replicate 7 0) ps) where
   at-name : (name : List ℕ) (i : ℕ) → position objectNames name ≡ i → i < 4 → Holds 29 m (getD p i 0) (get name ps)
-  unfolding objectNames
   at-name name i e l = subst (λ (i : ℕ). Holds 29 m (getD p i 0) (get name ps)) e (field-stands objectNames 29 m ps q chain p is name (let z : position objectNames name < 4 = omega arith in z))
 
   at-shape : Holds 29 m (getD p 0 0) (get (ascii "shape") ps)
-  unfolding objectNames position
+  unfolding position
   at-shape = at-name (ascii "shape") 0 refl (omega arith)
 
   at-format : Holds 29 m (getD p 1 0) (get (ascii "format") ps)
-  unfolding objectNames position
+  unfolding position
   at-format = at-name (ascii "format") 1 refl (omega arith)
 
   at-attributes : Holds 29 m (getD p 2 0) (get (ascii "attributes") ps)
-  unfolding objectNames position
+  unfolding position
   at-attributes = at-name (ascii "attributes") 2 refl (omega arith)
 
   holds-left : (left : ℕ) (o : Option (Node Ends)) → Holds 29 m left o → leftAt o ≡ left

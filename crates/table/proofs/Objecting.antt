@@ -18,6 +18,7 @@ use Rattle.meaning.specs.Notes.{mapObject, mapComponent}
 use Rattle.meaning.specs.Field.{names}
 use Rattle.meaning.specs.Judge.{object, objectsOf}
 use Rattle.meaning.specs.Rows.{objectRow, objectRows, rowsOf, componentRows, componentCount, rows, roomFor}
+use Rattle.meaning.specs.Layouts.{current}
 use Rattle.cbor.specs.Ending.{FAULT, code, itemEnd}
 use Rattle.endian.proofs.Which.{lt-or}
 use Rattle.walk.specs.Reading.{Ends, Reads}
@@ -134,7 +135,7 @@ module _ (start end from : ℕ) (before s : List ℕ) (place k n row row′ next
         let then = old .next-is in
         let a : Reads 30 (Here s place) (p .key) q = subst (λ u. Reads 30 u (p .key) q) (sym (part-to-end s place)) key in
         let b : Reads 30 (Here s (place + k)) (p .value) r = subst (λ u. Reads 30 u (p .value) r) (sym (part-to-end s (place + k))) value in
-        let whole = put p 29 q r a b (l .name) (l .name-is) (l .last) (in-object (length done) (object start (l .name)) (l .last) (l .last-is)) (omega arith) (omega arith) in
+        let whole = put p 29 q r a b (l .name) (l .name-is) (l .last) (in-object (length done) (object current start (l .name)) (l .last) (l .last-is)) (omega arith) (omega arith) in
         let on : row′ ≡ row + objectWidth = further (omega arith) in
         let next-so = whole .next-is in
         let O = objectIn end (l .last) in
@@ -180,7 +181,7 @@ module _ (s : List ℕ) (start end from : ℕ) (before after : List ℕ) (x : Op
   unfolding objectsOf names
   no-map e t q r m is low room =
       let z = opens.opening s x h NotOpen e 30 t q r in
-      let y : objectsOf start t ≡ refuse 8 0 0 = rw z refl in
+      let y : objectsOf current start t ≡ refuse 8 0 0 = rw z refl in
       let w : pass (m .objects) ≡ refuse 8 0 0 = sym is ∙ y in absurd (let v : _≡_ {A = ℕ} 0 1 = cc in omega arith)
 
   pub map-written : (mode count size : ℕ) → x ≡ Opened mode count size → AllLaid start end from mode count (Here s size) before after → Written s start end from before after

@@ -12,7 +12,7 @@ use borrow.Author.Tests.{eqb-false}
 use borrow.Rule.Slice.PartAt.{part-to-end}
 use Rattle.meaning.specs.Tree.{Node, noteOf}
 use Rattle.meaning.specs.Text.{ascii}
-use Rattle.meaning.specs.Field.{objectNames}
+use Rattle.meaning.specs.Layouts.{objectNames}
 use Rattle.types.specs.Known.{position}
 use Rattle.cbor.specs.Ending.{FAULT, code, itemEnd, rest}
 use Rattle.cbor.proofs.Rest.{never-empty}
@@ -32,19 +32,19 @@ use Rattle.table.specs.Pass.{ValuePut, Sized, Passed}
 use Rattle.table.proofs.Whole.{item-size}
 
 pub known-components : position objectNames (ascii "components") < length objectNames
-unfolding objectNames position
+unfolding position
 known-components = omega arith
 
 pub known-attributes : position objectNames (ascii "attributes") < length objectNames
-unfolding objectNames position
+unfolding position
 known-attributes = omega arith
 
 slot-three : position objectNames (ascii "components") ≡ 3
-unfolding objectNames position
+unfolding position
 slot-three = refl
 
 slot-two : position objectNames (ascii "attributes") ≡ 2
-unfolding objectNames position
+unfolding position
 slot-two = refl
 
 -- ---------------------------------------------------------------- one value
@@ -85,7 +85,6 @@ pub record Looping (start end owner from mode count : ℕ) (s before : List ℕ)
 
 module _ (start end owner from mode count : ℕ) (s before : List ℕ) (modes : Modes mode count) where
   pub loop-starts : (p : List ℕ) (n next size : ℕ) → p ≡ replicate 7 0 → Looping start end owner from mode count s before 0 count p n next before size
-  unfolding objectNames
   loop-starts p n next size e = record {
     rows = keeping.loop-starts objectNames (ascii "components") known-components (Says start end owner from before) 28 mode count s modes p (kept n next before) e;
     sizes = keeping.loop-starts objectNames (ascii "attributes") known-attributes SizeIs 28 mode count s modes p size e;
@@ -144,14 +143,14 @@ module _ (start end owner from mode count : ℕ) (s before : List ℕ) (modes : 
                 (valued : ValuePut start end owner from j (getD p 3 0) (Here s (at + k)) t n next n′ next′ t′) (size′ : ℕ) (sized : Sized j (getD p 2 0) e size size′)
                 (q : List ℕ) (m : q ≡ marked 4 p j (length s - (at + k))) where
               rows-kept : keeping-is.ValueIs objectNames (ascii "components") (Says start end owner from before) 29 j (getD p (position objectNames (ascii "components")) 0) (Here s (at + k)) (kept n next t) (kept n′ next′ t′)
-              unfolding objectNames position
+              unfolding position
               rows-kept = record {
                 first = λ a b. subst (λ u. RowsPut (Here s (at + k)) start end owner from u n′ next′ t′) (w .fresh b) (valued .first a b);
                 other = λ h. valued .other h;
               }
 
               size-kept : keeping-is.ValueIs objectNames (ascii "attributes") SizeIs 29 j (getD p (position objectNames (ascii "attributes")) 0) (Here s (at + k)) size size′
-              unfolding objectNames position
+              unfolding position
               size-kept = record {
                 first = λ a b t r read. subst (SizeIs t) (sym (sized .0 a b ∙ ended)) (item-size 29 (Here s (at + k)) t r read);
                 other = λ h. sized .1 h;
@@ -164,7 +163,6 @@ module _ (start end owner from mode count : ℕ) (s before : List ℕ) (modes : 
                   ap (λ u. u .table) (valued .other (λ a y. b .1 a)) ∙ w .fresh (b .0)
 
               pub loops-on : Looping start end owner from mode count s before (at + k + e) (due - 2) q n′ next′ t′ size′
-              unfolding objectNames
               loops-on =
                   let y = keeping.loops-on objectNames (ascii "components") known-components (Says start end owner from before) 28 mode count s modes short at due p (kept n next t) (w .rows) x h k is e ended l j slot (kept n′ next′ t′) rows-kept q m in
                   let z = keeping.loops-on objectNames (ascii "attributes") known-attributes SizeIs 28 mode count s modes short at due p size (w .sizes) x h k is e ended l j slot size′ size-kept q m in

@@ -3,6 +3,7 @@ use Prim.Native.Nat.{ℕ, suc, _+_, _*_, _≤_}
 use native.Mathlib.Omega.{arith}
 use mathlib.Core.List.{List, [], _∷_, _++_, map, append-nil, append-assoc}
 use mathlib.Core.Path.{_≡_, refl, ap, ap₂, sym, _∙_, subst}
+use mathlib.Core.Option.{none}
 use lib.ListN.{length, drop, length-append}
 use lib.Seq.{sets}
 use borrow.Rule.Slice.PartAt.{part-to-end}
@@ -16,6 +17,7 @@ use Rattle.meaning.specs.Judge.{component, componentsOf}
 use Rattle.meaning.specs.Rows.{componentRow, rowsOf}
 use Rattle.meaning.specs.Field.{names}
 use Rattle.meaning.specs.Limit.{componentLimit}
+use Rattle.meaning.specs.Layouts.{current}
 use Rattle.cbor.specs.Ending.{code, itemEnd}
 use Rattle.walk.specs.Reading.{Ends, Reads}
 use Rattle.walk.specs.Places.{MapIs}
@@ -94,7 +96,7 @@ module _ (start end owner from : ℕ) (before : List ℕ) (s : List ℕ) (at k :
         let a : Reads 28 (Here s at) (p .key) q = subst (λ u. Reads 28 u (p .key) q) (sym (part-to-end s at)) key in
         let b : Reads 28 (Here s (at + k)) (p .value) r = subst (λ u. Reads 28 u (p .value) r) (sym (part-to-end s (at + k))) value in
         let row : after′ ≡ sets after next (rowIn end owner (l .last)) =
-        put start judged p 27 q r a b (subst (SizeIs (p .value)) (sym took) (item-size 28 (Here s (at + k)) (p .value) r b)) (l .name) (l .name-is) (l .last) (in-component (length done) (component start (l .name)) (l .last) (l .last-is)) in
+        put start judged p 27 q r a b (subst (SizeIs (p .value)) (sym took) (item-size 28 (Here s (at + k)) (p .value) r b)) (l .name) (l .name-is) (l .last) (in-component (length done) (component current start none (l .name)) (l .last) (l .last-is)) in
         let on : next′ ≡ next + componentWidth = further (omega arith) in
         record {
           next-is = omega arith;
@@ -110,7 +112,7 @@ module _ (start end owner from : ℕ) (before : List ℕ) (s : List ℕ) (at k :
 module _ (c : List ℕ) (start end owner from : ℕ) (before : List ℕ) (x : Opening) (h : MapIs (Here c 0) x) where
   pub no-map : (n next : ℕ) (after : List ℕ) → x ≡ NotOpen → RowsPut c start end owner from before n next after
   unfolding componentsOf names
-  no-map n next after e t q r cs is = absurd (let z = opens.opening c x h NotOpen e 28 t q r in let y : componentsOf start t ≡ refuse 8 0 0 = rw z refl in let w : pass cs ≡ refuse 8 0 0 = sym is ∙ y in let v : _≡_ {A = ℕ} 0 1 = cc in omega arith)
+  no-map n next after e t q r cs is = absurd (let z = opens.opening c x h NotOpen e 28 t q r in let y : componentsOf current start (λ r. none) t ≡ refuse 8 0 0 = rw z refl in let w : pass cs ≡ refuse 8 0 0 = sym is ∙ y in let v : _≡_ {A = ℕ} 0 1 = cc in omega arith)
 
   pub map-rowed : (mode count size : ℕ) → x ≡ Opened mode count size → (n next : ℕ) (after : List ℕ) → AllRowed start end owner from mode count (Here c size) before n next after
       → RowsPut c start end owner from before n next after

@@ -11,7 +11,8 @@ use Rattle.meaning.specs.Check.{pass, refuse}
 use Rattle.meaning.specs.Read.{Span}
 use Rattle.meaning.specs.Model.{Object}
 use Rattle.meaning.specs.Notes.{mapObject}
-use Rattle.meaning.specs.Field.{objectFields, fields, objectNames}
+use Rattle.meaning.specs.Layouts.{objectNames, current}
+use Rattle.meaning.specs.Field.{objectFields, fields}
 use Rattle.meaning.specs.Judge.{object}
 use Rattle.meaning.specs.Rows.{objectRow, dimensions}
 use Rattle.walk.specs.Places.{MapIs}
@@ -43,20 +44,19 @@ module _ (s c : List ℕ) (start end owner i from : ℕ) (before : List ℕ) (x 
   no-map next after e p d q r key value n name o is low room =
       let so = named-pair p n name in
       let z = opens.opening c x h NotOpen e 29 (p .value) r value in
-      let y : object start (record { name = n .name; value = p .value }) ≡ refuse 8 0 0 = rw z refl in
-      let w : pass o ≡ refuse 8 0 0 = sym is ∙ ap (object start) (so .is) ∙ y in
+      let y : object current start (record { name = n .name; value = p .value }) ≡ refuse 8 0 0 = rw z refl in
+      let w : pass o ≡ refuse 8 0 0 = sym is ∙ ap (object current start) (so .is) ∙ y in
       absurd (let v : _≡_ {A = ℕ} 0 1 = cc in omega arith)
 
   pub whole-put : (mode count size : ℕ) → x ≡ Opened mode count size → (slots : List ℕ) (k next : ℕ) (t : List ℕ) (bytes : ℕ) → Passed start end owner from mode count (Here c size) before slots k next t bytes
       → (after : List ℕ) → ObjectPut (Here s 0) (Here c size) slots k bytes end i t after → WholePut s c start end owner i from before next after
-  unfolding objectNames
   whole-put mode count size e slots k next t bytes all after put p d q r key value n name o is low room =
       let m = opens.opened c x h mode count size e .trees 29 (p .value) r value in
       let w = subst (λ u. Passed start end owner from mode count u before slots k next t bytes) (part-to-end c size) all in
       let a = w .rows (m .pairs) (m .last) (m .due) in
       let b = w .sizes (m .pairs) (m .last) (m .due) in
       let so = named-pair p n name in
-      let f = made start (n .name) (p .value) (m .pairs) (m .kind-is) o (ap (object start) (sym (so .is)) ∙ is) in
+      let f = made start (n .name) (p .value) (m .pairs) (m .kind-is) o (ap (object current start) (sym (so .is)) ∙ is) in
       let says = a .1 (f .components) (f .components-got) (o .components) (f .components-are) in
       let laid = says .1 room in
       let des = described (drop size c) (m .pairs) (m .last) (m .due .chain) slots (a .0) start (n .name) o f bytes (b .1) in

@@ -12,6 +12,7 @@ use Rattle.meaning.specs.Notes.{mapObject, mapModel}
 use Rattle.meaning.specs.Field.{nameOf}
 use Rattle.meaning.specs.Judge.{object, objectsOf}
 use Rattle.meaning.specs.Rows.{objectRows, componentRows, componentCount, rows, roomFor}
+use Rattle.meaning.specs.Layouts.{current}
 use Rattle.walk.specs.Reading.{Ends, Reads}
 use Rattle.walk.proofs.Passed.{AllPassed}
 use Rattle.table.specs.Spans.{spanOf}
@@ -29,13 +30,13 @@ pub record WholeLaid (end owner i from : ℕ) (before : List ℕ) (next : ℕ) (
 -- of every object that passes, whose key begins s and whose value begins c, where there is room
 abbrev pub WholePut : List ℕ → List ℕ → ℕ → ℕ → ℕ → ℕ → ℕ → List ℕ → ℕ → List ℕ → Type 0
 WholePut s c start end owner i from before next after =
-    (p : Pair Ends) (d : ℕ) (q r : List ℕ) → Reads (suc d) s (p .key) q → Reads 30 c (p .value) r → (n : Named Ends) → nameOf p ≡ pass n → (o : Object Ends) → object start n ≡ pass o
+    (p : Pair Ends) (d : ℕ) (q r : List ℕ) → Reads (suc d) s (p .key) q → Reads 30 c (p .value) r → (n : Named Ends) → nameOf p ≡ pass n → (o : Object Ends) → object current start n ≡ pass o
     → i + objectWidth ≤ from → from + componentWidth * length (o .components) ≤ length before → WholeLaid end owner i from before next after o
 
 -- ---------------------------------------------------------------- all objects
 
 abbrev pub entry : ℕ → ℕ → Named Ends → Check (Object Ends)
-entry start i n = inObject i (object start n)
+entry start i n = inObject i (object current start n)
 
 abbrev pub objectsIn : ℕ → List (Object Ends) → List ℕ
 objectsIn end os = objectRows (map (mapObject (spanOf end)) os)
@@ -64,5 +65,5 @@ pub record AllLaid (start end from mode count : ℕ) (s before after : List ℕ)
 -- the table of every model m whose objects are read at s, where it has room for them: its rows, and beyond them what it held
 abbrev pub Written : List ℕ → ℕ → ℕ → ℕ → List ℕ → List ℕ → Type 0
 Written s start end from before after =
-    (t : Node Ends) (q : List ℕ) → Reads 31 s t q → (m : Model Ends) → objectsOf start t ≡ pass (m .objects) → from ≡ objectWidth * length (m .objects) → roomFor m ≤ length before
+    (t : Node Ends) (q : List ℕ) → Reads 31 s t q → (m : Model Ends) → objectsOf current start t ≡ pass (m .objects) → from ≡ objectWidth * length (m .objects) → roomFor m ≤ length before
     → after ≡ rows (mapModel (spanOf end) m) ++ drop (roomFor (mapModel (spanOf end) m)) before

@@ -3,7 +3,7 @@ use Prim.Native.Nat.{ℕ}
 use mathlib.Core.List.{List}
 use mathlib.Core.Path.{_≡_}
 use Rattle.meaning.specs.Text.{ascii}
-use Rattle.meaning.specs.Field.{objectNames}
+use Rattle.meaning.specs.Layouts.{objectNames}
 use Rattle.fields.specs.Keeping as keeping
 use Rattle.table.specs.Spans.{SizeIs}
 use Rattle.table.specs.Rows.{kept, Says, RowsPut}

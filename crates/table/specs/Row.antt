@@ -2,6 +2,7 @@
 use Prim.Native.Nat.{ℕ, suc}
 use mathlib.Core.List.{List, [], _∷_}
 use mathlib.Core.Path.{_≡_}
+use mathlib.Core.Option.{none}
 use lib.Seq.{sets}
 use Rattle.meaning.specs.Tree.{Pair}
 use Rattle.meaning.specs.Check.{pass}
@@ -11,6 +12,7 @@ use Rattle.meaning.specs.Notes.{mapComponent}
 use Rattle.meaning.specs.Field.{nameOf}
 use Rattle.meaning.specs.Judge.{component}
 use Rattle.meaning.specs.Rows.{componentRow}
+use Rattle.meaning.specs.Layouts.{current}
 use Rattle.walk.specs.Reading.{Ends, Reads}
 use Rattle.component.specs.Verdict.{ComponentIs}
 use Rattle.component.specs.declared.Judged.{Judged}
@@ -28,4 +30,4 @@ rowIn end owner k = componentRow owner (mapComponent (spanOf end) k)
 abbrev pub RowPut : List ℕ → List ℕ → Judged → ℕ → ℕ → ℕ → ℕ → List ℕ → List ℕ → Type 0
 RowPut s c v size end owner i before after =
     (start : ℕ) → ComponentIs c start v → (p : Pair Ends) (d : ℕ) (q r : List ℕ) → Reads (suc d) s (p .key) q → Reads 28 c (p .value) r → SizeIs (p .value) size → (n : Named Ends) → nameOf p ≡ pass n
-    → (k : Component Ends) → component start n ≡ pass k → after ≡ sets before i (rowIn end owner k)
+    → (k : Component Ends) → component current start none n ≡ pass k → after ≡ sets before i (rowIn end owner k)

@@ -2,6 +2,7 @@
 use Prim.Native.Nat.{ℕ, _+_, _*_, _≤_}
 use mathlib.Core.List.{List, map}
 use mathlib.Core.Path.{_≡_}
+use mathlib.Core.Option.{none}
 use lib.ListN.{length}
 use lib.Seq.{sets}
 use Rattle.meaning.specs.Columns.{componentWidth}
@@ -11,13 +12,14 @@ use Rattle.meaning.specs.Model.{Named, Component}
 use Rattle.meaning.specs.Notes.{mapComponent}
 use Rattle.meaning.specs.Judge.{component, componentsOf}
 use Rattle.meaning.specs.Rows.{rowsOf}
+use Rattle.meaning.specs.Layouts.{current}
 use Rattle.walk.specs.Reading.{Ends, Reads}
 use Rattle.walk.proofs.Passed.{AllPassed}
 use Rattle.table.specs.Spans.{spanOf}
 use Rattle.table.specs.Entered.{Entered}
 
 abbrev pub entry : ℕ → ℕ → Named Ends → Check (Component Ends)
-entry start j n = inComponent j (component start n)
+entry start j n = inComponent j (component current start none n)
 
 abbrev pub rowsIn : ℕ → ℕ → List (Component Ends) → List ℕ
 rowsIn end owner cs = rowsOf owner (map (mapComponent (spanOf end)) cs)
@@ -48,7 +50,7 @@ kept n next t = record { count = n; next = next; table = t }
 -- of the map of components x, if it passes
 abbrev pub Says : ℕ → ℕ → ℕ → ℕ → List ℕ → Node Ends → Kept → Type 0
 Says start end owner from before x k =
-    (cs : List (Component Ends)) → componentsOf start x ≡ pass cs → (k .count ≡ length cs) × (from + componentWidth * length cs ≤ length before → Laid end owner from before (k .next) (k .table) cs)
+    (cs : List (Component Ends)) → componentsOf current start (λ r. none) x ≡ pass cs → (k .count ≡ length cs) × (from + componentWidth * length cs ≤ length before → Laid end owner from before (k .next) (k .table) cs)
 
 -- of whatever is read at c
 abbrev pub RowsPut : List ℕ → ℕ → ℕ → ℕ → ℕ → List ℕ → ℕ → ℕ → List ℕ → Type 0

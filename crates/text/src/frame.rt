@@ -6,10 +6,11 @@ ghost use Prim.Native.Nat.{_<_};
 ghost use lib.ListN.{length};
 ghost use Rattle.meaning.specs.Text as texts;
 ghost use Rattle.meaning.specs.Frame as meant;
+ghost use Rattle.meaning.specs.Layouts as layouts;
 
 // The part is the byte string that begins and ends a file.
 pub fn is_magic(part: &[u8]) -> bool
-    ensures { λ r. ⌜ r ≡ texts.same meant.magic (now (part .entry)) ⌝ }
+    ensures { λ r. ⌜ r ≡ texts.same layouts.magic (now (part .entry)) ⌝ }
 {
     same(b"ZTEN1000", &part[0..])
 }

@@ -10,6 +10,7 @@ use Rattle.meaning.specs.Tree.{Node, meaning, nothing, noteOf}
 use Rattle.meaning.specs.Check.{Check, pass, refuse}
 use Rattle.meaning.specs.Read.{Span}
 use Rattle.meaning.specs.Model.{Component, Object, Model}
+use Rattle.meaning.specs.Layouts.{current}
 use Rattle.meaning.specs.Judge.{judge}
 use Rattle.meaning.specs.Rows.{attributesSpan}
 use Rattle.meaning.specs.Drop.{dropComponent, dropRoot}
@@ -51,16 +52,17 @@ module _ {A B C D : Type 0} (R₁ : A → B → Type 0) (R₂ : C → B → Type
 
 -- what an entry says, and what those of an object say
 abbrev told : Node Span → Node (Unit {0})
-told x = dropComponent (meaning x)
+told x = dropComponent current (meaning x)
 
 abbrev toldAll : List (Node Span) → List (Node (Unit {0}))
-toldAll xs = map dropComponent (map meaning xs)
+toldAll xs = map (dropComponent current) (map meaning xs)
 
 told-all : (xs : List (Node Span)) → toldAll xs ≡ map told xs
-told-all xs = map-map meaning dropComponent xs
+told-all xs = map-map meaning (dropComponent current) xs
 
-entries-told : (t : Node Span) → entriesOf (dropRoot (meaning t)) ≡ map toldAll (entriesOf t)
-entries-told t = entriesOf-drop (meaning t) ∙ ap (map (map dropComponent)) (entriesOf-map nothing t) ∙ map-map (map meaning) (map dropComponent) (entriesOf t)
+entries-told : (t : Node Span) → entriesOf current (dropRoot current (meaning t)) ≡ map toldAll (entriesOf current t)
+entries-told t =
+    entriesOf-drop current (meaning t) ∙ ap (map (map (dropComponent current))) (entriesOf-map nothing current t) ∙ map-map (map meaning) (map (dropComponent current)) (entriesOf current t)
 
 module _ (file : List ℕ) (start : ℕ) (header : 8 ≤ start) where
   -- a component and the node that it was read from
@@ -76,8 +78,9 @@ module _ (file : List ℕ) (start : ℕ) (header : 8 ≤ start) where
       subst (λ (s : Span). OneMap file 28 s (meaning x)) (sym (h .0 .noted))
       (map-at file start header 28 (some x) (record { stands = h .1 .0; pairs = h .0 .map .pairs; map = h .0 .map .is }))
 
-  all-from : (t : Node Span) (m : Model Span) → Placed file start depthLimit t → judge start t ≡ pass m → Along AllFrom (m .objects) (entriesOf t)
-  all-from t m placed passes = along-each EntriesAre (Each (Placed file start 28)) (m .objects) (entriesOf t) (judged-entries start t m passes) (entries-so file start t placed)
+  all-from : (t : Node Span) (m : Model Span) → Placed file start depthLimit t → judge current start t ≡ pass m → Along AllFrom (m .objects) (entriesOf current t)
+  all-from t m placed passes =
+      along-each EntriesAre (Each (Placed file start 28)) (m .objects) (entriesOf current t) (judged-entries current start t m passes) (entries-so current file start t placed)
 
 module _ (file₁ file₂ : List ℕ) (start : ℕ) (header : 8 ≤ start) where
   of-component : (c₁ : Component Span) (x₁ : Node Span) (c₂ : Component Span) (x₂ : Node Span) → From file₁ start header c₁ x₁ → From file₂ start header c₂ x₂ → told x₁ ≡ told x₂ → Entry file₁ file₂ c₁ c₂
@@ -95,9 +98,9 @@ module _ (file₁ file₂ : List ℕ) (start : ℕ) (header : 8 ≤ start) where
       beside (From file₁ start header) (From file₂ start header) (Entry file₁ file₂) told of-component (o₁ .components) xs₁ (o₂ .components) xs₂
       (along-each EntryIs (Placed file₁ start 28) (o₁ .components) xs₁ (h₁ .0) (h₁ .1)) (along-each EntryIs (Placed file₂ start 28) (o₂ .components) xs₂ (h₂ .0) (h₂ .1)) (sym (told-all xs₁) ∙ e ∙ told-all xs₂)
 
-  pub entries-alike : (t₁ t₂ : Node Span) → Placed file₁ start depthLimit t₁ → Placed file₂ start depthLimit t₂ → dropRoot (meaning t₁) ≡ dropRoot (meaning t₂)
-      → (m₁ m₂ : Model Span) → judge start t₁ ≡ pass m₁ → judge start t₂ ≡ pass m₂ → Along (Entries file₁ file₂) (m₁ .objects) (m₂ .objects)
+  pub entries-alike : (t₁ t₂ : Node Span) → Placed file₁ start depthLimit t₁ → Placed file₂ start depthLimit t₂ → dropRoot current (meaning t₁) ≡ dropRoot current (meaning t₂)
+      → (m₁ m₂ : Model Span) → judge current start t₁ ≡ pass m₁ → judge current start t₂ ≡ pass m₂ → Along (Entries file₁ file₂) (m₁ .objects) (m₂ .objects)
   entries-alike t₁ t₂ placed₁ placed₂ same m₁ m₂ e₁ e₂ =
-      beside (AllFrom file₁ start header) (AllFrom file₂ start header) (Entries file₁ file₂) toldAll of-object (m₁ .objects) (entriesOf t₁) (m₂ .objects) (entriesOf t₂)
+      beside (AllFrom file₁ start header) (AllFrom file₂ start header) (Entries file₁ file₂) toldAll of-object (m₁ .objects) (entriesOf current t₁) (m₂ .objects) (entriesOf current t₂)
       (all-from file₁ start header t₁ m₁ placed₁ e₁) (all-from file₂ start header t₂ m₂ placed₂ e₂)
-      (sym (entries-told t₁) ∙ ap entriesOf same ∙ entries-told t₂)
+      (sym (entries-told t₁) ∙ ap (entriesOf current) same ∙ entries-told t₂)

@@ -7,8 +7,10 @@ use mathlib.Core.Path.{_≡_, refl, ap, sym, subst}
 use lib.ListN.{replicate}
 use Rattle.meaning.specs.Columns.{rankColumn}
 use Rattle.meaning.specs.Computed.{computed}
-use Rattle.meaning.specs.Drop.{isUnknown, plainVersion, known, inMap, inText, onValue, onField, dropComponent, dropObject, dropRoot}
-use Rattle.tolerance.specs.Manifests.{parsed, SameOnceDropped}
+use Rattle.meaning.specs.Layouts.{current}
+use Rattle.meaning.specs.Parsed.{parsed}
+use Rattle.meaning.specs.Drop.{isUnknown, plainVersion, known, holds, inMap, inText, onValue, onField, dropComponent, dropObject, dropRoot}
+use Rattle.tolerance.specs.Manifests.{SameOnceDropped}
 use Rattle.tolerance.specs.Alike.{answerOf, afterwards, acceptance, ReadAlike, refused, accepted, tableFields, FieldsAlike}
 use Rattle.tolerance.specs.Files.{plain, newer, other, nextMajor}
 use Rattle.tolerance.specs.Major.{OtherMajorIn}
@@ -19,8 +21,8 @@ use Rattle.tolerance.proofs.Columns.{same-columns}
 abbrev table : List ℕ
 table = replicate 30 7
 
-pub newer-means-the-same : SameOnceDropped (parsed plain) (parsed newer)
-unfolding computed parsed isUnknown plainVersion known inMap inText onValue onField dropComponent dropObject dropRoot
+pub newer-means-the-same : SameOnceDropped (parsed current plain) (parsed current newer)
+unfolding computed parsed isUnknown plainVersion known holds inMap inText onValue onField dropComponent dropObject dropRoot
 newer-means-the-same = record { start = refl; meant = refl }
 
 -- both are accepted: an object, a component and the manifest's start, and the root's attributes; then the row of the object and of the component, and what stood beyond
@@ -62,12 +64,12 @@ other-is-told-apart (accepted b) =
     omega (arith, ranks)
 
 -- so the premise fails for it
-pub other-means-something-else : SameOnceDropped (parsed plain) (parsed other) → ⊥
+pub other-means-something-else : SameOnceDropped (parsed current plain) (parsed current other) → ⊥
 other-means-something-else h = other-is-told-apart (read-alike plain table other table refl h)
 
 -- ---- a file of another major
 
-pub next-major-is-other : OtherMajorIn (parsed nextMajor)
+pub next-major-is-other : OtherMajorIn (parsed current nextMajor)
 unfolding computed parsed
 next-major-is-other = record {
   note = _;

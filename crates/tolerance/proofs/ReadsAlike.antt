@@ -8,16 +8,19 @@ use lib.ListN.{length, take, drop, length-map, length-append, length-drop}
 use lib.Seq.{drop-at}
 use lib.Dec.{leb}
 use borrow.Author.Tests.{leb-true}
-use Rattle.meaning.specs.Tree.{Node, nothing}
+use Rattle.meaning.specs.Tree.{nothing}
 use Rattle.meaning.specs.Check.{Check, pass, refuse, _>>=_}
 use Rattle.meaning.specs.Refusal.{SHORT, ROOM}
-use Rattle.meaning.specs.Read.{Span, Outcome, spanTo, manifest}
+use Rattle.meaning.specs.Read.{Span, spanTo, manifest}
 use Rattle.meaning.specs.Model.{Object, Model}
-use Rattle.meaning.specs.Notes.{mapCheck, mapComponent, mapObject, mapModel, bare}
+use Rattle.meaning.specs.Notes.{mapCheck, mapComponent, mapObject, mapModel}
 use Rattle.meaning.specs.Judge.{judge}
-use Rattle.meaning.specs.Frame.{Frame, frame, checked, Reading, reading}
+use Rattle.meaning.specs.Frame.{frame, checked, Reading, reading}
 use Rattle.meaning.specs.Rows.{attributesSpan, componentCount, roomFor, roomy, rows, answer, tableAfter, readInto, objectRows, componentRows}
-use Rattle.meaning.proofs.DropKeepsVerdict.{tolerant}
+use Rattle.meaning.specs.Layouts.{current}
+use Rattle.meaning.specs.Moved.{alike}
+use Rattle.meaning.specs.Parsed.{Parsed, parsed, SameFiles}
+use Rattle.meaning.proofs.SameReading.{judged, reading-parsed, said, readings-same}
 use Rattle.view.proofs.Columns.{objects-width, components-width}
 use Rattle.meaning.specs.Limit.{depthLimit}
 use Rattle.meaning.proofs.Entries.{Along}
@@ -25,62 +28,16 @@ use Rattle.shown.specs.Placed.{Placed}
 use Rattle.shown.proofs.Judged.{JudgedFrom, passes, bind, passed-so}
 use Rattle.shown.proofs.ReadingJudged.{frame-so, tree-so}
 use Rattle.shown.proofs.AcceptedFile.{accepted, refusals-of-reading}
-use Rattle.tolerance.specs.Manifests.{Parsed, parsed, SameOnceDropped}
+use Rattle.tolerance.specs.Manifests.{SameOnceDropped}
 use Rattle.tolerance.specs.Alike.{acceptance, afterwards, ReadAlike, refused, accepted as both}
 use Rattle.tolerance.proofs.RowsAlike.{Entries, maps-alike, table-alike}
 use Rattle.tolerance.proofs.Entries.{entries-alike}
 
--- the reading after checks 1 to 7
-unfoldable pub judged : Parsed → Check Reading
-judged p = do
-  m ← judge (p .start) (p .tree)
-  pass (record { start = p .start; model = m })
-
-pub reading-parsed : (file : List ℕ) → reading file ≡ (parsed file >>= judged)
-unfolding reading parsed judged
-reading-parsed file = by (frame file)
-  where
-    read : Frame → Outcome (Node Span)
-    read f = manifest (spanTo (f .start + f .size)) (take (f .size) (drop (f .start) file))
-
-    tree : (f : Frame) (k : Check (Node Span))
-        → (k >>= λ t. judge (f .start) t >>= λ m. pass (record { start = f .start; model = m })) ≡ ((k >>= λ t. pass (record { start = f .start; tree = t })) >>= judged)
-    tree f (pass t) = refl
-    tree f (refuse n o c) = refl
-
-    by : (k : Check Frame)
-        → (k >>= λ f. checked (read f) >>= λ t. judge (f .start) t >>= λ m. pass (record { start = f .start; model = m }))
-        ≡ ((k >>= λ f. checked (read f) >>= λ t. pass (record { start = f .start; tree = t })) >>= judged)
-    by (pass f) = tree f (checked (read f))
-    by (refuse n o c) = refl
-
--- what was read, with annotations forgotten
-pub record Said : Type 0 where
-  pub start : ℕ
-  pub model : Model (Unit {0})
-
-abbrev pub said : Reading → Said
-said r = record { start = r .start; model = mapModel nothing (r .model) }
-
-said-judged : (p : Parsed) → mapCheck said (judged p) ≡ mapCheck (λ m. record { start = p .start; model = m }) (bare (judge (p .start) (p .tree)))
-unfolding judged
-said-judged p = by (judge (p .start) (p .tree))
-  where
-    by : (k : Check (Model Span))
-        → mapCheck said (k >>= λ m. pass (record { start = p .start; model = m })) ≡ mapCheck (λ m. record { start = p .start; model = m }) (bare k)
-    by (pass m) = refl
-    by (refuse n o c) = refl
-
--- Manifests that mean the same, unknown fields and the minor version apart, say the same.
-pub readings-same : (file₁ file₂ : List ℕ) → SameOnceDropped (parsed file₁) (parsed file₂) → mapCheck said (reading file₁) ≡ mapCheck said (reading file₂)
-readings-same file₁ file₂ h = ap (mapCheck said) (reading-parsed file₁) ∙ by (parsed file₁) (parsed file₂) h ∙ sym (ap (mapCheck said) (reading-parsed file₂))
-  where
-    by : (k₁ k₂ : Check Parsed) → SameOnceDropped k₁ k₂ → mapCheck said (k₁ >>= judged) ≡ mapCheck said (k₂ >>= judged)
-    by (pass p) (pass q) s =
-        let at : ℕ → Check Said = λ n. mapCheck (λ m. record { start = n; model = m }) (bare (judge n (q .tree))) in
-        said-judged p ∙ ap (mapCheck (λ m. record { start = p .start; model = m })) (tolerant (p .start) (p .tree) (q .tree) (s .meant)) ∙ ap at (s .start) ∙ sym (said-judged q)
-    by (pass p) (refuse n o c) s = absurd s
-    by (refuse n o c) k₂ s = absurd s
+-- Demand 3's premise is a case of the one for files that are the same but for the order of fields too.
+pub once-dropped : (k₁ k₂ : Check Parsed) → SameOnceDropped k₁ k₂ → SameFiles current k₁ k₂
+once-dropped (pass p) (pass q) s = record { start = s .start; same = rw (s .meant) alike }
+once-dropped (pass p) (refuse n o c) s = absurd s
+once-dropped (refuse n o c) k s = absurd s
 
 -- ---------------------------------------------------------------- the entries of both
 
@@ -89,32 +46,32 @@ record Holds (file : List ℕ) (p : Parsed) : Type 0 where
   header : 8 ≤ p .start
   placed : Placed file (p .start) depthLimit (p .tree)
 
-parsed-so : (file : List ℕ) → JudgedFrom SHORT (Holds file) (parsed file)
+parsed-so : (file : List ℕ) → JudgedFrom SHORT (Holds file) (parsed current file)
 unfolding parsed
 parsed-so file =
-    bind (frame file) _ (frame-so file) λ f h.
+    bind (frame current file) _ (frame-so file) λ f h.
     bind (checked (manifest (spanTo (f .start + f .size)) (take (f .size) (drop (f .start) file)))) _ (tree-so file f h) λ t placed. passes _ (record { header = h .header; placed = placed })
 
-judged-from : (p : Parsed) (r : Reading) → judged p ≡ pass r → (judge (p .start) (p .tree) ≡ pass (r .model)) × (p .start ≡ r .start)
+judged-from : (p : Parsed) (r : Reading) → judged current p ≡ pass r → (judge current (p .start) (p .tree) ≡ pass (r .model)) × (p .start ≡ r .start)
 unfolding judged
-judged-from p r = by (judge (p .start) (p .tree))
+judged-from p r = by (judge current (p .start) (p .tree))
   where
     by : (k : Check (Model Span)) → (k >>= λ m. pass (record { start = p .start; model = m })) ≡ pass r → (k ≡ pass (r .model)) × (p .start ≡ r .start)
     by (pass m) e = let z : record { start = p .start; model = m } ≡ r = cc in (ap (λ (q : Reading). pass (q .model)) z, ap (λ (q : Reading). q .start) z)
     by (refuse n o c) e = absurd (let z : _≡_ {A = ℕ} 0 1 = cc in omega arith)
 
-module _ (file₁ file₂ : List ℕ) (h : SameOnceDropped (parsed file₁) (parsed file₂)) (r₁ r₂ : Reading) (reads₁ : reading file₁ ≡ pass r₁) (reads₂ : reading file₂ ≡ pass r₂) where
+module _ (file₁ file₂ : List ℕ) (h : SameOnceDropped (parsed current file₁) (parsed current file₂)) (r₁ r₂ : Reading) (reads₁ : reading current file₁ ≡ pass r₁) (reads₂ : reading current file₂ ≡ pass r₂) where
   both-entries : Along (Entries file₁ file₂) (r₁ .model .objects) (r₂ .model .objects)
-  both-entries = by (parsed file₁) refl (parsed file₂) refl h
+  both-entries = by (parsed current file₁) refl (parsed current file₂) refl h
     where
-      by : (k₁ : Check Parsed) → parsed file₁ ≡ k₁ → (k₂ : Check Parsed) → parsed file₂ ≡ k₂ → SameOnceDropped k₁ k₂ → Along (Entries file₁ file₂) (r₁ .model .objects) (r₂ .model .objects)
+      by : (k₁ : Check Parsed) → parsed current file₁ ≡ k₁ → (k₂ : Check Parsed) → parsed current file₂ ≡ k₂ → SameOnceDropped k₁ k₂ → Along (Entries file₁ file₂) (r₁ .model .objects) (r₂ .model .objects)
       by (pass p) e₁ (pass q) e₂ s =
           let a = passed-so (parsed-so file₁) e₁ in
           let b = passed-so (parsed-so file₂) e₂ in
-          let x = judged-from p r₁ (sym (ap (λ (k : Check Parsed). k >>= judged) e₁) ∙ sym (reading-parsed file₁) ∙ reads₁) in
-          let y = judged-from q r₂ (sym (ap (λ (k : Check Parsed). k >>= judged) e₂) ∙ sym (reading-parsed file₂) ∙ reads₂) in
+          let x = judged-from p r₁ (sym (ap (λ (k : Check Parsed). k >>= judged current) e₁) ∙ sym (reading-parsed current file₁) ∙ reads₁) in
+          let y = judged-from q r₂ (sym (ap (λ (k : Check Parsed). k >>= judged current) e₂) ∙ sym (reading-parsed current file₂) ∙ reads₂) in
           let placed₂ : Placed file₂ (p .start) depthLimit (q .tree) = subst (λ (n : ℕ). Placed file₂ n depthLimit (q .tree)) (sym (s .start)) (b .placed) in
-          let judged₂ : judge (p .start) (q .tree) ≡ pass (r₂ .model) = subst (λ (n : ℕ). judge n (q .tree) ≡ pass (r₂ .model)) (sym (s .start)) (y .0) in
+          let judged₂ : judge current (p .start) (q .tree) ≡ pass (r₂ .model) = subst (λ (n : ℕ). judge current n (q .tree) ≡ pass (r₂ .model)) (sym (s .start)) (y .0) in
           entries-alike file₁ file₂ (p .start) (a .header) (p .tree) (q .tree) (a .placed) placed₂ (s .meant) (r₁ .model) (r₂ .model) (x .0) judged₂
       by (pass p) e₁ (refuse n o c) e₂ s = absurd s
       by (refuse n o c) e₁ k₂ e₂ s = absurd s
@@ -156,7 +113,7 @@ module _ (m : Model Span) where
 -- ---------------------------------------------------------------- the two readings
 
 module _ (file₁ table₁ file₂ table₂ : List ℕ) (tables : length table₁ ≡ length table₂) where
-  same-refusal : (n o c : ℕ) → 1 ≤ n → readInto file₁ (length table₁) ≡ refuse n o c → readInto file₂ (length table₂) ≡ refuse n o c → ReadAlike file₁ table₁ file₂ table₂
+  same-refusal : (n o c : ℕ) → 1 ≤ n → readInto current file₁ (length table₁) ≡ refuse n o c → readInto current file₂ (length table₂) ≡ refuse n o c → ReadAlike file₁ table₁ file₂ table₂
   unfolding tableAfter
   same-refusal n o c h e₁ e₂ = refused (record {
     number = n;
@@ -170,7 +127,7 @@ module _ (file₁ table₁ file₂ table₂ : List ℕ) (tables : length table�
   })
 
   module _ (start : ℕ) (m₁ m₂ : Model Span) (same : mapModel nothing m₁ ≡ mapModel nothing m₂)
-      (reads₁ : reading file₁ ≡ pass (record { start = start; model = m₁ })) (reads₂ : reading file₂ ≡ pass (record { start = start; model = m₂ }))
+      (reads₁ : reading current file₁ ≡ pass (record { start = start; model = m₁ })) (reads₂ : reading current file₂ ≡ pass (record { start = start; model = m₂ }))
       (entries : Along (Entries file₁ file₂) (m₁ .objects) (m₂ .objects)) where
     abbrev reading₁ : Reading
     reading₁ = record { start = start; model = m₁ }
@@ -178,7 +135,7 @@ module _ (file₁ table₁ file₂ table₂ : List ℕ) (tables : length table�
     abbrev reading₂ : Reading
     reading₂ = record { start = start; model = m₂ }
 
-    both-accepted : roomFor m₁ ≤ length table₁ → readInto file₁ (length table₁) ≡ pass reading₁ → readInto file₂ (length table₂) ≡ pass reading₂
+    both-accepted : roomFor m₁ ≤ length table₁ → readInto current file₁ (length table₁) ≡ pass reading₁ → readInto current file₂ (length table₂) ≡ pass reading₂
         → ReadAlike file₁ table₁ file₂ table₂
     unfolding answer tableAfter roomFor
     both-accepted h e₁ e₂ =
@@ -216,11 +173,11 @@ module _ (file₁ table₁ file₂ table₂ : List ℕ) (tables : length table�
         by false e = same-refusal ROOM 0 0 (omega arith) (rw (reads₁, e) refl) (rw (reads₂, second false e) refl)
 
   -- An old reader meets a newer 1.x writer: `read` answers alike, whatever stands between the magic and the manifest.
-  pub read-alike : SameOnceDropped (parsed file₁) (parsed file₂) → ReadAlike file₁ table₁ file₂ table₂
+  pub read-alike : SameOnceDropped (parsed current file₁) (parsed current file₂) → ReadAlike file₁ table₁ file₂ table₂
   unfolding readInto
-  read-alike h = by (reading file₁) refl (reading file₂) refl (readings-same file₁ file₂ h)
+  read-alike h = by (reading current file₁) refl (reading current file₂) refl (readings-same current file₁ file₂ (once-dropped (parsed current file₁) (parsed current file₂) h))
     where
-      by : (k₁ : Check Reading) → reading file₁ ≡ k₁ → (k₂ : Check Reading) → reading file₂ ≡ k₂ → mapCheck said k₁ ≡ mapCheck said k₂ → ReadAlike file₁ table₁ file₂ table₂
+      by : (k₁ : Check Reading) → reading current file₁ ≡ k₁ → (k₂ : Check Reading) → reading current file₂ ≡ k₂ → mapCheck said k₁ ≡ mapCheck said k₂ → ReadAlike file₁ table₁ file₂ table₂
       by (pass r₁) e₁ (pass r₂) e₂ s =
           let z : said r₁ ≡ said r₂ = cc in
           both-read (r₁ .start) (r₁ .model) (r₂ .model) (ap (λ x. x .model) z) e₁ (e₂ ∙ ap (λ n. pass (record { start = n; model = r₂ .model })) (sym (ap (λ x. x .start) z)))

@@ -12,6 +12,7 @@ use Rattle.meaning.specs.Check.{pass}
 use Rattle.meaning.specs.Read.{Span}
 use Rattle.meaning.specs.Kind.{Kind, null, another, kind, asTable, aTable}
 use Rattle.meaning.specs.Model.{Word, Component, Object, Model}
+use Rattle.meaning.specs.Layouts.{current}
 use Rattle.meaning.specs.Judge.{lettersOf}
 use Rattle.meaning.specs.Notes.{mapOption, mapWord, mapComponent, mapObject, mapModel}
 use Rattle.meaning.specs.Rows.{wordSpan, optionalSpan, attributesSpan, dimensions, objectRow, componentRow, objectRows, rowsOf, componentRows, rows, componentCount}
@@ -120,7 +121,7 @@ module _ (file₁ file₂ : List ℕ) where
       second = subst (λ (x : Option (Node (Unit {0}))). MapAt file₂ levels (attributesSpan o₂) x) (sym e) (map-at file₂ start header levels o₂ h₂);
     }
 
-    component-alike : (i : ℕ) (c₁ c₂ : Component Span) → ComponentAccepted file₁ start c₁ → ComponentAccepted file₂ start c₂ → mapComponent nothing c₁ ≡ mapComponent nothing c₂
+    component-alike : (i : ℕ) (c₁ c₂ : Component Span) → ComponentAccepted current file₁ start c₁ → ComponentAccepted current file₂ start c₂ → mapComponent nothing c₁ ≡ mapComponent nothing c₂
         → Entry c₁ c₂ → (fs : List Field) (l k : List ℕ) → Alike fs l k → Alike (componentFields ++ fs) (componentRow i c₁ ++ l) (componentRow i c₂ ++ k)
     unfolding componentRow
     component-alike i c₁ c₂ h₁ h₂ e entries fs l k more = (
@@ -143,7 +144,7 @@ module _ (file₁ file₂ : List ℕ) where
       ),
     )
 
-    object-alike : (o₁ o₂ : Object Span) → ObjectAccepted file₁ start o₁ → ObjectAccepted file₂ start o₂ → mapObject nothing o₁ ≡ mapObject nothing o₂
+    object-alike : (o₁ o₂ : Object Span) → ObjectAccepted current file₁ start o₁ → ObjectAccepted current file₂ start o₂ → mapObject nothing o₁ ≡ mapObject nothing o₂
         → (fs : List Field) (l k : List ℕ) → Alike fs l k → Alike (objectFields ++ fs) (objectRow o₁ ++ l) (objectRow o₂ ++ k)
     unfolding objectRow shape ending
     object-alike o₁ o₂ h₁ h₂ e fs l k more =
@@ -166,7 +167,7 @@ module _ (file₁ file₂ : List ℕ) where
           subst (λ (x : List ℕ). alike ((shape o₁ ++ ending o₁) ++ l) x) (sym (append-assoc (shape o₂) (ending o₂) k)) first,
         )
 
-    rows-alike : (i : ℕ) (cs₁ cs₂ : List (Component Span)) → Each (ComponentAccepted file₁ start) cs₁ → Each (ComponentAccepted file₂ start) cs₂
+    rows-alike : (i : ℕ) (cs₁ cs₂ : List (Component Span)) → Each (ComponentAccepted current file₁ start) cs₁ → Each (ComponentAccepted current file₂ start) cs₂
         → map (mapComponent nothing) cs₁ ≡ map (mapComponent nothing) cs₂ → Along Entry cs₁ cs₂
         → (fs : List Field) (l k : List ℕ) → Alike fs l k → Alike (rowsThen (length cs₁) componentFields fs) (rowsOf i cs₁ ++ l) (rowsOf i cs₂ ++ k)
     unfolding rowsOf Each
@@ -181,7 +182,7 @@ module _ (file₁ file₂ : List ℕ) where
         (rows-alike i cs₁ cs₂ (h₁ .1) (h₂ .1) others (es .1) fs l k more) in
         rw (append-assoc (componentRow i c₁) (rowsOf i cs₁) l, append-assoc (componentRow i c₂) (rowsOf i cs₂) k) done
 
-    objects-alike : (os₁ os₂ : List (Object Span)) → Each (ObjectAccepted file₁ start) os₁ → Each (ObjectAccepted file₂ start) os₂
+    objects-alike : (os₁ os₂ : List (Object Span)) → Each (ObjectAccepted current file₁ start) os₁ → Each (ObjectAccepted current file₂ start) os₂
         → map (mapObject nothing) os₁ ≡ map (mapObject nothing) os₂
         → (fs : List Field) (l k : List ℕ) → Alike fs l k → Alike (rowsThen (length os₁) objectFields fs) (objectRows os₁ ++ l) (objectRows os₂ ++ k)
     unfolding objectRows Each
@@ -196,7 +197,7 @@ module _ (file₁ file₂ : List ℕ) where
         (objects-alike os₁ os₂ (h₁ .1) (h₂ .1) others fs l k more) in
         rw (append-assoc (objectRow o₁) (objectRows os₁) l, append-assoc (objectRow o₂) (objectRows os₂) k) done
 
-    components-alike : (i : ℕ) (os₁ os₂ : List (Object Span)) → Each (ObjectAccepted file₁ start) os₁ → Each (ObjectAccepted file₂ start) os₂
+    components-alike : (i : ℕ) (os₁ os₂ : List (Object Span)) → Each (ObjectAccepted current file₁ start) os₁ → Each (ObjectAccepted current file₂ start) os₂
         → map (mapObject nothing) os₁ ≡ map (mapObject nothing) os₂ → Along Entries os₁ os₂
         → (fs : List Field) (l k : List ℕ) → Alike fs l k → Alike (rowsThen (componentCount os₁) componentFields fs) (componentRows i os₁ ++ l) (componentRows i os₂ ++ k)
     unfolding componentRows componentCount Each
@@ -217,7 +218,7 @@ module _ (file₁ file₂ : List ℕ) where
         (rowsThen m componentFields fs) (more₁ ++ l) (more₂ ++ k) (components-alike (suc i) os₁ os₂ (h₁ .1) (h₂ .1) others (es .1) fs l k more) in
         rw (rows-more n m componentFields fs, append-assoc own₁ more₁ l, append-assoc own₂ more₂ k) done
 
-    pub table-alike : (m₁ m₂ : Model Span) → Each (ObjectAccepted file₁ start) (m₁ .objects) → Each (ObjectAccepted file₂ start) (m₂ .objects)
+    pub table-alike : (m₁ m₂ : Model Span) → Each (ObjectAccepted current file₁ start) (m₁ .objects) → Each (ObjectAccepted current file₂ start) (m₂ .objects)
         → mapModel nothing m₁ ≡ mapModel nothing m₂ → Along Entries (m₁ .objects) (m₂ .objects)
         → (l k : List ℕ) → Alike (tableFields (length (m₁ .objects)) (componentCount (m₁ .objects))) (rows m₁ ++ l) (rows m₂ ++ k)
     table-alike m₁ m₂ h₁ h₂ e es l k =

@@ -15,12 +15,15 @@ use Rattle.meaning.specs.Notes.{mapCheck, mapComponent, mapObject, mapModel}
 use Rattle.meaning.specs.Frame.{Reading, reading}
 use Rattle.meaning.specs.Rows.{roomFor, roomy, answer, readInto}
 use Rattle.meaning.specs.Listing.{blobLine, blobLines, objectLine, objectLines, listing, listingOf}
+use Rattle.meaning.specs.Layouts.{current}
+use Rattle.meaning.specs.Parsed.{parsed}
+use Rattle.meaning.proofs.SameReading.{said, readings-same}
 use Rattle.reader.specs.Verdict.{verdict}
 use Rattle.shown.specs.Shown.{listedThen}
 use Rattle.shown.proofs.AfterReading.{read-zero, read-listing}
-use Rattle.tolerance.specs.Manifests.{parsed, SameOnceDropped}
+use Rattle.tolerance.specs.Manifests.{SameOnceDropped}
 use Rattle.tolerance.specs.Alike.{answerOf, ReadAlike, refused, accepted}
-use Rattle.tolerance.proofs.ReadsAlike.{said, readings-same, components-counted, room-same, read-alike}
+use Rattle.tolerance.proofs.ReadsAlike.{once-dropped, components-counted, room-same, read-alike}
 
 -- ---------------------------------------------------------------- a listing does not look at annotations
 
@@ -64,15 +67,18 @@ verdicts-alike (pass r₁) (refuse n o c) e = absurd (let z : _≡_ {A = ℕ} 0 
 verdicts-alike (refuse n o c) (pass r₂) e = absurd (let z : _≡_ {A = ℕ} 0 1 = cc in omega arith)
 verdicts-alike (refuse n o c) (refuse n′ o′ c′) e = let z : _≡_ {A = Check Reading} (refuse n o c) (refuse n′ o′ c′) = cc in ap verdict z
 
-module _ (file₁ file₂ : List ℕ) (same : SameOnceDropped (parsed file₁) (parsed file₂)) where
+module _ (file₁ file₂ : List ℕ) (same : SameOnceDropped (parsed current file₁) (parsed current file₂)) where
+  said-same : mapCheck said (reading current file₁) ≡ mapCheck said (reading current file₂)
+  said-same = readings-same current file₁ file₂ (once-dropped (parsed current file₁) (parsed current file₂) same)
+
   -- the answer of the acceptance check
-  pub accept-alike : verdict (reading file₁) ≡ verdict (reading file₂)
-  accept-alike = verdicts-alike (reading file₁) (reading file₂) (readings-same file₁ file₂ same)
+  pub accept-alike : verdict (reading current file₁) ≡ verdict (reading current file₂)
+  accept-alike = verdicts-alike (reading current file₁) (reading current file₂) said-same
 
   -- the listing, or the refusal's line, of a reading into a table of any length
-  pub listing-alike : (room : ℕ) → listingOf (readInto file₁ room) ≡ listingOf (readInto file₂ room)
+  pub listing-alike : (room : ℕ) → listingOf (readInto current file₁ room) ≡ listingOf (readInto current file₂ room)
   unfolding readInto
-  listing-alike room = listings-alike room (reading file₁) (reading file₂) (readings-same file₁ file₂ same)
+  listing-alike room = listings-alike room (reading current file₁) (reading current file₂) said-same
 
   module _ (table₁ table₂ : List ℕ) (tables : length table₁ ≡ length table₂) where
     second-accepted : ReadAlike file₁ table₁ file₂ table₂ → answerOf file₁ table₁ .number ≡ 0 → answerOf file₂ table₂ .number ≡ 0
@@ -87,6 +93,6 @@ module _ (file₁ file₂ : List ℕ) (same : SameOnceDropped (parsed file₁) (
     panel-alike z =
         let r₁ = read-zero file₁ (length table₁) z in
         let r₂ = read-zero file₂ (length table₂) (second-accepted (read-alike file₁ table₁ file₂ table₂ tables same) z) in
-        let lines : listingOf (readInto file₁ (length table₁)) ≡ listingOf (readInto file₂ (length table₂)) =
-        listing-alike (length table₁) ∙ ap (λ (n : ℕ). listingOf (readInto file₂ n)) tables in
+        let lines : listingOf (readInto current file₁ (length table₁)) ≡ listingOf (readInto current file₂ (length table₂)) =
+        listing-alike (length table₁) ∙ ap (λ (n : ℕ). listingOf (readInto current file₂ n)) tables in
         read-listing file₁ table₁ (r₁ .0) (r₁ .1) ∙ ap pass (sym (ap listingOf (r₁ .1)) ∙ lines ∙ ap listingOf (r₂ .1)) ∙ sym (read-listing file₂ table₂ (r₂ .0) (r₂ .1))

@@ -11,6 +11,7 @@ use Rattle.meaning.specs.Tree.{Node, Pairs, dict}
 use Rattle.meaning.specs.Check.{refuse}
 use Rattle.meaning.specs.Read.{Span, bytesAt, got, item, noNote}
 use Rattle.meaning.specs.Rows.{Answer, answer, tableAfter, readInto}
+use Rattle.meaning.specs.Layouts.{current}
 use Rattle.meaning.specs.Drop.{dropComponent}
 
 -- ---------------------------------------------------------------- what stands in a file
@@ -109,7 +110,7 @@ module _ (file₁ file₂ : List ℕ) where
     pub tree₂ : Node (Unit {0})
     pub first : OneMap file₁ levels s₁ tree₁
     pub second : OneMap file₂ levels s₂ tree₂
-    pub same : dropComponent tree₁ ≡ dropComponent tree₂
+    pub same : dropComponent current tree₁ ≡ dropComponent current tree₂
 
   -- field by field, from the front; an object's attributes are at depth 4: 29 levels are left there; a component's entry is at depth 5: 28
   abbrev pub FieldsAlike : List Field → List ℕ → List ℕ → Type 0
@@ -135,10 +136,10 @@ acceptance objects components start attributes = record {
 
 -- the answer for a file read into a table, and that table afterwards
 abbrev pub answerOf : List ℕ → List ℕ → Answer
-answerOf file table = answer (readInto file (length table))
+answerOf file table = answer (readInto current file (length table))
 
 abbrev pub afterwards : List ℕ → List ℕ → List ℕ
-afterwards file table = tableAfter table (readInto file (length table))
+afterwards file table = tableAfter table (readInto current file (length table))
 
 -- numbers that the rows of so many objects and components take
 abbrev pub roomOf : ℕ → ℕ → ℕ

@@ -4,8 +4,8 @@ use Prim.Native.String.{String}
 use mathlib.Core.List.{List, [], _∷_, _++_}
 use lib.ListN.{length, replicate}
 use Rattle.meaning.specs.Text.{ascii}
-use Rattle.meaning.specs.Frame.{magic}
-use Rattle.meaning.specs.Layout.{closing}
+use Rattle.meaning.specs.Layouts.{magic}
+use Rattle.meaning.specs.WrittenFile.{closing}
 
 -- a text below 24 bytes, and one with its length in the next byte
 abbrev text : String → List ℕ

@@ -9,8 +9,9 @@ use Rattle.meaning.specs.Tree.{Node, Pairs, dict, text, pairList}
 use Rattle.meaning.specs.Check.{Check, pass, refuse}
 use Rattle.meaning.specs.Text.{ascii, all}
 use Rattle.meaning.specs.Version.{versionShape, majorOne}
-use Rattle.meaning.specs.Field.{rootNames, isSome, keyOf, count, get}
-use Rattle.tolerance.specs.Manifests.{Parsed}
+use Rattle.meaning.specs.Layouts.{rootNames}
+use Rattle.meaning.specs.Field.{isSome, keyOf, count, get}
+use Rattle.meaning.specs.Parsed.{Parsed}
 
 -- its keys are all whole text, no known one stands twice, and its version is well-shaped and of another major than 1; the rest may be anything
 pub record OtherMajor {P : Type 0} (t : Node P) : Type 0 where

@@ -26,13 +26,13 @@ position-most (n ∷ ns) k = go (same n k) (position-most ns k)
     go false h = omega arith
 
 module _ (k : List ℕ) where
-  pub code-position : (i : ℕ) (ss : List Storage) → codeOr (i + length ss) (codeFrom i ss k) ≡ i + position (map (λ s. s .called) ss) k
+  pub code-position : (i : ℕ) (ss : List (List ℕ)) → codeOr (i + length ss) (codeFrom i ss k) ≡ i + position ss k
   unfolding codeOr codeFrom position
   code-position i [] = refl
-  code-position i (s ∷ ss) = go (same (s .called) k) (code-position (suc i) ss)
+  code-position i (s ∷ ss) = go (same s k) (code-position (suc i) ss)
     where
-      go : (t : Bool) → codeOr (suc i + length ss) (codeFrom (suc i) ss k) ≡ suc i + position (map (λ s. s .called) ss) k
-          → codeOr (i + suc (length ss)) (cond t (some i) (codeFrom (suc i) ss k)) ≡ i + cond t 0 (suc (position (map (λ s. s .called) ss) k))
+      go : (t : Bool) → codeOr (suc i + length ss) (codeFrom (suc i) ss k) ≡ suc i + position ss k
+          → codeOr (i + suc (length ss)) (cond t (some i) (codeFrom (suc i) ss k)) ≡ i + cond t 0 (suc (position ss k))
       go true h = omega arith
       go false h = let e : i + suc (length ss) ≡ suc i + length ss = omega arith in ap (λ (n : ℕ). codeOr n (codeFrom (suc i) ss k)) e ∙ h ∙ omega arith
 
@@ -87,12 +87,12 @@ one-name n k r e = rw e (go (same n k))
 
 pub storage-is : (k : List ℕ) (r : ℕ) → r ≡ position storageNames k → r ≡ dtypeCode k
 unfolding storages dtypeCode
-storage-is k r e = let x = code-position k 0 storages in omega arith
+storage-is k r e = let x = code-position k 0 storageNames in omega arith
 
-code-below : (k : List ℕ) (i : ℕ) (ss : List Storage) (c : ℕ) → codeFrom i ss k ≡ some c → c < i + length ss
+code-below : (k : List ℕ) (i : ℕ) (ss : List (List ℕ)) (c : ℕ) → codeFrom i ss k ≡ some c → c < i + length ss
 unfolding codeFrom
 code-below k i [] c e = let z : _≡_ {A = ℕ} 0 1 = cc in absurd (omega arith)
-code-below k i (s ∷ ss) c e = go (same (s .called) k) e (code-below k (suc i) ss c)
+code-below k i (s ∷ ss) c e = go (same s k) e (code-below k (suc i) ss c)
   where
     go : (t : Bool) → cond t (some i) (codeFrom (suc i) ss k) ≡ some c → (codeFrom (suc i) ss k ≡ some c → c < suc i + length ss) → c < i + suc (length ss)
     go true p ih = let x : i ≡ c = cc in omega arith
@@ -100,21 +100,21 @@ code-below k i (s ∷ ss) c e = go (same (s .called) k) e (code-below k (suc i) 
 
 -- for those who ask for a dtype: what the code says of meaning's `codeFrom`
 module _ (k : List ℕ) where
-  pub dtype-known : (c : ℕ) → c ≡ dtypeCode k → c < 13 → codeFrom 0 storages k ≡ some c
+  pub dtype-known : (c : ℕ) → c ≡ dtypeCode k → c < 13 → codeFrom 0 storageNames k ≡ some c
   unfolding dtypeCode codeOr
-  dtype-known c e h = go (codeFrom 0 storages k) refl
+  dtype-known c e h = go (codeFrom 0 storageNames k) refl
     where
-      go : (o : Option ℕ) → codeFrom 0 storages k ≡ o → o ≡ some c
-      go none p = let x : codeOr 13 (codeFrom 0 storages k) ≡ 13 = rw p in absurd (omega arith)
-      go (some d) p = let x : codeOr 13 (codeFrom 0 storages k) ≡ d = rw p in ap (λ (n : ℕ). some n) (let y : d ≡ c = omega arith in y)
+      go : (o : Option ℕ) → codeFrom 0 storageNames k ≡ o → o ≡ some c
+      go none p = let x : codeOr 13 (codeFrom 0 storageNames k) ≡ 13 = rw p in absurd (omega arith)
+      go (some d) p = let x : codeOr 13 (codeFrom 0 storageNames k) ≡ d = rw p in ap (λ (n : ℕ). some n) (let y : d ≡ c = omega arith in y)
 
-  pub dtype-none : 13 ≡ dtypeCode k → codeFrom 0 storages k ≡ none
+  pub dtype-none : 13 ≡ dtypeCode k → codeFrom 0 storageNames k ≡ none
   unfolding storages dtypeCode codeOr
-  dtype-none e = go (codeFrom 0 storages k) refl
+  dtype-none e = go (codeFrom 0 storageNames k) refl
     where
-      go : (o : Option ℕ) → codeFrom 0 storages k ≡ o → o ≡ none
+      go : (o : Option ℕ) → codeFrom 0 storageNames k ≡ o → o ≡ none
       go none p = refl
-      go (some d) p = let x : codeOr 13 (codeFrom 0 storages k) ≡ d = rw p in let y = code-below k 0 storages d p in absurd (omega arith)
+      go (some d) p = let x : codeOr 13 (codeFrom 0 storageNames k) ≡ d = rw p in let y = code-below k 0 storageNames d p in absurd (omega arith)
 
   pub dtype-most : dtypeCode k ≤ 13
   unfolding storages

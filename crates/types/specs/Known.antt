@@ -21,12 +21,12 @@ unfoldable pub unitNumber : Option ℕ → ℕ → ℕ
 unitNumber none width = 256 + width
 unitNumber (some ratio) width = ratio * width
 
--- the storage that is named, 13 for none
-unfoldable pub dtypeCode : List ℕ → ℕ
-dtypeCode k = codeOr 13 (codeFrom 0 storages k)
-
 abbrev pub storageNames : List (List ℕ)
 storageNames = map (λ s. s .called) storages
+
+-- the storage that is named, 13 for none
+unfoldable pub dtypeCode : List ℕ → ℕ
+dtypeCode k = codeOr 13 (codeFrom 0 storageNames k)
 
 abbrev pub logicalNames : List (List ℕ)
 logicalNames = map (λ l. l .called) logicals

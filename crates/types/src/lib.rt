@@ -5,13 +5,13 @@ mod tables;
 
 ghost use mathlib.Core.Path.{_≡_};
 ghost use Rattle.types.specs.Known as known;
-ghost use Rattle.meaning.specs.Field as field;
+ghost use Rattle.meaning.specs.Layouts as layouts;
 ghost use Rattle.meaning.specs.Text as text;
 ghost use Rattle.meaning.specs.Types as types;
 
 // The field of the root that k names, 3 for none.
 pub fn root_key(k: &[u8]) -> usize
-    ensures { λ r. ⌜ r ≡ known.position field.rootNames (now (k .entry)) ⌝ }
+    ensures { λ r. ⌜ r ≡ known.position layouts.rootNames (now (k .entry)) ⌝ }
 {
     let w = row::words_of(&k[0..]);
     row::found(&tables::ROOT, w.a, w.b, w.c)
@@ -19,7 +19,7 @@ pub fn root_key(k: &[u8]) -> usize
 
 // The field of an object that k names, 4 for none.
 pub fn object_key(k: &[u8]) -> usize
-    ensures { λ r. ⌜ r ≡ known.position field.objectNames (now (k .entry)) ⌝ }
+    ensures { λ r. ⌜ r ≡ known.position layouts.objectNames (now (k .entry)) ⌝ }
 {
     let w = row::words_of(&k[0..]);
     row::found(&tables::OBJECT, w.a, w.b, w.c)
@@ -27,7 +27,7 @@ pub fn object_key(k: &[u8]) -> usize
 
 // The field of a component that k names, 7 for none.
 pub fn component_key(k: &[u8]) -> usize
-    ensures { λ r. ⌜ r ≡ known.position field.componentNames (now (k .entry)) ⌝ }
+    ensures { λ r. ⌜ r ≡ known.position layouts.componentNames (now (k .entry)) ⌝ }
 {
     let w = row::words_of(&k[0..]);
     row::found(&tables::COMPONENT, w.a, w.b, w.c)

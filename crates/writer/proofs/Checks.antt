@@ -17,7 +17,7 @@ use Rattle.meaning.specs.Described.{Described, blobs}
 use Rattle.meaning.specs.Sound.{rowsSound}
 use Rattle.meaning.specs.Placement.{lastEnd}
 use Rattle.meaning.specs.Manifest.{manifestBytes}
-use Rattle.meaning.specs.Layout.{fileOf}
+use Rattle.meaning.specs.WrittenFile.{fileOf}
 use Rattle.meaning.specs.Write.{writeAnswer, outputAfter, written}
 use Rattle.readback.specs.Judged.{judged}
 use Rattle.readback.specs.Lent.{Lent}

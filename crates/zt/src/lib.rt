@@ -9,6 +9,7 @@ ghost use Rattle.meaning.specs.Frame.{reading};
 ghost use Rattle.meaning.specs.Rows.{readInto, tableAfter};
 ghost use Rattle.meaning.specs.View.{viewed};
 ghost use Rattle.meaning.specs.Write.{written};
+ghost use Rattle.meaning.specs.Layouts.{current};
 ghost use Rattle.reader.specs.Verdict.{verdict};
 ghost use Rattle.reader.specs.Answer.{answered};
 ghost use Rattle.view.specs.Told as extent;
@@ -20,7 +21,7 @@ ghost use Rattle.readback.specs.Lent.{Lent};
 // The refusal number of a file, 0 for one that is accepted. Never ROOM: no table is lent.
 #[no_mangle]
 pub extern "C" fn zt_accept(file: &[u8]) -> u64
-    ensures { λ r. ⌜ r ≡ verdict (reading (now (file .entry))) .number ⌝ }
+    ensures { λ r. ⌜ r ≡ verdict (reading current (now (file .entry))) .number ⌝ }
 {
     let v = reader::accept(file);
     v.number
@@ -29,7 +30,7 @@ pub extern "C" fn zt_accept(file: &[u8]) -> u64
 // A file read into a lent table: the verdict, both counts, the manifest's start, and the place and length of the root's attributes.
 #[no_mangle]
 pub extern "C" fn zt_read(file: &[u8], table: &mut [u64]) -> Answer
-    ensures { λ r. ⌜ (r ≡ answered (readInto (now (file .entry)) (length (now (table .entry))))) × (now (table .exit) ≡ tableAfter (now (table .entry)) (readInto (now (file .entry)) (length (now (table .entry))))) ⌝ }
+    ensures { λ r. ⌜ (r ≡ answered (readInto current (now (file .entry)) (length (now (table .entry))))) × (now (table .exit) ≡ tableAfter (now (table .entry)) (readInto current (now (file .entry)) (length (now (table .entry))))) ⌝ }
 {
     reader::into::read(file, table)
 }

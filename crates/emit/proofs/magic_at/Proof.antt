@@ -1,5 +1,5 @@
 -- `emit::magic_at` meets its contract: the fixed bytes. Assumes nothing.
-use Rattle.meaning.specs.Frame.{magic}
+use Rattle.meaning.specs.Layouts.{magic}
 use borrow.Author.Needs.{needs}
 use Rattle.emit.proofs.magic_at.Statement.{statement}
 use Rattle.emit.proofs.magic_at.Tie as tie

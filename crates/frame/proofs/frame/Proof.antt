@@ -1,5 +1,6 @@
 use Rattle.frame.proofs.Frames as frames
-use Rattle.meaning.specs.Frame.{magic, little}
+use Rattle.meaning.specs.Layouts.{magic}
+use Rattle.meaning.specs.Frame.{little}
 use Rattle.meaning.specs.Text.{same}
 use borrow.Rule.Slice.PartAt.{part-to-end}
 use borrow.Author.Tests.{not-true, not-false}

@@ -1,7 +1,7 @@
 -- `emit::front::little` meets its contract: the invariant says how many bytes stand. Assumes nothing.
 use mathlib.Core.Path.{refl}
 use Prim.Native.Nat.{_-_}
-use Rattle.meaning.specs.Layout.{littleBytes}
+use Rattle.meaning.specs.WrittenFile.{littleBytes}
 use Rattle.emit.proofs.Numbers as numbers
 use Rattle.emit.proofs.Laying as laying
 use borrow.Author.Needs.{needs}

@@ -1,7 +1,7 @@
 -- `text::frame::is_magic` meets its contract: the byte string is `magic`. Assumes nothing.
 use mathlib.Core.Path.{_∙_, ap}
 use borrow.Author.Needs.{needs}
-use Rattle.meaning.specs.Frame.{magic}
+use Rattle.meaning.specs.Layouts.{magic}
 use Rattle.meaning.specs.Text as texts
 use Rattle.text.proofs.SameIsEqual.{whole}
 use Rattle.text.proofs.frame.is_magic.Statement.{statement}
