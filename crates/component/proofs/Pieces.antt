@@ -12,6 +12,7 @@ use Rattle.meaning.specs.Tree.{Node, nothing}
 use Rattle.meaning.specs.Check.{Check, pass, refuse, fault, optional}
 use Rattle.meaning.specs.Notes.{mapCheck}
 use Rattle.meaning.specs.Kind.{aNumber, present}
+use Rattle.meaning.specs.Layouts.{Layout}
 use Rattle.meaning.specs.Judge.{aType, raw}
 use Rattle.lengths.specs.Place.{placed, number}
 use Rattle.walk.specs.Reading.{Ends}
@@ -49,11 +50,11 @@ module _ {A B : Type 0} (f : A → B) where
 
 -- ---------------------------------------------------------------- dtype and type
 
-module _ (s : List ℕ) (a b : ℕ) (r₁ : Coded) (h₁ : DtypeAt (Here s 0) a r₁) where
-  dtype-is : (q : Coded) → r₁ ≡ q → DtypeAt s a q
-  dtype-is q e = subst (λ u. DtypeAt u a q) (part-to-end s 0) (rw e at h₁)
+module _ (L : Layout) (above : Option ℕ) (s : List ℕ) (a b : ℕ) (r₁ : Coded) (h₁ : DtypeAt L above (Here s 0) a r₁) where
+  dtype-is : (q : Coded) → r₁ ≡ q → DtypeAt L above s a q
+  dtype-is q e = subst (λ u. DtypeAt L above u a q) (part-to-end s 0) (rw e at h₁)
 
-  pub no-dtype : (n : ℕ) → r₁ ≡ NoCode n → StorageAt s a b (NoStorage n)
+  pub no-dtype : (n : ℕ) → r₁ ≡ NoCode n → StorageAt L above s a b (NoStorage n)
   unfolding storage
   no-dtype n e d x y hx hy = rw (dtype-is (NoCode n) e d x hx) refl
 
@@ -61,11 +62,11 @@ module _ (s : List ℕ) (a b : ℕ) (r₁ : Coded) (h₁ : DtypeAt (Here s 0) a 
     type-is : (q : Spot) → r₂ ≡ q → Typed s b code q
     type-is q e = subst (λ u. Typed u b code q) (part-to-end s 0) (rw e at h₂)
 
-    pub no-type : (n : ℕ) → r₂ ≡ NoSpot n → StorageAt s a b (NoStorage n)
+    pub no-type : (n : ℕ) → r₂ ≡ NoSpot n → StorageAt L above s a b (NoStorage n)
     unfolding storage
     no-type n e d x y hx hy = rw (dtype-is (Code code) e₁ d x hx) (rw (refused-so leftWord (optional (aType code) (present y)) n (type-is (NoSpot n) e d y hy)) refl)
 
-    pub both-types : (t : ℕ) → r₂ ≡ At t → StorageAt s a b (Storage code t)
+    pub both-types : (t : ℕ) → r₂ ≡ At t → StorageAt L above s a b (Storage code t)
     unfolding storage
     both-types t e d x y hx hy =
         let z = passed-so leftWord (optional (aType code) (present y)) t (type-is (At t) e d y hy) in

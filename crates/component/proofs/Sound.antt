@@ -1,12 +1,14 @@
 -- The judgement of a component that has all it needs, from its pieces, a branch each.
 use mathlib.Core.Path.{_≡_, refl, sym, ap, _∙_, subst}
 use mathlib.Core.List.{List}
+use mathlib.Core.Option.{Option}
 use Prim.Native.Nat.{ℕ}
 use lib.ListN.{getD}
 use borrow.Rule.Slice.PartAt.{part-to-end}
 use Rattle.meaning.specs.Check.{Check, pass, refuse, _>>_}
 use Rattle.meaning.specs.Notes.{mapCheck}
 use Rattle.meaning.specs.Model.{Component}
+use Rattle.meaning.specs.Layouts.{Layout}
 use Rattle.lengths.specs.Place.{placed}
 use Rattle.walk.specs.Reading.{Ends}
 use Rattle.fields.proofs.Texts.{Here}
@@ -26,24 +28,24 @@ judged-placed : (k : Check (Unit {0})) (c : Component Ends) → unlessNo k (judg
 judged-placed (pass v) c = refl
 judged-placed (refuse n i j) c = refl
 
-module _ (s : List ℕ) (start : ℕ) (p : List ℕ) (r₁ : Stored) (h₁ : StorageAt (Here s 0) (getD p 0 0) (getD p 1 0) r₁) where
+module _ (L : Layout) (above : Option ℕ) (s : List ℕ) (start : ℕ) (p : List ℕ) (r₁ : Stored) (h₁ : StorageAt L above (Here s 0) (getD p 0 0) (getD p 1 0) r₁) where
   module _ (d : ℕ) (f : Fields) (x : Found d s p f) where
-    storage-is : (q : Stored) → r₁ ≡ q → mapCheck placesOf (storage (f .dtype) (f .type)) ≡ stored q
-    storage-is q e = subst (λ u. StorageAt u (getD p 0 0) (getD p 1 0) q) (part-to-end s 0) (rw e at h₁) d (f .dtype) (f .type) (x .dtype) (x .type)
+    storage-is : (q : Stored) → r₁ ≡ q → mapCheck placesOf (storage L above (f .dtype) (f .type)) ≡ stored q
+    storage-is q e = subst (λ u. StorageAt L above u (getD p 0 0) (getD p 1 0) q) (part-to-end s 0) (rw e at h₁) d (f .dtype) (f .type) (x .dtype) (x .type)
 
-  pub no-storage : (n : ℕ) → r₁ ≡ NoStorage n → SoundIs s start p (No n)
+  pub no-storage : (n : ℕ) → r₁ ≡ NoStorage n → SoundIs L above s start p (No n)
   unfolding sound
-  no-storage n e d f x w v = rw (refused-so placesOf (storage (f .dtype) (f .type)) n (storage-is d f x (NoStorage n) e)) refl
+  no-storage n e d f x w v = rw (refused-so placesOf (storage L above (f .dtype) (f .type)) n (storage-is d f x (NoStorage n) e)) refl
 
   module _ (code t : ℕ) (e₁ : r₁ ≡ Storage code t) (r₂ : Stretch) (h₂ : ExtentAt (Here s 0) (getD p 2 0) (getD p 3 0) r₂) where
     module _ (d : ℕ) (f : Fields) (x : Found d s p f) where
-      has-storage : Passed placesOf (storage (f .dtype) (f .type)) (code, t)
-      has-storage = passed-so placesOf (storage (f .dtype) (f .type)) (code, t) (storage-is d f x (Storage code t) e₁)
+      has-storage : Passed placesOf (storage L above (f .dtype) (f .type)) (code, t)
+      has-storage = passed-so placesOf (storage L above (f .dtype) (f .type)) (code, t) (storage-is d f x (Storage code t) e₁)
 
       extent-is : (q : Stretch) → r₂ ≡ q → extent (f .offset) (f .length) ≡ reached q
       extent-is q e = subst (λ u. ExtentAt u (getD p 2 0) (getD p 3 0) q) (part-to-end s 0) (rw e at h₂) d (f .offset) (f .length) (x .offset) (x .length)
 
-    pub no-extent : (n : ℕ) → r₂ ≡ NoExtent n → SoundIs s start p (No n)
+    pub no-extent : (n : ℕ) → r₂ ≡ NoExtent n → SoundIs L above s start p (No n)
     unfolding sound
     no-extent n e d f x w v = rw (has-storage d f x .is) (rw (extent-is d f x (NoExtent n) e) refl)
 
@@ -52,12 +54,12 @@ module _ (s : List ℕ) (start : ℕ) (p : List ℕ) (r₁ : Stored) (h₁ : Sto
       extras-are d f x q e =
           subst (λ u. ExtrasAt u (getD p 4 0) (getD p 5 0) (getD p 6 0) q) (part-to-end s 0) (rw e at h₃) d (f .unpacked) (f .encoding) (f .digest) (x .unpacked) (x .encoding) (x .digest)
 
-      pub no-extras : (n : ℕ) → r₃ ≡ NoSpot n → SoundIs s start p (No n)
+      pub no-extras : (n : ℕ) → r₃ ≡ NoSpot n → SoundIs L above s start p (No n)
       unfolding sound
       no-extras n e d f x w v =
           rw (has-storage d f x .is) (rw (extent-is d f x (Reaching o l) e₂) (rw (refused-so leftWord (extras (f .unpacked) (f .encoding) (f .digest)) n (extras-are d f x (NoSpot n) e)) refl))
 
-      pub all-placed : (g : ℕ) → r₃ ≡ At g → (r : Judged) → r ≡ placedAt start code t o l g → SoundIs s start p r
+      pub all-placed : (g : ℕ) → r₃ ≡ At g → (r : Judged) → r ≡ placedAt start code t o l g → SoundIs L above s start p r
       unfolding sound
       all-placed g e r is d f x w v =
           let y = has-storage d f x in

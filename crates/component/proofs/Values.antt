@@ -1,17 +1,18 @@
 -- The values of a component, a branch each: l is what `walk::text` answered for s, lent whole.
 use mathlib.Core.Path.{_≡_, refl}
 use mathlib.Core.List.{List}
-use mathlib.Core.Option.{some}
+use mathlib.Core.Option.{Option, none, some}
 use mathlib.Core.Bool.{Bool, true, false}
 use Prim.Native.Nat.{ℕ, _<_, _≤_}
 use native.Mathlib.Omega.{arith}
+use borrow.Author.Tests.{lt-ltb, le-ltb}
 use lib.ListN.{length}
 use Rattle.meaning.specs.Text.{ascii, same, utf8}
 use Rattle.meaning.specs.Kind.{aNumber, aText}
 use Rattle.meaning.specs.Check.{optional}
 use Rattle.meaning.specs.Types.{fitsOver, listed, logicals}
-use Rattle.meaning.specs.Layouts.{current}
-use Rattle.meaning.specs.Judge.{codeOr, aDtype, aType, raw}
+use Rattle.meaning.specs.Layouts.{Layout}
+use Rattle.meaning.specs.Judge.{codeOr, orElse, aDtype, aType, raw}
 use Rattle.types.specs.Known.{dtypeCode}
 use Rattle.types.proofs.Codes.{dtype-known, dtype-none, dtype-most}
 use Rattle.walk.specs.Places.{Whatever, TextIs as Lettered, NumberIs}
@@ -20,16 +21,17 @@ use Rattle.walk.specs.declared.Numeral.the-variants.{NoNumber, Number}
 use Rattle.walk.specs.declared.Letters.{Letters}
 use Rattle.walk.specs.declared.Letters.the-variants.{NoText, Text}
 use Rattle.fields.proofs.Texts.{Here, no-word, word, letters}
+use Rattle.component.specs.declared.value.Coded.{Coded}
 use Rattle.component.specs.declared.value.Coded.the-variants.{No as NoCode, Yes as Code}
 use Rattle.component.specs.declared.value.Fine.the-variants.{No as Bad, Yes as Good}
 use Rattle.component.specs.declared.value.Spot.the-variants.{No as NoSpot, Yes as At}
-use Rattle.component.specs.Value.{passes, fine, DtypeIs, RawIs, TextIs, TypeIs}
+use Rattle.component.specs.Value.{passes, fine, coded, given, codeOf, DtypeIs, RawIs, TextIs, TypeIs}
 
 module _ (s : List ℕ) (l : Letters) (h : Lettered (Here s 0) l) where
   module _ (e : l ≡ NoText) where
-    pub dtype-kind : DtypeIs s (NoCode 8)
-    unfolding current aDtype
-    dtype-kind d t q r = rw (no-word s l h e d t q r) refl
+    pub dtype-kind : (L : Layout) → DtypeIs L s (NoCode 8)
+    unfolding aDtype
+    dtype-kind L d t q r = rw (no-word s l h e d t q r) refl
 
     pub raw-kind : RawIs s (Bad 8)
     unfolding raw
@@ -47,16 +49,16 @@ module _ (s : List ℕ) (l : Letters) (h : Lettered (Here s 0) l) where
     abbrev spelled : List ℕ
     spelled = letters s l h at n e
 
-    module _ (code : ℕ) (is : code ≡ dtypeCode spelled) where
-      pub dtype-some : code < 13 → DtypeIs s (Code code)
-      unfolding current aDtype codeOr
-      dtype-some k d t q r = rw (word s l h at n e d t q r) (rw (dtype-known spelled code is k) refl)
+    module _ (L : Layout) (code : ℕ) (is : code ≡ dtypeCode L spelled) where
+      pub dtype-some : code < 13 → DtypeIs L s (Code code)
+      unfolding aDtype codeOr
+      dtype-some k d t q r = rw (word s l h at n e d t q r) (rw (dtype-known L spelled code is k) refl)
 
-      pub dtype-other : 13 ≤ code → DtypeIs s (NoCode 16)
-      unfolding current aDtype codeOr
+      pub dtype-other : 13 ≤ code → DtypeIs L s (NoCode 16)
+      unfolding aDtype codeOr
       dtype-other k d t q r =
-          let m = dtype-most spelled in let z : 13 ≡ dtypeCode spelled = omega arith in
-          rw (word s l h at n e d t q r) (rw (dtype-none spelled z) refl)
+          let m = dtype-most L spelled in let z : 13 ≡ dtypeCode L spelled = omega arith in
+          rw (word s l h at n e d t q r) (rw (dtype-none L spelled z) refl)
 
     module _ (b : Bool) (is : b ≡ same (ascii "raw") spelled) where
       pub raw-some : b ≡ true → RawIs s Good
@@ -97,3 +99,19 @@ number-none s w h e d t q r = let z = h d t q r in rw (z, e) refl
 
 pub number-some : (s : List ℕ) (w : Numeral) → NumberIs s w → (n : ℕ) → w ≡ Number n → Whatever s λ d t q. passes (optional aNumber (some t)) ≡ fine Good
 number-some s w h n e d t q r = let z = h d t q r in rw (z, e) refl
+
+-- ---------------------------------------------------------------- a component's own code, or the one that it is given
+
+module _ (L : Layout) where
+  pub code-given : (above : ℕ) → above < 13 → codeOf L (given above) none ≡ coded (Code above)
+  unfolding codeOf given orElse
+  code-given above h = rw (lt-ltb above 13 h) refl
+
+  pub no-code : (above : ℕ) → 13 ≤ above → codeOf L (given above) none ≡ coded (NoCode 12)
+  unfolding codeOf given orElse
+  no-code above h = rw (le-ltb above 13 h) refl
+
+  pub own-code : (above : Option ℕ) (s : List ℕ) (r : Coded) → DtypeIs L s r → Whatever s λ d t q. codeOf L above (some t) ≡ coded r
+  unfolding codeOf orElse
+  own-code above s (NoCode n) h d t q x = rw (h d t q x) refl
+  own-code above s (Code c) h d t q x = rw (h d t q x) refl

@@ -1,16 +1,18 @@
 -- What is said of one field of a component, in the words of meaning's checks: of the item that begins some bytes, and of what stands at a place that may be none.
 use Prim.Native.Nat.{ℕ}
 use mathlib.Core.List.{List}
+use mathlib.Core.Bool.{cond}
 use mathlib.Core.Option.{Option, none, some}
 use mathlib.Core.Path.{_≡_}
 use lib.ListN.{length}
-use Rattle.meaning.specs.Tree.{nothing}
-use Rattle.meaning.specs.Check.{Check, pass, fault, optional}
+use lib.Dec.{ltb}
+use Rattle.meaning.specs.Tree.{Node, nothing}
+use Rattle.meaning.specs.Check.{Check, pass, fault, _>>=_, required, optional}
 use Rattle.meaning.specs.Notes.{mapCheck}
 use Rattle.meaning.specs.Model.{Word}
 use Rattle.meaning.specs.Kind.{aNumber, aText, present}
-use Rattle.meaning.specs.Judge.{aDtype, aType, raw}
-use Rattle.meaning.specs.Layouts.{current}
+use Rattle.meaning.specs.Judge.{orElse, aDtype, aType, raw}
+use Rattle.meaning.specs.Layouts.{Layout}
 use Rattle.walk.specs.Reading.{Ends}
 use Rattle.walk.specs.Places.{Whatever, numeral}
 use Rattle.walk.specs.declared.Numeral.{Numeral}
@@ -46,10 +48,20 @@ placeOf = mapCheck leftWord
 abbrev pub passes : {A : Type 0} → Check A → Check (Unit {0})
 passes = mapCheck nothing
 
+-- the code that an object gives to a component, 13 or more for none
+unfoldable pub given : ℕ → Option ℕ
+given c = cond (ltb c 13) (some c) none
+
+-- a component's own code, or else the one that it is given
+unfoldable pub codeOf : Layout → Option ℕ → Option (Node Ends) → Check ℕ
+codeOf L above dtype = do
+  own ← optional (aDtype L) dtype
+  required (orElse own above)
+
 -- ---------------------------------------------------------------- the item that begins s
 
-abbrev pub DtypeIs : List ℕ → Coded → Type 0
-DtypeIs s r = Whatever s λ d t q. aDtype current t ≡ coded r
+abbrev pub DtypeIs : Layout → List ℕ → Coded → Type 0
+DtypeIs L s r = Whatever s λ d t q. aDtype L t ≡ coded r
 
 abbrev pub RawIs : List ℕ → Fine → Type 0
 RawIs s r = Whatever s λ d t q. passes (optional raw (some t)) ≡ fine r
@@ -62,8 +74,8 @@ TypeIs s code r = Whatever s λ d t q. placeOf (optional (aType code) (some t)) 
 
 -- ---------------------------------------------------------------- what stands at a place
 
-abbrev pub DtypeAt : List ℕ → ℕ → Coded → Type 0
-DtypeAt s left r = ItemAt s left λ t. aDtype current t ≡ coded r
+abbrev pub DtypeAt : Layout → Option ℕ → List ℕ → ℕ → Coded → Type 0
+DtypeAt L above s left r = OptionAt s left λ o. codeOf L above o ≡ coded r
 
 abbrev pub NumberAt : List ℕ → ℕ → Numeral → Type 0
 NumberAt s left r = ItemAt s left λ t. aNumber t ≡ numeral r

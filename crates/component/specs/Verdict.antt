@@ -1,8 +1,8 @@
 -- A component's judgement in pieces, one for each function, and what the whole walk answers.
 use Prim.Native.Nat.{ℕ, suc}
 use mathlib.Core.List.{List}
-use mathlib.Core.Bool.{cond}
-use mathlib.Core.Option.{Option, none}
+use mathlib.Core.Bool.{Bool, cond, not, _&&_}
+use mathlib.Core.Option.{Option}
 use mathlib.Core.Path.{_≡_}
 use lib.ListN.{getD, replicate}
 use lib.Dec.{eqb}
@@ -12,8 +12,8 @@ use Rattle.meaning.specs.Notes.{mapCheck}
 use Rattle.meaning.specs.Refusal.{KEY, TWICE, MISSING}
 use Rattle.meaning.specs.Model.{Word, Component}
 use Rattle.meaning.specs.Kind.{kind, table, aNumber, aText, present}
-use Rattle.meaning.specs.Layouts.{componentNames, current}
-use Rattle.meaning.specs.Judge.{aDtype, aType, raw, component}
+use Rattle.meaning.specs.Layouts.{Layout}
+use Rattle.meaning.specs.Judge.{aType, raw, component}
 use Rattle.lengths.specs.Place.{placed}
 use Rattle.walk.specs.Reading.{Ends, Reads, Chain, Due, foldl}
 use Rattle.fields.specs.Slots.{marks, Stands, Holds}
@@ -26,18 +26,22 @@ use Rattle.component.specs.declared.judge.Stretch.the-variants.{No as No
 use Rattle.component.specs.declared.value.Fine.{Fine}
 use Rattle.component.specs.declared.value.Fine.the-variants.{No as Bad, Yes as Good}
 use Rattle.component.specs.declared.value.Spot.{Spot}
-use Rattle.component.specs.Value.{leftWord, placeOf, spot}
+use Rattle.component.specs.Value.{leftWord, placeOf, spot, codeOf}
 
 -- the slots p after pairs that are due at s, from the slots z
-abbrev pub Placed : ℕ → ℕ → List ℕ → List ℕ → List ℕ → Type 0
-Placed mode count s z p = (ps : List (Pair Ends)) (r : List ℕ) → Due 27 mode count s ps r → p ≡ foldl (marks componentNames) z ps
+abbrev pub Placed : Layout → ℕ → ℕ → List ℕ → List ℕ → List ℕ → Type 0
+Placed L mode count s z p = (ps : List (Pair Ends)) (r : List ℕ) → Due 27 mode count s ps r → p ≡ foldl (marks (L .component)) z ps
+
+-- a dtype is missing where `left` bytes are left at it; in layout 1.0 a component has none
+unfoldable pub lacksDtype : ℕ → ℕ → Bool
+lacksDtype layout left = not (eqb layout 1) && eqb left 0
 
 -- keys, repeats, missing fields: what the slots say
-unfoldable pub known : List ℕ → Fine
-known p =
+unfoldable pub known : ℕ → List ℕ → Fine
+known layout p =
     cond (eqb (getD p 8 0) 0)
     (cond (eqb (getD p 9 0) 0)
-    (cond (eqb (getD p 0 0) 0) (Bad MISSING)
+    (cond (lacksDtype layout (getD p 0 0)) (Bad MISSING)
     (cond (eqb (getD p 2 0) 0) (Bad MISSING)
     (cond (eqb (getD p 3 0) 0) (Bad MISSING) Good)))
     (Bad TWICE))
@@ -49,9 +53,9 @@ pub record Kept : Type 0 where
   pub dtype : ℕ
   pub type : Option (Word Ends)
 
-unfoldable pub storage : Node Ends → Option (Node Ends) → Check Kept
-storage dtype type = do
-  d ← aDtype current dtype
+unfoldable pub storage : Layout → Option ℕ → Option (Node Ends) → Option (Node Ends) → Check Kept
+storage L above dtype type = do
+  d ← codeOf L above dtype
   t ← optional (aType d) (present type)
   pass (record { dtype = d; type = t })
 
@@ -62,8 +66,8 @@ stored (Storage code left) = pass (code, left)
 abbrev pub placesOf : Kept → ℕ × ℕ
 placesOf k = (k .dtype, leftWord (k .type))
 
-abbrev pub StorageAt : List ℕ → ℕ → ℕ → Stored → Type 0
-StorageAt s a b r = (d : ℕ) (x : Node Ends) (y : Option (Node Ends)) → Stands (suc d) s a x → Holds (suc d) s b y → mapCheck placesOf (storage x y) ≡ stored r
+abbrev pub StorageAt : Layout → Option ℕ → List ℕ → ℕ → ℕ → Stored → Type 0
+StorageAt L above s a b r = (d : ℕ) (x y : Option (Node Ends)) → Holds (suc d) s a x → Holds (suc d) s b y → mapCheck placesOf (storage L above x y) ≡ stored r
 
 -- ---------------------------------------------------------------- offset and length
 
@@ -110,7 +114,7 @@ placedAt start code t o l g = unlessNo (placed start o l) (Yes code t o l g)
 
 -- the fields of a component that has all it needs, and where they stand
 pub record Fields : Type 0 where
-  pub dtype : Node Ends
+  pub dtype : Option (Node Ends)
   pub type : Option (Node Ends)
   pub offset : Node Ends
   pub length : Node Ends
@@ -119,7 +123,7 @@ pub record Fields : Type 0 where
   pub digest : Option (Node Ends)
 
 pub record Found (d : ℕ) (s p : List ℕ) (f : Fields) : Type 0 where
-  pub dtype : Stands (suc d) s (getD p 0 0) (f .dtype)
+  pub dtype : Holds (suc d) s (getD p 0 0) (f .dtype)
   pub type : Holds (suc d) s (getD p 1 0) (f .type)
   pub offset : Stands (suc d) s (getD p 2 0) (f .offset)
   pub length : Stands (suc d) s (getD p 3 0) (f .length)
@@ -128,21 +132,21 @@ pub record Found (d : ℕ) (s p : List ℕ) (f : Fields) : Type 0 where
   pub digest : Holds (suc d) s (getD p 6 0) (f .digest)
 
 -- under this name, with this annotation of its map
-unfoldable pub sound : ℕ → Word Ends → Ends → Fields → Check (Component Ends)
-sound start n e f = do
-  k ← storage (f .dtype) (f .type)
+unfoldable pub sound : Layout → Option ℕ → ℕ → Word Ends → Ends → Fields → Check (Component Ends)
+sound L above start n e f = do
+  k ← storage L above (f .dtype) (f .type)
   x ← extent (f .offset) (f .length)
   g ← extras (f .unpacked) (f .encoding) (f .digest)
   placed start (x .offset) (x .length)
   pass (record { name = n; dtype = k .dtype; type = k .type; offset = x .offset; length = x .length; digest = g; entry = e })
 
-abbrev pub SoundIs : List ℕ → ℕ → List ℕ → Judged → Type 0
-SoundIs s start p r = (d : ℕ) (f : Fields) → Found d s p f → (n : Word Ends) (e : Ends) → r ≡ judged (sound start n e f)
+abbrev pub SoundIs : Layout → Option ℕ → List ℕ → ℕ → List ℕ → Judged → Type 0
+SoundIs L above s start p r = (d : ℕ) (f : Fields) → Found d s p f → (n : Word Ends) (e : Ends) → r ≡ judged (sound L above start n e f)
 
 -- for every map of the pairs that are read from s on, where p holds their slots
-abbrev pub VerdictIs : List ℕ → ℕ → List ℕ → Judged → Type 0
-VerdictIs s start p r = (d : ℕ) (ps : List (Pair Ends)) (q : List ℕ) → Chain (suc d) s ps q → p ≡ foldl (marks componentNames) (replicate 10 0) ps
-    → (t : Node Ends) → kind t ≡ table ps → (n : Word Ends) → r ≡ judged (component current start none (record { name = n; value = t }))
+abbrev pub VerdictIs : Layout → Option ℕ → List ℕ → ℕ → List ℕ → Judged → Type 0
+VerdictIs L above s start p r = (d : ℕ) (ps : List (Pair Ends)) (q : List ℕ) → Chain (suc d) s ps q → p ≡ foldl (marks (L .component)) (replicate 10 0) ps
+    → (t : Node Ends) → kind t ≡ table ps → (n : Word Ends) → r ≡ judged (component L start above (record { name = n; value = t }))
 
-abbrev pub ComponentIs : List ℕ → ℕ → Judged → Type 0
-ComponentIs s start r = (t : Node Ends) (q : List ℕ) → Reads 28 s t q → (n : Word Ends) → r ≡ judged (component current start none (record { name = n; value = t }))
+abbrev pub ComponentIs : Layout → Option ℕ → List ℕ → ℕ → Judged → Type 0
+ComponentIs L above s start r = (t : Node Ends) (q : List ℕ) → Reads 28 s t q → (n : Word Ends) → r ≡ judged (component L start above (record { name = n; value = t }))

@@ -12,6 +12,8 @@ use crate::value::Spot;
 use walk::Numeral;
 ghost use mathlib.Core.Path.{_≡_};
 ghost use lib.ListN.{length};
+ghost use Rattle.meaning.specs.Layouts.{layoutOf};
+ghost use Rattle.component.specs.Value.{given};
 ghost use Rattle.component.specs.Verdict as is;
 
 // The dtype's code and the place of the type, or a refusal.
@@ -26,10 +28,20 @@ pub enum Stretch {
     Yes(u64, u64),
 }
 
+// Is the dtype missing, where `left` bytes are left at it? In layout 1.0 a component has none.
+fn lacks_dtype(layout: u64, left: usize) -> bool
+    ensures { λ r. ⌜ r ≡ is.lacksDtype layout left ⌝ }
+{
+    if layout == 1 {
+        return false;
+    }
+    left == 0
+}
+
 // Keys, repeats, missing fields.
-fn known(p: &[usize]) -> Fine
+fn known(layout: u64, p: &[usize]) -> Fine
     requires { ⌜ length (now p) ≡ 10 ⌝ }
-    ensures { λ r. ⌜ r ≡ is.known (now (p .entry)) ⌝ }
+    ensures { λ r. ⌜ r ≡ is.known layout (now (p .entry)) ⌝ }
 {
     if p[8] != 0 {
         return Fine::No(9);
@@ -37,7 +49,7 @@ fn known(p: &[usize]) -> Fine
     if p[9] != 0 {
         return Fine::No(11);
     }
-    if p[0] == 0 {
+    if lacks_dtype(layout, p[0]) {
         return Fine::No(12);
     }
     if p[2] == 0 {
@@ -49,11 +61,11 @@ fn known(p: &[usize]) -> Fine
     Fine::Yes
 }
 
-// The dtype at a, the type at b.
-fn storage(s: &[u8], a: usize, b: usize) -> Stored
-    ensures { λ r. ⌜ is.StorageAt (now (s .entry)) a b r ⌝ }
+// The dtype at a, or else the code from above; the type at b.
+fn storage(layout: u64, above: u64, s: &[u8], a: usize, b: usize) -> Stored
+    ensures { λ r. ⌜ is.StorageAt (layoutOf layout) (given above) (now (s .entry)) a b r ⌝ }
 {
-    match dtype_at(&s[0..], a) {
+    match dtype_at(layout, &s[0..], a, above) {
         Coded::No(n) => Stored::No(n),
         Coded::Yes(code) => match typed(&s[0..], b, code) {
             Spot::No(n) => Stored::No(n),
@@ -100,11 +112,11 @@ fn placed(start: u64, code: u64, t: usize, o: u64, l: u64, g: usize) -> Judged
 }
 
 // The fields that stand at the places in p, where none that is needed is missing.
-fn sound(s: &[u8], start: u64, p: &[usize]) -> Judged
+fn sound(layout: u64, above: u64, s: &[u8], start: u64, p: &[usize]) -> Judged
     requires { ⌜ length (now p) ≡ 10 ⌝ }
-    ensures { λ r. ⌜ is.SoundIs (now (s .entry)) start (now (p .entry)) r ⌝ }
+    ensures { λ r. ⌜ is.SoundIs (layoutOf layout) (given above) (now (s .entry)) start (now (p .entry)) r ⌝ }
 {
-    match storage(&s[0..], p[0], p[1]) {
+    match storage(layout, above, &s[0..], p[0], p[1]) {
         Stored::No(n) => Judged::No(n),
         Stored::Yes(code, t) => match extent(&s[0..], p[2], p[3]) {
             Stretch::No(n) => Judged::No(n),
@@ -117,12 +129,12 @@ fn sound(s: &[u8], start: u64, p: &[usize]) -> Judged
 }
 
 // The component whose entries begin s, from the slots p.
-pub fn verdict(s: &[u8], start: u64, p: &[usize]) -> Judged
+pub fn verdict(layout: u64, above: u64, s: &[u8], start: u64, p: &[usize]) -> Judged
     requires { ⌜ length (now p) ≡ 10 ⌝ }
-    ensures { λ r. ⌜ is.VerdictIs (now (s .entry)) start (now (p .entry)) r ⌝ }
+    ensures { λ r. ⌜ is.VerdictIs (layoutOf layout) (given above) (now (s .entry)) start (now (p .entry)) r ⌝ }
 {
-    match known(&p[0..]) {
+    match known(layout, &p[0..]) {
         Fine::No(n) => Judged::No(n),
-        Fine::Yes => sound(&s[0..], start, &p[0..]),
+        Fine::Yes => sound(layout, above, &s[0..], start, &p[0..]),
     }
 }

@@ -10,6 +10,8 @@ use pass::entries;
 use walk::Opening;
 ghost use mathlib.Core.Path.{_≡_};
 ghost use Rattle.cbor.specs.Ending.{code, itemEnd};
+ghost use Rattle.meaning.specs.Layouts.{layoutOf};
+ghost use Rattle.component.specs.Value.{given};
 ghost use Rattle.component.specs.Verdict.{ComponentIs};
 
 // A refusal number; or the dtype's code, the place of the type, offset, length and the place of the digest.
@@ -24,9 +26,9 @@ pub struct Whole {
     pub verdict: Judged,
 }
 
-// The component that begins c, at depth 5, of a file whose manifest begins at `start`.
-pub fn component(c: &[u8], start: u64) -> Whole
-    ensures { λ r. ⌜ (r .end ≡ code (itemEnd 28 (now (c .entry)))) × ComponentIs (now (c .entry)) start (r .verdict) ⌝ }
+// The component that begins c, at depth 5, of a file whose manifest begins at `start`. `above` is the code that its object gives it, 13 or more for none.
+pub fn component(layout: u64, above: u64, c: &[u8], start: u64) -> Whole
+    ensures { λ r. ⌜ (r .end ≡ code (itemEnd 28 (now (c .entry)))) × ComponentIs (layoutOf layout) (given above) (now (c .entry)) start (r .verdict) ⌝ }
 {
     let mut p = [0usize; 10];
     match walk::map(&c[0..]) {
@@ -35,8 +37,8 @@ pub fn component(c: &[u8], start: u64) -> Whole
             verdict: Judged::No(8),
         },
         Opening::Opened(mode, count, size) => {
-            let e = entries(&c[size..], mode, count, &mut p);
-            let v = verdict(&c[size..], start, &p);
+            let e = entries(layout, &c[size..], mode, count, &mut p);
+            let v = verdict(layout, above, &c[size..], start, &p);
             if c.len() - size < e {
                 return Whole { end: e, verdict: v };
             }

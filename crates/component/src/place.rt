@@ -8,14 +8,21 @@ use crate::value::text_of;
 use crate::value::type_of;
 use fields::place_of;
 use walk::Numeral;
+ghost use Rattle.meaning.specs.Layouts.{layoutOf};
 ghost use Rattle.component.specs.Value as is;
 
-// The dtype, which isn't absent.
-pub fn dtype_at(s: &[u8], left: usize) -> Coded
-    ensures { λ r. ⌜ is.DtypeAt (now (s .entry)) left r ⌝ }
+// The dtype, or where it is absent the code from above, 13 or more for none.
+pub fn dtype_at(layout: u64, s: &[u8], left: usize, above: u64) -> Coded
+    ensures { λ r. ⌜ is.DtypeAt (layoutOf layout) (is.given above) (now (s .entry)) left r ⌝ }
 {
+    if left == 0 {
+        if above < 13 {
+            return Coded::Yes(above);
+        }
+        return Coded::No(12);
+    }
     let at = place_of(s.len(), left);
-    dtype_of(&s[at..])
+    dtype_of(layout, &s[at..])
 }
 
 // The offset or the length, which isn't absent.

@@ -1,5 +1,6 @@
 // The texts of a component, each of the item that begins s.
 use walk::Letters;
+ghost use Rattle.meaning.specs.Layouts.{layoutOf};
 ghost use Rattle.component.specs.Value as is;
 
 // A number, or a refusal.
@@ -21,14 +22,14 @@ pub enum Spot {
 }
 
 // The storage that it names.
-pub fn dtype_of(s: &[u8]) -> Coded
-    ensures { λ r. ⌜ is.DtypeIs (now (s .entry)) r ⌝ }
+pub fn dtype_of(layout: u64, s: &[u8]) -> Coded
+    ensures { λ r. ⌜ is.DtypeIs (layoutOf layout) (now (s .entry)) r ⌝ }
 {
     match walk::text(&s[0..]) {
         Letters::NoText => Coded::No(8),
         Letters::Text(at, n) => {
             let e = at + n;
-            let code = types::dtype_code(&s[at..e]);
+            let code = types::dtype_code(layout, &s[at..e]);
             if code < 13 {
                 return Coded::Yes(code);
             }

@@ -3,15 +3,15 @@ use Prim.Native.Nat.{ℕ, _≤_}
 use native.Mathlib.Omega.{arith}
 use mathlib.Core.List.{List, map}
 use mathlib.Core.Path.{_≡_, sym, subst}
-use mathlib.Core.Option.{none}
 use lib.ListN.{length, length-map}
 use Rattle.meaning.specs.Tree.{Node, Pair}
 use Rattle.meaning.specs.Check.{pass}
 use Rattle.meaning.specs.Limit.{componentLimit}
 use Rattle.meaning.specs.Kind.{kind, table}
 use Rattle.meaning.specs.Field.{names}
-use Rattle.meaning.specs.Judge.{componentsOf}
-use Rattle.meaning.specs.Layouts.{current}
+use Rattle.meaning.specs.Judge.{inherited, componentsOf}
+use Rattle.meaning.specs.Layouts.{layoutOf}
+use Rattle.component.specs.Value.{given}
 use Rattle.walk.specs.Reading.{Ends}
 use Rattle.walk.proofs.Passed.{Here}
 use Rattle.naming.specs.Naming.{namedAnyway, told, Tallied, Judged}
@@ -31,16 +31,17 @@ module _ (m : List ℕ) (t : Tally) (first : First) (left size : List ℕ) (room
   judged = names-told componentLimit m t left size room x h
 
   pub names-conclude : (n : ℕ) → x ≡ NoNames n → Concluded m t first left size (No n 0)
-  names-conclude n e start rows ps kept u ku = names-fault start ps u n rows (judged (NoNames n) e ps (kept .named) u ku)
+  names-conclude n e g start rows ps kept u ku f is has = names-fault (layoutOf (g .layout)) (inherited f (given (g .code))) start ps u n rows (judged (NoNames n) e ps (kept .named) u ku)
 
   module _ (e : x ≡ Names) where
     pub fault-concludes : (n c : ℕ) → first ≡ Fault n c → (found : Found) → found ≡ No n c → Concluded m t first left size found
-    fault-concludes n c f found is start rows ps kept u ku =
-        subst (λ x. FoundIs (componentsOf current start (λ r. none) u) x rows) (sym is) (entry-fault start ps u n c rows (judged Names e ps (kept .named) u ku) (rw f at (kept .judged)))
+    fault-concludes n c f found is g start rows ps kept u ku format so has =
+        subst (λ x. FoundIs (componentsOf (layoutOf (g .layout)) start (inherited format (given (g .code))) u) x rows) (sym is)
+        (entry-fault (layoutOf (g .layout)) (inherited format (given (g .code))) start ps u n c rows (judged Names e ps (kept .named) u ku) (rw f at (kept .judged format so has)))
 
     pub fine-concludes : first ≡ Fine → Concluded m t first left size (Yes (t .count))
-    fine-concludes f start rows ps kept u ku =
+    fine-concludes f g start rows ps kept u ku format so has =
         let j = judged Names e ps (kept .named) u ku in
         let few : length (map namedAnyway ps) ≤ componentLimit = few-names componentLimit u (map namedAnyway ps) j in
         let c = kept .named .counted in
-        all-fine start ps u (t .count) rows j (rw f at (kept .judged)) c (omega (arith, length-map ps namedAnyway))
+        all-fine (layoutOf (g .layout)) (inherited format (given (g .code))) start ps u (t .count) rows j (rw f at (kept .judged format so has)) c (omega (arith, length-map ps namedAnyway))

@@ -17,10 +17,10 @@ use Rattle.meaning.specs.Refusal.{KIND, TEXT, TYPE}
 use Rattle.meaning.specs.Model.{Word, Component}
 use Rattle.meaning.specs.Kind as kinds
 use Rattle.meaning.specs.Kind.{Kind, kind, present, presentKind}
-use Rattle.meaning.specs.Field.{get}
+use Rattle.meaning.specs.Field.{field}
+use Rattle.meaning.specs.Layouts.{slot, Layout}
 use Rattle.meaning.specs.Types.{fitsOver, listed, logicals}
 use Rattle.meaning.specs.Judge.{component, aType}
-use Rattle.meaning.specs.Layouts.{current}
 use Rattle.cbor.specs.Ending.{FAULT, headOf}
 use Rattle.endian.proofs.Which.{eq-or, lt-or}
 use Rattle.walk.specs.Reading.{Ends, Reads, Chain}
@@ -28,6 +28,7 @@ use Rattle.walk.specs.Places.{OpenMap}
 use Rattle.walk.proofs.Maps as maps
 use Rattle.walk.proofs.ReadSays.{nothing-read}
 use Rattle.walk.proofs.Chains.{ate}
+use Rattle.fields.specs.Slots.{Stands}
 use Rattle.fields.proofs.Standing.{get-stands}
 use Rattle.components.specs.Typed.{WordAt, bare, lettered}
 use Rattle.components.proofs.Typed.{passed, passed-on, pass-same, TextsFrom, texts-from}
@@ -115,10 +116,17 @@ presence (some u) t e = present-kind u (kind u) t e
 
 -- ---------------------------------------------------------------- the type and the digest of a component
 
-module _ (c : List ℕ) (room : length c < FAULT) (x : Node Ends) (q : List ℕ) (e : Reads 28 c x q) (start : ℕ) (n : Word Ends) (k : Component Ends)
-    (is : component current start none (record { name = n; value = x }) ≡ pass k) where
-  from : TextsFrom (record { name = n; value = x }) k
-  from = texts-from start (record { name = n; value = x }) k is
+-- a field of pairs that are read one after the other
+field-found-stands : (d : ℕ) (s : List ℕ) (o : Option (List ℕ)) (ps : List (Pair Ends)) (at : ℕ) → at ≤ length s → (r : List ℕ) → Chain d (drop at s) ps r → (t : Node Ends)
+    → field o ps ≡ some t → Stands d s (length (noteOf t .start)) t
+unfolding field
+field-found-stands d s none ps at l r h t e = absurd (let z : _≡_ {A = ℕ} 0 1 = cc in omega arith)
+field-found-stands d s (some n) ps at l r h t e = get-stands d s n ps at l r h t e
+
+module _ (c : List ℕ) (room : length c < FAULT) (x : Node Ends) (q : List ℕ) (e : Reads 28 c x q) (L : Layout) (above : Option ℕ) (start : ℕ) (n : Word Ends) (k : Component Ends)
+    (is : component L start above (record { name = n; value = x }) ≡ pass k) where
+  from : TextsFrom L (record { name = n; value = x }) k
+  from = texts-from L start above (record { name = n; value = x }) k is
 
   pub named-so : n ≡ k .name
   named-so = from .named
@@ -127,10 +135,10 @@ module _ (c : List ℕ) (room : length c < FAULT) (x : Node Ends) (q : List ℕ)
   entered-so = from .entered
 
   -- the value of a field that is a text stands in c
-  some-word : (name : List ℕ) (o : Option (Word Ends)) (t : Node Ends) → get name (from .pairs) ≡ some t → (w : Word Ends) → kinds.aWord t ≡ pass w → o ≡ some w → WordAt c o
-  some-word name o t g w word typed =
+  some-word : (i : ℕ) (o : Option (Word Ends)) (t : Node Ends) → field (slot i (L .component)) (from .pairs) ≡ some t → (w : Word Ends) → kinds.aWord t ≡ pass w → o ≡ some w → WordAt c o
+  some-word i o t g w word typed =
       let h = pairs-chained 27 c room x q e (from .pairs) (from .kind-is) in
-      let s = get-stands 27 (drop (h .at) c) name (from .pairs) 0 (omega arith) (h .last) (h .chain) t g in
+      let s = field-found-stands 27 (drop (h .at) c) (slot i (L .component)) (from .pairs) 0 (omega arith) (h .last) (h .chain) t g in
       let i = h .within in let j = s .within in
       let note : noteOf t ≡ w .note = sym (word-note t w word) in
       let left : length (noteOf t .start) ≡ length (w .note .start) = ap (λ (p : Ends). length (p .start)) note in
@@ -141,18 +149,18 @@ module _ (c : List ℕ) (room : length c < FAULT) (x : Node Ends) (q : List ℕ)
       lettered w typed 26 t (omega (arith, a .some, a .fits, length-drop (length c - length (w .note .start)) c), record { rest = s .rest; within = omega (arith, length-drop (h .at) c); left-is = sym left; reads = r }) word
 
   -- a check F of such a field, which passes only words
-  word-at : (name : List ℕ) (F : Node Ends → Check (Word Ends)) → ((t : Node Ends) (w : Word Ends) → F t ≡ pass w → kinds.aWord t ≡ pass w) → (o : Option (Word Ends))
-      → optional F (present (get name (from .pairs))) ≡ pass o → WordAt c o
-  word-at name F words o = go (present (get name (from .pairs))) refl
+  word-at : (i : ℕ) (F : Node Ends → Check (Word Ends)) → ((t : Node Ends) (w : Word Ends) → F t ≡ pass w → kinds.aWord t ≡ pass w) → (o : Option (Word Ends))
+      → optional F (present (field (slot i (L .component)) (from .pairs))) ≡ pass o → WordAt c o
+  word-at i F words o = go (present (field (slot i (L .component)) (from .pairs))) refl
     where
-      go : (p : Option (Node Ends)) → present (get name (from .pairs)) ≡ p → optional F p ≡ pass o → WordAt c o
+      go : (p : Option (Node Ends)) → present (field (slot i (L .component)) (from .pairs)) ≡ p → optional F p ≡ pass o → WordAt c o
       go none h t = bare (sym (pass-same t))
       go (some u) h t =
           let p = passed (F u) (λ b. pass (some b)) o t in
-          some-word name o u (presence (get name (from .pairs)) u h) (p .value) (words u (p .value) (p .is)) (sym (pass-same (p .then)))
+          some-word i o u (presence (field (slot i (L .component)) (from .pairs)) u h) (p .value) (words u (p .value) (p .is)) (sym (pass-same (p .then)))
 
   pub type-at : WordAt c (k .type)
-  type-at = word-at (ascii "type") (aType (k .dtype)) (type-word (k .dtype)) (k .type) (from .typed)
+  type-at = word-at 1 (aType (k .dtype)) (type-word (k .dtype)) (k .type) (from .typed)
 
   pub digest-at : WordAt c (k .digest)
-  digest-at = word-at (ascii "digest") kinds.aText text-word (k .digest) (from .digested)
+  digest-at = word-at 6 kinds.aText text-word (k .digest) (from .digested)

@@ -3,6 +3,7 @@ pub mod Typed
 pub mod Lettered
 pub mod Units
 pub mod Rows
+pub mod Storage
 pub mod Kept
 pub mod Looping
 pub mod Concluding

@@ -15,16 +15,16 @@ use Rattle.naming.specs.declared.Tally.{Tally}
 use Rattle.components.specs.declared.First.{First}
 use Rattle.components.specs.declared.Found.{Found}
 use Rattle.components.specs.declared.Found.the-variants.{No}
-use Rattle.components.specs.Firsts.{Walked, Concluded, ComponentsAre}
+use Rattle.components.specs.Firsts.{Given, Walked, Concluded, ComponentsAre}
 
-module _ (c : List ℕ) (start : ℕ) (x : Opening) (h : MapIs (Here c 0) x) where
-  pub no-map : (rows : List ℕ) → x ≡ NotOpen → ComponentsAre c start (No 8 0) rows
+module _ (g : Given) (c : List ℕ) (start : ℕ) (x : Opening) (h : MapIs (Here c 0) x) where
+  pub no-map : (rows : List ℕ) → x ≡ NotOpen → ComponentsAre g c start (No 8 0) rows
   unfolding componentsOf names
-  no-map rows e t q r = (0, rw (opens.opening c x h NotOpen e 28 t q r) refl)
+  no-map rows e t q r f is has = (0, rw (opens.opening c x h NotOpen e 28 t q r) refl)
 
-  pub entries-judged : (mode count size : ℕ) → x ≡ Opened mode count size → (n : Tally) (left spans : List ℕ) (first : First) (rows : List ℕ) → Walked start mode count (Here c size) n left spans first rows
-      → (found : Found) → Concluded (Here c size) n first left spans found → ComponentsAre c start found rows
+  pub entries-judged : (mode count size : ℕ) → x ≡ Opened mode count size → (n : Tally) (left spans : List ℕ) (first : First) (rows : List ℕ) → Walked g start mode count (Here c size) n left spans first rows
+      → (found : Found) → Concluded (Here c size) n first left spans found → ComponentsAre g c start found rows
   entries-judged mode count size is n left spans first rows walked found concluded t q r =
       let m = opens.opened c x h mode count size is .trees 28 t q r in
-      let w = subst (λ u. Walked start mode count u n left spans first rows) (part-to-end c size) walked (m .pairs) (m .last) (m .due) in
-      subst (λ u. Concluded u n first left spans found) (part-to-end c size) concluded start rows (m .pairs) w t (m .kind-is)
+      let w = subst (λ u. Walked g start mode count u n left spans first rows) (part-to-end c size) walked (m .pairs) (m .last) (m .due) in
+      subst (λ u. Concluded u n first left spans found) (part-to-end c size) concluded g start rows (m .pairs) w t (m .kind-is)

@@ -1,17 +1,19 @@
 -- The entries of a `components` map, as they are judged one by one, and the whole map's judgement.
-use Prim.Native.Nat.{ℕ, suc, _*_, _≤_}
+use Prim.Native.Nat.{ℕ, suc, _*_, _≤_, _<_}
 use mathlib.Core.List.{List, [], _∷_, _++_, map}
 use mathlib.Core.Path.{_≡_}
-use mathlib.Core.Option.{none}
+use mathlib.Core.Option.{Option}
 use lib.ListN.{length, take}
 use Rattle.meaning.specs.Tree.{Node, Pair}
 use Rattle.meaning.specs.Check.{Check, pass, refuse, inComponent, each}
 use Rattle.meaning.specs.Limit.{componentLimit}
 use Rattle.meaning.specs.Model.{Named, Component}
-use Rattle.meaning.specs.Judge.{component, componentsOf, part}
+use Rattle.meaning.specs.Judge.{inherited, component, componentsOf, part}
 use Rattle.meaning.specs.Kind.{kind, table}
-use Rattle.meaning.specs.Layouts.{current}
+use Rattle.meaning.specs.Layouts.{Layout, layoutOf}
+use Rattle.types.specs.Known.{position, formatNames}
 use Rattle.walk.specs.Reading.{Ends, Reads, Due}
+use Rattle.component.specs.Value.{given}
 use Rattle.component.specs.Verdict.{ComponentIs}
 use Rattle.component.specs.declared.Judged.{Judged}
 use Rattle.formats.specs.Parts.{partRows}
@@ -23,44 +25,62 @@ use Rattle.components.specs.declared.Found.{Found}
 use Rattle.components.specs.declared.Found.the-variants.{No, Yes}
 
 -- an entry, with its index
-unfoldable pub entry : ℕ → ℕ → Named Ends → Check (Component Ends)
-entry start j n = inComponent j (component current start none n)
+unfoldable pub entry : Layout → (List ℕ → Option ℕ) → ℕ → ℕ → Named Ends → Check (Component Ends)
+entry L above start j n = inComponent j (component L start (above (n .name .letters)) n)
 
 -- the entries of the pairs so far
-unfoldable pub entries : ℕ → List (Pair Ends) → Check (List (Component Ends))
-entries start done = each (λ j p. entry start j (namedAnyway p)) 0 done
+unfoldable pub entries : Layout → (List ℕ → Option ℕ) → ℕ → List (Pair Ends) → Check (List (Component Ends))
+entries L above start done = each (λ j p. entry L above start j (namedAnyway p)) 0 done
 
 -- components as the rows that the format's rules read
 pub record Rowed (cs : List (Component Ends)) (rows : List ℕ) : Type 0 where
   pub are : length cs ≤ componentLimit → take (4 * length cs) rows ≡ partRows (map part cs)
 
-abbrev pub FirstIs : ℕ → List (Pair Ends) → First → List ℕ → Type 0
-FirstIs start done Fine rows = (cs : List (Component Ends)) × (entries start done ≡ pass cs) × Rowed cs rows
-FirstIs start done (Fault n c) rows = (o : ℕ) × (entries start done ≡ refuse n o c)
+abbrev pub FirstIs : Layout → (List ℕ → Option ℕ) → ℕ → List (Pair Ends) → First → List ℕ → Type 0
+FirstIs L above start done Fine rows = (cs : List (Component Ends)) × (entries L above start done ≡ pass cs) × Rowed cs rows
+FirstIs L above start done (Fault n c) rows = (o : ℕ) × (entries L above start done ≡ refuse n o c)
+
+-- what an object gives to its components: the layout's number, the code of its format, and the code of its dtype, 13 or more for none
+pub record Given : Type 0 where
+  pub layout : ℕ
+  pub format : ℕ
+  pub code : ℕ
+
+abbrev pub offered : ℕ → ℕ → ℕ → Given
+offered layout format code = record { layout = layout; format = format; code = code }
+
+-- for every format with that code; in layout 1.0 an object has a dtype
+abbrev pub Whichever : Given → ((List ℕ → Option ℕ) → Type 0) → Type 0
+Whichever g Q = (f : List ℕ) → g .format ≡ position formatNames f → (g .layout ≡ 1 → g .code < 13) → Q (inherited f (given (g .code)))
+
+abbrev pub FirstsAre : Given → ℕ → List (Pair Ends) → First → List ℕ → Type 0
+FirstsAre g start done first rows = Whichever g λ above. FirstIs (layoutOf (g .layout)) above start done first rows
 
 -- one more entry, number j, whose key begins s and whose value, judged as v, begins c
-abbrev pub Keeps : List ℕ → List ℕ → Judged → ℕ → First → List ℕ → First → List ℕ → Type 0
-Keeps s c v j first rows first′ rows′ =
-    (start : ℕ) (done : List (Pair Ends)) (p : Pair Ends) (d : ℕ) (q r : List ℕ) → Reads (suc d) s (p .key) q → Reads 28 c (p .value) r → ComponentIs c start v → j ≡ length done
-    → FirstIs start done first rows → FirstIs start (done ++ p ∷ []) first′ rows′
+abbrev pub Keeps : Given → List ℕ → List ℕ → Judged → ℕ → First → List ℕ → First → List ℕ → Type 0
+Keeps g s c v j first rows first′ rows′ =
+    (start : ℕ) (done : List (Pair Ends)) (p : Pair Ends) (d : ℕ) (q r : List ℕ) → Reads (suc d) s (p .key) q → Reads 28 c (p .value) r → ComponentIs (layoutOf (g .layout)) (given (g .code)) c start v
+    → j ≡ length done → FirstsAre g start done first rows → FirstsAre g start (done ++ p ∷ []) first′ rows′
 
 abbrev pub FoundIs : Check (List (Component Ends)) → Found → List ℕ → Type 0
 FoundIs k (No n c) rows = (o : ℕ) × (k ≡ refuse n o c)
 FoundIs k (Yes m) rows = (cs : List (Component Ends)) × (k ≡ pass cs) × (m ≡ length cs) × (m ≤ componentLimit) × (take (4 * m) rows ≡ partRows (map part cs))
 
 -- what is kept of the pairs `done` of a map in s
-pub record Kept (start : ℕ) (s : List ℕ) (names : Tally) (left size : List ℕ) (first : First) (rows : List ℕ) (done : List (Pair Ends)) : Type 0 where
+pub record Kept (g : Given) (start : ℕ) (s : List ℕ) (names : Tally) (left size : List ℕ) (first : First) (rows : List ℕ) (done : List (Pair Ends)) : Type 0 where
   pub named : Tallied s done names left size
-  pub judged : FirstIs start done first rows
+  pub judged : FirstsAre g start done first rows
 
 -- of all entries that are due at s
-abbrev pub Walked : ℕ → ℕ → ℕ → List ℕ → Tally → List ℕ → List ℕ → First → List ℕ → Type 0
-Walked start mode count s names left size first rows = (ps : List (Pair Ends)) (r : List ℕ) → Due 28 mode count s ps r → Kept start s names left size first rows ps
+abbrev pub Walked : Given → ℕ → ℕ → ℕ → List ℕ → Tally → List ℕ → List ℕ → First → List ℕ → Type 0
+Walked g start mode count s names left size first rows = (ps : List (Pair Ends)) (r : List ℕ) → Due 28 mode count s ps r → Kept g start s names left size first rows ps
 
 -- for every map of these pairs
 abbrev pub Concluded : List ℕ → Tally → First → List ℕ → List ℕ → Found → Type 0
 Concluded m names first left size found =
-    (start : ℕ) (rows : List ℕ) (ps : List (Pair Ends)) → Kept start m names left size first rows ps → (t : Node Ends) → kind t ≡ table ps → FoundIs (componentsOf current start (λ r. none) t) found rows
+    (g : Given) (start : ℕ) (rows : List ℕ) (ps : List (Pair Ends)) → Kept g start m names left size first rows ps → (t : Node Ends) → kind t ≡ table ps
+    → Whichever g λ above. FoundIs (componentsOf (layoutOf (g .layout)) start above t) found rows
 
-abbrev pub ComponentsAre : List ℕ → ℕ → Found → List ℕ → Type 0
-ComponentsAre s start found rows = (t : Node Ends) (q : List ℕ) → Reads 29 s t q → FoundIs (componentsOf current start (λ r. none) t) found rows
+-- of whatever is read at s, as components of an object that gives them this
+abbrev pub ComponentsAre : Given → List ℕ → ℕ → Found → List ℕ → Type 0
+ComponentsAre g s start found rows = (t : Node Ends) (q : List ℕ) → Reads 29 s t q → Whichever g λ above. FoundIs (componentsOf (layoutOf (g .layout)) start above t) found rows

@@ -7,14 +7,16 @@ use naming::Tally;
 use row::plain;
 use row::put_row;
 use row::role;
+use row::stored;
 use row::unit;
 use walk::Entry;
 use walk::Opening;
 ghost use mathlib.Core.Path.{_≡_};
+ghost use Prim.Native.Nat.{ℕ};
 ghost use lib.ListN.{length};
-ghost use Rattle.cbor.specs.Ending.{code, itemEnd, rest};
+ghost use Rattle.cbor.specs.Ending.{code as ending, itemEnd, rest};
 ghost use Rattle.walk.proofs.Turns.{Modes};
-ghost use Rattle.components.specs.Firsts.{Keeps, Walked, Concluded, ComponentsAre};
+ghost use Rattle.components.specs.Firsts.{offered, Keeps, Walked, Concluded, ComponentsAre};
 
 // The first fault among the entries so far: its number and the component.
 pub enum First {
@@ -42,18 +44,28 @@ pub struct Whole {
 }
 
 // The first fault after one more component, number j, whose key begins s and whose value begins c. Its row is put where it has none.
-fn keep(s: &[u8], c: &[u8], v: Judged, j: usize, first: First, rows: &mut [u64]) -> First
+fn keep(
+    layout: u64,
+    format: u64,
+    s: &[u8],
+    c: &[u8],
+    v: Judged,
+    j: usize,
+    first: First,
+    rows: &mut [u64],
+) -> First
     requires { ⌜ length (now rows) ≡ 64 ⌝ }
-    ensures { λ r. ⌜ (length (now (rows .exit)) ≡ 64) × Keeps (now (s .entry)) (now (c .entry)) v j first (now (rows .entry)) r (now (rows .exit)) ⌝ }
+    ensures { λ r. ⌜ (length (now (rows .exit)) ≡ 64) × ((code : ℕ) → Keeps (offered layout format code) (now (s .entry)) (now (c .entry)) v j first (now (rows .entry)) r (now (rows .exit))) ⌝ }
 {
     match first {
         First::Fault(n, k) => First::Fault(n, k),
         First::Fine => match v {
             Judged::No(n) => First::Fault(n, j),
             Judged::Yes(code, left, _, size, _) => {
-                let u = unit(&c[0..], code, left);
                 let r = role(&s[0..]);
-                put_row(rows, j, r, u, plain(code, left), size);
+                let kept = stored(layout, format, r, code);
+                let u = unit(&c[0..], kept, left);
+                put_row(rows, j, r, u, plain(kept, left), size);
                 First::Fine
             }
         },
@@ -62,6 +74,9 @@ fn keep(s: &[u8], c: &[u8], v: Judged, j: usize, first: First, rows: &mut [u64])
 
 // Entries that begin s, counted as `walk::map` says. Their names are noted in left and size, their rows are put.
 fn entries(
+    layout: u64,
+    format: u64,
+    code: u64,
     s: &[u8],
     start: u64,
     mode: u64,
@@ -71,7 +86,7 @@ fn entries(
     rows: &mut [u64],
 ) -> Run
     requires { ⌜ (length (now left) ≡ 16) × (length (now size) ≡ 16) × (length (now rows) ≡ 64) × Modes mode count ⌝ }
-    ensures { λ r. ⌜ (r .end ≡ code (rest mode count 28 (now (s .entry)))) × (length (now (left .exit)) ≡ 16) × (length (now (rows .exit)) ≡ 64) × Walked start mode count (now (s .entry)) (r .names) (now (left .exit)) (now (size .exit)) (r .first) (now (rows .exit)) ⌝ }
+    ensures { λ r. ⌜ (r .end ≡ ending (rest mode count 28 (now (s .entry)))) × (length (now (left .exit)) ≡ 16) × (length (now (rows .exit)) ≡ 64) × Walked (offered layout format code) start mode count (now (s .entry)) (r .names) (now (left .exit)) (now (size .exit)) (r .first) (now (rows .exit)) ⌝ }
 {
     let mut at = 0;
     let mut due = count;
@@ -99,7 +114,7 @@ fn entries(
             }
             Entry::Value(k) => {
                 let v = at + k;
-                let w = component::component(&s[v..], start);
+                let w = component::component(layout, code, &s[v..], start);
                 if s.len() - v < w.end {
                     return Run {
                         end: w.end,
@@ -108,7 +123,7 @@ fn entries(
                     };
                 }
                 let judged = w.verdict;
-                first = keep(&s[at..], &s[v..], judged, names.count, first, rows);
+                first = keep(layout, format, &s[at..], &s[v..], judged, names.count, first, rows);
                 names = naming::note(&s[at..], names, left, size);
                 at = v + w.end;
                 due -= 2;
@@ -133,10 +148,18 @@ fn verdict(m: &[u8], names: Tally, first: First, left: &[usize], size: &[usize])
     }
 }
 
-// The components that begin c, at depth 4, of a file whose manifest begins at `start`. Their rows are put, four numbers each.
-pub fn components(c: &[u8], start: u64, rows: &mut [u64]) -> Whole
+// The components that begin c, at depth 4, of a file whose manifest begins at `start`. Their rows are put, four numbers each. `format` (types::format_code) and `code`, 13 or
+// more for none, are what their object says of their storage.
+pub fn components(
+    layout: u64,
+    format: u64,
+    code: u64,
+    c: &[u8],
+    start: u64,
+    rows: &mut [u64],
+) -> Whole
     requires { ⌜ length (now rows) ≡ 64 ⌝ }
-    ensures { λ r. ⌜ (r .end ≡ code (itemEnd 29 (now (c .entry)))) × (length (now (rows .exit)) ≡ 64) × ComponentsAre (now (c .entry)) start (r .found) (now (rows .exit)) ⌝ }
+    ensures { λ r. ⌜ (r .end ≡ ending (itemEnd 29 (now (c .entry)))) × (length (now (rows .exit)) ≡ 64) × ComponentsAre (offered layout format code) (now (c .entry)) start (r .found) (now (rows .exit)) ⌝ }
 {
     let mut left = [0usize; 16];
     let mut size = [0usize; 16];
@@ -146,7 +169,18 @@ pub fn components(c: &[u8], start: u64, rows: &mut [u64]) -> Whole
             found: Found::No(8, 0),
         },
         Opening::Opened(mode, count, from) => {
-            let w = entries(&c[from..], start, mode, count, &mut left, &mut size, rows);
+            let w = entries(
+                layout,
+                format,
+                code,
+                &c[from..],
+                start,
+                mode,
+                count,
+                &mut left,
+                &mut size,
+                rows,
+            );
             let names = w.names;
             let first = w.first;
             let f = verdict(&c[from..], names, first, &left, &size);

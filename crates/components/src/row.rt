@@ -7,7 +7,7 @@ ghost use lib.Dec.{eqb};
 ghost use lib.ListN.{length};
 ghost use Rattle.formats.specs.Parts.{flag};
 ghost use Rattle.components.specs.Typed as is;
-ghost use Rattle.components.specs.Row.{putRow, RoleIs};
+ghost use Rattle.components.specs.Row.{putRow, RoleIs, storedAs};
 
 // Bytes of one element of the logical type that begins s, as types::unit_of has them.
 fn spelt_unit(s: &[u8], code: u64) -> u64
@@ -70,4 +70,28 @@ pub fn plain(code: u64, left: usize) -> u64
         }
     }
     0
+}
+
+// The storage of a component with this role, judged with this code. In layout 1.0 an index role is u64, whatever its object's dtype.
+pub fn stored(layout: u64, format: u64, role: u64, code: u64) -> u64
+    ensures { λ r. ⌜ r ≡ storedAs layout format role code ⌝ }
+{
+    if layout != 1 {
+        return code;
+    }
+    if format == 1 {
+        if role == 2 {
+            return 8;
+        }
+        if role == 3 {
+            return 8;
+        }
+        return code;
+    }
+    if format == 2 {
+        if role == 4 {
+            return 8;
+        }
+    }
+    code
 }

@@ -7,6 +7,7 @@ use lib.ListN.{length, getD, drop, set, length-drop, length-set}
 use lib.Dec.{ltb, eqb}
 use borrow.Author.Tests.{eq-eqb, ne-eqb, lt-ltb, le-ltb}
 use Rattle.meaning.specs.Tree.{Pair, noteOf}
+use Rattle.meaning.specs.Layouts.{Slots}
 use Rattle.meaning.specs.Field as field
 use Rattle.walk.specs.Reading.{Ends, Reads}
 use Rattle.walk.proofs.ReadSays.{note-of}
@@ -35,9 +36,9 @@ module _ (known : ℕ) (p : List ℕ) (k left : ℕ) where
       go false b = length-set p k left
 
 -- a pair whose key stands at `at` and whose value stands at v
-pub marks-step : (names : List (List ℕ)) (d : ℕ) (s : List ℕ) (at v : ℕ) (st q : List ℕ) (k : ℕ) → SlotIs names (drop at s) k → q ≡ marked (length names) st k (length s - v)
-    → (p : Pair Ends) (r₁ r₂ : List ℕ) → Reads (suc d) (drop at s) (p .key) r₁ → Reads (suc d) (drop v s) (p .value) r₂ → q ≡ marks names st p
+pub marks-step : (slots : Slots) (n : ℕ) → length slots ≡ n → (d : ℕ) (s : List ℕ) (at v : ℕ) (st q : List ℕ) (k : ℕ) → SlotIs slots (drop at s) k → q ≡ marked n st k (length s - v)
+    → (p : Pair Ends) (r₁ r₂ : List ℕ) → Reads (suc d) (drop at s) (p .key) r₁ → Reads (suc d) (drop v s) (p .value) r₂ → q ≡ marks slots st p
 unfolding marks field.keyOf
-marks-step names d s at v st q k slot-is is p r₁ r₂ key value =
+marks-step slots n places d s at v st q k slot-is is p r₁ r₂ key value =
     let left-is : length (noteOf (p .value) .start) ≡ length s - v = ap (λ n. length (n .start)) (note-of (suc d) (drop v s) (p .value) r₂ value) ∙ length-drop v s in
-    is ∙ (rw (slot-is d (p .key) r₁ key, ← left-is) refl)
+    is ∙ (rw (slot-is d (p .key) r₁ key, ← left-is, ← places) refl)

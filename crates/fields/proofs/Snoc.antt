@@ -7,13 +7,16 @@ use Prim.Native.Nat.{ℕ, _+_, _≤_, _<_}
 use native.Mathlib.Omega.{arith}
 use lib.ListN.{length, getD, replicate}
 use Rattle.meaning.specs.Tree.{Node, Pair}
+use Rattle.meaning.specs.Text.{distinct}
+use Rattle.meaning.specs.Layouts.{Slots, slot, somes}
 use Rattle.meaning.specs.Field as field
 use Rattle.meaning.specs.Field.{keyOf, get}
 use Rattle.text.proofs.SameIsEqual.{same-eq}
-use Rattle.types.specs.Known.{position}
+use Rattle.types.specs.Known.{fieldAt}
 use Rattle.walk.specs.Reading.{Ends, Chain, foldl}
-use Rattle.fields.specs.Slots.{slotOf, marks}
-use Rattle.fields.proofs.Standing.{hold-none, Item, hold-some, field-stands}
+use Rattle.fields.specs.Slots.{slotOf, marks, Holds}
+use Rattle.fields.proofs.Marks.{position-slot}
+use Rattle.fields.proofs.Standing.{hold-none, hold-some, field-stands}
 
 pub foldl-snoc : {A S : Type 0} (f : S → A → S) (z : S) (xs : List A) (x : A) → foldl f z (xs ++ x ∷ []) ≡ f (foldl f z xs) x
 foldl-snoc f z [] x = refl
@@ -58,40 +61,42 @@ module _ (name : List ℕ) (q : Pair Ends) where
 
 -- ---------------------------------------------------------------- its slot
 
-module _ (names : List (List ℕ)) (name : List ℕ) where
-  -- a key of this name has this name's slot
-  pub slot-named : (q : Pair Ends) → field.named name q ≡ true → slotOf names (keyOf q) ≡ position names name
+module _ (slots : Slots) (n : ℕ) (places : length slots ≡ n) (i : ℕ) (known : i < n) (apart : distinct (somes slots) ≡ true) where
+  -- a key of the name at the place i has the slot i
+  slot-named : (name : List ℕ) → slot i slots ≡ some name → (q : Pair Ends) → field.named name q ≡ true → slotOf slots (keyOf q) ≡ i
   unfolding field.named field.isKey slotOf
-  slot-named q = go (keyOf q)
+  slot-named name at q = go (keyOf q)
     where
-      go : (k : Option (List ℕ)) → field.isKey name k ≡ true → slotOf names k ≡ position names name
+      go : (k : Option (List ℕ)) → field.isKey name k ≡ true → slotOf slots k ≡ i
       go none e = absurd (let z : _≡_ {A = ℕ} 0 1 = cc in omega arith)
-      go (some k) e = ap (position names) (sym (same-eq name k e))
-
-  pub other-slot : (q : Pair Ends) → (slotOf names (keyOf q) ≡ position names name → ⊥) → field.named name q ≡ false
-  other-slot q h = go (field.named name q) refl
-    where
-      go : (b : Bool) → field.named name q ≡ b → field.named name q ≡ false
-      go true e = absurd (h (slot-named q e))
-      go false e = e
+      go (some k) e = ap (fieldAt slots) (sym (same-eq name k e)) ∙ position-slot slots apart i name at
 
   -- the slots p of pairs that are read one after the other from s on
-  module _ (known : position names name < length names) (d : ℕ) (s : List ℕ) (ps : List (Pair Ends)) (r : List ℕ) (chain : Chain d s ps r)
-      (p : List ℕ) (is : p ≡ foldl (marks names) (replicate (length names + 3) 0) ps) where
-    pub slot-empty : getD p (position names name) 0 ≡ 0 → get name ps ≡ none
-    slot-empty e = hold-none d s (getD p (position names name) 0) (get name ps) (field-stands names d s ps r chain p is name known) e
-
-    pub slot-taken : (getD p (position names name) 0 ≡ 0 → ⊥) → Item d s (getD p (position names name) 0) (get name ps)
-    slot-taken e = hold-some d s (getD p (position names name) 0) (get name ps) (field-stands names d s ps r chain p is name known) e
+  module _ (d : ℕ) (s : List ℕ) (ps : List (Pair Ends)) (r : List ℕ) (chain : Chain d s ps r) (p : List ℕ) (is : p ≡ foldl (marks slots) (replicate (n + 3) 0) ps) where
+    stands : Holds d s (getD p i 0) (field.field (slot i slots) ps)
+    stands = field-stands slots n places d s ps r chain p is apart i known
 
     -- the slot was free: the field, if it stands there now, is the last pair's
-    pub first-is : (q : Pair Ends) → getD p (position names name) 0 ≡ 0 → (t : Node Ends) → get name (ps ++ q ∷ []) ≡ some t → q .value ≡ t
-    first-is q e t g = last-is name q ps (slot-empty e) t g
+    pub first-is : (q : Pair Ends) → getD p i 0 ≡ 0 → (t : Node Ends) → field.field (slot i slots) (ps ++ q ∷ []) ≡ some t → q .value ≡ t
+    unfolding field.field
+    first-is q e t = go (slot i slots) stands
+      where
+        go : (o : Option (List ℕ)) → Holds d s (getD p i 0) (field.field o ps) → field.field o (ps ++ q ∷ []) ≡ some t → q .value ≡ t
+        go none h g = absurd (let z : _≡_ {A = ℕ} 0 1 = cc in omega arith)
+        go (some name) h g = last-is name q ps (hold-none d s (getD p i 0) (get name ps) h e) t g
 
     -- another slot than the last pair's, or one that was taken: the field is the one from before
-    pub as-before : (q : Pair Ends) → (slotOf names (keyOf q) ≡ position names name → getD p (position names name) 0 ≡ 0 → ⊥) → (t : Node Ends) → get name (ps ++ q ∷ []) ≡ some t → get name ps ≡ some t
-    as-before q h t g = go (field.named name q) refl
+    pub as-before : (q : Pair Ends) → (slotOf slots (keyOf q) ≡ i → getD p i 0 ≡ 0 → ⊥) → (t : Node Ends) → field.field (slot i slots) (ps ++ q ∷ []) ≡ some t
+        → field.field (slot i slots) ps ≡ some t
+    unfolding field.field
+    as-before q h t = go (slot i slots) refl stands
       where
-        go : (b : Bool) → field.named name q ≡ b → get name ps ≡ some t
-        go true e = let x = slot-taken (h (slot-named q e)) in x .is ∙ sym (get-kept name q ps (x .item) (x .is)) ∙ g
-        go false e = sym (get-other name q ps e) ∙ g
+        by-name : (name : List ℕ) → slot i slots ≡ some name → Holds d s (getD p i 0) (get name ps) → (b : Bool) → field.named name q ≡ b → get name (ps ++ q ∷ []) ≡ some t → get name ps ≡ some t
+        by-name name at there true e g =
+            let x = hold-some d s (getD p i 0) (get name ps) there (h (slot-named name at q e)) in
+            x .is ∙ sym (get-kept name q ps (x .item) (x .is)) ∙ g
+        by-name name at there false e g = sym (get-other name q ps e) ∙ g
+
+        go : (o : Option (List ℕ)) → slot i slots ≡ o → Holds d s (getD p i 0) (field.field o ps) → field.field o (ps ++ q ∷ []) ≡ some t → field.field o ps ≡ some t
+        go none at there g = absurd (let z : _≡_ {A = ℕ} 0 1 = cc in omega arith)
+        go (some name) at there g = by-name name at there (field.named name q) refl g

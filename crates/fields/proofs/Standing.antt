@@ -9,14 +9,14 @@ use lib.ListN.{length, getD, drop, length-drop, length-replicate, replicate}
 use lib.Seq.{drop-drop}
 use lib.Dec.{leb, eqb}
 use Rattle.meaning.specs.Tree.{Node, Pair, noteOf}
-use Rattle.meaning.specs.Text.{all}
+use Rattle.meaning.specs.Text.{all, distinct}
+use Rattle.meaning.specs.Layouts.{Slots, slot, somes}
 use Rattle.meaning.specs.Field as field
-use Rattle.types.specs.Known.{position}
 use Rattle.walk.specs.Reading.{Ends, Reads, Chain, leftAt, foldl}
 use Rattle.walk.proofs.Chains.{ate}
 use Rattle.walk.proofs.ReadSays.{note-of}
 use Rattle.fields.specs.Slots.{marks, Stands, Holds}
-use Rattle.fields.proofs.Marks.{AllSome, odd-is, twice-is, field-is}
+use Rattle.fields.proofs.Marks.{AllSome, odd-is, twice-is, slot-is}
 
 blank : (k j : ℕ) → _≡_ {A = ℕ} (getD (replicate {A = ℕ} k 0) j 0) 0
 blank zero j = refl
@@ -77,22 +77,33 @@ pub hold-some : (d : ℕ) (s : List ℕ) (l : ℕ) (o : Option (Node Ends)) → 
 hold-some d s l none h n = absurd (n h)
 hold-some d s l (some t) h n = record { item = t; is = refl; stands = h .1 }
 
--- the slots of pairs that are read from s on
-module _ (names : List (List ℕ)) (d : ℕ) (s : List ℕ) (ps : List (Pair Ends)) (r : List ℕ) (chain : Chain d s ps r)
-    (p : List ℕ) (is : p ≡ foldl (marks names) (replicate (length names + 3) 0) ps) where
+-- the slots of pairs that are read from s on, by a list with n places
+module _ (slots : Slots) (n : ℕ) (places : length slots ≡ n) (d : ℕ) (s : List ℕ) (ps : List (Pair Ends)) (r : List ℕ) (chain : Chain d s ps r)
+    (p : List ℕ) (is : p ≡ foldl (marks slots) (replicate (n + 3) 0) ps) where
   abbrev zeros : List ℕ
-  zeros = replicate (length names + 3) 0
+  zeros = replicate (n + 3) 0
 
-  sized : length zeros ≡ length names + 3
-  sized = length-replicate (length names + 3) 0
+  sized : length zeros ≡ length slots + 3
+  sized = length-replicate (n + 3) 0 ∙ ap (λ (m : ℕ). m + 3) (sym places)
 
-  pub keys-are-text : eqb (getD p (suc (length names)) 0) 0 ≡ all (λ q. field.isSome (field.keyOf q)) ps
-  keys-are-text = ap (λ p. eqb (getD p (suc (length names)) 0) 0) is ∙ odd-is names zeros (blank (length names + 3)) sized ps (all-some d s ps r chain)
+  pub keys-are-text : eqb (getD p (suc n) 0) 0 ≡ all (λ q. field.isSome (field.keyOf q)) ps
+  keys-are-text =
+      ap (λ p. eqb (getD p (suc n) 0) 0) is ∙ ap (λ (m : ℕ). eqb (getD (foldl (marks slots) zeros ps) (suc m) 0) 0) (sym places)
+      ∙ odd-is slots zeros (blank (n + 3)) sized ps (all-some d s ps r chain)
 
-  pub none-twice : eqb (getD p (length names + 2) 0) 0 ≡ all (λ n. leb (field.count n ps) 1) names
-  none-twice = ap (λ p. eqb (getD p (length names + 2) 0) 0) is ∙ twice-is names zeros (blank (length names + 3)) sized ps (all-some d s ps r chain)
+  pub none-twice : eqb (getD p (n + 2) 0) 0 ≡ all (λ n. leb (field.count n ps) 1) (somes slots)
+  none-twice =
+      ap (λ p. eqb (getD p (n + 2) 0) 0) is ∙ ap (λ (m : ℕ). eqb (getD (foldl (marks slots) zeros ps) (m + 2) 0) 0) (sym places)
+      ∙ twice-is slots zeros (blank (n + 3)) sized ps (all-some d s ps r chain)
 
-  pub field-stands : (n : List ℕ) → position names n < length names → Holds d s (getD p (position names n) 0) (field.get n ps)
-  field-stands n l =
-      let x : getD p (position names n) 0 ≡ leftAt (field.get n ps) = ap (λ p. getD p (position names n) 0) is ∙ field-is names zeros (blank (length names + 3)) sized ps (all-some d s ps r chain) n l in
-      subst (λ i. Holds d s i (field.get n ps)) (sym x) (holds-of d s n (field.get n ps) (get-stands d s n ps 0 (omega arith) r chain))
+  -- where the field at the place i stands; nowhere if the map or the layout hasn't got it
+  pub field-stands : distinct (somes slots) ≡ true → (i : ℕ) → i < n → Holds d s (getD p i 0) (field.field (slot i slots) ps)
+  unfolding field.field
+  field-stands apart i l =
+      let x : getD p i 0 ≡ leftAt (field.field (slot i slots) ps) =
+          ap (λ p. getD p i 0) is ∙ slot-is slots apart zeros (blank (n + 3)) sized ps (all-some d s ps r chain) i (omega (arith, l, places)) in
+      subst (λ j. Holds d s j (field.field (slot i slots) ps)) (sym x) (holds (slot i slots))
+    where
+      holds : (o : Option (List ℕ)) → Holds d s (leftAt (field.field o ps)) (field.field o ps)
+      holds none = refl
+      holds (some m) = holds-of d s m (field.get m ps) (get-stands d s m ps 0 (omega arith) r chain)

@@ -11,9 +11,10 @@ use Rattle.meaning.specs.Refusal.{KIND}
 use Rattle.meaning.specs.Model.{Word}
 use Rattle.meaning.specs.Kind as kinds
 use Rattle.meaning.specs.Kind.{Kind, kind}
+use Rattle.meaning.specs.Layouts.{Slots}
 use Rattle.meaning.specs.Field.{keyKind}
-use Rattle.types.specs.Known.{position}
-use Rattle.types.proofs.Codes.{position-most}
+use Rattle.types.specs.Known.{fieldAt}
+use Rattle.types.proofs.Codes.{field-most}
 use Rattle.walk.specs.Reading.{Ends, ends}
 use Rattle.walk.specs.Places.{Whatever, textAt, TextIs, Inside}
 pub use Rattle.walk.proofs.Passed.{Here}
@@ -51,9 +52,9 @@ module _ (s : List ℕ) (l : Letters) where
       pub no-word : Whatever s λ d t r. kinds.aWord t ≡ fault KIND
       no-word d t r q = whole d t r q ∙ ap (textAt s r) e
 
-      pub slot-odd : (names : List (List ℕ)) → SlotIs names s (suc (length names))
+      pub slot-odd : (slots : Slots) (m : ℕ) → length slots ≡ m → SlotIs slots s (suc m)
       unfolding slotOf kinds.aWord
-      slot-odd names d t r q = rw (no-key (kind t) (no-word d t r q)) refl
+      slot-odd slots m places d t r q = rw (no-key (kind t) (no-word d t r q), ← places) refl
 
     module _ (at n : ℕ) (e : l ≡ Text at n) where
       -- its letters, as they are lent
@@ -65,6 +66,6 @@ module _ (s : List ℕ) (l : Letters) where
           let z : n ≡ at + n - at = omega arith in
           whole d t r q ∙ ap (textAt s r) e ∙ ap (λ (i : ℕ). pass (record { note = ends s r; letters = take i (drop at s) })) z
 
-      pub slot-known : (names : List (List ℕ)) (k : ℕ) → k ≡ position names letters → (k ≤ suc (length names)) × SlotIs names s k
+      pub slot-known : (slots : Slots) (m : ℕ) → length slots ≡ m → (k : ℕ) → k ≡ fieldAt slots letters → (k ≤ suc m) × SlotIs slots s k
       unfolding slotOf kinds.aWord
-      slot-known names k is = (omega (arith, position-most names letters), λ d t r q. rw (key-is (kind t) _ (word d t r q)) is)
+      slot-known slots m places k is = (omega (arith, field-most slots letters, places, is), λ d t r q. rw (key-is (kind t) _ (word d t r q)) is)

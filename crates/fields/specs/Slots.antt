@@ -1,4 +1,5 @@
--- Slots for the fields of a map: the known names in order, then an unknown name, a key that isn't whole text, a known name again. Each holds the bytes left at a value.
+-- Slots for the fields of a map, by any layout's list: a place of the list each, also where the layout hasn't got the field; then an unknown name, a key that isn't whole text, a known
+-- name again. Each holds the bytes left at a value.
 use Prim.Native.Nat.{ℕ, suc, _+_, _-_, _≤_, _<_}
 use mathlib.Core.List.{List}
 use mathlib.Core.Bool.{cond}
@@ -9,25 +10,26 @@ use lib.Dec.{ltb, eqb}
 use Rattle.meaning.specs.Tree.{Node, Pair, noteOf}
 use Rattle.meaning.specs.Kind.{kind}
 use Rattle.meaning.specs.Field.{keyKind, keyOf}
-use Rattle.types.specs.Known.{position}
+use Rattle.meaning.specs.Layouts.{Slots}
+use Rattle.types.specs.Known.{fieldAt}
 use Rattle.walk.specs.Reading.{Ends, Reads, leftAt}
 use Rattle.walk.specs.Places.{Whatever}
 
-unfoldable pub slotOf : List (List ℕ) → Option (List ℕ) → ℕ
-slotOf names none = suc (length names)
-slotOf names (some k) = position names k
+unfoldable pub slotOf : Slots → Option (List ℕ) → ℕ
+slotOf slots none = suc (length slots)
+slotOf slots (some k) = fieldAt slots k
 
 -- the slots p after a value at slot k with `left` bytes left
 unfoldable pub marked : ℕ → List ℕ → ℕ → ℕ → List ℕ
 marked known p k left = cond (ltb k known) (cond (eqb (getD p k 0) 0) (set p k left) (set p (known + 2) left)) (set p k left)
 
 -- the slots p after a pair
-unfoldable pub marks : List (List ℕ) → List ℕ → Pair Ends → List ℕ
-marks names p q = marked (length names) p (slotOf names (keyOf q)) (leftAt (some (q .value)))
+unfoldable pub marks : Slots → List ℕ → Pair Ends → List ℕ
+marks slots p q = marked (length slots) p (slotOf slots (keyOf q)) (leftAt (some (q .value)))
 
 -- k is the slot of the key that begins s
-abbrev pub SlotIs : List (List ℕ) → List ℕ → ℕ → Type 0
-SlotIs names s k = Whatever s λ d t r. k ≡ slotOf names (keyKind (kind t))
+abbrev pub SlotIs : Slots → List ℕ → ℕ → Type 0
+SlotIs slots s k = Whatever s λ d t r. k ≡ slotOf slots (keyKind (kind t))
 
 -- the item t is read at the part of s where `left` bytes are left
 pub record Stands (d : ℕ) (s : List ℕ) (left : ℕ) (t : Node Ends) : Type 0 where

@@ -1,7 +1,10 @@
-// The file frame (document 01): magic at both ends, the manifest's size before the last, and where the manifest starts.
+// The file frame (document 01): magic at both ends, the manifest's size before the last, and where the manifest starts. In layout 1.0 the size stands last.
 ghost use mathlib.Core.Path.{_≡_};
+ghost use Prim.Native.Nat.{_+_, _-_, _≤_};
+ghost use lib.ListN.{length, drop};
+ghost use Rattle.meaning.specs.Text.{same};
+ghost use Rattle.meaning.specs.Layouts.{layoutOf};
 ghost use Rattle.meaning.specs.Frame as meant;
-ghost use Rattle.meaning.specs.Layouts as layouts;
 ghost use Rattle.frame.specs.Told as spec;
 
 // The manifest's start and size, or the refusal.
@@ -10,30 +13,52 @@ pub enum Framed {
     At(usize, usize),
 }
 
+// How far before the end the size begins; eight bytes more is the least length of a file.
+fn size_back(layout: u64) -> usize
+    ensures { λ r. ⌜ (r ≡ layoutOf layout .sizeBack) × (r + 8 ≡ layoutOf layout .least) × (r ≤ 16) × (8 ≤ r) ⌝ }
+{
+    if layout == 1 {
+        return 8;
+    }
+    16
+}
+
+// The file ends as it must: with the magic, or in layout 1.0 anyhow.
+fn footed(layout: u64, file: &[u8]) -> bool
+    requires { ⌜ 16 ≤ length (now file) ⌝ }
+    ensures { λ r. ⌜ r ≡ same (layoutOf layout .footer) (drop (length (now (file .entry)) - length (layoutOf layout .footer)) (now (file .entry))) ⌝ }
+{
+    if layout == 1 {
+        return true;
+    }
+    let last = file.len() - 8;
+    text::is_magic(&file[last..])
+}
+
 // The frame of a file.
-pub fn frame(file: &[u8]) -> Framed
-    ensures { λ r. ⌜ meant.frame layouts.current (now (file .entry)) ≡ spec.told r ⌝ }
+pub fn frame(layout: u64, file: &[u8]) -> Framed
+    ensures { λ r. ⌜ meant.frame (layoutOf layout) (now (file .entry)) ≡ spec.told r ⌝ }
 {
     let n = file.len();
-    if n < 24 {
+    let back = size_back(layout);
+    if n < back + 8 {
         return Framed::No(1);
     }
     if !text::is_magic(&file[0..8]) {
         return Framed::No(2);
     }
-    let last = n - 8;
-    if !text::is_magic(&file[last..]) {
+    if !footed(layout, &file[0..]) {
         return Framed::No(3);
     }
-    let at = n - 16;
-    let size = text::little(&file[at..last]);
+    let at = n - back;
+    let size = text::little(&file[at..at + 8]);
     if 16_777_216 < size {
         return Framed::No(4);
     }
     if size == 0 {
         return Framed::No(5);
     }
-    if ((n - 24) as u64) < size {
+    if ((at - 8) as u64) < size {
         return Framed::No(5);
     }
     Framed::At(at - size as usize, size as usize)

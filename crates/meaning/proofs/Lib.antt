@@ -16,6 +16,7 @@ pub mod CurrentIsBase
 pub mod OldIs001
 pub mod SameReading
 pub mod LateCode
+pub mod WhichLayout
 pub mod AcceptedModel
 pub mod DropFields
 pub mod Entries

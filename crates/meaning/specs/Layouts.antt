@@ -1,10 +1,11 @@
 -- A layout of .zt files as data: document 01's own (1.2.0, document 000) and that of document 001 (1.0). What the two share stands in the judgement; here is all in which they differ.
 use Prim.Native.Nat.{ℕ}
 use mathlib.Core.List.{List, [], _∷_, map}
-use mathlib.Core.Bool.{Bool, true}
+use mathlib.Core.Bool.{true, cond}
 use mathlib.Core.Option.{Option, none, some}
 use mathlib.Core.Path.{_≡_, refl, sym}
 use lib.ListN.{length, getD, length-map}
+use lib.Dec.{eqb}
 use Rattle.meaning.specs.Text.{ascii, distinct}
 use Rattle.meaning.specs.Types.{storages}
 
@@ -39,6 +40,11 @@ pub record Layout : Type 0 where
   -- no name twice in a list
   pub rootApart : distinct (somes root) ≡ true
   pub objectApart : distinct (somes object) ≡ true
+  pub componentApart : distinct (somes component) ≡ true
+  -- as many places in every layout
+  pub rootPlaces : length root ≡ 3
+  pub objectPlaces : length object ≡ 5
+  pub componentPlaces : length component ≡ 7
 
 -- places that the judgement and the dropping name
 abbrev pub versionAt : ℕ
@@ -84,6 +90,10 @@ current = record {
   allNamed = length-map storages (λ s. s .called);
   rootApart = refl;
   objectApart = refl;
+  componentApart = refl;
+  rootPlaces = refl;
+  objectPlaces = refl;
+  componentPlaces = refl;
 }
 
 -- 1.0: no footer; the dtype stands on the object, which is called a tensor, under its long name
@@ -101,4 +111,12 @@ old = record {
   allNamed = sym thirteen;
   rootApart = refl;
   objectApart = refl;
+  componentApart = refl;
+  rootPlaces = refl;
+  objectPlaces = refl;
+  componentPlaces = refl;
 }
+
+-- the layout that a caller's number names: 1 is 1.0, every other number is 1.2.0
+unfoldable pub layoutOf : ℕ → Layout
+layoutOf n = cond (eqb n 1) old current

@@ -4,3 +4,4 @@ pub mod Sound
 pub mod Verdicts
 pub mod Looping
 pub mod Walks
+pub mod Tensors

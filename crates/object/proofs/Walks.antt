@@ -4,6 +4,7 @@ use mathlib.Core.List.{List}
 use mathlib.Core.Path.{_≡_, refl, subst}
 use borrow.Rule.Slice.PartAt.{part-to-end}
 use Rattle.meaning.specs.Field.{objectFields, fields}
+use Rattle.meaning.specs.Layouts.{layoutOf}
 use Rattle.meaning.specs.Judge as judge
 use Rattle.walk.specs.Places.{MapIs}
 use Rattle.walk.specs.declared.Opening.{Opening}
@@ -15,14 +16,14 @@ use Rattle.object.specs.declared.Judged.{Judged}
 use Rattle.object.specs.declared.Judged.the-variants.{No}
 use Rattle.object.specs.Verdict.{VerdictIs, ObjectIs, Walked}
 
-module _ (c : List ℕ) (start : ℕ) (x : Opening) (h : MapIs (Here c 0) x) where
-  pub no-map : x ≡ NotOpen → ObjectIs c start (No 8 0)
+module _ (layout : ℕ) (c : List ℕ) (start : ℕ) (x : Opening) (h : MapIs (Here c 0) x) where
+  pub no-map : x ≡ NotOpen → ObjectIs (layoutOf layout) c start (No 8 0)
   unfolding judge.object objectFields fields
   no-map e t q r n = rw (opens.opening c x h NotOpen e 29 t q r) refl
 
-  pub entries-judged : (mode count size : ℕ) → x ≡ Opened mode count size → (p : List ℕ) (found : Found) (rows : List ℕ) → Walked start mode count (Here c size) p found rows
-      → (v : Judged) → VerdictIs (Here c size) p found rows v → ObjectIs c start v
+  pub entries-judged : (mode count size : ℕ) → x ≡ Opened mode count size → (p : List ℕ) (found : Found) (rows : List ℕ) → Walked layout start mode count (Here c size) p found rows
+      → (v : Judged) → VerdictIs layout (Here c size) start p found rows v → ObjectIs (layoutOf layout) c start v
   entries-judged mode count size is p found rows walked v judged t q r n =
       let m = opens.opened c x h mode count size is .trees 29 t q r in
-      let w = subst (λ u. Walked start mode count u p found rows) (part-to-end c size) walked .notes (m .pairs) (m .last) (m .due) in
-      subst (λ u. VerdictIs u p found rows v) (part-to-end c size) judged start (m .pairs) (m .last) (m .due .chain) w t (m .kind-is) n
+      let w = subst (λ u. Walked layout start mode count u p found rows) (part-to-end c size) walked .notes (m .pairs) (m .last) (m .due) in
+      subst (λ u. VerdictIs layout u start p found rows v) (part-to-end c size) judged (m .pairs) (m .last) (m .due .chain) w t (m .kind-is) n

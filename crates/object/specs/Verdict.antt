@@ -1,29 +1,29 @@
 -- An object's judgement in pieces, one for each function, and what the whole walk answers.
-use Prim.Native.Nat.{ℕ, suc, _*_, _≤_}
+use Prim.Native.Nat.{ℕ, suc, _*_, _≤_, _<_}
 use mathlib.Core.List.{List, map}
-use mathlib.Core.Bool.{cond}
+use mathlib.Core.Bool.{Bool, cond, not, _&&_, _||_}
 use mathlib.Core.Option.{Option, none}
 use mathlib.Core.Path.{_≡_}
 use lib.ListN.{length, getD, take}
 use lib.Dec.{eqb}
 use Rattle.meaning.specs.Tree.{Node, Pair}
 use Rattle.meaning.specs.Check.{Check, pass, refuse, _>>=_, _>>_, optional}
-use Rattle.meaning.specs.Text.{ascii}
 use Rattle.meaning.specs.Notes.{mapCheck}
 use Rattle.meaning.specs.Refusal.{KEY, TWICE, MISSING}
 use Rattle.meaning.specs.Limit.{componentLimit}
 use Rattle.meaning.specs.Model.{Word, Object}
 use Rattle.meaning.specs.Kind.{kind, table, aText}
-use Rattle.meaning.specs.Layouts.{objectNames, current}
+use Rattle.meaning.specs.Layouts.{Layout, layoutOf}
 use Rattle.meaning.specs.Format.{Part, formatRules}
-use Rattle.meaning.specs.Judge.{attributesOf, shapeOf, componentsOf, part, object}
+use Rattle.meaning.specs.Judge.{inherited, aDtype, attributesOf, shapeOf, componentsOf, part, object}
 use Rattle.types.specs.Known.{position, formatNames}
 use Rattle.walk.specs.Reading.{Ends, Reads, Chain}
 use Rattle.fields.specs.Slots.{Stands, Holds}
 use Rattle.fields.specs.Keeping as keeping
 use Rattle.formats.specs.Parts.{partRows}
 use Rattle.components.specs.declared.Found.{Found}
-use Rattle.components.specs.Firsts.{FoundIs}
+use Rattle.components.specs.Firsts.{FoundIs, offered, Whichever}
+use Rattle.component.specs.Value.{given}
 use Rattle.object.specs.declared.Judged.{Judged}
 use Rattle.object.specs.declared.Judged.the-variants.{No, Yes}
 use Rattle.object.specs.declared.place.Coded.{Coded}
@@ -31,14 +31,19 @@ use Rattle.object.specs.declared.judge.Fine.{Fine}
 use Rattle.object.specs.declared.judge.Fine.the-variants.{No as Bad, Yes as Good}
 use Rattle.object.specs.Place.{coded, formatCode}
 
+-- a dtype is missing where `left` bytes are left at it; only a 1.0 tensor needs one
+unfoldable pub lacksDtype : ℕ → ℕ → Bool
+lacksDtype layout left = eqb layout 1 && eqb left 0
+
 -- keys, repeats, missing fields: what the slots say
-unfoldable pub known : List ℕ → Fine
-known p =
-    cond (eqb (getD p 5 0) 0)
-    (cond (eqb (getD p 6 0) 0)
-    (cond (eqb (getD p 0 0) 0) (Bad MISSING)
+unfoldable pub known : ℕ → List ℕ → Fine
+known layout p =
+    cond (eqb (getD p 6 0) 0)
+    (cond (eqb (getD p 7 0) 0)
+    (cond (lacksDtype layout (getD p 0 0)) (Bad MISSING)
     (cond (eqb (getD p 1 0) 0) (Bad MISSING)
-    (cond (eqb (getD p 3 0) 0) (Bad MISSING) Good)))
+    (cond (eqb (getD p 2 0) 0) (Bad MISSING)
+    (cond (eqb (getD p 4 0) 0) (Bad MISSING) Good))))
     (Bad TWICE))
     (Bad KEY)
 
@@ -79,48 +84,76 @@ judged (refuse n o c) = No n c
 
 -- the fields of an object that has all it needs, and where they stand
 pub record Fields : Type 0 where
+  pub dtype : Option (Node Ends)
   pub shape : Node Ends
   pub format : Node Ends
   pub attributes : Option (Node Ends)
   pub components : Node Ends
 
-pub record Standing (s p : List ℕ) (f : Fields) : Type 0 where
-  pub shape : Stands 29 s (getD p 0 0) (f .shape)
-  pub format : Stands 29 s (getD p 1 0) (f .format)
-  pub attributes : Holds 29 s (getD p 2 0) (f .attributes)
+pub record Standing (layout : ℕ) (s p : List ℕ) (f : Fields) : Type 0 where
+  pub dtype : Holds 29 s (getD p 0 0) (f .dtype)
+  pub shape : Stands 29 s (getD p 1 0) (f .shape)
+  pub format : Stands 29 s (getD p 2 0) (f .format)
+  pub attributes : Holds 29 s (getD p 3 0) (f .attributes)
+  pub components : Stands 29 s (getD p 4 0) (f .components)
+  -- a dtype stands on the object in layout 1.0, and nowhere else
+  pub tensor : layout ≡ 1 → f .dtype ≡ none → ⊥
+  pub plain : (layout ≡ 1 → ⊥) → f .dtype ≡ none
 
-unfoldable pub sound : ℕ → Word Ends → Fields → Check (Object Ends)
-sound start n f = do
+-- the fields from the shape on, with the code that a dtype on the object gives
+unfoldable pub shaped : Layout → ℕ → Word Ends → Fields → Option ℕ → Check (Object Ends)
+shaped L start n f code = do
   s ← shapeOf (f .shape)
   d ← described (f .format) (f .attributes)
-  cs ← componentsOf current start (λ r. none) (f .components)
+  cs ← componentsOf L start (inherited (d .format .letters) code) (f .components)
   formatRules (d .format .letters) s (map part cs)
   pass (record { name = n; shape = s; format = d .format; attributes = d .attributes; components = cs })
 
-abbrev pub SoundIs : List ℕ → List ℕ → Found → List ℕ → Judged → Type 0
-SoundIs s p found rows r = (start : ℕ) (f : Fields) → Standing s p f → FoundIs (componentsOf current start (λ r. none) (f .components)) found rows → (n : Word Ends) → r ≡ judged (sound start n f)
+unfoldable pub sound : Layout → ℕ → Word Ends → Fields → Check (Object Ends)
+sound L start n f = do
+  code ← optional (aDtype L) (f .dtype)
+  shaped L start n f code
 
--- what was found in the components x, and the rows that were put
-abbrev pub Says : ℕ → Node Ends → Found × List ℕ → Type 0
-Says start x (found, rows) = FoundIs (componentsOf current start (λ r. none) x) found rows
+-- what was found in the components x and the rows that were put, where they are judged as they are met
+abbrev pub Says : ℕ → ℕ → Node Ends → Found × List ℕ → Type 0
+Says layout start x (found, rows) = (layout ≡ 1 → ⊥) → FoundIs (componentsOf (layoutOf layout) start (λ r. none) x) found rows
+
+-- what was found in the components x, which stand where `left` bytes of s are left, of an object with this format and code
+abbrev pub LateIs : ℕ → ℕ → ℕ → List ℕ → ℕ → ℕ → Found → List ℕ → Found → List ℕ → Type 0
+LateIs layout format code s start left found rows found′ rows′ =
+    (x : Node Ends) → Stands 29 s left x → Says layout start x (found, rows) → ((layout ≡ 1 → ⊥) → 13 ≤ code) → Whichever (offered layout format code) λ above.
+    FoundIs (componentsOf (layoutOf layout) start above x) found′ rows′
+
+abbrev pub ShapedIs : ℕ → ℕ → List ℕ → ℕ → List ℕ → Found → List ℕ → Judged → Type 0
+ShapedIs layout d s start p found rows r =
+    (f : Fields) → Standing layout s p f → Says layout start (f .components) (found, rows) → (layout ≡ 1 → d < 13) → ((layout ≡ 1 → ⊥) → 13 ≤ d)
+    → (n : Word Ends) → r ≡ judged (shaped (layoutOf layout) start n f (given d))
+
+abbrev pub SoundIs : ℕ → List ℕ → ℕ → List ℕ → Found → List ℕ → Judged → Type 0
+SoundIs layout s start p found rows r =
+    (f : Fields) → Standing layout s p f → Says layout start (f .components) (found, rows) → (n : Word Ends) → r ≡ judged (sound (layoutOf layout) start n f)
 
 -- what is noted of pairs: their slots, and what was found in their components
-abbrev pub Noted : ℕ → List ℕ → Found → List ℕ → List (Pair Ends) → Type 0
-Noted start p found rows = keeping.Noted objectNames (ascii "components") (Says start) p (found, rows)
+abbrev pub Noted : ℕ → ℕ → List ℕ → Found → List ℕ → List (Pair Ends) → Type 0
+Noted layout start p found rows = keeping.Noted (layoutOf layout .object) 5 4 (Says layout start) p (found, rows)
 
 -- for every map of the pairs that are read from s on, where this is noted of them
-abbrev pub VerdictIs : List ℕ → List ℕ → Found → List ℕ → Judged → Type 0
-VerdictIs s p found rows r =
-    (start : ℕ) (ps : List (Pair Ends)) (q : List ℕ) → Chain 29 s ps q → Noted start p found rows ps → (t : Node Ends) → kind t ≡ table ps → (n : Word Ends)
-    → r ≡ judged (object current start (record { name = n; value = t }))
+abbrev pub VerdictIs : ℕ → List ℕ → ℕ → List ℕ → Found → List ℕ → Judged → Type 0
+VerdictIs layout s start p found rows r =
+    (ps : List (Pair Ends)) (q : List ℕ) → Chain 29 s ps q → Noted layout start p found rows ps → (t : Node Ends) → kind t ≡ table ps → (n : Word Ends)
+    → r ≡ judged (object (layoutOf layout) start (record { name = n; value = t }))
 
-abbrev pub ObjectIs : List ℕ → ℕ → Judged → Type 0
-ObjectIs s start r = (t : Node Ends) (q : List ℕ) → Reads 30 s t q → (n : Word Ends) → r ≡ judged (object current start (record { name = n; value = t }))
+abbrev pub ObjectIs : Layout → List ℕ → ℕ → Judged → Type 0
+ObjectIs L s start r = (t : Node Ends) (q : List ℕ) → Reads 30 s t q → (n : Word Ends) → r ≡ judged (object L start (record { name = n; value = t }))
 
 -- what is noted of all pairs that are due at s
-pub record Walked (start mode count : ℕ) (s p : List ℕ) (found : Found) (rows : List ℕ) : Type 0 where
-  pub notes : keeping.Walked objectNames (ascii "components") (Says start) 29 mode count s p (found, rows)
+pub record Walked (layout start mode count : ℕ) (s p : List ℕ) (found : Found) (rows : List ℕ) : Type 0 where
+  pub notes : keeping.Walked (layoutOf layout .object) 5 4 (Says layout start) 29 mode count s p (found, rows)
+
+-- no components that are judged where they stand: another field, components again, or layout 1.0
+unfoldable pub waiting : ℕ → ℕ → ℕ → Bool
+waiting layout k seen = eqb layout 1 || (not (eqb k 4) || not (eqb seen 0))
 
 -- the value that begins c, whose key has slot k, where the slot of `components` holds `seen`: the first components are judged, any other value changes nothing
-abbrev pub ValueIs : ℕ → ℕ → ℕ → List ℕ → Found → List ℕ → Found → List ℕ → Type 0
-ValueIs start k seen c found rows found′ rows′ = keeping.ValueIs objectNames (ascii "components") (Says start) 29 k seen c (found, rows) (found′, rows′)
+abbrev pub ValueIs : ℕ → ℕ → ℕ → ℕ → List ℕ → Found → List ℕ → Found → List ℕ → Type 0
+ValueIs layout start k seen c found rows found′ rows′ = keeping.ValueIs (layoutOf layout .object) 5 4 (Says layout start) 29 k seen c (found, rows) (found′, rows′)

@@ -3,7 +3,9 @@ use crate::Judged;
 use crate::place::Coded;
 use crate::place::format_at;
 use crate::place::shape_at;
+use crate::place::tensor_at;
 use components::Found;
+use fields::place_of;
 use formats::Ruled;
 use shape::Shaped;
 ghost use mathlib.Core.Path.{_≡_};
@@ -16,24 +18,37 @@ pub enum Fine {
     Yes,
 }
 
-// Keys, repeats, missing fields.
-fn known(p: &[usize]) -> Fine
-    requires { ⌜ length (now p) ≡ 7 ⌝ }
-    ensures { λ r. ⌜ r ≡ is.known (now (p .entry)) ⌝ }
+// Is the dtype missing, where `left` bytes are left at it? Only a 1.0 tensor needs one.
+fn lacks_dtype(layout: u64, left: usize) -> bool
+    ensures { λ r. ⌜ r ≡ is.lacksDtype layout left ⌝ }
 {
-    if p[5] != 0 {
+    if layout == 1 {
+        return left == 0;
+    }
+    false
+}
+
+// Keys, repeats, missing fields.
+fn known(layout: u64, p: &[usize]) -> Fine
+    requires { ⌜ length (now p) ≡ 8 ⌝ }
+    ensures { λ r. ⌜ r ≡ is.known layout (now (p .entry)) ⌝ }
+{
+    if p[6] != 0 {
         return Fine::No(9);
     }
-    if p[6] != 0 {
+    if p[7] != 0 {
         return Fine::No(11);
     }
-    if p[0] == 0 {
+    if lacks_dtype(layout, p[0]) {
         return Fine::No(12);
     }
     if p[1] == 0 {
         return Fine::No(12);
     }
-    if p[3] == 0 {
+    if p[2] == 0 {
+        return Fine::No(12);
+    }
+    if p[4] == 0 {
         return Fine::No(12);
     }
     Fine::Yes
@@ -72,31 +87,89 @@ fn ruled(code: u64, dims: &[u64], rank: usize, rows: &[u64], m: usize) -> Judged
     }
 }
 
-// The fields that stand at the places in p, where none that is needed is missing.
-fn sound(s: &[u8], p: &[usize], found: Found, rows: &[u64]) -> Judged
-    requires { ⌜ (length (now p) ≡ 7) × (length (now rows) ≡ 64) ⌝ }
-    ensures { λ r. ⌜ is.SoundIs (now (s .entry)) (now (p .entry)) found (now (rows .entry)) r ⌝ }
+// What was found in the components; in layout 1.0 they are looked at now, where `left` bytes of s are left.
+fn late(
+    layout: u64,
+    format: u64,
+    code: u64,
+    s: &[u8],
+    start: u64,
+    left: usize,
+    found: Found,
+    rows: &mut [u64],
+) -> Found
+    requires { ⌜ length (now rows) ≡ 64 ⌝ }
+    ensures { λ r. ⌜ (length (now (rows .exit)) ≡ 64) × is.LateIs layout format code (now (s .entry)) start left found (now (rows .entry)) r (now (rows .exit)) ⌝ }
+{
+    if layout == 1 {
+        let at = place_of(s.len(), left);
+        let w = components::components(layout, format, code, &s[at..], start, rows);
+        return w.found;
+    }
+    found
+}
+
+// The fields that stand at the places in p, where none that is needed is missing, in an object whose dtype has this code, 13 for none.
+fn shaped(
+    layout: u64,
+    d: u64,
+    s: &[u8],
+    start: u64,
+    p: &[usize],
+    found: Found,
+    rows: &mut [u64],
+) -> Judged
+    requires { ⌜ (length (now p) ≡ 8) × (length (now rows) ≡ 64) ⌝ }
+    ensures { λ r. ⌜ is.ShapedIs layout d (now (s .entry)) start (now (p .entry)) found (now (rows .entry)) r ⌝ }
 {
     let mut dims = [0u64; 8];
-    match shape_at(&s[0..], p[0], &mut dims) {
+    match shape_at(&s[0..], p[1], &mut dims) {
         Shaped::No(n) => Judged::No(n, 0),
-        Shaped::Yes(rank) => match described(&s[0..], p[1], p[2]) {
+        Shaped::Yes(rank) => match described(&s[0..], p[2], p[3]) {
             Coded::No(n) => Judged::No(n, 0),
-            Coded::Yes(code) => match found {
-                Found::No(n, c) => Judged::No(n, c),
-                Found::Yes(m) => ruled(code, &dims, rank, &rows[0..], m),
-            },
+            Coded::Yes(code) => {
+                let f = late(layout, code, d, &s[0..], start, p[4], found, rows);
+                match f {
+                    Found::No(n, c) => Judged::No(n, c),
+                    Found::Yes(m) => ruled(code, &dims, rank, &rows[0..], m),
+                }
+            }
         },
     }
 }
 
-// The object whose entries begin s, from the slots p and its components.
-pub fn verdict(s: &[u8], p: &[usize], found: Found, rows: &[u64]) -> Judged
-    requires { ⌜ (length (now p) ≡ 7) × (length (now rows) ≡ 64) ⌝ }
-    ensures { λ r. ⌜ is.VerdictIs (now (s .entry)) (now (p .entry)) found (now (rows .entry)) r ⌝ }
+// The same, from the dtype on.
+fn sound(
+    layout: u64,
+    s: &[u8],
+    start: u64,
+    p: &[usize],
+    found: Found,
+    rows: &mut [u64],
+) -> Judged
+    requires { ⌜ (length (now p) ≡ 8) × (length (now rows) ≡ 64) ⌝ }
+    ensures { λ r. ⌜ is.SoundIs layout (now (s .entry)) start (now (p .entry)) found (now (rows .entry)) r ⌝ }
 {
-    match known(&p[0..]) {
+    match tensor_at(layout, &s[0..], p[0]) {
+        Coded::No(n) => Judged::No(n, 0),
+        Coded::Yes(d) => shaped(layout, d, &s[0..], start, &p[0..], found, rows),
+    }
+}
+
+// The object whose entries begin s, from the slots p and its components.
+pub fn verdict(
+    layout: u64,
+    s: &[u8],
+    start: u64,
+    p: &[usize],
+    found: Found,
+    rows: &mut [u64],
+) -> Judged
+    requires { ⌜ (length (now p) ≡ 8) × (length (now rows) ≡ 64) ⌝ }
+    ensures { λ r. ⌜ is.VerdictIs layout (now (s .entry)) start (now (p .entry)) found (now (rows .entry)) r ⌝ }
+{
+    match known(layout, &p[0..]) {
         Fine::No(n) => Judged::No(n, 0),
-        Fine::Yes => sound(&s[0..], &p[0..], found, &rows[0..]),
+        Fine::Yes => sound(layout, &s[0..], start, &p[0..], found, rows),
     }
 }

@@ -9,6 +9,7 @@ use pass::entries;
 use walk::Opening;
 ghost use mathlib.Core.Path.{_≡_};
 ghost use Rattle.cbor.specs.Ending.{code, itemEnd};
+ghost use Rattle.meaning.specs.Layouts.{layoutOf};
 ghost use Rattle.object.specs.Verdict.{ObjectIs};
 
 // A refusal number and the component, or how many components there are.
@@ -24,10 +25,10 @@ pub struct Whole {
 }
 
 // The object that begins s, at depth 3, of a file whose manifest begins at `start`.
-pub fn object(s: &[u8], start: u64) -> Whole
-    ensures { λ r. ⌜ (r .end ≡ code (itemEnd 30 (now (s .entry)))) × ObjectIs (now (s .entry)) start (r .verdict) ⌝ }
+pub fn object(layout: u64, s: &[u8], start: u64) -> Whole
+    ensures { λ r. ⌜ (r .end ≡ code (itemEnd 30 (now (s .entry)))) × ObjectIs (layoutOf layout) (now (s .entry)) start (r .verdict) ⌝ }
 {
-    let mut p = [0usize; 7];
+    let mut p = [0usize; 8];
     let mut rows = [0u64; 64];
     match walk::map(&s[0..]) {
         Opening::NotOpen => Whole {
@@ -35,9 +36,9 @@ pub fn object(s: &[u8], start: u64) -> Whole
             verdict: Judged::No(8, 0),
         },
         Opening::Opened(mode, count, size) => {
-            let w = entries(&s[size..], start, mode, count, &mut p, &mut rows);
+            let w = entries(layout, &s[size..], start, mode, count, &mut p, &mut rows);
             let found = w.found;
-            let v = verdict(&s[size..], &p, found, &rows);
+            let v = verdict(layout, &s[size..], start, &p, found, &mut rows);
             if s.len() - size < w.end {
                 return Whole {
                     end: w.end,

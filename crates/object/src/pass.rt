@@ -6,45 +6,65 @@ use walk::Letters;
 ghost use mathlib.Core.Path.{_≡_};
 ghost use Prim.Native.Nat.{_≤_};
 ghost use lib.ListN.{length, replicate};
-ghost use Rattle.meaning.specs.Layouts.{objectNames};
+ghost use Rattle.meaning.specs.Layouts.{layoutOf};
 ghost use Rattle.cbor.specs.Ending.{code, itemEnd, rest};
 ghost use Rattle.walk.proofs.Turns.{Modes};
 ghost use Rattle.fields.specs.Slots.{SlotIs};
-ghost use Rattle.object.specs.Verdict.{Walked, ValueIs};
+ghost use Rattle.object.specs.Verdict.{waiting, Walked, ValueIs};
 
 // The slot of the key that begins s.
-fn slot(s: &[u8]) -> usize
-    ensures { λ r. ⌜ (r ≤ 5) × SlotIs objectNames (now (s .entry)) r ⌝ }
+fn slot(layout: u64, s: &[u8]) -> usize
+    ensures { λ r. ⌜ (r ≤ 6) × SlotIs (layoutOf layout .object) (now (s .entry)) r ⌝ }
 {
     match walk::text(&s[0..]) {
-        Letters::NoText => 5,
+        Letters::NoText => 6,
         Letters::Text(at, n) => {
             let e = at + n;
-            types::object_key(&s[at..e])
+            types::object_key(layout, &s[at..e])
         }
     }
 }
 
-// The value that begins c, whose key has slot k. The first components (slot 3 still holds 0, which is `seen`) are judged and their rows put; with any other
-// value, what was found before stays.
-fn value(c: &[u8], start: u64, k: usize, seen: usize, found: Found, rows: &mut [u64]) -> Whole
-    requires { ⌜ length (now rows) ≡ 64 ⌝ }
-    ensures { λ r. ⌜ (r .end ≡ code (itemEnd 29 (now (c .entry)))) × (length (now (rows .exit)) ≡ 64) × ValueIs start k seen (now (c .entry)) found (now (rows .entry)) (r .found) (now (rows .exit)) ⌝ }
+// No components that are judged where they stand: another field, components again, or layout 1.0.
+fn waits(layout: u64, k: usize, seen: usize) -> bool
+    ensures { λ r. ⌜ r ≡ waiting layout k seen ⌝ }
 {
-    if k == 3 {
-        if seen == 0 {
-            return components::components(&c[0..], start, rows);
-        }
+    if layout == 1 {
+        return true;
     }
-    Whole {
-        end: cbor::skip(&c[0..], 29),
-        found: found,
+    if k == 4 {
+        return seen != 0;
     }
+    true
+}
+
+// The value that begins c, whose key has slot k. The first components (slot 4 still holds 0, which is `seen`) are judged and their rows put; with any other
+// value, what was found before stays. In layout 1.0 components wait for their tensor's dtype.
+fn value(
+    layout: u64,
+    c: &[u8],
+    start: u64,
+    k: usize,
+    seen: usize,
+    found: Found,
+    rows: &mut [u64],
+) -> Whole
+    requires { ⌜ length (now rows) ≡ 64 ⌝ }
+    ensures { λ r. ⌜ (r .end ≡ code (itemEnd 29 (now (c .entry)))) × (length (now (rows .exit)) ≡ 64) × ValueIs layout start k seen (now (c .entry)) found (now (rows .entry)) (r .found) (now (rows .exit)) ⌝ }
+{
+    if waits(layout, k, seen) {
+        return Whole {
+            end: cbor::skip(&c[0..], 29),
+            found: found,
+        };
+    }
+    components::components(layout, 4, 13, &c[0..], start, rows)
 }
 
 // Entries that begin s, counted as `walk::map` says: where they end, and what was found in the components. The places of the known fields are left in p, the
 // components' rows in rows.
 pub fn entries(
+    layout: u64,
     s: &[u8],
     start: u64,
     mode: u64,
@@ -52,8 +72,8 @@ pub fn entries(
     p: &mut [usize],
     rows: &mut [u64],
 ) -> Whole
-    requires { ⌜ (now p ≡ replicate 7 0) × (length (now rows) ≡ 64) × Modes mode count ⌝ }
-    ensures { λ r. ⌜ (r .end ≡ code (rest mode count 29 (now (s .entry)))) × Walked start mode count (now (s .entry)) (now (p .exit)) (r .found) (now (rows .exit)) ⌝ }
+    requires { ⌜ (now p ≡ replicate 8 0) × (length (now rows) ≡ 64) × Modes mode count ⌝ }
+    ensures { λ r. ⌜ (r .end ≡ code (rest mode count 29 (now (s .entry)))) × Walked layout start mode count (now (s .entry)) (now (p .exit)) (r .found) (now (rows .exit)) ⌝ }
 {
     let mut at = 0;
     let mut due = count;
@@ -74,8 +94,8 @@ pub fn entries(
             }
             Entry::Value(k) => {
                 let v = at + k;
-                let j = slot(&s[at..]);
-                let w = value(&s[v..], start, j, p[3], found, rows);
+                let j = slot(layout, &s[at..]);
+                let w = value(layout, &s[v..], start, j, p[4], found, rows);
                 let e = w.end;
                 found = w.found;
                 if s.len() - v < e {
@@ -84,7 +104,7 @@ pub fn entries(
                         found: found,
                     };
                 }
-                fields::mark(p, 4, j, s.len() - v);
+                fields::mark(p, 5, j, s.len() - v);
                 at = v + e;
                 due -= 2;
             }

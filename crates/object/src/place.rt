@@ -4,6 +4,7 @@ use shape::Shaped;
 use walk::Letters;
 ghost use mathlib.Core.Path.{_≡_};
 ghost use lib.ListN.{length};
+ghost use Rattle.meaning.specs.Layouts.{layoutOf};
 ghost use Rattle.object.specs.Place as is;
 
 // The format's code (types::format_code), or a refusal.
@@ -43,4 +44,32 @@ pub fn format_at(s: &[u8], left: usize) -> Coded
 {
     let at = place_of(s.len(), left);
     format_of(&s[at..])
+}
+
+// The storage that a tensor's dtype names, at the start of s.
+fn tensor_of(layout: u64, s: &[u8]) -> Coded
+    ensures { λ r. ⌜ is.TensorIs (layoutOf layout) (now (s .entry)) r ⌝ }
+{
+    match walk::text(&s[0..]) {
+        Letters::NoText => Coded::No(8),
+        Letters::Text(at, n) => {
+            let e = at + n;
+            let code = types::dtype_code(layout, &s[at..e]);
+            if code < 13 {
+                return Coded::Yes(code);
+            }
+            Coded::No(16)
+        }
+    }
+}
+
+// The dtype of a 1.0 tensor, where `left` bytes are left; 13 where there is none.
+pub fn tensor_at(layout: u64, s: &[u8], left: usize) -> Coded
+    ensures { λ r. ⌜ is.TensorAt (layoutOf layout) (now (s .entry)) left r ⌝ }
+{
+    if left == 0 {
+        return Coded::Yes(13);
+    }
+    let at = place_of(s.len(), left);
+    tensor_of(layout, &s[at..])
 }

@@ -11,10 +11,12 @@ use lib.Dec.{eqb, leb}
 use borrow.Author.Tests.{leb-true, eqb-true, eqb-false}
 use borrow.Rule.Slice.PartAt.{part-to-end}
 use Rattle.meaning.specs.Text.{same, all}
+use Rattle.meaning.specs.Layouts.{Slots, somes, Layout, thirteen, rootNames, objectNames, componentNames, current, old, layoutOf}
 use Rattle.meaning.specs.Types.{Storage, storages, codeFrom, storageOf, widthOf, Logical, logicals, listed, fitsOver, ratioOf}
+use Rattle.meaning.proofs.WhichLayout.{is-old, is-current}
 use Rattle.types.specs.Row.{digitOf}
 use Rattle.types.proofs.Tagged.{both-left, both-right}
-use Rattle.types.specs.Known.{position, codeOr, unitNumber, dtypeCode, storageNames, logicalNames}
+use Rattle.types.specs.Known.{fieldAt, placeOfName, position, codeOr, unitNumber, dtypeCode, storageNames, logicalNames}
 
 pub position-most : (ns : List (List ℕ)) (k : List ℕ) → position ns k ≤ length ns
 unfolding position
@@ -22,6 +24,33 @@ position-most [] k = omega arith
 position-most (n ∷ ns) k = go (same n k) (position-most ns k)
   where
     go : (t : Bool) → position ns k ≤ length ns → cond t 0 (suc (position ns k)) ≤ suc (length ns)
+    go true h = omega arith
+    go false h = omega arith
+
+-- the place of a field, from its index among the names that are there
+pub place-of-name : (ns : Slots) (k : List ℕ) → placeOfName ns (position (somes ns) k) ≡ fieldAt ns k
+unfolding placeOfName position fieldAt
+place-of-name [] k = refl
+place-of-name (none ∷ ns) k = ap suc (place-of-name ns k)
+place-of-name (some n ∷ ns) k = go (same n k) (place-of-name ns k)
+  where
+    go : (t : Bool) → placeOfName ns (position (somes ns) k) ≡ fieldAt ns k → placeOfName (some n ∷ ns) (cond t 0 (suc (position (somes ns) k))) ≡ cond t 0 (suc (fieldAt ns k))
+    go true h = refl
+    go false h = ap suc h
+
+-- where every place has its name
+pub all-named : (ns : List (List ℕ)) (k : List ℕ) → position ns k ≡ fieldAt (map some ns) k
+unfolding position fieldAt
+all-named [] k = refl
+all-named (n ∷ ns) k = ap (λ (r : ℕ). cond (same n k) 0 (suc r)) (all-named ns k)
+
+pub field-most : (ns : Slots) (k : List ℕ) → fieldAt ns k ≤ length ns
+unfolding fieldAt
+field-most [] k = omega arith
+field-most (none ∷ ns) k = let h = field-most ns k in omega arith
+field-most (some n ∷ ns) k = go (same n k) (field-most ns k)
+  where
+    go : (t : Bool) → fieldAt ns k ≤ length ns → cond t 0 (suc (fieldAt ns k)) ≤ suc (length ns)
     go true h = omega arith
     go false h = omega arith
 
@@ -75,6 +104,58 @@ below-at f (suc n) e i h = go (eqb i n) refl (below-at f n (both-right (f n) (be
 pub digits : (f : ℕ → ℕ) (table n : ℕ) → below (λ i. eqb (digitOf table i) (f i)) n ≡ true → (i : ℕ) → i < n → digitOf table i ≡ f i
 digits f table n e i h = eqb-true (digitOf table i) (f i) (below-at (λ i. eqb (digitOf table i) (f i)) n e i h)
 
+-- ---------------------------------------------------------------- the fields of a layout
+
+thirteen-named : (L : Layout) → length (L .dtypes) ≡ 13
+thirteen-named L = L .allNamed ∙ thirteen
+
+pub storage-is : (L : Layout) (k : List ℕ) (r : ℕ) → r ≡ position (L .dtypes) k → r ≡ dtypeCode L k
+unfolding dtypeCode
+storage-is L k r e =
+    let n : 0 + length (L .dtypes) ≡ 13 = omega (arith, thirteen-named L) in
+    let x : codeOr 13 (codeFrom 0 (L .dtypes) k) ≡ 0 + position (L .dtypes) k = ap (λ (m : ℕ). codeOr m (codeFrom 0 (L .dtypes) k)) (sym n) ∙ code-position k 0 (L .dtypes) in
+    omega (arith, x, e)
+
+module _ (n : ℕ) (k : List ℕ) where
+  module _ (is : n ≡ 1) where
+    pub old-root : (r : ℕ) → r ≡ position (somes (old .root)) k → r ≡ fieldAt (layoutOf n .root) k
+    unfolding old
+    old-root r e = e ∙ all-named (somes (old .root)) k ∙ ap (λ L. fieldAt (L .root) k) (sym (is-old n is))
+
+    pub old-object : (i r table : ℕ) → i ≡ position (somes (old .object)) k → r ≡ digitOf table i
+        → below (λ i. eqb (digitOf table i) (placeOfName (old .object) i)) (suc (length (somes (old .object)))) ≡ true → r ≡ fieldAt (layoutOf n .object) k
+    old-object i r table e d t =
+        let m = position-most (somes (old .object)) k in
+        d ∙ digits (placeOfName (old .object)) table (suc (length (somes (old .object)))) t i (omega (arith, m, e))
+        ∙ ap (placeOfName (old .object)) e ∙ place-of-name (old .object) k ∙ ap (λ L. fieldAt (L .object) k) (sym (is-old n is))
+
+    pub old-component : (i r table : ℕ) → i ≡ position (somes (old .component)) k → r ≡ digitOf table i
+        → below (λ i. eqb (digitOf table i) (placeOfName (old .component) i)) (suc (length (somes (old .component)))) ≡ true → r ≡ fieldAt (layoutOf n .component) k
+    old-component i r table e d t =
+        let m = position-most (somes (old .component)) k in
+        d ∙ digits (placeOfName (old .component)) table (suc (length (somes (old .component)))) t i (omega (arith, m, e))
+        ∙ ap (placeOfName (old .component)) e ∙ place-of-name (old .component) k ∙ ap (λ L. fieldAt (L .component) k) (sym (is-old n is))
+
+    pub old-dtype : (r : ℕ) → r ≡ position (old .dtypes) k → r ≡ dtypeCode (layoutOf n) k
+    old-dtype r e = storage-is old k r e ∙ ap (λ L. dtypeCode L k) (sym (is-old n is))
+
+  module _ (other : n ≡ 1 → ⊥) where
+    pub new-root : (r : ℕ) → r ≡ position rootNames k → r ≡ fieldAt (layoutOf n .root) k
+    unfolding current
+    new-root r e = e ∙ all-named rootNames k ∙ ap (λ L. fieldAt (L .root) k) (sym (is-current n other))
+
+    pub new-object : (r : ℕ) → r ≡ position objectNames k → r + 1 ≡ fieldAt (layoutOf n .object) k
+    unfolding current fieldAt
+    new-object r e = let h : r + 1 ≡ suc r = omega arith in h ∙ ap suc (e ∙ all-named objectNames k) ∙ ap (λ L. fieldAt (L .object) k) (sym (is-current n other))
+
+    pub new-component : (r : ℕ) → r ≡ position componentNames k → r ≡ fieldAt (layoutOf n .component) k
+    unfolding current
+    new-component r e = e ∙ all-named componentNames k ∙ ap (λ L. fieldAt (L .component) k) (sym (is-current n other))
+
+    pub new-dtype : (r : ℕ) → r ≡ position storageNames k → r ≡ dtypeCode (layoutOf n) k
+    unfolding current
+    new-dtype r e = storage-is current k r e ∙ ap (λ L. dtypeCode L k) (sym (is-current n other))
+
 -- ---------------------------------------------------------------- the tables of document 01
 
 pub one-name : (n k : List ℕ) (r : ℕ) → r ≡ position (n ∷ []) k → eqb r 0 ≡ same n k
@@ -84,10 +165,6 @@ one-name n k r e = rw e (go (same n k))
     go : (t : Bool) → eqb (cond t 0 (suc 0)) 0 ≡ t
     go true = refl
     go false = refl
-
-pub storage-is : (k : List ℕ) (r : ℕ) → r ≡ position storageNames k → r ≡ dtypeCode k
-unfolding storages dtypeCode
-storage-is k r e = let x = code-position k 0 storageNames in omega arith
 
 code-below : (k : List ℕ) (i : ℕ) (ss : List (List ℕ)) (c : ℕ) → codeFrom i ss k ≡ some c → c < i + length ss
 unfolding codeFrom
@@ -99,26 +176,27 @@ code-below k i (s ∷ ss) c e = go (same s k) e (code-below k (suc i) ss c)
     go false p ih = let x = ih p in omega arith
 
 -- for those who ask for a dtype: what the code says of meaning's `codeFrom`
-module _ (k : List ℕ) where
-  pub dtype-known : (c : ℕ) → c ≡ dtypeCode k → c < 13 → codeFrom 0 storageNames k ≡ some c
+module _ (L : Layout) (k : List ℕ) where
+  pub dtype-known : (c : ℕ) → c ≡ dtypeCode L k → c < 13 → codeFrom 0 (L .dtypes) k ≡ some c
   unfolding dtypeCode codeOr
-  dtype-known c e h = go (codeFrom 0 storageNames k) refl
+  dtype-known c e h = go (codeFrom 0 (L .dtypes) k) refl
     where
-      go : (o : Option ℕ) → codeFrom 0 storageNames k ≡ o → o ≡ some c
-      go none p = let x : codeOr 13 (codeFrom 0 storageNames k) ≡ 13 = rw p in absurd (omega arith)
-      go (some d) p = let x : codeOr 13 (codeFrom 0 storageNames k) ≡ d = rw p in ap (λ (n : ℕ). some n) (let y : d ≡ c = omega arith in y)
+      go : (o : Option ℕ) → codeFrom 0 (L .dtypes) k ≡ o → o ≡ some c
+      go none p = let x : codeOr 13 (codeFrom 0 (L .dtypes) k) ≡ 13 = rw p in absurd (omega arith)
+      go (some d) p = let x : codeOr 13 (codeFrom 0 (L .dtypes) k) ≡ d = rw p in ap (λ (n : ℕ). some n) (let y : d ≡ c = omega arith in y)
 
-  pub dtype-none : 13 ≡ dtypeCode k → codeFrom 0 storageNames k ≡ none
-  unfolding storages dtypeCode codeOr
-  dtype-none e = go (codeFrom 0 storageNames k) refl
+  pub dtype-none : 13 ≡ dtypeCode L k → codeFrom 0 (L .dtypes) k ≡ none
+  unfolding dtypeCode codeOr
+  dtype-none e = go (codeFrom 0 (L .dtypes) k) refl
     where
-      go : (o : Option ℕ) → codeFrom 0 storageNames k ≡ o → o ≡ none
+      go : (o : Option ℕ) → codeFrom 0 (L .dtypes) k ≡ o → o ≡ none
       go none p = refl
-      go (some d) p = let x : codeOr 13 (codeFrom 0 storageNames k) ≡ d = rw p in let y = code-below k 0 storageNames d p in absurd (omega arith)
+      go (some d) p =
+          let x : codeOr 13 (codeFrom 0 (L .dtypes) k) ≡ d = rw p in let y = code-below k 0 (L .dtypes) d p in let n = thirteen-named L in
+          absurd (omega (arith, x, y, n, e))
 
-  pub dtype-most : dtypeCode k ≤ 13
-  unfolding storages
-  dtype-most = let x = storage-is k (position storageNames k) refl in let y = position-most storageNames k in omega arith
+  pub dtype-most : dtypeCode L k ≤ 13
+  dtype-most = let x = storage-is L k (position (L .dtypes) k) refl in let y = position-most (L .dtypes) k in let n = thirteen-named L in omega (arith, x, y, n)
 
 pub width-is : (c : ℕ) → getD (map (λ s. s .width) storages) c 0 ≡ widthOf c
 unfolding widthOf storageOf

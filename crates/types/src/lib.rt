@@ -10,26 +10,37 @@ ghost use Rattle.meaning.specs.Text as text;
 ghost use Rattle.meaning.specs.Types as types;
 
 // The field of the root that k names, 3 for none.
-pub fn root_key(k: &[u8]) -> usize
-    ensures { λ r. ⌜ r ≡ known.position layouts.rootNames (now (k .entry)) ⌝ }
+pub fn root_key(layout: u64, k: &[u8]) -> usize
+    ensures { λ r. ⌜ r ≡ known.fieldAt (layouts.layoutOf layout .root) (now (k .entry)) ⌝ }
 {
     let w = row::words_of(&k[0..]);
+    if layout == 1 {
+        return row::found(&tables::OLD_ROOT, w.a, w.b, w.c);
+    }
     row::found(&tables::ROOT, w.a, w.b, w.c)
 }
 
-// The field of an object that k names, 4 for none.
-pub fn object_key(k: &[u8]) -> usize
-    ensures { λ r. ⌜ r ≡ known.position layouts.objectNames (now (k .entry)) ⌝ }
+// The field of an object that k names, 5 for none.
+pub fn object_key(layout: u64, k: &[u8]) -> usize
+    ensures { λ r. ⌜ r ≡ known.fieldAt (layouts.layoutOf layout .object) (now (k .entry)) ⌝ }
 {
     let w = row::words_of(&k[0..]);
-    row::found(&tables::OBJECT, w.a, w.b, w.c)
+    if layout == 1 {
+        let i = row::found(&tables::OLD_OBJECT, w.a, w.b, w.c);
+        return row::digit(tables::OLD_OBJECT_PLACES, i as u64) as usize;
+    }
+    row::found(&tables::OBJECT, w.a, w.b, w.c) + 1
 }
 
 // The field of a component that k names, 7 for none.
-pub fn component_key(k: &[u8]) -> usize
-    ensures { λ r. ⌜ r ≡ known.position layouts.componentNames (now (k .entry)) ⌝ }
+pub fn component_key(layout: u64, k: &[u8]) -> usize
+    ensures { λ r. ⌜ r ≡ known.fieldAt (layouts.layoutOf layout .component) (now (k .entry)) ⌝ }
 {
     let w = row::words_of(&k[0..]);
+    if layout == 1 {
+        let i = row::found(&tables::OLD_COMPONENT, w.a, w.b, w.c);
+        return row::digit(tables::OLD_COMPONENT_PLACES, i as u64) as usize;
+    }
     row::found(&tables::COMPONENT, w.a, w.b, w.c)
 }
 
@@ -42,10 +53,13 @@ pub fn is_raw(k: &[u8]) -> bool
 }
 
 // The storage code that k names, 13 for none.
-pub fn dtype_code(k: &[u8]) -> u64
-    ensures { λ r. ⌜ r ≡ known.dtypeCode (now (k .entry)) ⌝ }
+pub fn dtype_code(layout: u64, k: &[u8]) -> u64
+    ensures { λ r. ⌜ r ≡ known.dtypeCode (layouts.layoutOf layout) (now (k .entry)) ⌝ }
 {
     let w = row::words_of(&k[0..]);
+    if layout == 1 {
+        return row::found(&tables::OLD_STORAGE, w.a, w.b, w.c) as u64;
+    }
     row::found(&tables::STORAGE, w.a, w.b, w.c) as u64
 }
 

@@ -170,3 +170,92 @@ pub const WIDTH: u64 = 0x1_1248_1248_2248;
 pub const NEEDS: u64 = 0x01_bbbb;
 
 pub const RATIO: u64 = 0x22_1111;
+
+// Layout 1.0: its names, and for an object and a component the place of each, the lowest digit for the first name and the highest for none.
+pub const OLD_ROOT: [u64; 9] = [
+    0x016e_6f69_7372_6576, // version
+    1,
+    1,
+    0x0175_6269_7274_7461, // attributes
+    0x0173_6574,
+    1,
+    0x0173_726f_736e_6574, // tensors
+    1,
+    1,
+];
+
+pub const OLD_OBJECT: [u64; 12] = [
+    0x0165_7079_7464, // dtype
+    1,
+    1,
+    0x0165_7061_6873, // shape
+    1,
+    1,
+    0x01_7461_6d72_6f66, // format
+    1,
+    1,
+    0x0165_6e6f_706d_6f63, // components
+    0x0173_746e,
+    1,
+];
+
+pub const OLD_OBJECT_PLACES: u64 = 0x5_4210;
+
+pub const OLD_COMPONENT: [u64; 12] = [
+    0x01_7465_7366_666f, // offset
+    1,
+    1,
+    0x01_6874_676e_656c, // length
+    1,
+    1,
+    0x016e_6964_6f63_6e65, // encoding
+    0x0167,
+    1,
+    0x01_7473_6567_6964, // digest
+    1,
+    1,
+];
+
+pub const OLD_COMPONENT_PLACES: u64 = 0x7_6532;
+
+pub const OLD_STORAGE: [u64; 39] = [
+    0x0134_3674_616f_6c66, // float64
+    1,
+    1,
+    0x0132_3374_616f_6c66, // float32
+    1,
+    1,
+    0x0136_3174_616f_6c66, // float16
+    1,
+    1,
+    0x0131_7461_6f6c_6662, // bfloat16
+    0x0136,
+    1,
+    0x0134_3674_6e69, // int64
+    1,
+    1,
+    0x0132_3374_6e69, // int32
+    1,
+    1,
+    0x0136_3174_6e69, // int16
+    1,
+    1,
+    0x01_3874_6e69, // int8
+    1,
+    1,
+    0x01_3436_746e_6975, // uint64
+    1,
+    1,
+    0x01_3233_746e_6975, // uint32
+    1,
+    1,
+    0x01_3631_746e_6975, // uint16
+    1,
+    1,
+    0x0138_746e_6975, // uint8
+    1,
+    1,
+    0x01_6c6f_6f62, // bool
+    1,
+    1,
+];

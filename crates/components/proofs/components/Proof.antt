@@ -3,6 +3,7 @@ use Rattle.cbor.specs.Ending.{code, itemEnd}
 use borrow.Rule.Slice.PartAt.{part-to-end}
 use mathlib.Core.Path.{ap, refl, _∙_}
 use native.Mathlib.Omega.{arith}
+use Rattle.components.specs.Firsts.{offered}
 use Rattle.components.proofs.Walks as walks
 use Rattle.walk.proofs.Opens as opens
 use borrow.Author.Needs.{needs}
@@ -43,8 +44,8 @@ components-spec =
     (λ c κs. search needs)
     (λ c. opens.size-inside ((c .before .before .before .before .before .before .before .before .before .before .before .before .before .before .before .before .before .before .before .before .before .args .c .now)) _ ((c .before .before .before .before .before .before .before .before .before .before .before .before .before .before .before .before .before .map .ensures)) _ _ _ ((c .before .before .before .before .before .before .before .before .before .before .before .before .before .before .before .mode .given .1)))
     (λ c. search needs)
-    (λ c. (opens.ends-faulty ((c .before .before .before .before .before .before .before .before .before .before .before .before .before .before .before .before .before .before .before .before .before .before .before .args .c .now)) _ ((c .before .before .before .before .before .before .before .before .before .before .before .before .before .before .before .before .before .before .before .map .ensures)) _ _ _ ((c .before .before .before .before .before .before .before .before .before .before .before .before .before .before .before .before .before .mode .given .1)) 28 (let g = ((c .before .before .before .before .before .before .before .before .before .before .before .before .before .before .before .before .before .before .before .before .before .before .before .good)) in omega arith) _ ((c .before .before .before .before .before .before .before .before .before .before .before .entries .ensures .0)) ((c .if1 .taken)), ((c .before .before .before .before .before .before .before .before .before .before .before .entries .ensures .2)), walks.entries-judged ((c .before .before .before .before .before .before .before .before .before .before .before .before .before .before .before .before .before .before .before .before .before .before .before .args .c .now)) ((c .before .before .before .before .before .before .before .before .before .before .before .before .before .before .before .before .before .before .before .before .before .before .before .args .start)) _ ((c .before .before .before .before .before .before .before .before .before .before .before .before .before .before .before .before .before .before .before .map .ensures)) _ _ _ ((c .before .before .before .before .before .before .before .before .before .before .before .before .before .before .before .before .before .mode .given .1)) _ _ _ _ _ ((c .before .before .before .before .before .before .before .before .before .before .before .entries .ensures .3)) ((c .before .before .verdict .result)) ((c .before .before .verdict .ensures))))
+    (λ c. (opens.ends-faulty ((c .before .before .before .before .before .before .before .before .before .before .before .before .before .before .before .before .before .before .before .before .before .before .before .args .c .now)) _ ((c .before .before .before .before .before .before .before .before .before .before .before .before .before .before .before .before .before .before .before .map .ensures)) _ _ _ ((c .before .before .before .before .before .before .before .before .before .before .before .before .before .before .before .before .before .mode .given .1)) 28 (let g = ((c .before .before .before .before .before .before .before .before .before .before .before .before .before .before .before .before .before .before .before .before .before .before .before .good)) in omega arith) _ ((c .before .before .before .before .before .before .before .before .before .before .before .entries .ensures .0)) ((c .if1 .taken)), ((c .before .before .before .before .before .before .before .before .before .before .before .entries .ensures .2)), walks.entries-judged (offered (c .before .before .before .before .before .before .before .before .before .before .before .before .before .before .before .before .before .before .before .before .before .before .before .args .layout) (c .before .before .before .before .before .before .before .before .before .before .before .before .before .before .before .before .before .before .before .before .before .before .before .args .format) (c .before .before .before .before .before .before .before .before .before .before .before .before .before .before .before .before .before .before .before .before .before .before .before .args .code)) ((c .before .before .before .before .before .before .before .before .before .before .before .before .before .before .before .before .before .before .before .before .before .before .before .args .c .now)) ((c .before .before .before .before .before .before .before .before .before .before .before .before .before .before .before .before .before .before .before .before .before .before .before .args .start)) _ ((c .before .before .before .before .before .before .before .before .before .before .before .before .before .before .before .before .before .before .before .map .ensures)) _ _ _ ((c .before .before .before .before .before .before .before .before .before .before .before .before .before .before .before .before .before .mode .given .1)) _ _ _ _ _ ((c .before .before .before .before .before .before .before .before .before .before .before .entries .ensures .3)) ((c .before .before .verdict .result)) ((c .before .before .verdict .ensures))))
     (λ c. let g = ((c .before .before .before .before .before .before .before .before .before .before .before .before .before .before .before .before .before .before .before .before .before .before .before .before .good)) in let a = opens.size-inside ((c .before .before .before .before .before .before .before .before .before .before .before .before .before .before .before .before .before .before .before .before .before .before .before .before .args .c .now)) _ ((c .before .before .before .before .before .before .before .before .before .before .before .before .before .before .before .before .before .before .before .before .map .ensures)) _ _ _ ((c .before .before .before .before .before .before .before .before .before .before .before .before .before .before .before .before .before .before .mode .given .1)) in let b = ((c .before .if1 .left)) in omega arith)
-    (λ c. (((c .skip .ensures)) ∙ ap (λ s. code (itemEnd 29 s)) (part-to-end ((c .before .before .before .before .before .before .before .before .args .c .now)) 0), (c .before .before .before .before .before .before .before .before .pre), walks.no-map ((c .before .before .before .before .before .before .before .before .args .c .now)) ((c .before .before .before .before .before .before .before .before .args .start)) _ ((c .before .before .before .before .map .ensures)) ((c .before .before .before .before .before .before .before .before .args .rows .now)) ((c .before .before .enum-told .given .1))))
+    (λ c. (((c .skip .ensures)) ∙ ap (λ s. code (itemEnd 29 s)) (part-to-end ((c .before .before .before .before .before .before .before .before .args .c .now)) 0), (c .before .before .before .before .before .before .before .before .pre), walks.no-map (offered (c .before .before .before .before .before .before .before .before .args .layout) (c .before .before .before .before .before .before .before .before .args .format) (c .before .before .before .before .before .before .before .before .args .code)) ((c .before .before .before .before .before .before .before .before .args .c .now)) ((c .before .before .before .before .before .before .before .before .args .start)) _ ((c .before .before .before .before .map .ensures)) ((c .before .before .before .before .before .before .before .before .args .rows .now)) ((c .before .before .enum-told .given .1))))
     (λ c. search needs)
-    (λ c. (opens.ends-inside ((c .before .before .before .before .before .before .before .before .before .before .before .before .before .before .before .before .before .before .before .before .before .before .before .before .args .c .now)) _ ((c .before .before .before .before .before .before .before .before .before .before .before .before .before .before .before .before .before .before .before .before .map .ensures)) _ _ _ ((c .before .before .before .before .before .before .before .before .before .before .before .before .before .before .before .before .before .before .mode .given .1)) 28 (let g = ((c .before .before .before .before .before .before .before .before .before .before .before .before .before .before .before .before .before .before .before .before .before .before .before .before .good)) in omega arith) _ ((c .before .before .before .before .before .before .before .before .before .before .before .before .entries .ensures .0)) ((c .before .if1 .left)), ((c .before .before .before .before .before .before .before .before .before .before .before .before .entries .ensures .2)), walks.entries-judged ((c .before .before .before .before .before .before .before .before .before .before .before .before .before .before .before .before .before .before .before .before .before .before .before .before .args .c .now)) ((c .before .before .before .before .before .before .before .before .before .before .before .before .before .before .before .before .before .before .before .before .before .before .before .before .args .start)) _ ((c .before .before .before .before .before .before .before .before .before .before .before .before .before .before .before .before .before .before .before .before .map .ensures)) _ _ _ ((c .before .before .before .before .before .before .before .before .before .before .before .before .before .before .before .before .before .before .mode .given .1)) _ _ _ _ _ ((c .before .before .before .before .before .before .before .before .before .before .before .before .entries .ensures .3)) ((c .before .before .before .verdict .result)) ((c .before .before .before .verdict .ensures)))))
+    (λ c. (opens.ends-inside ((c .before .before .before .before .before .before .before .before .before .before .before .before .before .before .before .before .before .before .before .before .before .before .before .before .args .c .now)) _ ((c .before .before .before .before .before .before .before .before .before .before .before .before .before .before .before .before .before .before .before .before .map .ensures)) _ _ _ ((c .before .before .before .before .before .before .before .before .before .before .before .before .before .before .before .before .before .before .mode .given .1)) 28 (let g = ((c .before .before .before .before .before .before .before .before .before .before .before .before .before .before .before .before .before .before .before .before .before .before .before .before .good)) in omega arith) _ ((c .before .before .before .before .before .before .before .before .before .before .before .before .entries .ensures .0)) ((c .before .if1 .left)), ((c .before .before .before .before .before .before .before .before .before .before .before .before .entries .ensures .2)), walks.entries-judged (offered (c .before .before .before .before .before .before .before .before .before .before .before .before .before .before .before .before .before .before .before .before .before .before .before .before .args .layout) (c .before .before .before .before .before .before .before .before .before .before .before .before .before .before .before .before .before .before .before .before .before .before .before .before .args .format) (c .before .before .before .before .before .before .before .before .before .before .before .before .before .before .before .before .before .before .before .before .before .before .before .before .args .code)) ((c .before .before .before .before .before .before .before .before .before .before .before .before .before .before .before .before .before .before .before .before .before .before .before .before .args .c .now)) ((c .before .before .before .before .before .before .before .before .before .before .before .before .before .before .before .before .before .before .before .before .before .before .before .before .args .start)) _ ((c .before .before .before .before .before .before .before .before .before .before .before .before .before .before .before .before .before .before .before .before .map .ensures)) _ _ _ ((c .before .before .before .before .before .before .before .before .before .before .before .before .before .before .before .before .before .before .mode .given .1)) _ _ _ _ _ ((c .before .before .before .before .before .before .before .before .before .before .before .before .entries .ensures .3)) ((c .before .before .before .verdict .result)) ((c .before .before .before .verdict .ensures)))))

@@ -1,4 +1,5 @@
 -- `component::judge::verdict` meets its contract: a law for each branch.
+use Rattle.component.specs.Value.{given}
 use Rattle.component.proofs.Verdicts as verdicts
 use borrow.Author.Needs.{needs}
 use Rattle.component.proofs.judge.verdict.Statement.{statement}
@@ -21,5 +22,5 @@ verdict-spec =
     (λ c. search needs)
     (λ c. search needs)
     (λ c κs. search needs)
-    (λ c. verdicts.refused (c .before .before .before .before .before .before .before .args .s .now) (c .before .before .before .before .before .before .before .args .start) (c .before .before .before .before .before .before .before .args .p .now) _ (c .before .before .before .known .ensures) _ (c .before .n .given .1))
-    (λ c. verdicts.as-sound (c .before .before .before .before .before .before .before .before .before .args .s .now) (c .before .before .before .before .before .before .before .before .before .args .start) (c .before .before .before .before .before .before .before .before .before .args .p .now) _ (c .before .before .before .before .before .known .ensures) (c .before .before .before .enum-told .given .1) _ (c .sound .ensures)))
+    (λ c. verdicts.refused (c .before .before .before .before .before .before .before .args .layout) (given (c .before .before .before .before .before .before .before .args .above)) (c .before .before .before .before .before .before .before .args .s .now) (c .before .before .before .before .before .before .before .args .start) (c .before .before .before .before .before .before .before .args .p .now) _ (c .before .before .before .known .ensures) _ (c .before .n .given .1))
+    (λ c. verdicts.as-sound (c .before .before .before .before .before .before .before .before .before .args .layout) (given (c .before .before .before .before .before .before .before .before .before .args .above)) (c .before .before .before .before .before .before .before .before .before .args .s .now) (c .before .before .before .before .before .before .before .before .before .args .start) (c .before .before .before .before .before .before .before .before .before .args .p .now) _ (c .before .before .before .before .before .known .ensures) (c .before .before .before .enum-told .given .1) _ (c .sound .ensures)))

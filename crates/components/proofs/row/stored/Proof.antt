@@ -1,0 +1,20 @@
+-- `components::row::stored` meets its contract: each branch computes.
+use native.Mathlib.Omega.{arith}
+use mathlib.Core.Path.{refl}
+use borrow.Author.Tests.{eq-eqb, ne-eqb}
+use Rattle.components.specs.Row.{indexed, storedAs}
+use borrow.Author.Needs.{needs}
+use Rattle.components.proofs.row.stored.Statement.{statement}
+use Rattle.components.proofs.row.stored.Tie as tie
+
+pub stored-spec : {M : Type 1} → statement M
+stored-spec =
+    tie.close
+    (tie.spec
+    (λ c. unfold indexed storedAs in rw (ne-eqb _ 1 (c .if1 .taken)) refl)
+    (λ c. unfold indexed storedAs in rw (eq-eqb _ 1 (c .before .before .if1 .left), eq-eqb _ 1 (c .before .if2 .taken), eq-eqb _ 2 (c .if3 .taken)) refl)
+    (λ c. unfold indexed storedAs in rw (eq-eqb _ 1 (c .before .before .before .if1 .left), eq-eqb _ 1 (c .before .before .if2 .taken), ne-eqb _ 2 (c .before .if3 .left), eq-eqb _ 3 (c .if4 .taken)) refl)
+    (λ c. unfold indexed storedAs in rw (eq-eqb _ 1 (c .before .before .before .if1 .left), eq-eqb _ 1 (c .before .before .if2 .taken), ne-eqb _ 2 (c .before .if3 .left), ne-eqb _ 3 (c .if4 .left), ne-eqb (c .before .before .before .before .args .format) 2 (λ z. let q = c .before .before .if2 .taken in omega (arith, q, z))) refl)
+    (λ c. unfold indexed storedAs in rw (eq-eqb _ 1 (c .before .before .before .if1 .left), ne-eqb _ 1 (c .before .before .if2 .left), eq-eqb _ 2 (c .before .if5 .taken), eq-eqb _ 4 (c .if6 .taken)) refl)
+    (λ c. unfold indexed storedAs in rw (eq-eqb _ 1 (c .before .before .before .if1 .left), ne-eqb _ 1 (c .before .before .if2 .left), eq-eqb _ 2 (c .before .if5 .taken), ne-eqb _ 4 (c .if6 .left)) refl)
+    (λ c. unfold indexed storedAs in rw (eq-eqb _ 1 (c .before .before .if1 .left), ne-eqb _ 1 (c .before .if2 .left), ne-eqb _ 2 (c .if5 .left)) refl))
