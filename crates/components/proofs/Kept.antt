@@ -93,12 +93,12 @@ module _ (g : Given) (s c : List ℕ) (v : Judged) (j : ℕ) (first : First) (ro
           let l : leftWord (k .type) ≡ left = cc in
           let m : size ≡ k .length = cc in
           let i′ : recoded p k .dtype ≡ kept =
-              ap (storedAs (g .layout) (g .format) (position roleNames (namedAnyway p .name .letters))) i
-              ∙ ap (λ (r : ℕ). storedAs (g .layout) (g .format) r code) (sym t) ∙ sym is-kept in
+          ap (storedAs (g .layout) (g .format) (position roleNames (namedAnyway p .name .letters))) i
+          ∙ ap (λ (r : ℕ). storedAs (g .layout) (g .format) r code) (sym t) ∙ sym is-kept in
           let n = is-u (recoded p k) typed i′ l in
           let named = t ∙ ap (λ (w : Word Ends). position roleNames (w .letters)) (named-so c room (p .value) r y L (inherited f (given (g .code)) (namedAnyway p .name .letters)) start (namedAnyway p .name) (recoded p k) z) in
           let v : b ≡ flag (plain (part (recoded p k))) =
-              is-b ∙ ap (λ l. flag (eqb l 0 && eqb kept 8)) (sym l) ∙ ap (λ i. flag (eqb (leftWord (k .type)) 0 && eqb i 8)) (sym i′) ∙ plain-is c (recoded p k) typed in
+          is-b ∙ ap (λ l. flag (eqb l 0 && eqb kept 8)) (sym l) ∙ ap (λ i. flag (eqb (leftWord (k .type)) 0 && eqb i 8)) (sym i′) ∙ plain-is c (recoded p k) typed in
           rw (named, n, v, m) refl
 
       put-so : length done < componentLimit → take (4 * suc (length done)) (putRow rows j called u b size) ≡ take (4 * length done) rows ++ partRow (part (recoded p k))

@@ -56,7 +56,7 @@ index-is f r = rw (
   format-named f 2 (omega arith) (ascii "sparse_coo") refl,
   role-named r 2 (omega arith) (ascii "indices") refl,
   role-named r 3 (omega arith) (ascii "indptr") refl,
-  role-named r 4 (omega arith) (ascii "coords") refl
+  role-named r 4 (omega arith) (ascii "coords") refl,
 ) refl
 
 -- ---------------------------------------------------------------- the code that a component is given

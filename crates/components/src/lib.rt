@@ -123,7 +123,16 @@ fn entries(
                     };
                 }
                 let judged = w.verdict;
-                first = keep(layout, format, &s[at..], &s[v..], judged, names.count, first, rows);
+                first = keep(
+                    layout,
+                    format,
+                    &s[at..],
+                    &s[v..],
+                    judged,
+                    names.count,
+                    first,
+                    rows,
+                );
                 names = naming::note(&s[at..], names, left, size);
                 at = v + w.end;
                 due -= 2;

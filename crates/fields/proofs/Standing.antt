@@ -101,7 +101,7 @@ module _ (slots : Slots) (n : ℕ) (places : length slots ≡ n) (d : ℕ) (s : 
   unfolding field.field
   field-stands apart i l =
       let x : getD p i 0 ≡ leftAt (field.field (slot i slots) ps) =
-          ap (λ p. getD p i 0) is ∙ slot-is slots apart zeros (blank (n + 3)) sized ps (all-some d s ps r chain) i (omega (arith, l, places)) in
+      ap (λ p. getD p i 0) is ∙ slot-is slots apart zeros (blank (n + 3)) sized ps (all-some d s ps r chain) i (omega (arith, l, places)) in
       subst (λ j. Holds d s j (field.field (slot i slots) ps)) (sym x) (holds (slot i slots))
     where
       holds : (o : Option (List ℕ)) → Holds d s (leftAt (field.field o ps)) (field.field o ps)

@@ -25,7 +25,7 @@ use Rattle.components.specs.declared.Found.{Found}
 use Rattle.components.specs.Firsts.{offered, ComponentsAre}
 use Rattle.object.specs.Verdict.{Says, waiting, Walked, ValueIs}
 
-known : 4 < 5
+pub known : 4 < 5
 known = omega arith
 
 -- ---------------------------------------------------------------- one value

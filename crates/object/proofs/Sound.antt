@@ -130,5 +130,5 @@ module _ (layout : ℕ) (s : List ℕ) (start : ℕ) (p : List ℕ) (found : Fou
   as-shaped d e r h f x held w =
       let t = tensor (Code d) e f x in
       let y : ShapedIs layout d s start p found rows r =
-          subst (λ u. ShapedIs layout d s start u found rows r) (part-to-end p 0) (subst (λ u. ShapedIs layout d u start (Here p 0) found rows r) (part-to-end s 0) h) in
+      subst (λ u. ShapedIs layout d s start u found rows r) (part-to-end p 0) (subst (λ u. ShapedIs layout d u start (Here p 0) found rows r) (part-to-end s 0) h) in
       rw t (y f x held (λ o. some-given (aDtype (layoutOf layout)) (f .dtype) d t (x .tensor o)) (λ o. none-given (aDtype (layoutOf layout)) (f .dtype) d t (x .plain o)) w)

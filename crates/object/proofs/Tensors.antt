@@ -8,6 +8,7 @@ use Rattle.meaning.specs.Check.{pass, optional}
 use Rattle.meaning.specs.Layouts.{Layout}
 use Rattle.meaning.specs.Judge.{aDtype}
 use Rattle.types.specs.Known.{dtypeCode}
+use Rattle.walk.specs.Reading.{Ends}
 use Rattle.walk.specs.Places.{TextIs}
 use Rattle.walk.specs.declared.Letters.{Letters}
 use Rattle.walk.specs.declared.Letters.the-variants.{NoText, Text}
@@ -17,7 +18,7 @@ use Rattle.component.proofs.Values as values
 use Rattle.object.specs.declared.place.Coded.the-variants.{No as NoCode, Yes as Code}
 use Rattle.object.specs.Place.{tensored, TensorIs}
 
-pub no-tensor : (L : Layout) → optional (aDtype L) none ≡ tensored (Code 13)
+pub no-tensor : (L : Layout) → optional (aDtype L {P = Ends}) none ≡ tensored (Code 13)
 unfolding given
 no-tensor L = refl
 

@@ -264,5 +264,5 @@ module _ (layout : ℕ) (s : List ℕ) (start : ℕ) (p : List ℕ) (found-there
     as-sound e r h ps q chain noted t kt n =
         let x : Ready ps q chain (noted .0) t kt n = subst (Told ps q chain (noted .0) t kt n) (sym slots-say ∙ e) (told ps q chain (noted .0) t kt n) in
         let y : SoundIs layout s start p found-there rows r =
-            subst (λ u. SoundIs layout s start u found-there rows r) (part-to-end p 0) (subst (λ u. SoundIs layout u start (Here p 0) found-there rows r) (part-to-end s 0) h) in
+        subst (λ u. SoundIs layout s start u found-there rows r) (part-to-end p 0) (subst (λ u. SoundIs layout u start (Here p 0) found-there rows r) (part-to-end s 0) h) in
         y (x .fields) (x .standing) (noted .1 (x .fields .components) (x .components-are)) n ∙ ap judged (sym (x .judged-so))

@@ -139,14 +139,7 @@ fn shaped(
 }
 
 // The same, from the dtype on.
-fn sound(
-    layout: u64,
-    s: &[u8],
-    start: u64,
-    p: &[usize],
-    found: Found,
-    rows: &mut [u64],
-) -> Judged
+fn sound(layout: u64, s: &[u8], start: u64, p: &[usize], found: Found, rows: &mut [u64]) -> Judged
     requires { ⌜ (length (now p) ≡ 8) × (length (now rows) ≡ 64) ⌝ }
     ensures { λ r. ⌜ is.SoundIs layout (now (s .entry)) start (now (p .entry)) found (now (rows .entry)) r ⌝ }
 {

@@ -1,8 +1,8 @@
 // An object's value: one walk passes over its map, notes where its fields stand and judges its components; then the fields are judged from these places.
 // Every slice runs to the manifest's end, and a place is the number of bytes left there, 0 for none.
 mod judge;
-mod pass;
-mod place;
+pub mod pass;
+pub mod place;
 
 use judge::verdict;
 use pass::entries;

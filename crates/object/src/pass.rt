@@ -26,7 +26,7 @@ fn slot(layout: u64, s: &[u8]) -> usize
 }
 
 // No components that are judged where they stand: another field, components again, or layout 1.0.
-fn waits(layout: u64, k: usize, seen: usize) -> bool
+pub fn waits(layout: u64, k: usize, seen: usize) -> bool
     ensures { λ r. ⌜ r ≡ waiting layout k seen ⌝ }
 {
     if layout == 1 {

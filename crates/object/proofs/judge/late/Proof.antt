@@ -1,52 +1,18 @@
+-- `object::judge::late` meets its contract: a law for each branch.
+use Rattle.object.proofs.Sound as sound
 use borrow.Author.Needs.{needs}
 use Rattle.object.proofs.judge.late.Statement.{statement}
 use Rattle.object.proofs.judge.late.Tie as tie
-use Rattle.object.proofs.judge.late.Reads as reads
-use Rattle.object.proofs.judge.late.Lts as lts
-use Rattle.components.proofs.components.Reads as components-reads
-use Rattle.fields.proofs.place_of.Reads as place-of-reads
-
--- src/judge.rt:105:13
-place-of-requires : tie.Need-place-of-requires
-place-of-requires c κs = search needs
-
--- src/judge.rt:106:62
-sub-components : tie.Need-sub-components
-sub-components c = search needs
-
--- src/judge.rt:106:62
-part-components-start : tie.Need-part-components-start
-part-components-start c = search needs
-
--- src/judge.rt:106:62
-part-components-end : tie.Need-part-components-end
-part-components-end c = search needs
-
--- src/judge.rt:106:13
-components-requires : tie.Need-components-requires
-components-requires c κs = search needs
-
--- src/judge.rt:107:9
-same-length : tie.Need-same-length
-same-length c = search needs
-
--- src/judge.rt:107:9
-returns : tie.Need-returns
-returns c = search needs
-
--- src/judge.rt:91:1
-returns-2 : tie.Need-returns-2
-returns-2 c = search needs
 
 pub late-spec : {M : Type 1} → statement M
 late-spec =
     tie.close
     (tie.spec
-    place-of-requires
-    sub-components
-    part-components-start
-    part-components-end
-    components-requires
-    same-length
-    returns
-    returns-2)
+    (λ c κs. search needs)
+    (λ c. search needs)
+    (λ c. search needs)
+    (λ c. search needs)
+    (λ c κs. search needs)
+    (λ c. search needs)
+    (λ c. ((c .before .before .components .ensures .1), sound.late-now (c .before .before .before .before .before .before .before .before .before .args .layout) (c .before .before .before .before .before .before .before .before .before .args .format) (c .before .before .before .before .before .before .before .before .before .args .code) (c .before .before .before .before .before .before .before .before .before .args .s .now) (c .before .before .before .before .before .before .before .before .before .args .start) (c .before .before .before .before .before .before .before .before .before .args .left) (c .before .before .before .before .before .before .before .before .before .args .found) _ (c .before .before .before .before .before .before .if1 .taken) _ (c .before .before .before .before .before .place-of .ensures) (c .before .before .components .result .found) _ (c .before .before .components .ensures .2)))
+    (λ c. ((c .before .before .before .pre), sound.as-found (c .before .before .before .args .layout) (c .before .before .before .args .format) (c .before .before .before .args .code) (c .before .before .before .args .s .now) (c .before .before .before .args .start) (c .before .before .before .args .left) (c .before .before .before .args .found) (c .before .before .before .args .rows .now) (c .if1 .left))))
