@@ -8,6 +8,7 @@ use lib.ListN.{length, drop}
 use borrow.Rule.Slice.PartAt.{part-to-end}
 use Rattle.meaning.specs.Tree.{Pair}
 use Rattle.meaning.specs.Rows.{componentCount}
+use Rattle.meaning.specs.Layouts.{Layout}
 use Rattle.walk.specs.Reading.{Ends, Reads}
 use Rattle.walk.proofs.Passed.{Here}
 use Rattle.naming.specs.Naming.{tally, Noted}
@@ -19,18 +20,18 @@ use Rattle.objects.specs.declared.First.{First}
 use Rattle.objects.specs.declared.First.the-variants.{Fine}
 use Rattle.objects.specs.Firsts.{entries, Keeps, Kept}
 
-pub none-kept : (start : ℕ) (s left size : List ℕ) → length size ≡ length left → Kept start s (tally 0 false false) left size (Fine 0) []
+pub none-kept : (L : Layout) (start : ℕ) (s left size : List ℕ) → length size ≡ length left → Kept L start s (tally 0 false false) left size (Fine 0) []
 unfolding entries componentCount
-none-kept start s left size e = record { named = none-noted s left size e; judged = record { found = []; passed = refl; few = omega arith; totals = λ l. refl } }
+none-kept L start s left size e = record { named = none-noted s left size e; judged = record { found = []; passed = refl; few = omega arith; totals = λ l. refl } }
 
-module _ (start : ℕ) (s : List ℕ) (at k : ℕ) (inside : at + k ≤ length s) (names names′ : Tally) (left left′ size size′ : List ℕ) (first first′ : First) (v : Judged)
-    (judged : ObjectIs (Here s (at + k)) start v) (keeps : Keeps v (names .count) first first′) (noted : Noted (Here s at) names left size names′ left′ size′) where
+module _ (L : Layout) (start : ℕ) (s : List ℕ) (at k : ℕ) (inside : at + k ≤ length s) (names names′ : Tally) (left left′ size size′ : List ℕ) (first first′ : First) (v : Judged)
+    (judged : ObjectIs L (Here s (at + k)) start v) (keeps : Keeps v (names .count) first first′) (noted : Noted (Here s at) names left size names′ left′ size′) where
   pub one-more-kept : (done : List (Pair Ends)) (p : Pair Ends) (q r : List ℕ) → Reads 30 (drop at s) (p .key) q → Reads 30 (drop (at + k) s) (p .value) r
-      → Kept start s names left size first done → Kept start s names′ left′ size′ first′ (done ++ p ∷ [])
+      → Kept L start s names left size first done → Kept L start s names′ left′ size′ first′ (done ++ p ∷ [])
   one-more-kept done p q r key value kept =
       let a : Reads 30 (Here s at) (p .key) q = subst (λ u. Reads 30 u (p .key) q) (sym (part-to-end s at)) key in
       let b : Reads 30 (Here s (at + k)) (p .value) r = subst (λ u. Reads 30 u (p .value) r) (sym (part-to-end s (at + k))) value in
       record {
         named = noted .1 s at (omega arith) (part-to-end s at) done 29 p q a (kept .named);
-        judged = keeps start done p (Here s (at + k)) r b judged (kept .named .counted) (kept .judged);
+        judged = keeps L start done p (Here s (at + k)) r b judged (kept .named .counted) (kept .judged);
       }

@@ -5,6 +5,7 @@ use mathlib.Core.Path.{_≡_, refl, subst}
 use borrow.Rule.Slice.PartAt.{part-to-end}
 use Rattle.meaning.specs.Field.{names}
 use Rattle.meaning.specs.Judge.{objectsOf}
+use Rattle.meaning.specs.Layouts.{Layout}
 use Rattle.walk.specs.Places.{MapIs}
 use Rattle.walk.specs.declared.Opening.{Opening}
 use Rattle.walk.specs.declared.Opening.the-variants.{NotOpen, Opened}
@@ -17,14 +18,14 @@ use Rattle.objects.specs.declared.Found.the-variants.{No}
 use Rattle.objects.specs.Found.{ObjectsIs}
 use Rattle.objects.specs.Firsts.{Walked, Concluded}
 
-module _ (c : List ℕ) (start : ℕ) (x : Opening) (h : MapIs (Here c 0) x) where
-  pub no-map : x ≡ NotOpen → ObjectsIs c start (No 8 0 0)
+module _ (L : Layout) (c : List ℕ) (start : ℕ) (x : Opening) (h : MapIs (Here c 0) x) where
+  pub no-map : x ≡ NotOpen → ObjectsIs L c start (No 8 0 0)
   unfolding objectsOf names
   no-map e t q r = rw (opens.opening c x h NotOpen e 30 t q r) refl
 
-  pub entries-judged : (mode count size : ℕ) → x ≡ Opened mode count size → (n : Tally) (left spans : List ℕ) (first : First) → Walked start mode count (Here c size) n left spans first
-      → (found : Found) → Concluded (Here c size) n first left spans found → ObjectsIs c start found
+  pub entries-judged : (mode count size : ℕ) → x ≡ Opened mode count size → (n : Tally) (left spans : List ℕ) (first : First) → Walked L start mode count (Here c size) n left spans first
+      → (found : Found) → Concluded (Here c size) n first left spans found → ObjectsIs L c start found
   entries-judged mode count size is n left spans first walked found concluded t q r =
       let m = opens.opened c x h mode count size is .trees 30 t q r in
-      let w = subst (λ u. Walked start mode count u n left spans first) (part-to-end c size) walked (m .pairs) (m .last) (m .due) in
-      subst (λ u. Concluded u n first left spans found) (part-to-end c size) concluded start (m .pairs) w t (m .kind-is)
+      let w = subst (λ u. Walked L start mode count u n left spans first) (part-to-end c size) walked (m .pairs) (m .last) (m .due) in
+      subst (λ u. Concluded u n first left spans found) (part-to-end c size) concluded L start (m .pairs) w t (m .kind-is)

@@ -12,7 +12,7 @@ use Rattle.meaning.specs.Model.{Named, Object}
 use Rattle.meaning.specs.Kind.{kind, table}
 use Rattle.meaning.specs.Judge.{object, objectsOf}
 use Rattle.meaning.specs.Rows.{componentCount}
-use Rattle.meaning.specs.Layouts.{current}
+use Rattle.meaning.specs.Layouts.{Layout}
 use Rattle.walk.specs.Reading.{Ends, Reads, Due}
 use Rattle.naming.specs.Naming.{namedAnyway, Tallied}
 use Rattle.naming.specs.declared.Tally.{Tally}
@@ -28,39 +28,39 @@ abbrev pub plus : ℕ → ℕ → ℕ
 plus total m = cond (leb m 16) (cond (leb total 16368) (total + m) total) total
 
 -- an entry, with its index
-unfoldable pub entry : ℕ → ℕ → Named Ends → Check (Object Ends)
-entry start i n = inObject i (object current start n)
+unfoldable pub entry : Layout → ℕ → ℕ → Named Ends → Check (Object Ends)
+entry L start i n = inObject i (object L start n)
 
 -- the entries of the pairs so far
-unfoldable pub entries : ℕ → List (Pair Ends) → Check (List (Object Ends))
-entries start done = each (λ i p. entry start i (namedAnyway p)) 0 done
+unfoldable pub entries : Layout → ℕ → List (Pair Ends) → Check (List (Object Ends))
+entries L start done = each (λ i p. entry L start i (namedAnyway p)) 0 done
 
 -- objects that passed, and the total of their components while there are not too many of them
-pub record Totalled (start : ℕ) (done : List (Pair Ends)) (total : ℕ) : Type 0 where
+pub record Totalled (L : Layout) (start : ℕ) (done : List (Pair Ends)) (total : ℕ) : Type 0 where
   pub found : List (Object Ends)
-  pub passed : entries start done ≡ pass found
+  pub passed : entries L start done ≡ pass found
   pub few : componentCount found ≤ componentLimit * length found
   pub totals : length found ≤ objectLimit → total ≡ componentCount found
 
-abbrev pub FirstIs : ℕ → List (Pair Ends) → First → Type 0
-FirstIs start done (Fine total) = Totalled start done total
-FirstIs start done (Fault n o c) = entries start done ≡ refuse n o c
+abbrev pub FirstIs : Layout → ℕ → List (Pair Ends) → First → Type 0
+FirstIs L start done (Fine total) = Totalled L start done total
+FirstIs L start done (Fault n o c) = entries L start done ≡ refuse n o c
 
 -- one more entry, number j, whose value is judged as v
 abbrev pub Keeps : Judged → ℕ → First → First → Type 0
 Keeps v j first first′ =
-    (start : ℕ) (done : List (Pair Ends)) (p : Pair Ends) (c r : List ℕ) → Reads 30 c (p .value) r → ObjectIs c start v → j ≡ length done → FirstIs start done first → FirstIs start (done ++ p ∷ []) first′
+    (L : Layout) (start : ℕ) (done : List (Pair Ends)) (p : Pair Ends) (c r : List ℕ) → Reads 30 c (p .value) r → ObjectIs L c start v → j ≡ length done → FirstIs L start done first → FirstIs L start (done ++ p ∷ []) first′
 
 -- what is kept of the pairs `done` of a map in s
-pub record Kept (start : ℕ) (s : List ℕ) (names : Tally) (left size : List ℕ) (first : First) (done : List (Pair Ends)) : Type 0 where
+pub record Kept (L : Layout) (start : ℕ) (s : List ℕ) (names : Tally) (left size : List ℕ) (first : First) (done : List (Pair Ends)) : Type 0 where
   pub named : Tallied s done names left size
-  pub judged : FirstIs start done first
+  pub judged : FirstIs L start done first
 
 -- of all entries that are due at s
-abbrev pub Walked : ℕ → ℕ → ℕ → List ℕ → Tally → List ℕ → List ℕ → First → Type 0
-Walked start mode count s names left size first = (ps : List (Pair Ends)) (r : List ℕ) → Due 30 mode count s ps r → Kept start s names left size first ps
+abbrev pub Walked : Layout → ℕ → ℕ → ℕ → List ℕ → Tally → List ℕ → List ℕ → First → Type 0
+Walked L start mode count s names left size first = (ps : List (Pair Ends)) (r : List ℕ) → Due 30 mode count s ps r → Kept L start s names left size first ps
 
 -- for every map of these pairs
 abbrev pub Concluded : List ℕ → Tally → First → List ℕ → List ℕ → Found → Type 0
 Concluded m names first left size found =
-    (start : ℕ) (ps : List (Pair Ends)) → Kept start m names left size first ps → (t : Node Ends) → kind t ≡ table ps → found ≡ judged (objectsOf current start t)
+    (L : Layout) (start : ℕ) (ps : List (Pair Ends)) → Kept L start m names left size first ps → (t : Node Ends) → kind t ≡ table ps → found ≡ judged (objectsOf L start t)

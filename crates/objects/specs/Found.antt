@@ -8,7 +8,7 @@ use Rattle.meaning.specs.Check.{Check, pass, refuse}
 use Rattle.meaning.specs.Model.{Object}
 use Rattle.meaning.specs.Judge.{objectsOf}
 use Rattle.meaning.specs.Rows.{componentCount}
-use Rattle.meaning.specs.Layouts.{current}
+use Rattle.meaning.specs.Layouts.{Layout}
 use Rattle.walk.specs.Reading.{Ends, Reads}
 use Rattle.objects.specs.declared.Found.{Found}
 use Rattle.objects.specs.declared.Found.the-variants.{No, Yes}
@@ -18,5 +18,5 @@ judged (pass os) = Yes (length os) (componentCount os)
 judged (refuse n o c) = No n o c
 
 -- for every tree that s is read as, of a file whose manifest begins at `start`
-abbrev pub ObjectsIs : List ℕ → ℕ → Found → Type 0
-ObjectsIs s start r = (t : Node Ends) (q : List ℕ) → Reads 31 s t q → r ≡ judged (objectsOf current start t)
+abbrev pub ObjectsIs : Layout → List ℕ → ℕ → Found → Type 0
+ObjectsIs L s start r = (t : Node Ends) (q : List ℕ) → Reads 31 s t q → r ≡ judged (objectsOf L start t)

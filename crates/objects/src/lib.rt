@@ -6,6 +6,7 @@ use walk::Entry;
 use walk::Opening;
 ghost use mathlib.Core.Path.{_≡_};
 ghost use lib.ListN.{length};
+ghost use Rattle.meaning.specs.Layouts.{layoutOf};
 ghost use Rattle.cbor.specs.Ending.{code, itemEnd, rest};
 ghost use Rattle.walk.proofs.Turns.{Modes};
 ghost use Rattle.objects.specs.Found.{ObjectsIs};
@@ -63,6 +64,7 @@ fn keep(v: Judged, j: usize, first: First) -> First
 
 // Entries that begin s, counted as `walk::map` says. Their names are noted in left and size.
 fn entries(
+    layout: u64,
     s: &[u8],
     start: u64,
     mode: u64,
@@ -71,7 +73,7 @@ fn entries(
     size: &mut [usize],
 ) -> Run
     requires { ⌜ (length (now left) ≡ 1024) × (length (now size) ≡ 1024) × Modes mode count ⌝ }
-    ensures { λ r. ⌜ (r .end ≡ code (rest mode count 30 (now (s .entry)))) × (length (now (left .exit)) ≡ 1024) × Walked start mode count (now (s .entry)) (r .names) (now (left .exit)) (now (size .exit)) (r .first) ⌝ }
+    ensures { λ r. ⌜ (r .end ≡ code (rest mode count 30 (now (s .entry)))) × (length (now (left .exit)) ≡ 1024) × Walked (layoutOf layout) start mode count (now (s .entry)) (r .names) (now (left .exit)) (now (size .exit)) (r .first) ⌝ }
 {
     let mut at = 0;
     let mut due = count;
@@ -99,7 +101,7 @@ fn entries(
             }
             Entry::Value(k) => {
                 let v = at + k;
-                let w = object::object(&s[v..], start);
+                let w = object::object(layout, &s[v..], start);
                 if s.len() - v < w.end {
                     return Run {
                         end: w.end,
@@ -134,8 +136,8 @@ fn verdict(m: &[u8], names: Tally, first: First, left: &[usize], size: &[usize])
 }
 
 // The objects that begin c, at depth 2, of a file whose manifest begins at `start`.
-pub fn objects(c: &[u8], start: u64) -> Whole
-    ensures { λ r. ⌜ (r .end ≡ code (itemEnd 31 (now (c .entry)))) × ObjectsIs (now (c .entry)) start (r .found) ⌝ }
+pub fn objects(layout: u64, c: &[u8], start: u64) -> Whole
+    ensures { λ r. ⌜ (r .end ≡ code (itemEnd 31 (now (c .entry)))) × ObjectsIs (layoutOf layout) (now (c .entry)) start (r .found) ⌝ }
 {
     let mut left = [0usize; 1024];
     let mut size = [0usize; 1024];
@@ -145,7 +147,7 @@ pub fn objects(c: &[u8], start: u64) -> Whole
             found: Found::No(8, 0, 0),
         },
         Opening::Opened(mode, count, from) => {
-            let w = entries(&c[from..], start, mode, count, &mut left, &mut size);
+            let w = entries(layout, &c[from..], start, mode, count, &mut left, &mut size);
             let names = w.names;
             let first = w.first;
             let f = verdict(&c[from..], names, first, &left, &size);
