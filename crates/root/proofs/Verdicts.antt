@@ -11,15 +11,13 @@ use borrow.Author.Tests.{eq-eqb, ne-eqb, eqb-true, eqb-false, not-true, not-fals
 use borrow.Rule.Slice.PartAt.{part-to-end}
 use Rattle.meaning.specs.Tree.{Node, Pair}
 use Rattle.meaning.specs.Check.{Check, pass, refuse, fault, optional}
-use Rattle.meaning.specs.Text.{ascii, all}
+use Rattle.meaning.specs.Text.{all}
 use Rattle.meaning.specs.Refusal.{KIND}
 use Rattle.meaning.specs.Model.{Object}
 use Rattle.meaning.specs.Kind.{kind, table, aTable, asTable}
 use Rattle.meaning.specs.Field as field
-use Rattle.meaning.specs.Layouts.{rootNames, current}
-use Rattle.meaning.specs.Field.{get}
+use Rattle.meaning.specs.Layouts.{slot, somes, Layout}
 use Rattle.meaning.specs.Judge.{attributesOf, aVersion, objectsOf, judge}
-use Rattle.types.specs.Known.{position}
 use Rattle.walk.specs.Reading.{Ends, Chain, leftAt}
 use Rattle.fields.specs.Slots.{Holds}
 use Rattle.fields.specs.Attributes.{AttributesAt}
@@ -70,39 +68,43 @@ module _ (map : Bool) (left at : ℕ) (found : Found) where
 
 -- ---------------------------------------------------------------- the judgement of a map of these pairs
 
-module _ (start : ℕ) (t : Node Ends) (ps : List (Pair Ends)) (kt : kind t ≡ table ps) where
-  judged-odd : all (λ q. field.isSome (field.keyOf q)) ps ≡ false → No 9 0 0 ≡ judged (judge current start t)
-  unfolding current judge field.rootFields field.field field.fields aTable asTable
+-- the field at the place i among these pairs
+abbrev the : Layout → ℕ → List (Pair Ends) → Option (Node Ends)
+the L i ps = field.field (slot i (L .root)) ps
+
+module _ (L : Layout) (start : ℕ) (t : Node Ends) (ps : List (Pair Ends)) (kt : kind t ≡ table ps) where
+  judged-odd : all (λ q. field.isSome (field.keyOf q)) ps ≡ false → No 9 0 0 ≡ judged (judge L start t)
+  unfolding judge field.rootFields field.fields aTable asTable
   judged-odd e = rw kt (rw e refl)
 
   module _ (a : all (λ q. field.isSome (field.keyOf q)) ps ≡ true) where
-    judged-twice : all (λ m. leb (field.count m ps) 1) rootNames ≡ false → No 11 0 0 ≡ judged (judge current start t)
-    unfolding current judge field.rootFields field.field field.fields aTable asTable
+    judged-twice : all (λ m. leb (field.count m ps) 1) (somes (L .root)) ≡ false → No 11 0 0 ≡ judged (judge L start t)
+    unfolding judge field.rootFields field.fields aTable asTable
     judged-twice e = rw kt (rw (a, e) refl)
 
-    module _ (b : all (λ m. leb (field.count m ps) 1) rootNames ≡ true) where
-      judged-no-version : get (ascii "version") ps ≡ none → No 12 0 0 ≡ judged (judge current start t)
-      unfolding current judge field.rootFields field.field field.fields aTable asTable
+    module _ (b : all (λ m. leb (field.count m ps) 1) (somes (L .root)) ≡ true) where
+      judged-no-version : the L 0 ps ≡ none → No 12 0 0 ≡ judged (judge L start t)
+      unfolding judge field.rootFields field.fields aTable asTable
       judged-no-version e = rw kt (rw (a, b) (rw e refl))
 
-      module _ (version : Node Ends) (g : get (ascii "version") ps ≡ some version) where
-        judged-version : (n : ℕ) → aVersion version ≡ fault n → No n 0 0 ≡ judged (judge current start t)
-        unfolding current judge field.rootFields field.field field.fields aTable asTable
+      module _ (version : Node Ends) (g : the L 0 ps ≡ some version) where
+        judged-version : (n : ℕ) → aVersion version ≡ fault n → No n 0 0 ≡ judged (judge L start t)
+        unfolding judge field.rootFields field.fields aTable asTable
         judged-version n e = rw kt (rw (a, b) (rw g (rw e refl)))
 
         module _ (v : aVersion version ≡ pass tt) where
-          judged-attributes : optional attributesOf (get (ascii "attributes") ps) ≡ fault KIND → No 8 0 0 ≡ judged (judge current start t)
-          unfolding current judge field.rootFields field.field field.fields aTable asTable
+          judged-attributes : optional attributesOf (the L 1 ps) ≡ fault KIND → No 8 0 0 ≡ judged (judge L start t)
+          unfolding judge field.rootFields field.fields aTable asTable
           judged-attributes e = rw kt (rw (a, b) (rw g (rw v (rw e refl))))
 
-          module _ (w : optional attributesOf (get (ascii "attributes") ps) ≡ pass (get (ascii "attributes") ps)) where
-            judged-no-objects : get (ascii "objects") ps ≡ none → No 12 0 0 ≡ judged (judge current start t)
-            unfolding current judge field.rootFields field.field field.fields aTable asTable
+          module _ (w : optional attributesOf (the L 1 ps) ≡ pass (the L 1 ps)) where
+            judged-no-objects : the L 2 ps ≡ none → No 12 0 0 ≡ judged (judge L start t)
+            unfolding judge field.rootFields field.fields aTable asTable
             judged-no-objects e = rw kt (rw (a, b) (rw g (rw v (rw w (rw e refl)))))
 
-            module _ (o : Node Ends) (x : get (ascii "objects") ps ≡ some o) where
-              judged-objects : (left : ℕ) → left ≡ leftAt (get (ascii "attributes") ps) → (k : Check (List (Object Ends))) → objectsOf current start o ≡ k → counted left (objects.judged k) ≡ judged (judge current start t)
-              unfolding current judge field.rootFields field.field field.fields aTable asTable
+            module _ (o : Node Ends) (x : the L 2 ps ≡ some o) where
+              judged-objects : (left : ℕ) → left ≡ leftAt (the L 1 ps) → (k : Check (List (Object Ends))) → objectsOf L start o ≡ k → counted left (objects.judged k) ≡ judged (judge L start t)
+              unfolding judge field.rootFields field.fields aTable asTable
               judged-objects left l (pass os) e = rw kt (rw (a, b) (rw g (rw v (rw w (rw x (rw e (rw l refl)))))))
               judged-objects left l (refuse n i j) e = rw kt (rw (a, b) (rw g (rw v (rw w (rw x (rw e refl))))))
 
@@ -114,37 +116,25 @@ left-of d s l none h = h
 left-of d s l (some t) h = h .1 .left-is
 
 module _ (s p : List ℕ) (found : Found) where
-  module _ (start d : ℕ) (ps : List (Pair Ends)) (q : List ℕ) (chain : Chain (suc d) s ps q) (noted : Noted start p found ps)
+  module _ (L : Layout) (start d : ℕ) (ps : List (Pair Ends)) (q : List ℕ) (chain : Chain (suc d) s ps q) (noted : Noted L start p found ps)
       (t : Node Ends) (kt : kind t ≡ table ps) where
     keys : eqb (getD p 4 0) 0 ≡ all (λ q. field.isSome (field.keyOf q)) ps
-    keys = keys-are-text rootNames (suc d) s ps q chain p (noted .0)
+    keys = keys-are-text (L .root) 3 (L .rootPlaces) (suc d) s ps q chain p (noted .0)
 
-    twice : eqb (getD p 5 0) 0 ≡ all (λ m. leb (field.count m ps) 1) rootNames
-    twice = none-twice rootNames (suc d) s ps q chain p (noted .0)
+    twice : eqb (getD p 5 0) 0 ≡ all (λ m. leb (field.count m ps) 1) (somes (L .root))
+    twice = none-twice (L .root) 3 (L .rootPlaces) (suc d) s ps q chain p (noted .0)
 
-    at-name : (m : List ℕ) (i : ℕ) → position rootNames m ≡ i → i < 3 → Holds (suc d) s (getD p i 0) (get m ps)
-    at-name m i e l = subst (λ (i : ℕ). Holds (suc d) s (getD p i 0) (get m ps)) e (field-stands rootNames (suc d) s ps q chain p (noted .0) m (let z : position rootNames m < 3 = omega arith in z))
-
-    at-version : Holds (suc d) s (getD p 0 0) (get (ascii "version") ps)
-    unfolding position
-    at-version = at-name (ascii "version") 0 refl (omega arith)
-
-    at-attributes : Holds (suc d) s (getD p 1 0) (get (ascii "attributes") ps)
-    unfolding position
-    at-attributes = at-name (ascii "attributes") 1 refl (omega arith)
-
-    at-objects : Holds (suc d) s (getD p 2 0) (get (ascii "objects") ps)
-    unfolding position
-    at-objects = at-name (ascii "objects") 2 refl (omega arith)
+    stands : (i : ℕ) → i < 3 → Holds (suc d) s (getD p i 0) (the L i ps)
+    stands = field-stands (L .root) 3 (L .rootPlaces) (suc d) s ps q chain p (noted .0) (L .rootApart)
 
     -- a version stands there, and keys and repeats are right
     record Ready : Type 0 where
       pub text-keys : all (λ q. field.isSome (field.keyOf q)) ps ≡ true
-      pub no-repeats : all (λ m. leb (field.count m ps) 1) rootNames ≡ true
-      pub version : Item (suc d) s (getD p 0 0) (get (ascii "version") ps)
+      pub no-repeats : all (λ m. leb (field.count m ps) 1) (somes (L .root)) ≡ true
+      pub version : Item (suc d) s (getD p 0 0) (the L 0 ps)
 
     abbrev Told : Fine → Type 0
-    Told (Bad m) = No m 0 0 ≡ judged (judge current start t)
+    Told (Bad m) = No m 0 0 ≡ judged (judge L start t)
     Told Good = Ready
 
     slots-told : Told (known p)
@@ -152,54 +142,54 @@ module _ (s p : List ℕ) (found : Found) where
     slots-told = go (eqb (getD p 4 0) 0) refl (eqb (getD p 5 0) 0) refl (eqb (getD p 0 0) 0) refl
       where
         go : (x₁ : Bool) → eqb (getD p 4 0) 0 ≡ x₁ → (x₂ : Bool) → eqb (getD p 5 0) 0 ≡ x₂ → (x₃ : Bool) → eqb (getD p 0 0) 0 ≡ x₃ → Told (cond x₁ (cond x₂ (cond x₃ (Bad 12) Good) (Bad 11)) (Bad 9))
-        go false a x₂ b x₃ c = judged-odd start t ps kt (sym keys ∙ a)
-        go true a false b x₃ c = judged-twice start t ps kt (sym keys ∙ a) (sym twice ∙ b)
-        go true a true b true c = judged-no-version start t ps kt (sym keys ∙ a) (sym twice ∙ b) (hold-none (suc d) s (getD p 0 0) (get (ascii "version") ps) at-version (eqb-true (getD p 0 0) 0 c))
+        go false a x₂ b x₃ c = judged-odd L start t ps kt (sym keys ∙ a)
+        go true a false b x₃ c = judged-twice L start t ps kt (sym keys ∙ a) (sym twice ∙ b)
+        go true a true b true c = judged-no-version L start t ps kt (sym keys ∙ a) (sym twice ∙ b) (hold-none (suc d) s (getD p 0 0) (the L 0 ps) (stands 0 (omega arith)) (eqb-true (getD p 0 0) 0 c))
         go true a true b false c = record {
           text-keys = sym keys ∙ a;
           no-repeats = sym twice ∙ b;
-          version = hold-some (suc d) s (getD p 0 0) (get (ascii "version") ps) at-version (eqb-false (getD p 0 0) 0 c);
+          version = hold-some (suc d) s (getD p 0 0) (the L 0 ps) (stands 0 (omega arith)) (eqb-false (getD p 0 0) 0 c);
         }
 
     module _ (r : Ready) where
-      version-told : (m : ℕ) → aVersion (r .version .item) ≡ fault m → No m 0 0 ≡ judged (judge current start t)
-      version-told m e = judged-version start t ps kt (r .text-keys) (r .no-repeats) (r .version .item) (r .version .is) m e
+      version-told : (m : ℕ) → aVersion (r .version .item) ≡ fault m → No m 0 0 ≡ judged (judge L start t)
+      version-told m e = judged-version L start t ps kt (r .text-keys) (r .no-repeats) (r .version .item) (r .version .is) m e
 
-      all-told : aVersion (r .version .item) ≡ pass tt → (map : Bool) → optional attributesOf (get (ascii "attributes") ps) ≡ cond map (pass (get (ascii "attributes") ps)) (fault KIND)
-          → told map (getD p 1 0) (getD p 2 0) found ≡ judged (judge current start t)
-      all-told v false w = judged-attributes start t ps kt (r .text-keys) (r .no-repeats) (r .version .item) (r .version .is) v w
+      all-told : aVersion (r .version .item) ≡ pass tt → (map : Bool) → optional attributesOf (the L 1 ps) ≡ cond map (pass (the L 1 ps)) (fault KIND)
+          → told map (getD p 1 0) (getD p 2 0) found ≡ judged (judge L start t)
+      all-told v false w = judged-attributes L start t ps kt (r .text-keys) (r .no-repeats) (r .version .item) (r .version .is) v w
       all-told v true w = go (eqb (getD p 2 0) 0) refl
         where
-          go : (x : Bool) → eqb (getD p 2 0) 0 ≡ x → cond x (No 12 0 0) (counted (getD p 1 0) found) ≡ judged (judge current start t)
-          go true e = judged-no-objects start t ps kt (r .text-keys) (r .no-repeats) (r .version .item) (r .version .is) v w (hold-none (suc d) s (getD p 2 0) (get (ascii "objects") ps) at-objects (eqb-true (getD p 2 0) 0 e))
+          go : (x : Bool) → eqb (getD p 2 0) 0 ≡ x → cond x (No 12 0 0) (counted (getD p 1 0) found) ≡ judged (judge L start t)
+          go true e = judged-no-objects L start t ps kt (r .text-keys) (r .no-repeats) (r .version .item) (r .version .is) v w (hold-none (suc d) s (getD p 2 0) (the L 2 ps) (stands 2 (omega arith)) (eqb-true (getD p 2 0) 0 e))
           go false e =
-              let o = hold-some (suc d) s (getD p 2 0) (get (ascii "objects") ps) at-objects (eqb-false (getD p 2 0) 0 e) in
+              let o = hold-some (suc d) s (getD p 2 0) (the L 2 ps) (stands 2 (omega arith)) (eqb-false (getD p 2 0) 0 e) in
               ap (counted (getD p 1 0)) (noted .1 (o .item) (o .is))
-              ∙ judged-objects start t ps kt (r .text-keys) (r .no-repeats) (r .version .item) (r .version .is) v w (o .item) (o .is)
-              (getD p 1 0) (left-of (suc d) s (getD p 1 0) (get (ascii "attributes") ps) at-attributes) (objectsOf current start (o .item)) refl
+              ∙ judged-objects L start t ps kt (r .text-keys) (r .no-repeats) (r .version .item) (r .version .is) v w (o .item) (o .is)
+              (getD p 1 0) (left-of (suc d) s (getD p 1 0) (the L 1 ps) (stands 1 (omega arith))) (objectsOf L start (o .item)) refl
 
   module _ (f : Fine) (asked : f ≡ known (Here p 0)) where
     slots-say : f ≡ known p
     slots-say = asked ∙ ap known (part-to-end p 0)
 
     pub refused : (m : ℕ) → f ≡ Bad m → VerdictIs s p found (No m 0 0)
-    refused m e start d ps q chain noted t kt = subst (Told start d ps q chain noted t kt) (sym slots-say ∙ e) (slots-told start d ps q chain noted t kt)
+    refused m e L start d ps q chain noted t kt = subst (Told L start d ps q chain noted t kt) (sym slots-say ∙ e) (slots-told L start d ps q chain noted t kt)
 
     module _ (e : f ≡ Good) (v : Fine) (versioned : VersionAt (Here s 0) (getD p 0 0) v) where
-      module _ (start d : ℕ) (ps : List (Pair Ends)) (q : List ℕ) (chain : Chain (suc d) s ps q) (noted : Noted start p found ps)
+      module _ (L : Layout) (start d : ℕ) (ps : List (Pair Ends)) (q : List ℕ) (chain : Chain (suc d) s ps q) (noted : Noted L start p found ps)
           (t : Node Ends) (kt : kind t ≡ table ps) where
-        ready : Ready start d ps q chain noted t kt
-        ready = subst (Told start d ps q chain noted t kt) (sym slots-say ∙ e) (slots-told start d ps q chain noted t kt)
+        ready : Ready L start d ps q chain noted t kt
+        ready = subst (Told L start d ps q chain noted t kt) (sym slots-say ∙ e) (slots-told L start d ps q chain noted t kt)
 
         version-is : (u : Fine) → v ≡ u → aVersion (ready .version .item) ≡ fine u
         version-is u z = subst (λ x. VersionAt x (getD p 0 0) u) (part-to-end s 0) (rw z at versioned) d (ready .version .item) (ready .version .stands)
 
       pub version-refused : (m : ℕ) → v ≡ Bad m → VerdictIs s p found (No m 0 0)
-      version-refused m z start d ps q chain noted t kt =
-          version-told start d ps q chain noted t kt (ready start d ps q chain noted t kt) m (version-is start d ps q chain noted t kt (Bad m) z)
+      version-refused m z L start d ps q chain noted t kt =
+          version-told L start d ps q chain noted t kt (ready L start d ps q chain noted t kt) m (version-is L start d ps q chain noted t kt (Bad m) z)
 
       pub as-told : v ≡ Good → (map : Bool) → AttributesAt (Here s 0) (getD p 1 0) map → (r : Judged) → r ≡ told map (getD p 1 0) (getD p 2 0) found → VerdictIs s p found r
-      as-told z map w r h start d ps q chain noted t kt =
+      as-told z map w r h L start d ps q chain noted t kt =
           let a : AttributesAt s (getD p 1 0) map = subst (λ x. AttributesAt x (getD p 1 0) map) (part-to-end s 0) w in
-          h ∙ all-told start d ps q chain noted t kt (ready start d ps q chain noted t kt) (version-is start d ps q chain noted t kt Good z) map
-          (a d (get (ascii "attributes") ps) (at-attributes start d ps q chain noted t kt))
+          h ∙ all-told L start d ps q chain noted t kt (ready L start d ps q chain noted t kt) (version-is L start d ps q chain noted t kt Good z) map
+          (a d (the L 1 ps) (stands L start d ps q chain noted t kt 1 (omega arith)))

@@ -8,15 +8,13 @@ use mathlib.Core.Path.{_≡_, refl, sym, ap, _∙_, subst}
 use lib.ListN.{length, getD, drop, replicate, length-drop}
 use lib.Seq.{drop-drop}
 use borrow.Rule.Slice.PartAt.{part-to-end}
-use Rattle.meaning.specs.Text.{ascii}
 use Rattle.meaning.specs.Tree.{Node, Pair}
 use Rattle.meaning.specs.Check.{pass, fault}
 use Rattle.meaning.specs.Refusal.{KIND}
 use Rattle.meaning.specs.Kind.{table, aTable, asTable}
-use Rattle.meaning.specs.Layouts.{rootNames}
-use Rattle.meaning.specs.Field.{rootFields, fields, get}
+use Rattle.meaning.specs.Layouts.{Layout, slot, objectsAt}
+use Rattle.meaning.specs.Field.{rootFields, fields, field}
 use Rattle.meaning.specs.Judge.{judge}
-use Rattle.types.specs.Known.{position}
 use Rattle.cbor.specs.Ending.{FAULT, code, itemEnd, rest}
 use Rattle.walk.specs.Reading.{Ends, Reads}
 use Rattle.walk.specs.Places.{MapIs, EntryIs}
@@ -39,62 +37,58 @@ use Rattle.root.specs.Verdict.{VerdictIs, RootIs, ObjectsAt}
 
 -- ---------------------------------------------------------------- one value
 
-module _ (start k seen : ℕ) (c : List ℕ) (found : Found) where
-  pub first-objects : k ≡ 2 → seen ≡ 0 → (found′ : Found) → ObjectsIs (Here c 0) start found′ → ValueIs start k seen c found found′
-  unfolding position
-  first-objects a b found′ h = record { first = λ x y. subst (λ u. ObjectsIs u start found′) (part-to-end c 0) h; other = λ n. absurd (n a b) }
+module _ (L : Layout) (start k seen : ℕ) (c : List ℕ) (found : Found) where
+  pub first-objects : k ≡ 2 → seen ≡ 0 → (found′ : Found) → ObjectsIs L (Here c 0) start found′ → ValueIs L start k seen c found found′
+  first-objects a b found′ h = record { first = λ x y. subst (λ u. ObjectsIs L u start found′) (part-to-end c 0) h; other = λ n. absurd (n a b) }
 
-  pub other-value : (k ≡ 2 → seen ≡ 0 → ⊥) → ValueIs start k seen c found found
-  unfolding position
+  pub other-value : (k ≡ 2 → seen ≡ 0 → ⊥) → ValueIs L start k seen c found found
   other-value n = record { first = λ x y. absurd (n x y); other = λ n. refl }
 
 -- ---------------------------------------------------------------- the loop
 
-pub objects-known : position rootNames (ascii "objects") < length rootNames
-unfolding position
+pub objects-known : objectsAt < 3
 objects-known = omega arith
 
 -- up to `at`, with n items due, the slots p and what was found
-abbrev pub Looping : ℕ → ℕ → ℕ → List ℕ → ℕ → ℕ → List ℕ → Found → Type 0
-Looping start = keeping.Looping rootNames (ascii "objects") objects-known (Says start) 30
+abbrev pub Looping : Layout → ℕ → ℕ → ℕ → List ℕ → ℕ → ℕ → List ℕ → Found → Type 0
+Looping L start = keeping.Looping (L .root) 3 (L .rootPlaces) objectsAt objects-known (L .rootApart) (Says L start) 30
 
-module _ (start mode count : ℕ) (s : List ℕ) (modes : Modes mode count) where
-  pub loop-starts : (p : List ℕ) (found : Found) → p ≡ replicate 6 0 → Looping start mode count s 0 count p found
-  loop-starts p found e = keeping.loop-starts rootNames (ascii "objects") objects-known (Says start) 30 mode count s modes p found e
+module _ (L : Layout) (start mode count : ℕ) (s : List ℕ) (modes : Modes mode count) where
+  pub loop-starts : (p : List ℕ) (found : Found) → p ≡ replicate 6 0 → Looping L start mode count s 0 count p found
+  loop-starts p found e = keeping.loop-starts (L .root) 3 (L .rootPlaces) objectsAt objects-known (L .rootApart) (Says L start) 30 mode count s modes p found e
 
-  module _ (room : length s < FAULT) (at n : ℕ) (p : List ℕ) (found : Found) (w : Looping start mode count s at n p found) where
+  module _ (room : length s < FAULT) (at n : ℕ) (p : List ℕ) (found : Found) (w : Looping L start mode count s at n p found) where
     pub six-slots : length p ≡ 6
     six-slots = w .slots
 
     pub still-due : 1 ≤ mode → 0 < n
-    still-due = keeping.still-due rootNames (ascii "objects") objects-known (Says start) 30 mode count s modes room at n p found w
+    still-due = keeping.still-due (L .root) 3 (L .rootPlaces) objectsAt objects-known (L .rootApart) (Says L start) 30 mode count s modes room at n p found w
 
     module _ (x : Entry) (h : EntryIs 31 mode n (Here s at) x) where
-      pub ends-inside : (e : ℕ) → x ≡ End e → e ≤ length s - at → (at + e ≡ code (rest mode count 31 s)) × Walked start mode count s p found
-      ends-inside = keeping.ends-inside rootNames (ascii "objects") objects-known (Says start) 30 mode count s modes room at n p found w x h
+      pub ends-inside : (e : ℕ) → x ≡ End e → e ≤ length s - at → (at + e ≡ code (rest mode count 31 s)) × Walked L start mode count s p found
+      ends-inside = keeping.ends-inside (L .root) 3 (L .rootPlaces) objectsAt objects-known (L .rootApart) (Says L start) 30 mode count s modes room at n p found w x h
 
-      pub ends-faulty : (e : ℕ) → x ≡ End e → length s - at < e → (e ≡ code (rest mode count 31 s)) × Walked start mode count s p found
-      ends-faulty = keeping.ends-faulty rootNames (ascii "objects") objects-known (Says start) 30 mode count s modes room at n p found w x h
+      pub ends-faulty : (e : ℕ) → x ≡ End e → length s - at < e → (e ≡ code (rest mode count 31 s)) × Walked L start mode count s p found
+      ends-faulty = keeping.ends-faulty (L .root) 3 (L .rootPlaces) objectsAt objects-known (L .rootApart) (Says L start) 30 mode count s modes room at n p found w x h
 
       module _ (k : ℕ) (is : x ≡ Value k) where
         pub value-inside : at + k ≤ length s
-        value-inside = keeping.value-inside rootNames (ascii "objects") objects-known (Says start) 30 mode count s modes room at n p found w x h k is
+        value-inside = keeping.value-inside (L .root) 3 (L .rootPlaces) objectsAt objects-known (L .rootApart) (Says L start) 30 mode count s modes room at n p found w x h k is
 
         module _ (e : ℕ) (ended : e ≡ code (itemEnd 31 (Here s (at + k)))) where
           pub two-due : 2 ≤ n
-          two-due = keeping.two-due rootNames (ascii "objects") objects-known (Says start) 30 mode count s modes room at n p found w x h k is e ended
+          two-due = keeping.two-due (L .root) 3 (L .rootPlaces) objectsAt objects-known (L .rootApart) (Says L start) 30 mode count s modes room at n p found w x h k is e ended
 
-          pub value-faulty : length s - (at + k) < e → (found′ : Found) → (e ≡ code (rest mode count 31 s)) × Walked start mode count s p found′
-          value-faulty = keeping.value-faulty rootNames (ascii "objects") objects-known (Says start) 30 mode count s modes room at n p found w x h k is e ended
+          pub value-faulty : length s - (at + k) < e → (found′ : Found) → (e ≡ code (rest mode count 31 s)) × Walked L start mode count s p found′
+          value-faulty = keeping.value-faulty (L .root) 3 (L .rootPlaces) objectsAt objects-known (L .rootApart) (Says L start) 30 mode count s modes room at n p found w x h k is e ended
 
           module _ (l : e ≤ length s - (at + k)) where
             pub goes-on : at < at + k + e
-            goes-on = keeping.goes-on rootNames (ascii "objects") objects-known (Says start) 30 mode count s modes room at n p found w x h k is e ended l
+            goes-on = keeping.goes-on (L .root) 3 (L .rootPlaces) objectsAt objects-known (L .rootApart) (Says L start) 30 mode count s modes room at n p found w x h k is e ended l
 
-            pub loops-on : (j : ℕ) → SlotIs rootNames (Here s at) j → (found′ : Found) → ValueIs start j (getD p 2 0) (Here s (at + k)) found found′
-                → (q : List ℕ) → q ≡ marked 3 p j (length s - (at + k)) → Looping start mode count s (at + k + e) (n - 2) q found′
-            unfolding position
-            loops-on j slot found′ valued q m = keeping.loops-on rootNames (ascii "objects") objects-known (Says start) 30 mode count s modes room at n p found w x h k is e ended l j slot found′ valued q m
+            pub loops-on : (j : ℕ) → SlotIs (L .root) (Here s at) j → (found′ : Found) → ValueIs L start j (getD p 2 0) (Here s (at + k)) found found′
+                → (q : List ℕ) → q ≡ marked 3 p j (length s - (at + k)) → Looping L start mode count s (at + k + e) (n - 2) q found′
+            loops-on j slot found′ valued q m = keeping.loops-on (L .root) 3 (L .rootPlaces) objectsAt objects-known (L .rootApart) (Says L start) 30 mode count s modes room at n p found w x h k is e ended l j slot found′ valued q m
 
 -- ---------------------------------------------------------------- the whole value
 
@@ -107,31 +101,30 @@ holds-whole d c a l left (some t) (some-left, x) =
     let z : a + (length (drop a c) - left) ≡ length c - left = omega arith in
     (some-left, record { rest = x .rest; within = omega arith; left-is = x .left-is; reads = subst (λ u. Reads d u t (x .rest)) (drop-drop (length (drop a c) - left) a c ∙ ap (λ i. drop i c) z) (x .reads) })
 
-module _ (c : List ℕ) (start : ℕ) (x : Opening) (h : MapIs (Here c 0) x) where
-  pub no-map : x ≡ NotOpen → RootIs c start (No 8 0 0)
+module _ (L : Layout) (c : List ℕ) (start : ℕ) (x : Opening) (h : MapIs (Here c 0) x) where
+  pub no-map : x ≡ NotOpen → RootIs L c start (No 8 0 0)
   unfolding judge rootFields fields
   no-map e t q r = rw (opens.opening c x h NotOpen e 31 t q r) refl
 
-  pub entries-judged : (mode count size : ℕ) → x ≡ Opened mode count size → (p : List ℕ) (found : Found) → Walked start mode count (Here c size) p found
-      → (v : Judged) → VerdictIs (Here c size) p found v → RootIs c start v
+  pub entries-judged : (mode count size : ℕ) → x ≡ Opened mode count size → (p : List ℕ) (found : Found) → Walked L start mode count (Here c size) p found
+      → (v : Judged) → VerdictIs (Here c size) p found v → RootIs L c start v
   entries-judged mode count size is p found walked v judged t q r =
       let m = opens.opened c x h mode count size is .trees 31 t q r in
-      let w = subst (λ u. Walked start mode count u p found) (part-to-end c size) walked (m .pairs) (m .last) (m .due) in
-      subst (λ u. VerdictIs u p found v) (part-to-end c size) judged start 30 (m .pairs) (m .last) (m .due .chain) w t (m .kind-is)
+      let w = subst (λ u. Walked L start mode count u p found) (part-to-end c size) walked (m .pairs) (m .last) (m .due) in
+      subst (λ u. VerdictIs u p found v) (part-to-end c size) judged L start 30 (m .pairs) (m .last) (m .due .chain) w t (m .kind-is)
 
-  pub no-objects : x ≡ NotOpen → ObjectsAt c 0
+  pub no-objects : x ≡ NotOpen → ObjectsAt L c 0
   unfolding aTable asTable
   no-objects e t q r ps is =
       let z : pass ps ≡ fault KIND = (rw is refl) ∙ opens.opening c x h NotOpen e 31 t q r in
       absurd (let y : _≡_ {A = ℕ} 0 1 = cc in omega arith)
 
-  pub objects-stand : (mode count size : ℕ) → x ≡ Opened mode count size → (p : List ℕ) (found : Found) → Walked start mode count (Here c size) p found → (left : ℕ) → left ≡ getD p 2 0 → ObjectsAt c left
-  unfolding position
+  pub objects-stand : (mode count size : ℕ) → x ≡ Opened mode count size → (p : List ℕ) (found : Found) → Walked L start mode count (Here c size) p found → (left : ℕ) → left ≡ getD p 2 0 → ObjectsAt L c left
   objects-stand mode count size is p found walked left e t q r ps kt =
       let o = opens.opened c x h mode count size is in
       let m = o .trees 31 t q r in
       let z : table (m .pairs) ≡ table ps = sym (m .kind-is) ∙ kt in
       let y : m .pairs ≡ ps = cc in
-      let w = subst (λ u. Walked start mode count u p found) (part-to-end c size) walked (m .pairs) (m .last) (m .due) in
-      let f = field-stands rootNames 31 (drop size c) (m .pairs) (m .last) (m .due .chain) p (w .0) (ascii "objects") objects-known in
-      holds-whole 31 c size (o .within) left (get (ascii "objects") ps) (subst (λ l. Holds 31 (drop size c) l (get (ascii "objects") ps)) (sym e) (subst (λ ps. Holds 31 (drop size c) (getD p 2 0) (get (ascii "objects") ps)) y f))
+      let w = subst (λ u. Walked L start mode count u p found) (part-to-end c size) walked (m .pairs) (m .last) (m .due) in
+      let f = field-stands (L .root) 3 (L .rootPlaces) 31 (drop size c) (m .pairs) (m .last) (m .due .chain) p (w .0) (L .rootApart) objectsAt objects-known in
+      holds-whole 31 c size (o .within) left (field (slot objectsAt (L .root)) ps) (subst (λ l. Holds 31 (drop size c) l (field (slot objectsAt (L .root)) ps)) (sym e) (subst (λ ps. Holds 31 (drop size c) (getD p 2 0) (field (slot objectsAt (L .root)) ps)) y f))

@@ -8,13 +8,12 @@ use lib.Dec.{eqb}
 use Rattle.meaning.specs.Tree.{Node, Pair}
 use Rattle.meaning.specs.Check.{Check, pass, refuse, fault}
 use Rattle.meaning.specs.Refusal.{KIND, KEY, TWICE, MISSING}
-use Rattle.meaning.specs.Text.{ascii}
 use Rattle.meaning.specs.Model.{Model}
-use Rattle.meaning.specs.Field.{get}
+use Rattle.meaning.specs.Field.{field}
 use Rattle.meaning.specs.Kind.{kind, table}
 use Rattle.meaning.specs.Judge.{aVersion, judge}
 use Rattle.meaning.specs.Rows.{componentCount}
-use Rattle.meaning.specs.Layouts.{current}
+use Rattle.meaning.specs.Layouts.{Layout, slot, objectsAt}
 use Rattle.walk.specs.Reading.{Ends, Reads, Chain, leftAt}
 use Rattle.walk.specs.Places.{Whatever}
 use Rattle.fields.specs.Slots.{ItemAt, Holds}
@@ -57,12 +56,12 @@ judged (refuse n o c) = No n o c
 
 -- for every map of the pairs that are read from s on, where p holds their slots, and `found` what the objects say
 abbrev pub VerdictIs : List ℕ → List ℕ → Found → Judged → Type 0
-VerdictIs s p found r = (start d : ℕ) (ps : List (Pair Ends)) (q : List ℕ) → Chain (suc d) s ps q → Noted start p found ps
-    → (t : Node Ends) → kind t ≡ table ps → r ≡ judged (judge current start t)
+VerdictIs s p found r = (L : Layout) (start d : ℕ) (ps : List (Pair Ends)) (q : List ℕ) → Chain (suc d) s ps q → Noted L start p found ps
+    → (t : Node Ends) → kind t ≡ table ps → r ≡ judged (judge L start t)
 
-abbrev pub RootIs : List ℕ → ℕ → Judged → Type 0
-RootIs s start r = (t : Node Ends) (q : List ℕ) → Reads 32 s t q → r ≡ judged (judge current start t)
+abbrev pub RootIs : Layout → List ℕ → ℕ → Judged → Type 0
+RootIs L s start r = (t : Node Ends) (q : List ℕ) → Reads 32 s t q → r ≡ judged (judge L start t)
 
 -- the place of the objects of whatever map s is read as
-abbrev pub ObjectsAt : List ℕ → ℕ → Type 0
-ObjectsAt s left = (t : Node Ends) (q : List ℕ) → Reads 32 s t q → (ps : List (Pair Ends)) → kind t ≡ table ps → Holds 31 s left (get (ascii "objects") ps)
+abbrev pub ObjectsAt : Layout → List ℕ → ℕ → Type 0
+ObjectsAt L s left = (t : Node Ends) (q : List ℕ) → Reads 32 s t q → (ps : List (Pair Ends)) → kind t ≡ table ps → Holds 31 s left (field (slot objectsAt (L .root)) ps)

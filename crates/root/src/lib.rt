@@ -7,6 +7,7 @@ use judge::verdict;
 use pass::entries;
 use walk::Opening;
 ghost use mathlib.Core.Path.{_≡_};
+ghost use Rattle.meaning.specs.Layouts.{layoutOf};
 ghost use Rattle.cbor.specs.Ending.{code, itemEnd};
 ghost use Rattle.root.specs.Verdict.{RootIs, ObjectsAt};
 
@@ -24,8 +25,8 @@ pub struct Whole {
 }
 
 // The root that begins s, of a file whose manifest begins at `start`.
-pub fn root(s: &[u8], start: u64) -> Whole
-    ensures { λ r. ⌜ (r .end ≡ code (itemEnd 32 (now (s .entry)))) × RootIs (now (s .entry)) start (r .verdict) × ObjectsAt (now (s .entry)) (r .objects) ⌝ }
+pub fn root(layout: u64, s: &[u8], start: u64) -> Whole
+    ensures { λ r. ⌜ (r .end ≡ code (itemEnd 32 (now (s .entry)))) × RootIs (layoutOf layout) (now (s .entry)) start (r .verdict) × ObjectsAt (layoutOf layout) (now (s .entry)) (r .objects) ⌝ }
 {
     let mut p = [0usize; 6];
     match walk::map(&s[0..]) {
@@ -35,7 +36,7 @@ pub fn root(s: &[u8], start: u64) -> Whole
             objects: 0,
         },
         Opening::Opened(mode, count, size) => {
-            let w = entries(&s[size..], start, mode, count, &mut p);
+            let w = entries(layout, &s[size..], start, mode, count, &mut p);
             let e = w.end;
             let found = w.found;
             let v = verdict(&s[size..], &p, found);

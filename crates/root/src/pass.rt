@@ -6,33 +6,33 @@ use walk::Letters;
 ghost use mathlib.Core.Path.{_≡_};
 ghost use Prim.Native.Nat.{_≤_};
 ghost use lib.ListN.{replicate};
-ghost use Rattle.meaning.specs.Layouts.{rootNames};
+ghost use Rattle.meaning.specs.Layouts.{layoutOf};
 ghost use Rattle.cbor.specs.Ending.{code, itemEnd, rest};
 ghost use Rattle.walk.proofs.Turns.{Modes};
 ghost use Rattle.fields.specs.Slots.{SlotIs};
 ghost use Rattle.root.specs.Walk as is;
 
 // The slot of the key that begins s.
-fn slot(s: &[u8]) -> usize
-    ensures { λ r. ⌜ (r ≤ 4) × SlotIs rootNames (now (s .entry)) r ⌝ }
+fn slot(layout: u64, s: &[u8]) -> usize
+    ensures { λ r. ⌜ (r ≤ 4) × SlotIs (layoutOf layout .root) (now (s .entry)) r ⌝ }
 {
     match walk::text(&s[0..]) {
         Letters::NoText => 4,
         Letters::Text(at, n) => {
             let e = at + n;
-            types::root_key(&s[at..e])
+            types::root_key(layout, &s[at..e])
         }
     }
 }
 
 // The value that begins c, whose key has slot k. The first `objects` (their slot still holds 0, which is `seen`) are walked; with any other value, what was found
 // before stays.
-fn value(c: &[u8], start: u64, k: usize, seen: usize, found: Found) -> Whole
-    ensures { λ r. ⌜ (r .end ≡ code (itemEnd 31 (now (c .entry)))) × is.ValueIs start k seen (now (c .entry)) found (r .found) ⌝ }
+fn value(layout: u64, c: &[u8], start: u64, k: usize, seen: usize, found: Found) -> Whole
+    ensures { λ r. ⌜ (r .end ≡ code (itemEnd 31 (now (c .entry)))) × is.ValueIs (layoutOf layout) start k seen (now (c .entry)) found (r .found) ⌝ }
 {
     if k == 2 {
         if seen == 0 {
-            return objects::objects(&c[0..], start);
+            return objects::objects(layout, &c[0..], start);
         }
     }
     Whole {
@@ -42,9 +42,9 @@ fn value(c: &[u8], start: u64, k: usize, seen: usize, found: Found) -> Whole
 }
 
 // Entries that begin s, counted as `walk::map` says: where they end, and what was found among the objects. The places of the known fields are left in p.
-pub fn entries(s: &[u8], start: u64, mode: u64, count: u64, p: &mut [usize]) -> Whole
+pub fn entries(layout: u64, s: &[u8], start: u64, mode: u64, count: u64, p: &mut [usize]) -> Whole
     requires { ⌜ (now p ≡ replicate 6 0) × Modes mode count ⌝ }
-    ensures { λ r. ⌜ (r .end ≡ code (rest mode count 31 (now (s .entry)))) × is.Walked start mode count (now (s .entry)) (now (p .exit)) (r .found) ⌝ }
+    ensures { λ r. ⌜ (r .end ≡ code (rest mode count 31 (now (s .entry)))) × is.Walked (layoutOf layout) start mode count (now (s .entry)) (now (p .exit)) (r .found) ⌝ }
 {
     let mut at = 0;
     let mut due = count;
@@ -65,8 +65,8 @@ pub fn entries(s: &[u8], start: u64, mode: u64, count: u64, p: &mut [usize]) -> 
             }
             Entry::Value(k) => {
                 let v = at + k;
-                let j = slot(&s[at..]);
-                let w = value(&s[v..], start, j, p[2], found);
+                let j = slot(layout, &s[at..]);
+                let w = value(layout, &s[v..], start, j, p[2], found);
                 let e = w.end;
                 found = w.found;
                 if s.len() - v < e {

@@ -1,6 +1,6 @@
 -- `root::pass::slot` meets its contract: a law for each branch.
 use Rattle.fields.proofs.Texts as texts
-use Rattle.meaning.specs.Layouts.{rootNames}
+use Rattle.meaning.specs.Layouts.{layoutOf}
 use native.Mathlib.Omega.{arith}
 use borrow.Author.Needs.{needs}
 use Rattle.root.proofs.pass.slot.Statement.{statement}
@@ -21,5 +21,5 @@ slot-spec =
     (λ c. search needs)
     (λ c. omega (arith, texts.letters-in (c .before .before .before .before .before .before .args .s .now) _ (c .before .before .before .text .ensures .0) _ _ (c .before .at .given .1)))
     (λ c κs. search needs)
-    (λ c. (omega arith, texts.slot-odd (c .before .before .before .before .before .args .s .now) _ (c .before .before .text .ensures .1) (c .enum-told .given .1) rootNames))
-    (λ c. texts.slot-known (c .before .before .before .before .before .before .before .before .args .s .now) _ (c .before .before .before .before .before .text .ensures .1) _ _ (c .before .before .before .at .given .1) rootNames _ (c .root-key .ensures)))
+    (λ c. (omega arith, texts.slot-odd (c .before .before .before .before .before .args .s .now) _ (c .before .before .text .ensures .1) (c .enum-told .given .1) (layoutOf (c .before .before .before .before .before .args .layout) .root) 3 (layoutOf (c .before .before .before .before .before .args .layout) .rootPlaces)))
+    (λ c. texts.slot-known (c .before .before .before .before .before .before .before .before .args .s .now) _ (c .before .before .before .before .before .text .ensures .1) _ _ (c .before .before .before .at .given .1) (layoutOf (c .before .before .before .before .before .before .before .before .args .layout) .root) 3 (layoutOf (c .before .before .before .before .before .before .before .before .args .layout) .rootPlaces) _ (c .root-key .ensures)))

@@ -1,4 +1,5 @@
 -- `root::pass::value` meets its contract: a law for each branch.
+use Rattle.meaning.specs.Layouts.{layoutOf}
 use Rattle.root.proofs.Walks as walks
 use Rattle.cbor.specs.Ending.{code, itemEnd}
 use borrow.Rule.Slice.PartAt.{part-to-end}
@@ -16,9 +17,9 @@ value-spec =
     (λ c. search needs)
     (λ c. search needs)
     (λ c κs. search needs)
-    (λ c. ((c .objects .ensures .0) ∙ ap (λ u. code (itemEnd 31 u)) (part-to-end (c .before .before .before .before .before .args .c .now) 0), walks.first-objects _ _ _ (c .before .before .before .before .before .args .c .now) (c .before .before .before .before .before .args .found) (c .before .before .before .if1 .taken) (c .before .before .if2 .taken) _ (c .objects .ensures .1)))
+    (λ c. ((c .objects .ensures .0) ∙ ap (λ u. code (itemEnd 31 u)) (part-to-end (c .before .before .before .before .before .args .c .now) 0), walks.first-objects (layoutOf (c .before .before .before .before .before .args .layout)) _ _ _ (c .before .before .before .before .before .args .c .now) (c .before .before .before .before .before .args .found) (c .before .before .before .if1 .taken) (c .before .before .if2 .taken) _ (c .objects .ensures .1)))
     (λ c. search needs)
     (λ c. search needs)
     (λ c. search needs)
     (λ c κs. search needs)
-    (λ c. ((c .skip .ensures) ∙ ap (λ u. code (itemEnd 31 u)) (part-to-end (c .before .before .before .before .args .c .now) 0), walks.other-value _ _ _ (c .before .before .before .before .args .c .now) (c .before .before .before .before .args .found) (λ a b. ⊎-elim (λ y. y .1 .left b) (λ y. y .left a) (c .before .before .if1 .came)))))
+    (λ c. ((c .skip .ensures) ∙ ap (λ u. code (itemEnd 31 u)) (part-to-end (c .before .before .before .before .args .c .now) 0), walks.other-value (layoutOf (c .before .before .before .before .args .layout)) _ _ _ (c .before .before .before .before .args .c .now) (c .before .before .before .before .args .found) (λ a b. ⊎-elim (λ y. y .1 .left b) (λ y. y .left a) (c .before .before .if1 .came)))))
