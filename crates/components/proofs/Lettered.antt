@@ -29,7 +29,7 @@ use Rattle.walk.proofs.Maps as maps
 use Rattle.walk.proofs.ReadSays.{nothing-read}
 use Rattle.walk.proofs.Chains.{ate}
 use Rattle.fields.specs.Slots.{Stands}
-use Rattle.fields.proofs.Standing.{get-stands}
+use Rattle.fields.proofs.Standing.{field-found-stands}
 use Rattle.components.specs.Typed.{WordAt, bare, lettered}
 use Rattle.components.proofs.Typed.{passed, passed-on, pass-same, TextsFrom, texts-from}
 
@@ -115,13 +115,6 @@ presence none t e = absurd (let z : _≡_ {A = ℕ} 0 1 = cc in omega arith)
 presence (some u) t e = present-kind u (kind u) t e
 
 -- ---------------------------------------------------------------- the type and the digest of a component
-
--- a field of pairs that are read one after the other
-field-found-stands : (d : ℕ) (s : List ℕ) (o : Option (List ℕ)) (ps : List (Pair Ends)) (at : ℕ) → at ≤ length s → (r : List ℕ) → Chain d (drop at s) ps r → (t : Node Ends)
-    → field o ps ≡ some t → Stands d s (length (noteOf t .start)) t
-unfolding field
-field-found-stands d s none ps at l r h t e = absurd (let z : _≡_ {A = ℕ} 0 1 = cc in omega arith)
-field-found-stands d s (some n) ps at l r h t e = get-stands d s n ps at l r h t e
 
 module _ (c : List ℕ) (room : length c < FAULT) (x : Node Ends) (q : List ℕ) (e : Reads 28 c x q) (L : Layout) (above : Option ℕ) (start : ℕ) (n : Word Ends) (k : Component Ends)
     (is : component L start above (record { name = n; value = x }) ≡ pass k) where

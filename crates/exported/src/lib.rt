@@ -91,24 +91,24 @@ pub extern "C" fn leaf_no_twice(
 }
 
 #[no_mangle]
-pub extern "C" fn leaf_root_key(k: &[u8]) -> usize
-    ensures { λ r. ⌜ r ≡ known.position layouts.rootNames (now (k .entry)) ⌝ }
+pub extern "C" fn leaf_root_key(layout: u64, k: &[u8]) -> usize
+    ensures { λ r. ⌜ r ≡ known.fieldAt (layouts.layoutOf layout .root) (now (k .entry)) ⌝ }
 {
-    types::root_key(k)
+    types::root_key(layout, k)
 }
 
 #[no_mangle]
-pub extern "C" fn leaf_object_key(k: &[u8]) -> usize
-    ensures { λ r. ⌜ r ≡ known.position layouts.objectNames (now (k .entry)) ⌝ }
+pub extern "C" fn leaf_object_key(layout: u64, k: &[u8]) -> usize
+    ensures { λ r. ⌜ r ≡ known.fieldAt (layouts.layoutOf layout .object) (now (k .entry)) ⌝ }
 {
-    types::object_key(k)
+    types::object_key(layout, k)
 }
 
 #[no_mangle]
-pub extern "C" fn leaf_component_key(k: &[u8]) -> usize
-    ensures { λ r. ⌜ r ≡ known.position layouts.componentNames (now (k .entry)) ⌝ }
+pub extern "C" fn leaf_component_key(layout: u64, k: &[u8]) -> usize
+    ensures { λ r. ⌜ r ≡ known.fieldAt (layouts.layoutOf layout .component) (now (k .entry)) ⌝ }
 {
-    types::component_key(k)
+    types::component_key(layout, k)
 }
 
 #[no_mangle]
@@ -119,10 +119,10 @@ pub extern "C" fn leaf_is_raw(k: &[u8]) -> bool
 }
 
 #[no_mangle]
-pub extern "C" fn leaf_dtype_code(k: &[u8]) -> u64
-    ensures { λ r. ⌜ r ≡ known.dtypeCode (now (k .entry)) ⌝ }
+pub extern "C" fn leaf_dtype_code(layout: u64, k: &[u8]) -> u64
+    ensures { λ r. ⌜ r ≡ known.dtypeCode (layouts.layoutOf layout) (now (k .entry)) ⌝ }
 {
-    types::dtype_code(k)
+    types::dtype_code(layout, k)
 }
 
 #[no_mangle]
@@ -241,10 +241,10 @@ pub struct Place {
 }
 
 #[no_mangle]
-pub extern "C" fn leaf_frame(file: &[u8]) -> Place
-    ensures { λ r. ⌜ r ≡ place (frames.frame layouts.current (now (file .entry))) ⌝ }
+pub extern "C" fn leaf_frame(layout: u64, file: &[u8]) -> Place
+    ensures { λ r. ⌜ r ≡ place (frames.frame (layouts.layoutOf layout) (now (file .entry))) ⌝ }
 {
-    match frame::frame(file) {
+    match frame::frame(layout, file) {
         frame::Framed::No(number) => Place {
             number: number,
             start: 0,
@@ -259,8 +259,8 @@ pub extern "C" fn leaf_frame(file: &[u8]) -> Place
 }
 
 #[no_mangle]
-pub extern "C" fn leaf_accept(file: &[u8]) -> Verdict
-    ensures { λ r. ⌜ r ≡ verdict (frames.reading layouts.current (now (file .entry))) ⌝ }
+pub extern "C" fn leaf_accept(layout: u64, file: &[u8]) -> Verdict
+    ensures { λ r. ⌜ r ≡ verdict (frames.reading (layouts.layoutOf layout) (now (file .entry))) ⌝ }
 {
-    reader::accept(file)
+    reader::accept_as(layout, file)
 }

@@ -107,3 +107,10 @@ module _ (slots : Slots) (n : ℕ) (places : length slots ≡ n) (d : ℕ) (s : 
       holds : (o : Option (List ℕ)) → Holds d s (leftAt (field.field o ps)) (field.field o ps)
       holds none = refl
       holds (some m) = holds-of d s m (field.get m ps) (get-stands d s m ps 0 (omega arith) r chain)
+
+-- a field of pairs that are read one after the other
+pub field-found-stands : (d : ℕ) (s : List ℕ) (o : Option (List ℕ)) (ps : List (Pair Ends)) (at : ℕ) → at ≤ length s → (r : List ℕ) → Chain d (drop at s) ps r → (t : Node Ends)
+    → field.field o ps ≡ some t → Stands d s (length (noteOf t .start)) t
+unfolding field.field
+field-found-stands d s none ps at l r h t e = absurd (let z : _≡_ {A = ℕ} 0 1 = cc in omega arith)
+field-found-stands d s (some n) ps at l r h t e = get-stands d s n ps at l r h t e

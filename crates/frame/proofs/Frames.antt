@@ -12,7 +12,7 @@ use Rattle.meaning.specs.Refusal.{SHORT, HEADER, FOOTER, BIG, FIT}
 use Rattle.meaning.specs.Limit.{manifestLimit}
 use Rattle.meaning.specs.Layouts.{Layout, magic, current, old, layoutOf}
 use Rattle.meaning.specs.Frame.{frame, little}
-use Rattle.meaning.proofs.WhichLayout.{is-old, is-current}
+use Rattle.meaning.proofs.WhichLayout.{is-old, is-current, by-layout}
 
 -- ---------------------------------------------------------------- what the layouts' numbers are
 
@@ -23,6 +23,11 @@ old-back layout e = (ap (λ L. L .sizeBack) (sym (is-old layout e)), ap (λ L. L
 pub current-back : (layout : ℕ) → (layout ≡ 1 → ⊥) → (16 ≡ layoutOf layout .sizeBack) × (24 ≡ layoutOf layout .least)
 unfolding current
 current-back layout e = (ap (λ L. L .sizeBack) (sym (is-current layout e)), ap (λ L. L .least) (sym (is-current layout e)))
+
+-- in both, eight bytes of header stand before what follows the blobs
+pub size-back : (layout : ℕ) → layoutOf layout .sizeBack + 8 ≡ layoutOf layout .least
+unfolding old current
+size-back layout = by-layout (λ n L. L .sizeBack + 8 ≡ L .least) layout (λ e. refl) (λ e. refl)
 
 pub old-footed : (layout : ℕ) → layout ≡ 1 → (file : List ℕ) → true ≡ same (layoutOf layout .footer) (drop (length file - length (layoutOf layout .footer)) file)
 unfolding old

@@ -14,15 +14,15 @@ use Rattle.meaning.specs.Columns.{objectWidth, componentWidth}
 use Rattle.meaning.specs.Tree.{Node, Pair, noteOf, mapP}
 use Rattle.meaning.specs.Read as spans
 use Rattle.meaning.specs.Check.{Check, pass, refuse, _>>=_, _>>_, _unless_, required, optional}
-use Rattle.meaning.specs.Text.{ascii, all}
+use Rattle.meaning.specs.Text.{all}
 use Rattle.meaning.specs.Refusal.{KEY, TWICE}
 use Rattle.meaning.specs.Model.{Model, RootFields}
 use Rattle.meaning.specs.Notes.{mapOption, mapModel, mapObject}
 use Rattle.meaning.specs.Kind as kinds
 use Rattle.meaning.specs.Kind.{kind, table, aTable, asTable}
 use Rattle.meaning.specs.Field as field
-use Rattle.meaning.specs.Layouts.{rootNames, current}
-use Rattle.meaning.specs.Field.{rootFields, isSome, keyOf, count, get}
+use Rattle.meaning.specs.Layouts.{Layout, slot, somes, objectsAt, layoutOf}
+use Rattle.meaning.specs.Field.{rootFields, isSome, keyOf, count}
 use Rattle.meaning.specs.Judge.{judge, aVersion, attributesOf, objectsOf}
 use Rattle.meaning.specs.Frame.{Reading, frame, reading}
 use Rattle.meaning.specs.Rows.{attributesSpan, componentCount, roomFor, roomy, answer, tableAfter, readInto}
@@ -32,9 +32,8 @@ use Rattle.walk.proofs.Passed.{Here}
 use Rattle.walk.proofs.Chains.{ate}
 use Rattle.walk.proofs.ReadSays.{note-of}
 use Rattle.fields.specs.Slots.{Holds}
-use Rattle.fields.proofs.Standing.{get-stands}
 use Rattle.components.proofs.Typed.{passed, passed-on, pass-same}
-use Rattle.components.proofs.Lettered.{pairs-chained}
+use Rattle.components.proofs.Lettered.{pairs-chained, field-found-stands}
 use Rattle.root.proofs.Walks.{holds-whole}
 use Rattle.table.specs.Spans.{spanOf, spanned, WholeIs}
 use Rattle.table.specs.Objects.{Written}
@@ -82,13 +81,17 @@ attributes-stay (some t) a e =
     let c : t ≡ b .value = pass-same (passed-on (aTable t) (pass t) (b .value) (b .is)) in
     sym (pass-same (b .then)) ∙ ap some (sym c)
 
-record Parts (start : ℕ) (t : Node Ends) (m : Model Ends) : Type 0 where
+-- the place of the attributes in a root's list
+abbrev attributesAt : ℕ
+attributesAt = 1
+
+record Parts (L : Layout) (start : ℕ) (t : Node Ends) (m : Model Ends) : Type 0 where
   pub pairs : List (Pair Ends)
   pub kind-is : kind t ≡ table pairs
   pub objects : Node Ends
-  pub objects-there : get (ascii "objects") pairs ≡ some objects
-  pub objects-judged : objectsOf current start objects ≡ pass (m .objects)
-  pub attributes-are : m .attributes ≡ get (ascii "attributes") pairs
+  pub objects-there : field.field (slot objectsAt (L .root)) pairs ≡ some objects
+  pub objects-judged : objectsOf L start objects ≡ pass (m .objects)
+  pub attributes-are : m .attributes ≡ field.field (slot attributesAt (L .root)) pairs
 
 table-kind : (k : kinds.Kind Ends) (ps : List (Pair Ends)) → asTable k ≡ pass ps → k ≡ table ps
 unfolding asTable
@@ -99,18 +102,18 @@ table-kind (kinds.table l) ps e = ap table (pass-same e)
 table-kind kinds.null ps e = absurd (let z : _≡_ {A = ℕ} 0 1 = cc in omega arith)
 table-kind kinds.another ps e = absurd (let z : _≡_ {A = ℕ} 0 1 = cc in omega arith)
 
-parts-of : (start : ℕ) (t : Node Ends) (m : Model Ends) → judge current start t ≡ pass m → Parts start t m
-unfolding current judge rootFields field.field field.fields aTable
-parts-of start t m e =
-    let root = passed (rootFields (current .root) t) _ m e in
+parts-of : (L : Layout) (start : ℕ) (t : Node Ends) (m : Model Ends) → judge L start t ≡ pass m → Parts L start t m
+unfolding judge rootFields field.fields aTable
+parts-of L start t m e =
+    let root = passed (rootFields (L .root) t) _ m e in
     let version = passed (required (root .value .version)) _ m (root .then) in
     let attributes = passed (optional attributesOf (root .value .attributes)) _ m (passed-on (aVersion (version .value)) _ m (version .then)) in
     let objects = passed (required (root .value .objects)) _ m (attributes .then) in
-    let found = passed (objectsOf current start (objects .value)) _ m (objects .then) in
-    let listed = passed (field.fields (current .root) t) _ (root .value) (root .is) in
+    let found = passed (objectsOf L start (objects .value)) _ m (objects .then) in
+    let listed = passed (field.fields (L .root) t) _ (root .value) (root .is) in
     let mapped = passed (asTable (kind t)) _ (listed .value) (listed .is) in
     let keyed = passed-on (KEY unless all (λ p. isSome (keyOf p)) (mapped .value)) _ (listed .value) (mapped .then) in
-    let pairs : mapped .value ≡ listed .value = pass-same (passed-on (TWICE unless all (λ n. leb (count n (mapped .value)) 1) rootNames) _ (listed .value) keyed) in
+    let pairs : mapped .value ≡ listed .value = pass-same (passed-on (TWICE unless all (λ n. leb (count n (mapped .value)) 1) (somes (L .root))) _ (listed .value) keyed) in
     let whole = pass-same (found .then) in
     let fields = pass-same (listed .then) in
     record {
@@ -123,11 +126,11 @@ parts-of start t m e =
     }
 
 -- a field stands in the bytes of its map
-field-holds : (m : List ℕ) → length m < FAULT → (t : Node Ends) (q : List ℕ) → Reads 32 m t q → (ps : List (Pair Ends)) → kind t ≡ table ps → (name : List ℕ) (o : Option (Node Ends)) → get name ps ≡ o → Holds 31 m (leftAt o) o
+field-holds : (m : List ℕ) → length m < FAULT → (t : Node Ends) (q : List ℕ) → Reads 32 m t q → (ps : List (Pair Ends)) → kind t ≡ table ps → (name : Option (List ℕ)) (o : Option (Node Ends)) → field.field name ps ≡ o → Holds 31 m (leftAt o) o
 field-holds m room t q e ps is name none g = refl
 field-holds m room t q e ps is name (some x) g =
     let h = pairs-chained 31 m room t q e ps is in
-    let s = get-stands 31 (drop (h .at) m) name ps 0 (omega arith) (h .last) (h .chain) x g in
+    let s = field-found-stands 31 (drop (h .at) m) name ps 0 (omega arith) (h .last) (h .chain) x g in
     let a = ate 31 (drop (length (drop (h .at) m) - length (noteOf x .start)) (drop (h .at) m)) x (s .rest) (s .reads) in
     let n = ap (λ (e : Ends). length (e .start)) (note-of 31 (drop (length (drop (h .at) m) - length (noteOf x .start)) (drop (h .at) m)) x (s .rest) (s .reads)) in
     let i = a .some in let j = a .fits in
@@ -135,12 +138,12 @@ field-holds m room t q e ps is name (some x) g =
 
 -- ---------------------------------------------------------------- the answer
 
-module _ (start : ℕ) (m : List ℕ) (before : List ℕ) where
-  pub manifest-refuses : (n o c : ℕ) → manifestReading (start + length m) start m ≡ refuse n o c → Filled start m before (refused n o c) before
+module _ (layout start : ℕ) (m : List ℕ) (before : List ℕ) where
+  pub manifest-refuses : (n o c : ℕ) → manifestReading (layoutOf layout) (start + length m) start m ≡ refuse n o c → Filled (layoutOf layout) start m before (refused n o c) before
   unfolding answer tableAfter
   manifest-refuses n o c e = (rw e refl, rw e refl)
 
-  module _ (objects components left at : ℕ) (a : Accepted (start + length m) start m objects components left at) where
+  module _ (objects components left at : ℕ) (a : Accepted (layoutOf layout) (start + length m) start m objects components left at) where
     room-is : roomFor (mapModel (spanOf (start + length m)) (a .model)) ≡ objectWidth * objects + componentWidth * components
     unfolding roomFor
     room-is =
@@ -149,13 +152,13 @@ module _ (start : ℕ) (m : List ℕ) (before : List ℕ) where
         let z = a .objects-are in let w = a .components-are in
         omega arith
 
-    pub no-room : false ≡ leb (objectWidth * objects + componentWidth * components) (length before) → Filled start m before (refused 24 0 0) before
+    pub no-room : false ≡ leb (objectWidth * objects + componentWidth * components) (length before) → Filled (layoutOf layout) start m before (refused 24 0 0) before
     unfolding answer tableAfter roomy
     no-room e = let r = a .is in let i = room-is in (rw (r, i, ← e) refl, rw (r, i, ← e) refl)
 
     module _ (room : length m < FAULT) (fits : true ≡ leb (objectWidth * objects + componentWidth * components) (length before)) where
-      parts : Parts start (a .tree) (a .model)
-      parts = parts-of start (a .tree) (a .model) (a .judged)
+      parts : Parts (layoutOf layout) start (a .tree) (a .model)
+      parts = parts-of (layoutOf layout) start (a .tree) (a .model) (a .judged)
 
       -- where the objects and the attributes stand
       objects-read : (place : ℕ) → place ≡ length m - at → (rest : List ℕ) × Reads 31 (Here m place) (parts .objects) rest
@@ -166,13 +169,13 @@ module _ (start : ℕ) (m : List ℕ) (before : List ℕ) where
       attributes-hold : Holds 31 m left (a .model .attributes)
       attributes-hold =
           subst (λ l. Holds 31 m l (a .model .attributes)) (sym (a .attributes-left))
-          (field-holds m room (a .tree) (a .rest) (a .reads) (parts .pairs) (parts .kind-is) (ascii "attributes") (a .model .attributes) (sym (parts .attributes-are)))
+          (field-holds m room (a .tree) (a .rest) (a .reads) (parts .pairs) (parts .kind-is) (slot attributesAt (layoutOf layout .root)) (a .model .attributes) (sym (parts .attributes-are)))
 
       enough : roomFor (a .model) ≤ length before
       unfolding roomFor
       enough = let x = leb-true (objectWidth * objects + componentWidth * components) (length before) (sym fits) in let z = a .objects-are in let w = a .components-are in omega arith
 
-      reading-is : (manifestReading (start + length m) start m >>= roomy (length before)) ≡ pass (record { start = start; model = mapModel (spanOf (start + length m)) (a .model) })
+      reading-is : (manifestReading (layoutOf layout) (start + length m) start m >>= roomy (length before)) ≡ pass (record { start = start; model = mapModel (spanOf (start + length m)) (a .model) })
       unfolding roomy
       reading-is = let r = a .is in let i = room-is in rw (r, i, ← fits) refl
 
@@ -186,8 +189,8 @@ module _ (start : ℕ) (m : List ℕ) (before : List ℕ) where
           let v : s .size ≡ attributesSpan (mapOption (mapP (spanOf (start + length m))) (a .model .attributes)) .size = ap (λ (s : spans.Span). s .size) z in
           rw (x, y, u, v) refl
 
-      pub written : (place : ℕ) → place ≡ length m - at → (after : List ℕ) → Written (Here m place) start (start + length m) (objectWidth * objects) before after
-          → (s : Span) → AttributesIs m left (start + length m) s → Filled start m before (read objects components start s) after
+      pub written : (place : ℕ) → place ≡ length m - at → (after : List ℕ) → Written layout (Here m place) start (start + length m) (objectWidth * objects) before after
+          → (s : Span) → AttributesIs m left (start + length m) s → Filled (layoutOf layout) start m before (read objects components start s) after
       unfolding tableAfter
       written place here after w s h =
           let o = objects-read place here in
@@ -198,39 +201,39 @@ module _ (start : ℕ) (m : List ℕ) (before : List ℕ) where
 
 -- ---------------------------------------------------------------- as the code has it
 
-module _ (start : ℕ) (m before : List ℕ) (x : Told) (h : (end : ℕ) → ManifestIs end start (Here m 0) x) where
-  told-there : (y : Told) → x ≡ y → ManifestIs (start + length m) start m y
-  told-there y e = subst (ManifestIs (start + length m) start m) e (subst (λ u. ManifestIs (start + length m) start u x) (part-to-end m 0) (h (start + length m)))
+module _ (layout start : ℕ) (m before : List ℕ) (x : Told) (h : (end : ℕ) → ManifestIs (layoutOf layout) end start (Here m 0) x) where
+  told-there : (y : Told) → x ≡ y → ManifestIs (layoutOf layout) (start + length m) start m y
+  told-there y e = subst (ManifestIs (layoutOf layout) (start + length m) start m) e (subst (λ u. ManifestIs (layoutOf layout) (start + length m) start u x) (part-to-end m 0) (h (start + length m)))
 
-  pub filled-not : (n o c : ℕ) → x ≡ No n o c → (r : Answer) → r ≡ refused n o c → Filled start m before r before
-  filled-not n o c e r is = subst (λ r. Filled start m before r before) (sym is) (manifest-refuses start m before n o c (told-there (No n o c) e))
+  pub filled-not : (n o c : ℕ) → x ≡ No n o c → (r : Answer) → r ≡ refused n o c → Filled (layoutOf layout) start m before r before
+  filled-not n o c e r is = subst (λ r. Filled (layoutOf layout) start m before r before) (sym is) (manifest-refuses layout start m before n o c (told-there (No n o c) e))
 
   module _ (objects components left at : ℕ) (e : x ≡ Yes objects components left at) where
-    pub filled-no-room : false ≡ leb (objectWidth * objects + componentWidth * components) (length before) → (r : Answer) → r ≡ refused 24 0 0 → Filled start m before r before
-    filled-no-room f r is = subst (λ r. Filled start m before r before) (sym is) (no-room start m before objects components left at (told-there (Yes objects components left at) e) f)
+    pub filled-no-room : false ≡ leb (objectWidth * objects + componentWidth * components) (length before) → (r : Answer) → r ≡ refused 24 0 0 → Filled (layoutOf layout) start m before r before
+    filled-no-room f r is = subst (λ r. Filled (layoutOf layout) start m before r before) (sym is) (no-room layout start m before objects components left at (told-there (Yes objects components left at) e) f)
 
     pub filled-so : length m < FAULT → true ≡ leb (objectWidth * objects + componentWidth * components) (length before) → (place : ℕ) → place ≡ length m - at → (after : List ℕ)
-        → Written (Here m place) start (start + length m) (objectWidth * objects) before after → (s : Span) → AttributesIs (Here m 0) left (start + length m) s → Filled start m before (read objects components start s) after
+        → Written layout (Here m place) start (start + length m) (objectWidth * objects) before after → (s : Span) → AttributesIs (Here m 0) left (start + length m) s → Filled (layoutOf layout) start m before (read objects components start s) after
     filled-so room f place here after w s a =
-        written start m before objects components left at (told-there (Yes objects components left at) e) room f place here after w s (subst (λ u. AttributesIs u left (start + length m) s) (part-to-end m 0) a)
+        written layout start m before objects components left at (told-there (Yes objects components left at) e) room f place here after w s (subst (λ u. AttributesIs u left (start + length m) s) (part-to-end m 0) a)
 
 -- from the frame on
-module _ (file before : List ℕ) (r : Framed) (asked : frame current (Here file 0) ≡ framed-told r) where
-  pub no-frame-read : (n : ℕ) → r ≡ NoFrame n → (a : Answer) → a ≡ refused n 0 0 → (a ≡ answered (readInto current file (length before))) × (before ≡ tableAfter before (readInto current file (length before)))
+module _ (layout : ℕ) (file before : List ℕ) (r : Framed) (asked : frame (layoutOf layout) (Here file 0) ≡ framed-told r) where
+  pub no-frame-read : (n : ℕ) → r ≡ NoFrame n → (a : Answer) → a ≡ refused n 0 0 → (a ≡ answered (readInto (layoutOf layout) file (length before))) × (before ≡ tableAfter before (readInto (layoutOf layout) file (length before)))
   unfolding readInto reading answer tableAfter
-  no-frame-read n e a is = let z = framed file r asked (NoFrame n) e in (is ∙ (rw z refl), rw z refl)
+  no-frame-read n e a is = let z = framed layout file r asked (NoFrame n) e in (is ∙ (rw z refl), rw z refl)
 
   module _ (start size : ℕ) (e : r ≡ At start size) where
     manifest-length : length (take (start + size - start) (drop start file)) ≡ size
-    manifest-length = let i = inside file r asked start size e in length-take-le (start + size - start) (drop start file) (omega (arith, length-drop start file)) ∙ (omega arith)
+    manifest-length = let i = inside layout file r asked start size e in length-take-le (start + size - start) (drop start file) (omega (arith, length-drop start file)) ∙ (omega arith)
 
     pub manifest-short : length file < FAULT → start + length (take (start + size - start) (drop start file)) < FAULT
-    manifest-short l = let i = inside file r asked start size e in let n = manifest-length in omega arith
+    manifest-short l = let i = inside layout file r asked start size e in let n = manifest-length in omega arith
 
-    pub frame-read : (m : List ℕ) → m ≡ take (start + size - start) (drop start file) → (a : Answer) (after : List ℕ) → Filled start m before a after
-        → (a ≡ answered (readInto current file (length before))) × (after ≡ tableAfter before (readInto current file (length before)))
+    pub frame-read : (m : List ℕ) → m ≡ take (start + size - start) (drop start file) → (a : Answer) (after : List ℕ) → Filled (layoutOf layout) start m before a after
+        → (a ≡ answered (readInto (layoutOf layout) file (length before))) × (after ≡ tableAfter before (readInto (layoutOf layout) file (length before)))
     unfolding readInto
     frame-read m is a after f =
         let l : length m ≡ size = ap length is ∙ manifest-length in
-        let z : reading current file ≡ manifestReading (start + length m) start m = manifest-read file r asked start size e ∙ ap₂ (λ i u. manifestReading i start u) (ap (λ n. start + n) (sym l)) (sym is) in
+        let z : reading (layoutOf layout) file ≡ manifestReading (layoutOf layout) (start + length m) start m = manifest-read layout file r asked start size e ∙ ap₂ (λ i u. manifestReading (layoutOf layout) i start u) (ap (λ n. start + n) (sym l)) (sym is) in
         (f .0 ∙ ap (λ k. answered (k >>= roomy (length before))) (sym z), f .1 ∙ ap (λ k. tableAfter before (k >>= roomy (length before))) (sym z))

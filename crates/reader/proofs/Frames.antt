@@ -12,28 +12,32 @@ use Rattle.meaning.specs.Check.{pass, refuse, _>>=_, _>>_, _unless_}
 use Rattle.meaning.specs.Text.{same}
 use Rattle.meaning.specs.Refusal.{SHORT, HEADER, FOOTER, BIG, FIT}
 use Rattle.meaning.specs.Limit.{manifestLimit}
-use Rattle.meaning.specs.Layouts.{magic, current}
+use Rattle.meaning.specs.Layouts.{Layout, magic, layoutOf}
 use Rattle.meaning.specs.Frame.{Frame, frame, little, reading}
-use Rattle.meaning.proofs.CurrentIsBase.{frame-current}
 use Rattle.frame.specs.Told.{told}
+use Rattle.frame.proofs.Frames.{size-back}
 use Rattle.frame.specs.declared.Framed.{Framed}
 use Rattle.frame.specs.declared.Framed.the-variants.{No, At}
 use Rattle.fields.proofs.Texts.{Here}
 use Rattle.reader.specs.Verdict.{refusal, verdict, manifestReading, Accepted}
 
 -- a manifest lies inside its file
-module _ (file : List ℕ) where
+module _ (layout : ℕ) (file : List ℕ) where
+  abbrev L : Layout
+  L = layoutOf layout
+
   abbrev n : ℕ
   n = length file
 
   abbrev size : ℕ
-  size = little (take 8 (drop (n - 16) file))
+  size = little (take 8 (drop (n - L .sizeBack) file))
 
-  framed-inside : (f : Frame) → frame current file ≡ pass f → f .start + f .size ≤ n
-  framed-inside f e = go (leb 24 n) refl (same magic (take 8 file)) (same magic (drop (n - 8) file)) (leb size manifestLimit) (leb 1 size) (leb size (n - 24)) refl (sym (frame-current file) ∙ e)
+  framed-inside : (f : Frame) → frame L file ≡ pass f → f .start + f .size ≤ n
+  unfolding frame
+  framed-inside f e = go (leb (L .least) n) refl (same magic (take 8 file)) (same (L .footer) (drop (n - length (L .footer)) file)) (leb size manifestLimit) (leb 1 size) (leb size (n - L .least)) refl e
     where
-      go : (x₁ : Bool) → leb 24 n ≡ x₁ → (x₂ x₃ x₄ x₅ x₆ : Bool) → leb size (n - 24) ≡ x₆
-          → ((SHORT unless x₁) >> ((HEADER unless x₂) >> ((FOOTER unless x₃) >> ((BIG unless x₄) >> ((FIT unless (x₅ && x₆)) >> pass (record { start = n - 16 - size; size = size })))))) ≡ pass f
+      go : (x₁ : Bool) → leb (L .least) n ≡ x₁ → (x₂ x₃ x₄ x₅ x₆ : Bool) → leb size (n - L .least) ≡ x₆
+          → ((SHORT unless x₁) >> ((HEADER unless x₂) >> ((FOOTER unless x₃) >> ((BIG unless x₄) >> ((FIT unless (x₅ && x₆)) >> pass (record { start = n - L .sizeBack - size; size = size })))))) ≡ pass f
           → f .start + f .size ≤ n
       go false a x₂ x₃ x₄ x₅ x₆ b e = absurd (let z : _≡_ {A = ℕ} 0 1 = cc in omega arith)
       go true a false x₃ x₄ x₅ x₆ b e = absurd (let z : _≡_ {A = ℕ} 0 1 = cc in omega arith)
@@ -42,17 +46,18 @@ module _ (file : List ℕ) where
       go true a true true true false x₆ b e = absurd (let z : _≡_ {A = ℕ} 0 1 = cc in omega arith)
       go true a true true true true false b e = absurd (let z : _≡_ {A = ℕ} 0 1 = cc in omega arith)
       go true a true true true true true b e =
-          let x : 24 ≤ n = leb-true _ _ a in
-          let y : size ≤ n - 24 = leb-true _ _ b in
-          let u : n - 16 - size ≡ f .start = cc in
+          let x : L .least ≤ n = leb-true _ _ a in
+          let y : size ≤ n - L .least = leb-true _ _ b in
+          let u : n - L .sizeBack - size ≡ f .start = cc in
           let v : size ≡ f .size = cc in
+          let b = size-back layout in
           omega arith
 
-  module _ (r : Framed) (asked : frame current (Here file 0) ≡ told r) where
-    pub framed : (q : Framed) → r ≡ q → frame current file ≡ told q
-    framed q e = ap (frame current) (sym (part-to-end file 0)) ∙ asked ∙ ap told e
+  module _ (r : Framed) (asked : frame L (Here file 0) ≡ told r) where
+    pub framed : (q : Framed) → r ≡ q → frame L file ≡ told q
+    framed q e = ap (frame L) (sym (part-to-end file 0)) ∙ asked ∙ ap told e
 
-    pub no-frame : (number : ℕ) → r ≡ No number → refusal number 0 0 ≡ verdict (reading current file)
+    pub no-frame : (number : ℕ) → r ≡ No number → refusal number 0 0 ≡ verdict (reading L file)
     unfolding reading
     no-frame number e = rw (framed (No number) e) refl
 
@@ -61,18 +66,18 @@ module _ (file : List ℕ) where
       inside = framed-inside (record { start = start; size = sized }) (framed (At start sized) e)
 
       -- the file's reading is that of its manifest
-      pub manifest-read : reading current file ≡ manifestReading (start + sized) start (take (start + sized - start) (drop start file))
+      pub manifest-read : reading L file ≡ manifestReading L (start + sized) start (take (start + sized - start) (drop start file))
       unfolding reading
       manifest-read =
           let z : start + sized - start ≡ sized = omega arith in
-          (rw (framed (At start sized) e) refl) ∙ ap (λ (i : ℕ). manifestReading (start + sized) start (take i (drop start file))) (sym z)
+          (rw (framed (At start sized) e) refl) ∙ ap (λ (i : ℕ). manifestReading L (start + sized) start (take i (drop start file))) (sym z)
 
       module _ (m : List ℕ) (is : m ≡ take (start + sized - start) (drop start file)) where
-        there : reading current file ≡ manifestReading (start + sized) start m
-        there = manifest-read ∙ ap (manifestReading (start + sized) start) (sym is)
+        there : reading L file ≡ manifestReading L (start + sized) start m
+        there = manifest-read ∙ ap (manifestReading L (start + sized) start) (sym is)
 
-        pub accept-refuses : (n o c : ℕ) → manifestReading (start + sized) start m ≡ refuse n o c → refusal n o c ≡ verdict (reading current file)
+        pub accept-refuses : (n o c : ℕ) → manifestReading L (start + sized) start m ≡ refuse n o c → refusal n o c ≡ verdict (reading L file)
         accept-refuses n o c h = sym (ap verdict (there ∙ h))
 
-        pub accept-accepts : (objects components left at : ℕ) → Accepted (start + sized) start m objects components left at → refusal 0 0 0 ≡ verdict (reading current file)
+        pub accept-accepts : (objects components left at : ℕ) → Accepted L (start + sized) start m objects components left at → refusal 0 0 0 ≡ verdict (reading L file)
         accept-accepts objects components left at h = sym (ap verdict (there ∙ h .is))

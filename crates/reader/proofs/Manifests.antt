@@ -14,7 +14,7 @@ use Rattle.meaning.specs.Notes.{mapCheck, mapModel}
 use Rattle.meaning.specs.Read.{Outcome, got, refused, after, Span, item, noNote, closed, manifest}
 use Rattle.meaning.specs.Judge.{judge}
 use Rattle.meaning.specs.Frame.{Reading, checked}
-use Rattle.meaning.specs.Layouts.{current}
+use Rattle.meaning.specs.Layouts.{Layout}
 use Rattle.meaning.proofs.ReadNatural.{mapOut, item-follows}
 use Rattle.meaning.proofs.JudgeNatural.{judge-map}
 use Rattle.cbor.specs.Ending.{took, FAULT, code, ending, itemEnd}
@@ -27,13 +27,13 @@ use Rattle.root.specs.declared.Judged.the-variants.{No, Yes}
 use Rattle.root.specs.Verdict.{judged, RootIs, ObjectsAt}
 use Rattle.reader.specs.Verdict.{spanOf, manifestReading, Accepted}
 
-module _ (end start : ℕ) where
+module _ (L : Layout) (end start : ℕ) where
   abbrev spans : Ends → Span
   spans = spanOf end
 
   -- the rest of a reading, once the manifest's item is read
   abbrev judging : Check (Node Span) → Check Reading
-  judging c = c >>= λ t. judge current start t >>= λ m. pass (record { start = start; model = m })
+  judging c = c >>= λ t. judge L start t >>= λ m. pass (record { start = start; model = m })
 
   abbrev closing : Outcome (Node Span) → Check Reading
   closing o = judging (checked (after o closed))
@@ -53,7 +53,7 @@ module _ (end start : ℕ) where
   refused-so n q = refl
 
   module _ (s : List ℕ) where
-    read-so : (o : Outcome (Node Ends)) → item ends 32 s ≡ o → manifestReading end start s ≡ closing (mapOut (mapP spans) o)
+    read-so : (o : Outcome (Node Ends)) → item ends 32 s ≡ o → manifestReading L end start s ≡ closing (mapOut (mapP spans) o)
     unfolding manifest
     read-so o e = ap closing (item-follows spans ends 32 s ∙ ap (mapOut (mapP spans)) e)
 
@@ -73,10 +73,10 @@ module _ (end start : ℕ) where
           go (refused n q) h = let z : e ≡ FAULT + n = ended-so (refused n q) h in omega arith
 
       -- malformed, ended early or too deep
-      pub faulty : length s < e → manifestReading end start s ≡ refuse (e - FAULT) 0 0
+      pub faulty : length s < e → manifestReading L end start s ≡ refuse (e - FAULT) 0 0
       faulty l = go (item ends 32 s) refl
         where
-          go : (o : Outcome (Node Ends)) → item ends 32 s ≡ o → manifestReading end start s ≡ refuse (e - FAULT) 0 0
+          go : (o : Outcome (Node Ends)) → item ends 32 s ≡ o → manifestReading L end start s ≡ refuse (e - FAULT) 0 0
           go (got t r) h = let z : e ≡ length s - length r = ended-so (got t r) h in absurd (omega arith)
           go (refused n q) h =
               let z : e ≡ FAULT + n = ended-so (refused n q) h in
@@ -84,10 +84,10 @@ module _ (end start : ℕ) where
               read-so (refused n q) h ∙ refused-so n q ∙ ap (λ (i : ℕ). refuse i 0 0) (sym y)
 
       module _ (room : length s < FAULT) where
-        pub left-over : e < length s → manifestReading end start s ≡ refuse 6 0 0
+        pub left-over : e < length s → manifestReading L end start s ≡ refuse 6 0 0
         left-over l = go (item ends 32 s) refl
           where
-            go : (o : Outcome (Node Ends)) → item ends 32 s ≡ o → manifestReading end start s ≡ refuse 6 0 0
+            go : (o : Outcome (Node Ends)) → item ends 32 s ≡ o → manifestReading L end start s ≡ refuse 6 0 0
             go (got t r) h =
                 let z : e ≡ length s - length r = ended-so (got t r) h in
                 read-so (got t r) h ∙ closed-refuses (mapP spans t) r (omega arith)
@@ -98,7 +98,7 @@ module _ (end start : ℕ) where
           pub tree : Node Ends
           pub rest : List ℕ
           pub reads : Reads 32 s tree rest
-          pub is : manifestReading end start s ≡ (mapCheck (mapModel spans) (judge current start tree) >>= λ m. pass (record { start = start; model = m }))
+          pub is : manifestReading L end start s ≡ (mapCheck (mapModel spans) (judge L start tree) >>= λ m. pass (record { start = start; model = m }))
 
         module _ (l : length s ≡ e) where
           filling : Filling
@@ -112,28 +112,28 @@ module _ (end start : ℕ) where
                     tree = t;
                     rest = r;
                     reads = h;
-                    is = read-so (got t r) h ∙ closed-passes (mapP spans t) r y ∙ ap (λ k. k >>= λ m. pass (record { start = start; model = m })) (judge-map spans current start t);
+                    is = read-so (got t r) h ∙ closed-passes (mapP spans t) r y ∙ ap (λ k. k >>= λ m. pass (record { start = start; model = m })) (judge-map spans L start t);
                   }
               go (refused n q) h = let z : e ≡ FAULT + n = ended-so (refused n q) h in absurd (omega arith)
 
-          module _ (u : Judged) (told : RootIs (Here s 0) start u) where
-            root : (v : Judged) → u ≡ v → v ≡ judged (judge current start (filling .tree))
-            root v same = subst (λ m. RootIs m start v) (part-to-end s 0) (subst (RootIs (Here s 0) start) same told) (filling .tree) (filling .rest) (filling .reads)
+          module _ (u : Judged) (told : RootIs L (Here s 0) start u) where
+            root : (v : Judged) → u ≡ v → v ≡ judged (judge L start (filling .tree))
+            root v same = subst (λ m. RootIs L m start v) (part-to-end s 0) (subst (RootIs L (Here s 0) start) same told) (filling .tree) (filling .rest) (filling .reads)
 
-            pub root-refuses : (n o c : ℕ) → u ≡ No n o c → manifestReading end start s ≡ refuse n o c
-            root-refuses n o c same = go (judge current start (filling .tree)) refl
+            pub root-refuses : (n o c : ℕ) → u ≡ No n o c → manifestReading L end start s ≡ refuse n o c
+            root-refuses n o c same = go (judge L start (filling .tree)) refl
               where
-                go : (k : Check (Model Ends)) → judge current start (filling .tree) ≡ k → manifestReading end start s ≡ refuse n o c
+                go : (k : Check (Model Ends)) → judge L start (filling .tree) ≡ k → manifestReading L end start s ≡ refuse n o c
                 go (pass m) h = let z : No n o c ≡ judged (pass m) = root (No n o c) same ∙ ap judged h in absurd (let y : _≡_ {A = ℕ} 0 1 = cc in omega arith)
                 go (refuse n′ o′ c′) h =
                     let z : No n o c ≡ judged (refuse n′ o′ c′) = root (No n o c) same ∙ ap judged h in
                     let a : n′ ≡ n = cc in let b : o′ ≡ o = cc in let d : c′ ≡ c = cc in
                     filling .is ∙ (rw (h, a, b, d) refl)
 
-            pub root-accepts : (objects components left at : ℕ) → u ≡ Yes objects components left → ObjectsAt (Here s 0) at → Accepted end start s objects components left at
-            root-accepts objects components left at same stand = go (judge current start (filling .tree)) refl
+            pub root-accepts : (objects components left at : ℕ) → u ≡ Yes objects components left → ObjectsAt L (Here s 0) at → Accepted L end start s objects components left at
+            root-accepts objects components left at same stand = go (judge L start (filling .tree)) refl
               where
-                go : (k : Check (Model Ends)) → judge current start (filling .tree) ≡ k → Accepted end start s objects components left at
+                go : (k : Check (Model Ends)) → judge L start (filling .tree) ≡ k → Accepted L end start s objects components left at
                 go (refuse n o c) h = let z : Yes objects components left ≡ judged (refuse n o c) = root (Yes objects components left) same ∙ ap judged h in absurd (let y : _≡_ {A = ℕ} 0 1 = cc in omega arith)
                 go (pass m) h =
                     let z : Yes objects components left ≡ judged (pass m) = root (Yes objects components left) same ∙ ap judged h in
@@ -147,5 +147,5 @@ module _ (end start : ℕ) where
                       objects-are = cc;
                       components-are = cc;
                       attributes-left = cc;
-                      objects-at = subst (λ m. ObjectsAt m at) (part-to-end s 0) stand;
+                      objects-at = subst (λ m. ObjectsAt L m at) (part-to-end s 0) stand;
                     }

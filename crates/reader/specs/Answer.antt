@@ -8,6 +8,7 @@ use Rattle.meaning.specs.Tree.{Node, mapP}
 use Rattle.meaning.specs.Check.{Check, _>>=_}
 use Rattle.meaning.specs.Notes.{mapOption}
 use Rattle.meaning.specs.Frame.{Reading}
+use Rattle.meaning.specs.Layouts.{Layout}
 use Rattle.meaning.specs.Rows as meant
 use Rattle.meaning.specs.Rows.{attributesSpan, roomy, answer, tableAfter}
 use Rattle.walk.specs.Reading.{Ends}
@@ -46,8 +47,8 @@ abbrev pub AttributesIs : List ℕ → ℕ → ℕ → Span → Type 0
 AttributesIs m left end r = (o : Option (Node Ends)) → Holds 31 m left o → spanned r ≡ attributesSpan (mapOption (mapP (spanOf end)) o)
 
 -- the manifest m read into a table
-abbrev into : ℕ → List ℕ → List ℕ → Check Reading
-into start m before = manifestReading (start + length m) start m >>= roomy (length before)
+abbrev into : Layout → ℕ → List ℕ → List ℕ → Check Reading
+into L start m before = manifestReading L (start + length m) start m >>= roomy (length before)
 
-abbrev pub Filled : ℕ → List ℕ → List ℕ → Answer → List ℕ → Type 0
-Filled start m before r after = (r ≡ answered (into start m before)) × (after ≡ tableAfter before (into start m before))
+abbrev pub Filled : Layout → ℕ → List ℕ → List ℕ → Answer → List ℕ → Type 0
+Filled L start m before r after = (r ≡ answered (into L start m before)) × (after ≡ tableAfter before (into L start m before))

@@ -11,7 +11,7 @@ use Rattle.meaning.specs.Notes.{mapModel}
 use Rattle.meaning.specs.Judge.{judge}
 use Rattle.meaning.specs.Frame.{Reading, checked}
 use Rattle.meaning.specs.Rows.{componentCount}
-use Rattle.meaning.specs.Layouts.{current}
+use Rattle.meaning.specs.Layouts.{Layout}
 use Rattle.walk.specs.Reading.{Ends, Reads, leftAt}
 use Rattle.root.specs.Verdict.{ObjectsAt}
 use Rattle.reader.specs.declared.Verdict.{Verdict}
@@ -29,25 +29,25 @@ abbrev pub spanOf : ℕ → Ends → Span
 spanOf end n = spanTo end (n .start) (n .rest)
 
 -- the part of a file's reading that follows its frame: the manifest s, which begins at `start` and ends at `end`
-abbrev pub manifestReading : ℕ → ℕ → List ℕ → Check Reading
-manifestReading end start s = do
+abbrev pub manifestReading : Layout → ℕ → ℕ → List ℕ → Check Reading
+manifestReading L end start s = do
   t ← checked (manifest (spanTo end) s)
-  m ← judge current start t
+  m ← judge L start t
   pass (record { start = start; model = m })
 
 -- a manifest m that is accepted: the tree it is read as, the model, and what was answered of them
-pub record Accepted (end start : ℕ) (m : List ℕ) (objects components left at : ℕ) : Type 0 where
+pub record Accepted (L : Layout) (end start : ℕ) (m : List ℕ) (objects components left at : ℕ) : Type 0 where
   pub tree : Node Ends
   pub rest : List ℕ
   pub reads : Reads 32 m tree rest
   pub model : Model Ends
-  pub judged : judge current start tree ≡ pass model
-  pub is : manifestReading end start m ≡ pass (record { start = start; model = mapModel (spanOf end) model })
+  pub judged : judge L start tree ≡ pass model
+  pub is : manifestReading L end start m ≡ pass (record { start = start; model = mapModel (spanOf end) model })
   pub objects-are : objects ≡ length (model .objects)
   pub components-are : components ≡ componentCount (model .objects)
   pub attributes-left : left ≡ leftAt (model .attributes)
-  pub objects-at : ObjectsAt m at
+  pub objects-at : ObjectsAt L m at
 
-abbrev pub ManifestIs : ℕ → ℕ → List ℕ → Told → Type 0
-ManifestIs end start m (No n o c) = manifestReading end start m ≡ refuse n o c
-ManifestIs end start m (Yes objects components left at) = Accepted end start m objects components left at
+abbrev pub ManifestIs : Layout → ℕ → ℕ → List ℕ → Told → Type 0
+ManifestIs L end start m (No n o c) = manifestReading L end start m ≡ refuse n o c
+ManifestIs L end start m (Yes objects components left at) = Accepted L end start m objects components left at

@@ -12,7 +12,7 @@ ghost use lib.Dec.{leb};
 ghost use Rattle.meaning.specs.Columns.{objectWidth, componentWidth};
 ghost use Rattle.meaning.specs.Check.{refuse};
 ghost use Rattle.meaning.specs.Rows.{readInto, tableAfter};
-ghost use Rattle.meaning.specs.Layouts.{current};
+ghost use Rattle.meaning.specs.Layouts.{current, layoutOf};
 ghost use Rattle.cbor.specs.Ending.{FAULT};
 ghost use Rattle.reader.specs.Answer as is;
 
@@ -61,11 +61,11 @@ fn attributes(m: &[u8], left: usize, end: usize) -> Span
 }
 
 // The manifest m, which begins at `start`, read into t.
-fn fill(m: &[u8], start: usize, t: &mut [u64]) -> Answer
+fn fill(layout: u64, m: &[u8], start: usize, t: &mut [u64]) -> Answer
     requires { ⌜ start + length (now m) < FAULT ⌝ }
-    ensures { λ r. ⌜ is.Filled start (now (m .entry)) (now (t .entry)) r (now (t .exit)) ⌝ }
+    ensures { λ r. ⌜ is.Filled (layoutOf layout) start (now (m .entry)) (now (t .entry)) r (now (t .exit)) ⌝ }
 {
-    match manifest(&m[0..], start as u64) {
+    match manifest(layout, &m[0..], start as u64) {
         Told::No(n, o, c) => refused(n, o, c),
         Told::Yes(objects, components, left, at) => {
             if !fits(t.len(), objects, components) {
@@ -73,7 +73,14 @@ fn fill(m: &[u8], start: usize, t: &mut [u64]) -> Answer
             }
             let end = start + m.len();
             let place = place_of(m.len(), at);
-            table::write(&m[place..], start as u64, end, columns::OBJECT * objects, t);
+            table::write(
+                layout,
+                &m[place..],
+                start as u64,
+                end,
+                columns::OBJECT * objects,
+                t,
+            );
             let a = attributes(&m[0..], left, end);
             Answer {
                 number: 0,
@@ -89,15 +96,22 @@ fn fill(m: &[u8], start: usize, t: &mut [u64]) -> Answer
     }
 }
 
-// A file, lent whole, read into a lent table.
-pub fn read(file: &[u8], t: &mut [u64]) -> Answer
-    ensures { λ r. ⌜ (r ≡ is.answered (readInto current (now (file .entry)) (length (now (t .entry))))) × (now (t .exit) ≡ tableAfter (now (t .entry)) (readInto current (now (file .entry)) (length (now (t .entry))))) ⌝ }
+// A file of this layout, lent whole, read into a lent table.
+pub fn read_as(layout: u64, file: &[u8], t: &mut [u64]) -> Answer
+    ensures { λ r. ⌜ (r ≡ is.answered (readInto (layoutOf layout) (now (file .entry)) (length (now (t .entry))))) × (now (t .exit) ≡ tableAfter (now (t .entry)) (readInto (layoutOf layout) (now (file .entry)) (length (now (t .entry))))) ⌝ }
 {
-    match frame::frame(&file[0..]) {
+    match frame::frame(layout, &file[0..]) {
         Framed::No(n) => refused(n, 0, 0),
         Framed::At(start, size) => {
             let end = start + size;
-            fill(&file[start..end], start, t)
+            fill(layout, &file[start..end], start, t)
         }
     }
+}
+
+// A file of 1.2.0.
+pub fn read(file: &[u8], t: &mut [u64]) -> Answer
+    ensures { λ r. ⌜ (r ≡ is.answered (readInto current (now (file .entry)) (length (now (t .entry))))) × (now (t .exit) ≡ tableAfter (now (t .entry)) (readInto current (now (file .entry)) (length (now (t .entry))))) ⌝ }
+{
+    read_as(0, &file[0..], t)
 }

@@ -6,7 +6,7 @@ use root::Judged;
 ghost use mathlib.Core.Path.{_≡_};
 ghost use Prim.Native.Nat.{ℕ};
 ghost use Rattle.meaning.specs.Frame.{reading};
-ghost use Rattle.meaning.specs.Layouts.{current};
+ghost use Rattle.meaning.specs.Layouts.{current, layoutOf};
 ghost use Rattle.reader.specs.Verdict as is;
 
 // 2^63, above every length: `cbor` adds it to the number of a refusal.
@@ -37,10 +37,10 @@ pub enum Told {
 }
 
 // The manifest m, which begins at `start`: one item that fills it exactly, and what that says.
-pub fn manifest(m: &[u8], start: u64) -> Told
-    ensures { λ r. ⌜ ((end : ℕ) → is.ManifestIs end start (now (m .entry)) r) ⌝ }
+pub fn manifest(layout: u64, m: &[u8], start: u64) -> Told
+    ensures { λ r. ⌜ ((end : ℕ) → is.ManifestIs (layoutOf layout) end start (now (m .entry)) r) ⌝ }
 {
-    let w = root::root(&m[0..], start);
+    let w = root::root(layout, &m[0..], start);
     let e = w.end;
     if m.len() < e {
         return Told::No((e - FAULT) as u64, 0, 0);
@@ -55,18 +55,25 @@ pub fn manifest(m: &[u8], start: u64) -> Told
     }
 }
 
-// The verdict on a file, which is lent whole.
-pub fn accept(file: &[u8]) -> Verdict
-    ensures { λ r. ⌜ r ≡ is.verdict (reading current (now (file .entry))) ⌝ }
+// The verdict on a file of this layout, which is lent whole.
+pub fn accept_as(layout: u64, file: &[u8]) -> Verdict
+    ensures { λ r. ⌜ r ≡ is.verdict (reading (layoutOf layout) (now (file .entry))) ⌝ }
 {
-    match frame::frame(&file[0..]) {
+    match frame::frame(layout, &file[0..]) {
         Framed::No(n) => refusal(n, 0, 0),
         Framed::At(start, size) => {
             let end = start + size;
-            match manifest(&file[start..end], start as u64) {
+            match manifest(layout, &file[start..end], start as u64) {
                 Told::No(n, o, c) => refusal(n, o, c),
                 Told::Yes(_, _, _, _) => refusal(0, 0, 0),
             }
         }
     }
+}
+
+// The verdict on a file of 1.2.0.
+pub fn accept(file: &[u8]) -> Verdict
+    ensures { λ r. ⌜ r ≡ is.verdict (reading current (now (file .entry))) ⌝ }
+{
+    accept_as(0, &file[0..])
 }

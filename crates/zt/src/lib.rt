@@ -9,7 +9,7 @@ ghost use Rattle.meaning.specs.Frame.{reading};
 ghost use Rattle.meaning.specs.Rows.{readInto, tableAfter};
 ghost use Rattle.meaning.specs.View.{viewed};
 ghost use Rattle.meaning.specs.Write.{written};
-ghost use Rattle.meaning.specs.Layouts.{current};
+ghost use Rattle.meaning.specs.Layouts.{current, layoutOf};
 ghost use Rattle.reader.specs.Verdict.{verdict};
 ghost use Rattle.reader.specs.Answer.{answered};
 ghost use Rattle.view.specs.Told as extent;
@@ -33,6 +33,23 @@ pub extern "C" fn zt_read(file: &[u8], table: &mut [u64]) -> Answer
     ensures { λ r. ⌜ (r ≡ answered (readInto current (now (file .entry)) (length (now (table .entry))))) × (now (table .exit) ≡ tableAfter (now (table .entry)) (readInto current (now (file .entry)) (length (now (table .entry))))) ⌝ }
 {
     reader::into::read(file, table)
+}
+
+// The refusal number of a file of a layout, 0 for one that is accepted: 1 is layout 1.0, every other number 1.2.0.
+#[no_mangle]
+pub extern "C" fn zt_accept_as(layout: u64, file: &[u8]) -> u64
+    ensures { λ r. ⌜ r ≡ verdict (reading (layoutOf layout) (now (file .entry))) .number ⌝ }
+{
+    let v = reader::accept_as(layout, file);
+    v.number
+}
+
+// A file of a layout read into a lent table.
+#[no_mangle]
+pub extern "C" fn zt_read_as(layout: u64, file: &[u8], table: &mut [u64]) -> Answer
+    ensures { λ r. ⌜ (r ≡ answered (readInto (layoutOf layout) (now (file .entry)) (length (now (table .entry))))) × (now (table .exit) ≡ tableAfter (now (table .entry)) (readInto (layoutOf layout) (now (file .entry)) (length (now (table .entry))))) ⌝ }
+{
+    reader::into::read_as(layout, file, table)
 }
 
 // Where one component lies, by any table: 0, its offset and its length; or INDEX, 0 and 0.

@@ -8,14 +8,6 @@ use Rattle.reader.proofs.Answers as answers
 use borrow.Author.Needs.{needs}
 use Rattle.reader.proofs.into.fill.Statement.{statement}
 use Rattle.reader.proofs.into.fill.Tie as tie
-use Rattle.reader.proofs.into.fill.Reads as reads
-use Rattle.reader.proofs.into.fill.Lts as lts
-use Rattle.fields.proofs.place_of.Reads as place-of-reads
-use Rattle.reader.proofs.manifest.Reads as manifest-reads
-use Rattle.reader.proofs.into.attributes.Reads as attributes-reads
-use Rattle.reader.proofs.into.fits.Reads as fits-reads
-use Rattle.reader.proofs.into.refused.Reads as refused-reads
-use Rattle.table.proofs.write.Reads as write-reads
 
 pub fill-spec : {M : Type 1} → statement M
 fill-spec =
@@ -30,18 +22,18 @@ fill-spec =
     (λ c. search needs)
     (λ c κs. search needs)
     (λ c κs. search needs)
-    (λ c. answers.filled-no-room ((c .before .before .before .before .before .before .before .before .before .before .args .start)) ((c .before .before .before .before .before .before .before .before .before .before .args .m .now)) ((c .before .before .before .before .before .before .before .before .before .before .args .t .now)) _ ((c .before .before .before .before .before .before .manifest .ensures)) _ _ _ _ ((c .before .before .before .before .objects .given .1)) (sym (not-true _ ((c .before .if1 .taken))) ∙ ((c .before .before .fits2 .ensures))) _ ((c .refused2 .ensures)))
+    (λ c. answers.filled-no-room (c .before .before .before .before .before .before .before .before .before .before .args .layout) (c .before .before .before .before .before .before .before .before .before .before .args .start) (c .before .before .before .before .before .before .before .before .before .before .args .m .now) (c .before .before .before .before .before .before .before .before .before .before .args .t .now) _ (c .before .before .before .before .before .before .manifest .ensures) _ _ _ _ (c .before .before .before .before .objects .given .1) (sym (not-true _ (c .before .if1 .taken)) ∙ (c .before .before .fits2 .ensures)) _ (c .refused2 .ensures))
     (λ c. search needs)
     (λ c κs. search needs)
     (λ c. search needs)
     (λ c. search needs)
     (λ c. search needs)
-    (λ c. let z = leb-true _ (length ((c .before .before .before .before .before .before .before .before .before .before .before .args .t .now))) (sym ((c .before .before .before .fits2 .ensures)) ∙ not-false _ ((c .before .before .if1 .left))) in let g = ((c .before .before .before .before .before .before .before .before .before .before .before .good)) in omega arith)
+    (λ c. let z = leb-true _ (length (c .before .before .before .before .before .before .before .before .before .before .before .args .t .now)) (sym (c .before .before .before .fits2 .ensures) ∙ not-false _ (c .before .before .if1 .left)) in let g = (c .before .before .before .before .before .before .before .before .before .before .before .good) in omega arith)
     (λ c κs. search needs)
     (λ c. search needs)
     (λ c. search needs)
     (λ c. search needs)
     (λ c κs. search needs)
-    (λ c. answers.filled-not ((c .before .before .before .before .before .before .before .before .args .start)) ((c .before .before .before .before .before .before .before .before .args .m .now)) ((c .before .before .before .before .before .before .before .before .args .t .now)) _ ((c .before .before .before .before .manifest .ensures)) _ _ _ ((c .before .before .n .given .1)) _ ((c .refused .ensures)))
+    (λ c. answers.filled-not (c .before .before .before .before .before .before .before .before .args .layout) (c .before .before .before .before .before .before .before .before .args .start) (c .before .before .before .before .before .before .before .before .args .m .now) (c .before .before .before .before .before .before .before .before .args .t .now) _ (c .before .before .before .before .manifest .ensures) _ _ _ (c .before .before .n .given .1) _ (c .refused .ensures))
     (λ c. search needs)
-    (λ c. answers.filled-so ((c .before .before .before .before .before .before .before .before .before .before .before .before .before .before .before .before .before .args .start)) ((c .before .before .before .before .before .before .before .before .before .before .before .before .before .before .before .before .before .args .m .now)) ((c .before .before .before .before .before .before .before .before .before .before .before .before .before .before .before .before .before .args .t .now)) _ ((c .before .before .before .before .before .before .before .before .before .before .before .before .before .manifest .ensures)) _ _ _ _ ((c .before .before .before .before .before .before .before .before .before .before .before .objects .given .1)) (omega (arith, (c .before .before .before .before .before .before .before .before .before .before .before .before .before .before .before .before .before .pre))) (sym (not-false _ ((c .before .before .before .before .before .before .before .before .if1 .left))) ∙ ((c .before .before .before .before .before .before .before .before .before .fits2 .ensures))) _ ((c .before .before .before .before .before .before .before .place-of .ensures)) _ ((c .before .before .before .before .write .ensures)) _ ((c .attributes .ensures))))
+    (λ c. answers.filled-so (c .before .before .before .before .before .before .before .before .before .before .before .before .before .before .before .before .before .args .layout) (c .before .before .before .before .before .before .before .before .before .before .before .before .before .before .before .before .before .args .start) (c .before .before .before .before .before .before .before .before .before .before .before .before .before .before .before .before .before .args .m .now) (c .before .before .before .before .before .before .before .before .before .before .before .before .before .before .before .before .before .args .t .now) _ (c .before .before .before .before .before .before .before .before .before .before .before .before .before .manifest .ensures) _ _ _ _ (c .before .before .before .before .before .before .before .before .before .before .before .objects .given .1) (omega (arith, (c .before .before .before .before .before .before .before .before .before .before .before .before .before .before .before .before .before .pre))) (sym (not-false _ (c .before .before .before .before .before .before .before .before .if1 .left)) ∙ (c .before .before .before .before .before .before .before .before .before .fits2 .ensures)) _ (c .before .before .before .before .before .before .before .place-of .ensures) _ (c .before .before .before .before .write .ensures) _ (c .attributes .ensures)))
