@@ -31,7 +31,7 @@ known = omega arith
 -- ---------------------------------------------------------------- one value
 
 -- no key and no code of an object in 1.2.0: nothing is given to its components
-no-format : 4 ≡ position formatNames []
+pub no-format : 4 ≡ position formatNames []
 unfolding position formatNames
 no-format = refl
 

@@ -77,7 +77,7 @@ unfolding lacksDtype
 lacks-none layout left e = rw (ne-eqb layout 1 e) refl
 
 -- an object has a dtype in layout 1.0 only
-tensor-dtype : (layout : ℕ) → field.isSome (slot dtypeAt (layoutOf layout .object)) ≡ eqb layout 1
+pub tensor-dtype : (layout : ℕ) → field.isSome (slot dtypeAt (layoutOf layout .object)) ≡ eqb layout 1
 unfolding layoutOf current old field.isSome
 tensor-dtype layout = go (eqb layout 1)
   where
@@ -86,7 +86,7 @@ tensor-dtype layout = go (eqb layout 1)
     go false = refl
 
 -- a field that a list lacks isn't found
-lacked : (name : Option (List ℕ)) (ps : List (Pair Ends)) → field.isSome name ≡ false → field.field name ps ≡ none
+pub lacked : (name : Option (List ℕ)) (ps : List (Pair Ends)) → field.isSome name ≡ false → field.field name ps ≡ none
 unfolding field.isSome field.field
 lacked none ps e = refl
 lacked (some n) ps e = absurd (let z : _≡_ {A = ℕ} 0 1 = cc in omega arith)
