@@ -2,27 +2,32 @@
 use Prim.Native.Nat.{ℕ, _+_, _<_}
 use native.Mathlib.Omega.{arith}
 use mathlib.Core.List.{List, [], _∷_}
-use mathlib.Core.Path.{_≡_, refl, ap, sym, _∙_, subst}
-use mathlib.Core.Option.{none}
+use mathlib.Core.Path.{_≡_, refl, ap, ap₂, sym, _∙_, subst}
 use lib.ListN.{length}
 use lib.Seq.{sets}
 use borrow.Rule.Slice.PartAt.{part-to-end}
 use Rattle.meaning.specs.Columns.{offsetColumn, entryColumn}
-use Rattle.meaning.specs.Tree.{Pair}
-use Rattle.meaning.specs.Check.{pass}
-use Rattle.meaning.specs.Model.{Named}
+use Rattle.meaning.specs.Tree.{Pair, noteOf}
+use Rattle.meaning.specs.Check.{Check, pass, refuse}
+use Rattle.meaning.specs.Model.{Named, Component}
+use Rattle.meaning.specs.Notes.{mapCheck}
 use Rattle.meaning.specs.Kind as kinds
 use Rattle.meaning.specs.Kind.{Kind, kind}
 use Rattle.meaning.specs.Field.{nameOf, nameKind}
-use Rattle.meaning.specs.Judge.{component}
+use Rattle.meaning.specs.Judge.{inherited, component}
 use Rattle.meaning.specs.Rows.{componentRow}
-use Rattle.meaning.specs.Layouts.{current}
+use Rattle.meaning.specs.Layouts.{layoutOf}
+use Rattle.types.specs.Known.{position, formatNames, roleNames}
 use Rattle.cbor.specs.Ending.{FAULT}
 use Rattle.walk.specs.Reading.{Ends}
-use Rattle.component.specs.Value.{leftWord}
+use Rattle.naming.specs.Naming.{wordOr}
+use Rattle.component.specs.Value.{leftWord, given}
 use Rattle.component.specs.Verdict.{judged}
 use Rattle.component.specs.declared.Judged.{Judged}
 use Rattle.component.specs.declared.Judged.the-variants.{No, Yes}
+use Rattle.components.specs.Row.{RoleIs, storedAs}
+use Rattle.components.proofs.Typed.{pass-same}
+use Rattle.components.proofs.Storage.{withCode, stored-so}
 use Rattle.components.proofs.Lettered.{named-so, type-at, digest-at, entered-so}
 use Rattle.fields.proofs.Texts.{Here}
 use Rattle.table.specs.declared.span.Span.{Span}
@@ -35,6 +40,7 @@ use Rattle.table.proofs.Laying as laying
 pub record NamedSo (p : Pair Ends) (n : Named Ends) : Type 0 where
   pub word : kinds.aWord (p .key) ≡ pass (n .name)
   pub is : n ≡ record { name = n .name; value = p .value }
+  pub anyway : wordOr (noteOf (p .key)) (kind (p .key)) ≡ n .name
 
 pub named-pair : (p : Pair Ends) (n : Named Ends) → nameOf p ≡ pass n → NamedSo p n
 unfolding nameOf nameKind kinds.aWord kinds.asWord
@@ -44,7 +50,11 @@ named-pair p n e = go (kind (p .key)) refl e
     go (kinds.number m) h e = absurd (let z : _≡_ {A = ℕ} 0 1 = cc in omega arith)
     go (kinds.words w) h e =
         let z : record { name = w; value = p .value } ≡ n = cc in
-        record { word = ap kinds.asWord h ∙ ap (λ (n : Named Ends). pass (n .name)) z; is = sym z ∙ ap (λ (n : Named Ends). record { name = n .name; value = p .value }) z }
+        record {
+          word = ap kinds.asWord h ∙ ap (λ (n : Named Ends). pass (n .name)) z;
+          is = sym z ∙ ap (λ (n : Named Ends). record { name = n .name; value = p .value }) z;
+          anyway = ap (wordOr (noteOf (p .key))) h ∙ ap (λ (n : Named Ends). n .name) z;
+        }
     go (kinds.list l) h e = absurd (let z : _≡_ {A = ℕ} 0 1 = cc in omega arith)
     go (kinds.table l) h e = absurd (let z : _≡_ {A = ℕ} 0 1 = cc in omega arith)
     go kinds.null h e = absurd (let z : _≡_ {A = ℕ} 0 1 = cc in omega arith)
@@ -63,39 +73,66 @@ twelve-put t t₁ t₂ t₃ i a b c d e f g h j k l m x y z =
     z ∙ ap (λ t. sets t (i + entryColumn) (l ∷ m ∷ [])) (ten-put t t₁ t₂ i a b c d e f g h j k x y)
     ∙ sym (laying.sets-append (a ∷ b ∷ c ∷ d ∷ e ∷ f ∷ g ∷ h ∷ j ∷ k ∷ []) (l ∷ m ∷ []) t i)
 
+-- ---------------------------------------------------------------- a component that passes, as it is judged with its object's own code
+
+record Own (layout format code start : ℕ) (n : Named Ends) (k : Component Ends) : Type 0 where
+  own : Component Ends
+  is : component (layoutOf layout) start (given code) n ≡ pass own
+  recoded : withCode (storedAs layout format (position roleNames (n .name .letters)) (own .dtype)) own ≡ k
+
+own-of : (layout format code start : ℕ) (n : Named Ends) (f : List ℕ) → format ≡ position formatNames f → (layout ≡ 1 → code < 13) → (k : Component Ends)
+    → component (layoutOf layout) start (inherited f (given code) (n .name .letters)) n ≡ pass k → Own layout format code start n k
+own-of layout format code start n f fm has k passes = go (component (layoutOf layout) start (given code) n) refl (sym (stored-so start n layout format code f fm has) ∙ passes)
+  where
+    go : (c : Check (Component Ends)) → component (layoutOf layout) start (given code) n ≡ c
+        → mapCheck (λ c. withCode (storedAs layout format (position roleNames (n .name .letters)) (c .dtype)) c) c ≡ pass k → Own layout format code start n k
+    go (pass c) e h = record { own = c; is = e; recoded = pass-same h }
+    go (refuse m i j) e h = absurd (let z : _≡_ {A = ℕ} 0 1 = cc in omega arith)
+
 -- ---------------------------------------------------------------- the row
 
-module _ (s c : List ℕ) (room : length c < FAULT) (v : Judged) (size end owner i : ℕ) (before after : List ℕ) where
-  pub no-row : (m : ℕ) → v ≡ No m → RowPut s c v size end owner i before after
-  no-row m e start says p d q r key value sized n name k passes =
+module _ (layout format : ℕ) (s c : List ℕ) (room : length c < FAULT) (v : Judged) (size end owner i : ℕ) (before after : List ℕ) where
+  pub no-row : (m : ℕ) → v ≡ No m → RowPut layout format s c v size end owner i before after
+  no-row m e code start says p d q r key value sized n name f fm has k passes =
       let so = named-pair p n name in
-      let j : No m ≡ judged (pass k) = sym e ∙ says (p .value) r value (n .name) ∙ ap judged (ap (component current start none) (sym (so .is)) ∙ passes) in
+      let own = own-of layout format code start n f fm has k passes in
+      let j : No m ≡ judged (pass (own .own)) = sym e ∙ says (p .value) r value (n .name) ∙ ap judged (ap (component (layoutOf layout) start (given code)) (sym (so .is)) ∙ own .is) in
       absurd (let z : _≡_ {A = ℕ} 0 1 = cc in omega arith)
 
   pub a-row : (code t o l g : ℕ) → v ≡ Yes code t o l g → (x y z w : Span) → SpeltIs (Here s 0) end x → SpeltAt (Here c 0) t end y → SpeltAt (Here c 0) g end z → WholeFrom (Here c 0) size end w
-      → after ≡ sets before i (twelve (spanned x) code (spanned y) o l (spanned z) owner (spanned w)) → RowPut s c v size end owner i before after
+      → (called : ℕ) → RoleIs (Here s 0) called → (kept : ℕ) → kept ≡ storedAs layout format called code
+      → after ≡ sets before i (twelve (spanned x) kept (spanned y) o l (spanned z) owner (spanned w)) → RowPut layout format s c v size end owner i before after
   unfolding componentRow
-  a-row code t o l g e x y z w sx sy sz sw put start says p d q r key value sized n name k passes =
+  a-row code t o l g e x y z w sx sy sz sw called role kept stored put above start says p d q r key value sized n name f fm has k passes =
       let so = named-pair p n name in
-      let is : component current start none (record { name = n .name; value = p .value }) ≡ pass k = ap (component current start none) (sym (so .is)) ∙ passes in
-      let j : Yes code t o l g ≡ Yes (k .dtype) (leftWord (k .type)) (k .offset) (k .length) (leftWord (k .digest)) = sym e ∙ says (p .value) r value (n .name) ∙ ap judged is in
-      let code-is : code ≡ k .dtype = cc in
-      let type-is : leftWord (k .type) ≡ t = cc in
-      let offset-is : o ≡ k .offset = cc in
-      let length-is : l ≡ k .length = cc in
-      let digest-is : leftWord (k .digest) ≡ g = cc in
+      let A = inherited f (given above) (n .name .letters) in
+      let own = own-of layout format above start n f fm has k passes in
+      let is : component (layoutOf layout) start A (record { name = n .name; value = p .value }) ≡ pass k = ap (component (layoutOf layout) start A) (sym (so .is)) ∙ passes in
+      let j : Yes code t o l g ≡ judged (pass (own .own)) = sym e ∙ says (p .value) r value (n .name) ∙ ap judged (ap (component (layoutOf layout) start (given above)) (sym (so .is)) ∙ own .is) in
+      let called-is : called ≡ position roleNames (n .name .letters) =
+      subst (λ u. RoleIs u called) (part-to-end s 0) role d (p .key) q key ∙ ap (λ w. position roleNames (w .letters)) (so .anyway) in
+      let own-code : code ≡ own .own .dtype = cc in
+      let own-type : leftWord (own .own .type) ≡ t = cc in
+      let own-offset : o ≡ own .own .offset = cc in
+      let own-length : l ≡ own .own .length = cc in
+      let own-digest : leftWord (own .own .digest) ≡ g = cc in
+      let code-is : kept ≡ k .dtype = stored ∙ ap₂ (storedAs layout format) called-is own-code ∙ ap (λ (c : Component Ends). c .dtype) (own .recoded) in
+      let type-is : leftWord (k .type) ≡ t = ap (λ (c : Component Ends). leftWord (c .type)) (sym (own .recoded)) ∙ own-type in
+      let offset-is : o ≡ k .offset = own-offset ∙ ap (λ (c : Component Ends). c .offset) (own .recoded) in
+      let length-is : l ≡ k .length = own-length ∙ ap (λ (c : Component Ends). c .length) (own .recoded) in
+      let digest-is : leftWord (k .digest) ≡ g = ap (λ (c : Component Ends). leftWord (c .digest)) (sym (own .recoded)) ∙ own-digest in
       let a : spanned x ≡ spanOfWord end (k .name) =
-      subst (λ u. SpeltIs u end x) (part-to-end s 0) sx d (p .key) q key (n .name) (so .word) ∙ ap (spanOfWord end) (named-so c room (p .value) r value start (n .name) k is) in
+      subst (λ u. SpeltIs u end x) (part-to-end s 0) sx d (p .key) q key (n .name) (so .word) ∙ ap (spanOfWord end) (named-so c room (p .value) r value (layoutOf layout) A start (n .name) k is) in
       let b : spanned y ≡ spanOfOption end (k .type) =
-      subst (λ u. SpeltAt u t end y) (part-to-end c 0) sy (k .type) (type-at c room (p .value) r value start (n .name) k is) type-is in
+      subst (λ u. SpeltAt u t end y) (part-to-end c 0) sy (k .type) (type-at c room (p .value) r value (layoutOf layout) A start (n .name) k is) type-is in
       let f : spanned z ≡ spanOfOption end (k .digest) =
-      subst (λ u. SpeltAt u g end z) (part-to-end c 0) sz (k .digest) (digest-at c room (p .value) r value start (n .name) k is) digest-is in
+      subst (λ u. SpeltAt u g end z) (part-to-end c 0) sz (k .digest) (digest-at c room (p .value) r value (layoutOf layout) A start (n .name) k is) digest-is in
       let m : spanned w ≡ spanOf end (k .entry) =
-      subst (λ u. WholeFrom u size end w) (part-to-end c 0) sw .is 28 (p .value) r value sized ∙ ap (spanOf end) (entered-so c room (p .value) r value start (n .name) k is) in
-      let same : twelve (spanned x) code (spanned y) o l (spanned z) owner (spanned w) ≡ rowIn end owner k =
-      ap (λ u. twelve u code (spanned y) o l (spanned z) owner (spanned w)) a
-      ∙ ap (λ u. twelve (spanOfWord end (k .name)) code u o l (spanned z) owner (spanned w)) b
-      ∙ ap (λ u. twelve (spanOfWord end (k .name)) code (spanOfOption end (k .type)) o l u owner (spanned w)) f
-      ∙ ap (λ u. twelve (spanOfWord end (k .name)) code (spanOfOption end (k .type)) o l (spanOfOption end (k .digest)) owner u) m
+      subst (λ u. WholeFrom u size end w) (part-to-end c 0) sw .is 28 (p .value) r value sized ∙ ap (spanOf end) (entered-so c room (p .value) r value (layoutOf layout) A start (n .name) k is) in
+      let same : twelve (spanned x) kept (spanned y) o l (spanned z) owner (spanned w) ≡ rowIn end owner k =
+      ap (λ u. twelve u kept (spanned y) o l (spanned z) owner (spanned w)) a
+      ∙ ap (λ u. twelve (spanOfWord end (k .name)) kept u o l (spanned z) owner (spanned w)) b
+      ∙ ap (λ u. twelve (spanOfWord end (k .name)) kept (spanOfOption end (k .type)) o l u owner (spanned w)) f
+      ∙ ap (λ u. twelve (spanOfWord end (k .name)) kept (spanOfOption end (k .type)) o l (spanOfOption end (k .digest)) owner u) m
       ∙ (rw (code-is, offset-is, length-is) refl) in
       put ∙ ap (sets before i) same

@@ -6,6 +6,7 @@ pub mod Entering
 pub mod Rowing
 pub mod ObjectRow
 pub mod Passing
+pub mod LateRows
 pub mod ObjectPasses
 pub mod WholeObject
 pub mod Objecting

@@ -105,14 +105,14 @@ sixteen-put t t₁ t₂ t₃ t₄ i a₀ a₁ a₂ a₃ a₄ b₀ b₁ b₂ b₃
 -- ---------------------------------------------------------------- the row
 
 module _ (s m p : List ℕ) (count size end i : ℕ) (before after : List ℕ) where
-  pub row-put : (d : List ℕ) (rank : ℕ) → DimensionsAt (Here m 0) (getD p 0 0) d rank → (x : Span) → SpeltIs (Here s 0) end x → (y : Span) → SpeltAt (Here m 0) (getD p 1 0) end y
-      → (z : Span) → WholeIs (getD p 2 0) size end z → after ≡ sets before i (sixteen (spanned x) rank (eight d) (spanned y) (spanned z) count) → ObjectPut s m p count size end i before after
+  pub row-put : (d : List ℕ) (rank : ℕ) → DimensionsAt (Here m 0) (getD p 1 0) d rank → (x : Span) → SpeltIs (Here s 0) end x → (y : Span) → SpeltAt (Here m 0) (getD p 2 0) end y
+      → (z : Span) → WholeIs (getD p 3 0) size end z → after ≡ sets before i (sixteen (spanned x) rank (eight d) (spanned y) (spanned z) count) → ObjectPut s m p count size end i before after
   unfolding objectRow optionalSpan
   row-put d rank dims x sx y sy z sz put e t q key o name des counted =
       let a : spanned x ≡ spanOfWord end (o .name) = subst (λ u. SpeltIs u end x) (part-to-end s 0) sx e t q key (o .name) name in
-      let b : spanned y ≡ spanOfWord end (o .format) = subst (λ u. SpeltAt u (getD p 1 0) end y) (part-to-end m 0) sy (some (o .format)) (des .format-at) (des .format-left) in
+      let b : spanned y ≡ spanOfWord end (o .format) = subst (λ u. SpeltAt u (getD p 2 0) end y) (part-to-end m 0) sy (some (o .format)) (des .format-at) (des .format-left) in
       let c : spanned z ≡ attributesSpan (mapOption (mapP (spanOf end)) (o .attributes)) = sz (o .attributes) (des .attributes-left) (des .attributes-take) in
-      let f = subst (λ u. DimensionsAt u (getD p 0 0) d rank) (part-to-end m 0) dims .are (des .shape) (des .shape-stands) (o .shape) (des .shape-is) in
+      let f = subst (λ u. DimensionsAt u (getD p 1 0) d rank) (part-to-end m 0) dims .are (des .shape) (des .shape-stands) (o .shape) (des .shape-is) in
       let g : count ≡ length (map (mapComponent (spanOf end)) (o .components)) = counted ∙ sym (length-map (o .components) (mapComponent (spanOf end))) in
       let same : sixteen (spanned x) rank (eight d) (spanned y) (spanned z) count ≡ objectIn end o =
       ap (λ u. sixteen u rank (eight d) (spanned y) (spanned z) count) a

@@ -18,7 +18,7 @@ use Rattle.meaning.specs.Notes.{mapObject, mapComponent}
 use Rattle.meaning.specs.Field.{names}
 use Rattle.meaning.specs.Judge.{object, objectsOf}
 use Rattle.meaning.specs.Rows.{objectRow, objectRows, rowsOf, componentRows, componentCount, rows, roomFor}
-use Rattle.meaning.specs.Layouts.{current}
+use Rattle.meaning.specs.Layouts.{layoutOf}
 use Rattle.cbor.specs.Ending.{FAULT, code, itemEnd}
 use Rattle.endian.proofs.Which.{lt-or}
 use Rattle.walk.specs.Reading.{Ends, Reads}
@@ -110,32 +110,32 @@ in-object : {A : Type 0} (j : ℕ) (c : Check A) (a : A) → inObject j c ≡ pa
 in-object j (pass b) a e = e
 in-object j (refuse n o c) a e = absurd (let z : _≡_ {A = ℕ} 0 1 = cc in omega arith)
 
-pub none-laid : (start end from : ℕ) (before : List ℕ) → ObjectsLaid start end from before 0 0 from before []
+pub none-laid : (layout start end from : ℕ) (before : List ℕ) → ObjectsLaid layout start end from before 0 0 from before []
 unfolding objectRows componentRows componentCount
-none-laid start end from before = record {
+none-laid layout start end from before = record {
   counted = refl;
-  laid = λ os h low room. let z = entering.none-entered (entry start) os h in subst (Laid end from before 0 from before) (sym z) (record { row-is = refl; next-is = omega arith; after-is = refl });
+  laid = λ os h low room. let z = entering.none-entered (entry layout start) os h in subst (Laid end from before 0 from before) (sym z) (record { row-is = refl; next-is = omega arith; after-is = refl });
 }
 
-module _ (start end from : ℕ) (before s : List ℕ) (place k n row row′ next next′ : ℕ) (after after′ : List ℕ) (kept : length after ≡ length before)
-    (put : WholePut (Here s place) (Here s (place + k)) start end n row next after next′ after′) (room : ℕ) (roomy : room ≡ length after′) (kept′ : length after′ ≡ length after)
+module _ (layout start end from : ℕ) (before s : List ℕ) (place k n row row′ next next′ : ℕ) (after after′ : List ℕ) (kept : length after ≡ length before)
+    (put : WholePut layout (Here s place) (Here s (place + k)) start end n row next after next′ after′) (room : ℕ) (roomy : room ≡ length after′) (kept′ : length after′ ≡ length after)
     (further : row + objectWidth ≤ room → row′ ≡ row + objectWidth) where
   pub one-more-laid : (done : List (Pair Ends)) (p : Pair Ends) (q r : List ℕ) → Reads 30 (drop place s) (p .key) q → Reads 30 (drop (place + k) s) (p .value) r
-      → ObjectsLaid start end from before n row next after done → ObjectsLaid start end from before (n + 1) row′ next′ after′ (done ++ p ∷ [])
+      → ObjectsLaid layout start end from before n row next after done → ObjectsLaid layout start end from before (n + 1) row′ next′ after′ (done ++ p ∷ [])
   one-more-laid done p q r key value laid = record {
     counted = let z = laid .counted in omega (arith, length-append done (p ∷ []));
     laid = λ os h low fits.
-        let l = entering.last-entered (entry start) done p os h in
+        let l = entering.last-entered (entry layout start) done p os h in
         let size : length os ≡ length (l .front) + 1 = ap length (l .are) ∙ length-append (l .front) (l .last ∷ []) in
         let many : componentCount os ≡ componentCount (l .front) + length (l .last .components) = ap componentCount (l .are) ∙ count-snoc (l .front) (l .last) in
-        let as-many : length (l .front) ≡ length done = entering.as-many (entry start) done (l .front) (l .before) in
+        let as-many : length (l .front) ≡ length done = entering.as-many (entry layout start) done (l .front) (l .before) in
         let owner : n ≡ length (l .front) = laid .counted ∙ sym as-many in
         let old = laid .laid (l .front) (l .before) (omega arith) (omega arith) in
         let there = old .row-is in
         let then = old .next-is in
         let a : Reads 30 (Here s place) (p .key) q = subst (λ u. Reads 30 u (p .key) q) (sym (part-to-end s place)) key in
         let b : Reads 30 (Here s (place + k)) (p .value) r = subst (λ u. Reads 30 u (p .value) r) (sym (part-to-end s (place + k))) value in
-        let whole = put p 29 q r a b (l .name) (l .name-is) (l .last) (in-object (length done) (object current start (l .name)) (l .last) (l .last-is)) (omega arith) (omega arith) in
+        let whole = put p 29 q r a b (l .name) (l .name-is) (l .last) (in-object (length done) (object (layoutOf layout) start (l .name)) (l .last) (l .last-is)) (omega arith) (omega arith) in
         let on : row′ ≡ row + objectWidth = further (omega arith) in
         let next-so = whole .next-is in
         let O = objectIn end (l .last) in
@@ -160,9 +160,9 @@ module _ (start end from : ℕ) (before s : List ℕ) (place k n row row′ next
 
 -- ---------------------------------------------------------------- the loop's end
 
-module _ (start end from mode count : ℕ) (s before : List ℕ) (modes : Modes mode count) (short : length s < FAULT) (place due n row next : ℕ) (after : List ℕ)
-    (w : walked.Passed 30 mode count s place due (ObjectsLaid start end from before n row next after)) (x : Entry) (h : EntryIs 30 mode due (Here s place) x) where
-  pub all-laid : (e : ℕ) → x ≡ End e → AllLaid start end from mode count s before after
+module _ (layout start end from mode count : ℕ) (s before : List ℕ) (modes : Modes mode count) (short : length s < FAULT) (place due n row next : ℕ) (after : List ℕ)
+    (w : walked.Passed 30 mode count s place due (ObjectsLaid layout start end from before n row next after)) (x : Entry) (h : EntryIs 30 mode due (Here s place) x) where
+  pub all-laid : (e : ℕ) → x ≡ End e → AllLaid layout start end from mode count s before after
   all-laid e is = record {
     n = n;
     row = row;
@@ -171,25 +171,25 @@ module _ (start end from mode count : ℕ) (s before : List ℕ) (modes : Modes 
   }
 
   -- where a value is faulty there are no pairs
-  pub none-read : (k : ℕ) → x ≡ Value k → (e : ℕ) → e ≡ code (itemEnd 30 (Here s (place + k))) → length s - (place + k) < e → (after′ : List ℕ) → AllLaid start end from mode count s before after′
+  pub none-read : (k : ℕ) → x ≡ Value k → (e : ℕ) → e ≡ code (itemEnd 30 (Here s (place + k))) → length s - (place + k) < e → (after′ : List ℕ) → AllLaid layout start end from mode count s before after′
   none-read k is e ended l after′ = record { n = n; row = row; next = next; are = walked.value-faulty 30 mode count s modes short place due _ w x h k is e ended l _ .1 }
 
 -- ---------------------------------------------------------------- the whole map, lent whole to `walk::map`, which answered x
 
-module _ (s : List ℕ) (start end from : ℕ) (before after : List ℕ) (x : Opening) (h : MapIs (Here s 0) x) where
-  pub no-map : x ≡ NotOpen → Written s start end from before after
+module _ (layout : ℕ) (s : List ℕ) (start end from : ℕ) (before after : List ℕ) (x : Opening) (h : MapIs (Here s 0) x) where
+  pub no-map : x ≡ NotOpen → Written layout s start end from before after
   unfolding objectsOf names
   no-map e t q r m is low room =
       let z = opens.opening s x h NotOpen e 30 t q r in
-      let y : objectsOf current start t ≡ refuse 8 0 0 = rw z refl in
+      let y : objectsOf (layoutOf layout) start t ≡ refuse 8 0 0 = rw z refl in
       let w : pass (m .objects) ≡ refuse 8 0 0 = sym is ∙ y in absurd (let v : _≡_ {A = ℕ} 0 1 = cc in omega arith)
 
-  pub map-written : (mode count size : ℕ) → x ≡ Opened mode count size → AllLaid start end from mode count (Here s size) before after → Written s start end from before after
+  pub map-written : (mode count size : ℕ) → x ≡ Opened mode count size → AllLaid layout start end from mode count (Here s size) before after → Written layout s start end from before after
   unfolding objectsOf rows roomFor
   map-written mode count size e all t q r m is low room =
       let o = opens.opened s x h mode count size e .trees 30 t q r in
-      let w = subst (λ u. AllLaid start end from mode count u before after) (part-to-end s size) all .are (o .pairs) (o .last) (o .due) in
-      let g = entering.all-entered (entry start) objectLimit t (o .pairs) (o .kind-is) (m .objects) is in
+      let w = subst (λ u. AllLaid layout start end from mode count u before after) (part-to-end s size) all .are (o .pairs) (o .last) (o .due) in
+      let g = entering.all-entered (entry layout start) objectLimit t (o .pairs) (o .kind-is) (m .objects) is in
       let laid = w .laid (m .objects) g (omega arith) (omega arith) in
       let A = objectsIn end (m .objects) in
       let B = componentsIn end (m .objects) in

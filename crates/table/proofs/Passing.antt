@@ -1,23 +1,21 @@
 -- The loop over an object's entries, as fields' law on walks that keep what they find in one field, for two fields at once: the components' rows and the attributes' size.
 use Prim.Native.Nat.{ℕ, _+_, _-_, _≤_, _<_}
 use native.Mathlib.Omega.{arith}
-use mathlib.Core.List.{List}
-use mathlib.Core.Bool.{Bool, true, false, cond}
+use mathlib.Core.List.{List, []}
+use mathlib.Core.Bool.{Bool, true, false, cond, not, _||_}
 use mathlib.Core.Logic.{⊎-elim}
 use mathlib.Core.Path.{_≡_, refl, ap, sym, _∙_, subst}
 use lib.ListN.{length, getD, set, replicate, length-drop}
 use lib.Seq.{getD-set-same, getD-set-other}
 use lib.Dec.{ltb, eqb}
-use borrow.Author.Tests.{eqb-false}
+use borrow.Author.Tests.{eq-eqb, ne-eqb, eqb-true, eqb-false}
 use borrow.Rule.Slice.PartAt.{part-to-end}
-use Rattle.meaning.specs.Tree.{Node, noteOf}
-use Rattle.meaning.specs.Text.{ascii}
-use Rattle.meaning.specs.Layouts.{objectNames}
-use Rattle.types.specs.Known.{position}
+use Rattle.meaning.specs.Layouts.{layoutOf}
+use Rattle.meaning.specs.Judge.{inherited}
+use Rattle.types.proofs.Tell.{not-both}
 use Rattle.cbor.specs.Ending.{FAULT, code, itemEnd, rest}
 use Rattle.cbor.proofs.Rest.{never-empty}
 use Rattle.endian.proofs.Which.{eq-or}
-use Rattle.walk.specs.Reading.{Ends, Reads}
 use Rattle.walk.specs.Places.{EntryIs}
 use Rattle.walk.specs.declared.Entry.{Entry}
 use Rattle.walk.specs.declared.Entry.the-variants.{End, Value}
@@ -27,34 +25,53 @@ use Rattle.fields.specs.Keeping as keeping-is
 use Rattle.fields.proofs.Texts.{Here}
 use Rattle.fields.proofs.Keeping as keeping
 use Rattle.table.specs.Spans.{SizeIs}
-use Rattle.table.specs.Rows.{kept, Says, RowsPut}
-use Rattle.table.specs.Pass.{ValuePut, Sized, Passed}
+use Rattle.component.specs.Value.{given}
+use Rattle.components.specs.Firsts.{offered}
+use Rattle.table.specs.Rows.{kept, RowsPut}
+use Rattle.object.specs.Verdict.{waiting}
+use Rattle.object.proofs.Looping.{no-format}
+use Rattle.table.specs.Pass.{SaysNow, ValuePut, Sized, Passed}
 use Rattle.table.proofs.Whole.{item-size}
 
-pub known-components : position objectNames (ascii "components") < length objectNames
-unfolding position
+pub known-components : 4 < 5
 known-components = omega arith
 
-pub known-attributes : position objectNames (ascii "attributes") < length objectNames
-unfolding position
+pub known-attributes : 3 < 5
 known-attributes = omega arith
 
-slot-three : position objectNames (ascii "components") ≡ 3
-unfolding position
-slot-three = refl
+-- ---------------------------------------------------------------- what waits
 
-slot-two : position objectNames (ascii "attributes") ≡ 2
-unfolding position
-slot-two = refl
+module _ (layout k seen : ℕ) where
+  waits-old : layout ≡ 1 → waiting layout k seen ≡ true
+  unfolding waiting
+  waits-old e = rw (eq-eqb layout 1 e) refl
+
+  waits-not : (layout ≡ 1 → ⊥) → k ≡ 4 → seen ≡ 0 → waiting layout k seen ≡ false
+  unfolding waiting
+  waits-not a b c = rw (ne-eqb layout 1 a, eq-eqb k 4 b, eq-eqb seen 0 c) refl
+
+  waits-other : (k ≡ 4 → seen ≡ 0 → ⊥) → waiting layout k seen ≡ true
+  unfolding waiting
+  waits-other n = go (eqb layout 1) (eqb k 4) refl (eqb seen 0) refl
+    where
+      go : (x y : Bool) → eqb k 4 ≡ y → (z : Bool) → eqb seen 0 ≡ z → (x || (not y || not z)) ≡ true
+      go true y e z f = refl
+      go false false e z f = refl
+      go false true e false f = refl
+      go false true e true f = absurd (n (eqb-true k 4 e) (eqb-true seen 0 f))
 
 -- ---------------------------------------------------------------- one value
 
-module _ (start end owner from k seen : ℕ) (c before : List ℕ) (n next : ℕ) where
-  pub first-put : k ≡ 3 → seen ≡ 0 → (n′ next′ : ℕ) (after : List ℕ) → RowsPut (Here c 0) start end owner from before n′ next′ after → ValuePut start end owner from k seen c before n next n′ next′ after
-  first-put a b n′ next′ after h = record { first = λ x y. subst (λ u. RowsPut u start end owner from before n′ next′ after) (part-to-end c 0) h; other = λ m. absurd (m a b) }
+module _ (layout start end owner from k seen : ℕ) (c before : List ℕ) (n next : ℕ) (b : Bool) (is : b ≡ waiting layout k seen) where
+  pub first-put : b ≡ false → (n′ next′ : ℕ) (after : List ℕ) → RowsPut (offered layout 4 13) (Here c 0) start end owner from before n′ next′ after
+      → ValuePut layout start end owner from k seen c before n next n′ next′ after
+  first-put e n′ next′ after h = record {
+    first = λ x. subst (λ u. RowsPut (offered layout 4 13) u start end owner from before n′ next′ after) (part-to-end c 0) h;
+    other = λ x. absurd (not-both (is ∙ x) e);
+  }
 
-  pub as-kept : (k ≡ 3 → seen ≡ 0 → ⊥) → ValuePut start end owner from k seen c before n next n next before
-  as-kept m = record { first = λ a b. absurd (m a b); other = λ h. refl }
+  pub as-kept : b ≡ true → ValuePut layout start end owner from k seen c before n next n next before
+  as-kept e = record { first = λ x. absurd (not-both e (is ∙ x)); other = λ x. refl }
 
 -- a slot that is still blank was so before, and another was marked
 still-blank : (known : ℕ) (p : List ℕ) (j left i : ℕ) → 0 < left → i < known → i < length p → getD (marked known p j left) i 0 ≡ 0 → (getD p i 0 ≡ 0) × (j ≡ i → ⊥)
@@ -75,60 +92,67 @@ still-blank known p j left i some low room = go (ltb j known) refl (eqb (getD p 
 -- ---------------------------------------------------------------- the loop
 
 -- up to `at`, with `due` items due
-pub record Looping (start end owner from mode count : ℕ) (s before : List ℕ) (at due : ℕ) (p : List ℕ) (n next : ℕ) (t : List ℕ) (size : ℕ) : Type 0 where
-  pub rows : keeping.Looping objectNames (ascii "components") known-components (Says start end owner from before) 28 mode count s at due p (kept n next t)
-  pub sizes : keeping.Looping objectNames (ascii "attributes") known-attributes SizeIs 28 mode count s at due p size
-  pub slots : length p ≡ 7
+pub record Looping (layout start end owner from mode count : ℕ) (s before : List ℕ) (at due : ℕ) (p : List ℕ) (n next : ℕ) (t : List ℕ) (size : ℕ) : Type 0 where
+  pub rows : keeping.Looping (layoutOf layout .object) 5 (layoutOf layout .objectPlaces) 4 known-components (layoutOf layout .objectApart) (SaysNow layout start end owner from before) 28 mode count s at due p (kept n next t)
+  pub sizes : keeping.Looping (layoutOf layout .object) 5 (layoutOf layout .objectPlaces) 3 known-attributes (layoutOf layout .objectApart) SizeIs 28 mode count s at due p size
+  pub slots : length p ≡ 8
   pub room : length t ≡ length before
   -- before the components are met, the table is as it was
-  pub fresh : getD p 3 0 ≡ 0 → t ≡ before
+  pub fresh : getD p 4 0 ≡ 0 → t ≡ before
+  pub untouched : layout ≡ 1 → t ≡ before
 
-module _ (start end owner from mode count : ℕ) (s before : List ℕ) (modes : Modes mode count) where
-  pub loop-starts : (p : List ℕ) (n next size : ℕ) → p ≡ replicate 7 0 → Looping start end owner from mode count s before 0 count p n next before size
+module _ (layout start end owner from mode count : ℕ) (s before : List ℕ) (modes : Modes mode count) where
+  pub loop-starts : (p : List ℕ) (n next size : ℕ) → p ≡ replicate 8 0 → Looping layout start end owner from mode count s before 0 count p n next before size
   loop-starts p n next size e = record {
-    rows = keeping.loop-starts objectNames (ascii "components") known-components (Says start end owner from before) 28 mode count s modes p (kept n next before) e;
-    sizes = keeping.loop-starts objectNames (ascii "attributes") known-attributes SizeIs 28 mode count s modes p size e;
+    rows = keeping.loop-starts (layoutOf layout .object) 5 (layoutOf layout .objectPlaces) 4 known-components (layoutOf layout .objectApart) (SaysNow layout start end owner from before) 28 mode count s modes p (kept n next before) e;
+    sizes = keeping.loop-starts (layoutOf layout .object) 5 (layoutOf layout .objectPlaces) 3 known-attributes (layoutOf layout .objectApart) SizeIs 28 mode count s modes p size e;
     slots = ap length e;
     room = refl;
     fresh = λ z. refl;
+    untouched = λ z. refl;
   }
 
-  module _ (short : length s < FAULT) (at due : ℕ) (p : List ℕ) (n next : ℕ) (t : List ℕ) (size : ℕ) (w : Looping start end owner from mode count s before at due p n next t size) where
+  module _ (short : length s < FAULT) (at due : ℕ) (p : List ℕ) (n next : ℕ) (t : List ℕ) (size : ℕ) (w : Looping layout start end owner from mode count s before at due p n next t size) where
     pub still-due : 1 ≤ mode → 0 < due
-    still-due = keeping.still-due objectNames (ascii "attributes") known-attributes SizeIs 28 mode count s modes short at due p size (w .sizes)
+    still-due = keeping.still-due (layoutOf layout .object) 5 (layoutOf layout .objectPlaces) 3 known-attributes (layoutOf layout .objectApart) SizeIs 28 mode count s modes short at due p size (w .sizes)
 
     module _ (x : Entry) (h : EntryIs 29 mode due (Here s at) x) where
       module _ (e : ℕ) (is : x ≡ End e) where
-        pub ends-inside : e ≤ length s - at → (at + e ≡ code (rest mode count 29 s)) × Passed start end owner from mode count s before p n next t size
+        pub ends-inside : e ≤ length s - at → (at + e ≡ code (rest mode count 29 s)) × Passed layout start end owner from mode count s before p n next t size
         ends-inside l =
-            let y = keeping.ends-inside objectNames (ascii "components") known-components (Says start end owner from before) 28 mode count s modes short at due p (kept n next t) (w .rows) x h e is l in
-            let z = keeping.ends-inside objectNames (ascii "attributes") known-attributes SizeIs 28 mode count s modes short at due p size (w .sizes) x h e is l in
-            (y .0, record { rows = y .1; sizes = z .1 })
+            let y = keeping.ends-inside (layoutOf layout .object) 5 (layoutOf layout .objectPlaces) 4 known-components (layoutOf layout .objectApart) (SaysNow layout start end owner from before) 28 mode count s modes short at due p (kept n next t) (w .rows) x h e is l in
+            let z = keeping.ends-inside (layoutOf layout .object) 5 (layoutOf layout .objectPlaces) 3 known-attributes (layoutOf layout .objectApart) SizeIs 28 mode count s modes short at due p size (w .sizes) x h e is l in
+            (y .0, record { rows = y .1; sizes = z .1; untouched = w .untouched })
 
-        pub ends-faulty : length s - at < e → (e ≡ code (rest mode count 29 s)) × Passed start end owner from mode count s before p n next t size
+        pub ends-faulty : length s - at < e → (e ≡ code (rest mode count 29 s)) × Passed layout start end owner from mode count s before p n next t size
         ends-faulty l =
-            let y = keeping.ends-faulty objectNames (ascii "components") known-components (Says start end owner from before) 28 mode count s modes short at due p (kept n next t) (w .rows) x h e is l in
-            let z = keeping.ends-faulty objectNames (ascii "attributes") known-attributes SizeIs 28 mode count s modes short at due p size (w .sizes) x h e is l in
-            (y .0, record { rows = y .1; sizes = z .1 })
+            let y = keeping.ends-faulty (layoutOf layout .object) 5 (layoutOf layout .objectPlaces) 4 known-components (layoutOf layout .objectApart) (SaysNow layout start end owner from before) 28 mode count s modes short at due p (kept n next t) (w .rows) x h e is l in
+            let z = keeping.ends-faulty (layoutOf layout .object) 5 (layoutOf layout .objectPlaces) 3 known-attributes (layoutOf layout .objectApart) SizeIs 28 mode count s modes short at due p size (w .sizes) x h e is l in
+            (y .0, record { rows = y .1; sizes = z .1; untouched = w .untouched })
 
       module _ (k : ℕ) (is : x ≡ Value k) where
         pub value-inside : at + k ≤ length s
-        value-inside = keeping.value-inside objectNames (ascii "attributes") known-attributes SizeIs 28 mode count s modes short at due p size (w .sizes) x h k is
+        value-inside = keeping.value-inside (layoutOf layout .object) 5 (layoutOf layout .objectPlaces) 3 known-attributes (layoutOf layout .objectApart) SizeIs 28 mode count s modes short at due p size (w .sizes) x h k is
 
         module _ (e : ℕ) (ended : e ≡ code (itemEnd 29 (Here s (at + k)))) where
           pub two-due : 2 ≤ due
-          two-due = keeping.two-due objectNames (ascii "attributes") known-attributes SizeIs 28 mode count s modes short at due p size (w .sizes) x h k is e ended
+          two-due = keeping.two-due (layoutOf layout .object) 5 (layoutOf layout .objectPlaces) 3 known-attributes (layoutOf layout .objectApart) SizeIs 28 mode count s modes short at due p size (w .sizes) x h k is e ended
+
+          -- in layout 1.0 still no row is put
+          as-untouched : (j seen n′ next′ : ℕ) (c t′ : List ℕ) → ValuePut layout start end owner from j seen c t n next n′ next′ t′ → layout ≡ 1 → t′ ≡ before
+          as-untouched j seen n′ next′ c t′ valued o = ap (λ u. u .table) (valued .other (waits-old layout j seen o)) ∙ w .untouched o
 
           -- then nothing is read, and whatever was put may be answered
-          pub value-faulty : length s - (at + k) < e → (n′ next′ : ℕ) (t′ : List ℕ) → (e ≡ code (rest mode count 29 s)) × Passed start end owner from mode count s before p n′ next′ t′ size
-          value-faulty l n′ next′ t′ =
-              let y = keeping.value-faulty objectNames (ascii "components") known-components (Says start end owner from before) 28 mode count s modes short at due p (kept n next t) (w .rows) x h k is e ended l (kept n′ next′ t′) in
-              let z = keeping.value-faulty objectNames (ascii "attributes") known-attributes SizeIs 28 mode count s modes short at due p size (w .sizes) x h k is e ended l size in
-              (y .0, record { rows = y .1; sizes = z .1 })
+          pub value-faulty : length s - (at + k) < e → (j seen n′ next′ : ℕ) (c t′ : List ℕ) → ValuePut layout start end owner from j seen c t n next n′ next′ t′
+              → (e ≡ code (rest mode count 29 s)) × Passed layout start end owner from mode count s before p n′ next′ t′ size
+          value-faulty l j seen n′ next′ c t′ valued =
+              let y = keeping.value-faulty (layoutOf layout .object) 5 (layoutOf layout .objectPlaces) 4 known-components (layoutOf layout .objectApart) (SaysNow layout start end owner from before) 28 mode count s modes short at due p (kept n next t) (w .rows) x h k is e ended l (kept n′ next′ t′) in
+              let z = keeping.value-faulty (layoutOf layout .object) 5 (layoutOf layout .objectPlaces) 3 known-attributes (layoutOf layout .objectApart) SizeIs 28 mode count s modes short at due p size (w .sizes) x h k is e ended l size in
+              (y .0, record { rows = y .1; sizes = z .1; untouched = as-untouched j seen n′ next′ c t′ valued })
 
           module _ (l : e ≤ length s - (at + k)) where
             pub goes-on : at < at + k + e
-            goes-on = keeping.goes-on objectNames (ascii "attributes") known-attributes SizeIs 28 mode count s modes short at due p size (w .sizes) x h k is e ended l
+            goes-on = keeping.goes-on (layoutOf layout .object) 5 (layoutOf layout .objectPlaces) 3 known-attributes (layoutOf layout .objectApart) SizeIs 28 mode count s modes short at due p size (w .sizes) x h k is e ended l
 
             -- where no byte is left no value is read
             some-left : 0 < length s - (at + k)
@@ -139,31 +163,32 @@ module _ (start end owner from mode count : ℕ) (s before : List ℕ) (modes : 
                     let y = never-empty 29 (Here s (at + k)) (ap length (part-to-end s (at + k)) ∙ length-drop (at + k) s ∙ z) in
                     let u : e ≡ FAULT + 6 = ended ∙ ap code y in omega arith
 
-            module _ (n′ next′ : ℕ) (t′ : List ℕ) (same : length t′ ≡ length t) (j : ℕ) (slot : SlotIs objectNames (Here s at) j)
-                (valued : ValuePut start end owner from j (getD p 3 0) (Here s (at + k)) t n next n′ next′ t′) (size′ : ℕ) (sized : Sized j (getD p 2 0) e size size′)
-                (q : List ℕ) (m : q ≡ marked 4 p j (length s - (at + k))) where
-              rows-kept : keeping-is.ValueIs objectNames (ascii "components") (Says start end owner from before) 29 j (getD p (position objectNames (ascii "components")) 0) (Here s (at + k)) (kept n next t) (kept n′ next′ t′)
-              unfolding position
+            module _ (n′ next′ : ℕ) (t′ : List ℕ) (same : length t′ ≡ length t) (j : ℕ) (slot : SlotIs (layoutOf layout .object) (Here s at) j)
+                (valued : ValuePut layout start end owner from j (getD p 4 0) (Here s (at + k)) t n next n′ next′ t′) (size′ : ℕ) (sized : Sized j (getD p 3 0) e size size′)
+                (q : List ℕ) (m : q ≡ marked 5 p j (length s - (at + k))) where
+              rows-kept : keeping-is.ValueIs (layoutOf layout .object) 5 4 (SaysNow layout start end owner from before) 29 j (getD p 4 0) (Here s (at + k)) (kept n next t) (kept n′ next′ t′)
+              unfolding given inherited
               rows-kept = record {
-                first = λ a b. subst (λ u. RowsPut (Here s (at + k)) start end owner from u n′ next′ t′) (w .fresh b) (valued .first a b);
-                other = λ h. valued .other h;
+                first = λ a b x r reads other.
+                    subst (λ u. RowsPut (offered layout 4 13) (Here s (at + k)) start end owner from u n′ next′ t′) (w .fresh b) (valued .first (waits-not layout j (getD p 4 0) other a b)) x r reads [] no-format
+                    (λ o. absurd (other o));
+                other = λ h. valued .other (waits-other layout j (getD p 4 0) h);
               }
 
-              size-kept : keeping-is.ValueIs objectNames (ascii "attributes") SizeIs 29 j (getD p (position objectNames (ascii "attributes")) 0) (Here s (at + k)) size size′
-              unfolding position
+              size-kept : keeping-is.ValueIs (layoutOf layout .object) 5 3 SizeIs 29 j (getD p 3 0) (Here s (at + k)) size size′
               size-kept = record {
                 first = λ a b t r read. subst (SizeIs t) (sym (sized .0 a b ∙ ended)) (item-size 29 (Here s (at + k)) t r read);
                 other = λ h. sized .1 h;
               }
 
-              still-fresh : getD q 3 0 ≡ 0 → t′ ≡ before
+              still-fresh : getD q 4 0 ≡ 0 → t′ ≡ before
               still-fresh z =
                   let slots = w .slots in
-                  let b = still-blank 4 p j (length s - (at + k)) 3 some-left (omega arith) (omega arith) (ap (λ q. getD q 3 0) (sym m) ∙ z) in
-                  ap (λ u. u .table) (valued .other (λ a y. b .1 a)) ∙ w .fresh (b .0)
+                  let b = still-blank 5 p j (length s - (at + k)) 4 some-left (omega arith) (omega arith) (ap (λ q. getD q 4 0) (sym m) ∙ z) in
+                  ap (λ u. u .table) (valued .other (waits-other layout j (getD p 4 0) (λ a y. b .1 a))) ∙ w .fresh (b .0)
 
-              pub loops-on : Looping start end owner from mode count s before (at + k + e) (due - 2) q n′ next′ t′ size′
+              pub loops-on : Looping layout start end owner from mode count s before (at + k + e) (due - 2) q n′ next′ t′ size′
               loops-on =
-                  let y = keeping.loops-on objectNames (ascii "components") known-components (Says start end owner from before) 28 mode count s modes short at due p (kept n next t) (w .rows) x h k is e ended l j slot (kept n′ next′ t′) rows-kept q m in
-                  let z = keeping.loops-on objectNames (ascii "attributes") known-attributes SizeIs 28 mode count s modes short at due p size (w .sizes) x h k is e ended l j slot size′ size-kept q m in
-                  record { rows = y; sizes = z; slots = z .slots; room = same ∙ w .room; fresh = still-fresh }
+                  let y = keeping.loops-on (layoutOf layout .object) 5 (layoutOf layout .objectPlaces) 4 known-components (layoutOf layout .objectApart) (SaysNow layout start end owner from before) 28 mode count s modes short at due p (kept n next t) (w .rows) x h k is e ended l j slot (kept n′ next′ t′) rows-kept q m in
+                  let z = keeping.loops-on (layoutOf layout .object) 5 (layoutOf layout .objectPlaces) 3 known-attributes (layoutOf layout .objectApart) SizeIs 28 mode count s modes short at due p size (w .sizes) x h k is e ended l j slot size′ size-kept q m in
+                  record { rows = y; sizes = z; slots = z .slots; room = same ∙ w .room; fresh = still-fresh; untouched = as-untouched j (getD p 4 0) n′ next′ (Here s (at + k)) t′ valued }

@@ -4,4 +4,5 @@ pub mod Entered
 pub mod Rows
 pub mod Object
 pub mod Pass
+pub mod Late
 pub mod Objects

@@ -45,12 +45,12 @@ objectIn end o = objectRow (mapObject (spanOf end) o)
 -- where the fields of an object stand in m: the slots p, and how many bytes its attributes take
 pub record Described (m p : List ℕ) (size : ℕ) (o : Object Ends) : Type 0 where
   pub shape : Node Ends
-  pub shape-stands : Stands 29 m (getD p 0 0) shape
+  pub shape-stands : Stands 29 m (getD p 1 0) shape
   pub shape-is : shapeOf shape ≡ pass (o .shape)
   pub format-at : WordAt m (some (o .format))
-  pub format-left : leftWord (some (o .format)) ≡ getD p 1 0
-  pub attributes-left : leftAt (o .attributes) ≡ getD p 2 0
-  pub attributes-take : (t : Node Ends) → o .attributes ≡ some t → (0 < getD p 2 0) × SizeIs t size
+  pub format-left : leftWord (some (o .format)) ≡ getD p 2 0
+  pub attributes-left : leftAt (o .attributes) ≡ getD p 3 0
+  pub attributes-take : (t : Node Ends) → o .attributes ≡ some t → (0 < getD p 3 0) × SizeIs t size
 
 -- the row of every object whose key begins s and whose fields stand there
 abbrev pub ObjectPut : List ℕ → List ℕ → List ℕ → ℕ → ℕ → ℕ → ℕ → List ℕ → List ℕ → Type 0

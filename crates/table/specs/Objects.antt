@@ -12,7 +12,7 @@ use Rattle.meaning.specs.Notes.{mapObject, mapModel}
 use Rattle.meaning.specs.Field.{nameOf}
 use Rattle.meaning.specs.Judge.{object, objectsOf}
 use Rattle.meaning.specs.Rows.{objectRows, componentRows, componentCount, rows, roomFor}
-use Rattle.meaning.specs.Layouts.{current}
+use Rattle.meaning.specs.Layouts.{layoutOf}
 use Rattle.walk.specs.Reading.{Ends, Reads}
 use Rattle.walk.proofs.Passed.{AllPassed}
 use Rattle.table.specs.Spans.{spanOf}
@@ -28,15 +28,15 @@ pub record WholeLaid (end owner i from : ℕ) (before : List ℕ) (next : ℕ) (
   pub after-is : after ≡ sets (sets before i (objectIn end o)) from (rowsIn end owner (o .components))
 
 -- of every object that passes, whose key begins s and whose value begins c, where there is room
-abbrev pub WholePut : List ℕ → List ℕ → ℕ → ℕ → ℕ → ℕ → ℕ → List ℕ → ℕ → List ℕ → Type 0
-WholePut s c start end owner i from before next after =
-    (p : Pair Ends) (d : ℕ) (q r : List ℕ) → Reads (suc d) s (p .key) q → Reads 30 c (p .value) r → (n : Named Ends) → nameOf p ≡ pass n → (o : Object Ends) → object current start n ≡ pass o
+abbrev pub WholePut : ℕ → List ℕ → List ℕ → ℕ → ℕ → ℕ → ℕ → ℕ → List ℕ → ℕ → List ℕ → Type 0
+WholePut layout s c start end owner i from before next after =
+    (p : Pair Ends) (d : ℕ) (q r : List ℕ) → Reads (suc d) s (p .key) q → Reads 30 c (p .value) r → (n : Named Ends) → nameOf p ≡ pass n → (o : Object Ends) → object (layoutOf layout) start n ≡ pass o
     → i + objectWidth ≤ from → from + componentWidth * length (o .components) ≤ length before → WholeLaid end owner i from before next after o
 
 -- ---------------------------------------------------------------- all objects
 
-abbrev pub entry : ℕ → ℕ → Named Ends → Check (Object Ends)
-entry start i n = inObject i (object current start n)
+abbrev pub entry : ℕ → ℕ → ℕ → Named Ends → Check (Object Ends)
+entry layout start i n = inObject i (object (layoutOf layout) start n)
 
 abbrev pub objectsIn : ℕ → List (Object Ends) → List ℕ
 objectsIn end os = objectRows (map (mapObject (spanOf end)) os)
@@ -51,19 +51,19 @@ pub record Laid (end from : ℕ) (before : List ℕ) (row next : ℕ) (after : L
   pub after-is : after ≡ sets (sets before 0 (objectsIn end os)) from (componentsIn end os)
 
 -- what was put of the pairs `done`
-pub record ObjectsLaid (start end from : ℕ) (before : List ℕ) (n row next : ℕ) (after : List ℕ) (done : List (Pair Ends)) : Type 0 where
+pub record ObjectsLaid (layout start end from : ℕ) (before : List ℕ) (n row next : ℕ) (after : List ℕ) (done : List (Pair Ends)) : Type 0 where
   pub counted : n ≡ length done
-  pub laid : (os : List (Object Ends)) → Entered (entry start) done os → objectWidth * length os ≤ from → from + componentWidth * componentCount os ≤ length before → Laid end from before row next after os
+  pub laid : (os : List (Object Ends)) → Entered (entry layout start) done os → objectWidth * length os ≤ from → from + componentWidth * componentCount os ≤ length before → Laid end from before row next after os
 
 -- of all pairs that are due at s
-pub record AllLaid (start end from mode count : ℕ) (s before after : List ℕ) : Type 0 where
+pub record AllLaid (layout start end from mode count : ℕ) (s before after : List ℕ) : Type 0 where
   pub n : ℕ
   pub row : ℕ
   pub next : ℕ
-  pub are : AllPassed 30 mode count s (ObjectsLaid start end from before n row next after)
+  pub are : AllPassed 30 mode count s (ObjectsLaid layout start end from before n row next after)
 
 -- the table of every model m whose objects are read at s, where it has room for them: its rows, and beyond them what it held
-abbrev pub Written : List ℕ → ℕ → ℕ → ℕ → List ℕ → List ℕ → Type 0
-Written s start end from before after =
-    (t : Node Ends) (q : List ℕ) → Reads 31 s t q → (m : Model Ends) → objectsOf current start t ≡ pass (m .objects) → from ≡ objectWidth * length (m .objects) → roomFor m ≤ length before
+abbrev pub Written : ℕ → List ℕ → ℕ → ℕ → ℕ → List ℕ → List ℕ → Type 0
+Written layout s start end from before after =
+    (t : Node Ends) (q : List ℕ) → Reads 31 s t q → (m : Model Ends) → objectsOf (layoutOf layout) start t ≡ pass (m .objects) → from ≡ objectWidth * length (m .objects) → roomFor m ≤ length before
     → after ≡ rows (mapModel (spanOf end) m) ++ drop (roomFor (mapModel (spanOf end) m)) before

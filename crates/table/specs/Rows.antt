@@ -2,24 +2,22 @@
 use Prim.Native.Nat.{ℕ, _+_, _*_, _≤_}
 use mathlib.Core.List.{List, map}
 use mathlib.Core.Path.{_≡_}
-use mathlib.Core.Option.{none}
+use mathlib.Core.Option.{Option}
 use lib.ListN.{length}
 use lib.Seq.{sets}
 use Rattle.meaning.specs.Columns.{componentWidth}
 use Rattle.meaning.specs.Tree.{Node, Pair}
-use Rattle.meaning.specs.Check.{Check, pass, inComponent}
-use Rattle.meaning.specs.Model.{Named, Component}
+use Rattle.meaning.specs.Check.{pass}
+use Rattle.meaning.specs.Model.{Component}
 use Rattle.meaning.specs.Notes.{mapComponent}
-use Rattle.meaning.specs.Judge.{component, componentsOf}
+use Rattle.meaning.specs.Judge.{componentsOf}
 use Rattle.meaning.specs.Rows.{rowsOf}
-use Rattle.meaning.specs.Layouts.{current}
+use Rattle.meaning.specs.Layouts.{Layout, layoutOf}
 use Rattle.walk.specs.Reading.{Ends, Reads}
 use Rattle.walk.proofs.Passed.{AllPassed}
+use Rattle.components.specs.Firsts.{Given, Whichever, entry}
 use Rattle.table.specs.Spans.{spanOf}
 use Rattle.table.specs.Entered.{Entered}
-
-abbrev pub entry : ℕ → ℕ → Named Ends → Check (Component Ends)
-entry start j n = inComponent j (component current start none n)
 
 abbrev pub rowsIn : ℕ → ℕ → List (Component Ends) → List ℕ
 rowsIn end owner cs = rowsOf owner (map (mapComponent (spanOf end)) cs)
@@ -29,14 +27,15 @@ pub record Laid (end owner from : ℕ) (before : List ℕ) (next : ℕ) (after :
   pub next-is : next ≡ from + componentWidth * length cs
   pub after-is : after ≡ sets before from (rowsIn end owner cs)
 
--- what was put of the pairs `done`
-pub record Rowed (start end owner from : ℕ) (before : List ℕ) (count next : ℕ) (after : List ℕ) (done : List (Pair Ends)) : Type 0 where
+-- what was put of the pairs `done`, in an object that gives them this
+pub record Rowed (g : Given) (start end owner from : ℕ) (before : List ℕ) (count next : ℕ) (after : List ℕ) (done : List (Pair Ends)) : Type 0 where
   pub counted : count ≡ length done
-  pub laid : (cs : List (Component Ends)) → Entered (entry start) done cs → from + componentWidth * length cs ≤ length before → Laid end owner from before next after cs
+  pub laid : Whichever g λ above.
+      (cs : List (Component Ends)) → Entered (entry (layoutOf (g .layout)) above start) done cs → from + componentWidth * length cs ≤ length before → Laid end owner from before next after cs
 
 -- of all pairs that are due at s
-abbrev pub AllRowed : ℕ → ℕ → ℕ → ℕ → ℕ → ℕ → List ℕ → List ℕ → ℕ → ℕ → List ℕ → Type 0
-AllRowed start end owner from mode count s before n next after = AllPassed 28 mode count s (Rowed start end owner from before n next after)
+abbrev pub AllRowed : Given → ℕ → ℕ → ℕ → ℕ → ℕ → ℕ → List ℕ → List ℕ → ℕ → ℕ → List ℕ → Type 0
+AllRowed g start end owner from mode count s before n next after = AllPassed 28 mode count s (Rowed g start end owner from before n next after)
 
 -- how many components were met, where the next row begins, and the table
 pub record Kept : Type 0 where
@@ -47,11 +46,15 @@ pub record Kept : Type 0 where
 abbrev pub kept : ℕ → ℕ → List ℕ → Kept
 kept n next t = record { count = n; next = next; table = t }
 
--- of the map of components x, if it passes
-abbrev pub Says : ℕ → ℕ → ℕ → ℕ → List ℕ → Node Ends → Kept → Type 0
-Says start end owner from before x k =
-    (cs : List (Component Ends)) → componentsOf current start (λ r. none) x ≡ pass cs → (k .count ≡ length cs) × (from + componentWidth * length cs ≤ length before → Laid end owner from before (k .next) (k .table) cs)
+-- these components
+abbrev pub Put : ℕ → ℕ → ℕ → List ℕ → List (Component Ends) → Kept → Type 0
+Put end owner from before cs k = (k .count ≡ length cs) × (from + componentWidth * length cs ≤ length before → Laid end owner from before (k .next) (k .table) cs)
 
--- of whatever is read at c
-abbrev pub RowsPut : List ℕ → ℕ → ℕ → ℕ → ℕ → List ℕ → ℕ → ℕ → List ℕ → Type 0
-RowsPut c start end owner from before n next after = (t : Node Ends) (q : List ℕ) → Reads 29 c t q → Says start end owner from before t (kept n next after)
+-- those of the map x, if it passes with the codes that its object gives
+abbrev pub Says : Layout → (List ℕ → Option ℕ) → ℕ → ℕ → ℕ → ℕ → List ℕ → Node Ends → Kept → Type 0
+Says L above start end owner from before x k = (cs : List (Component Ends)) → componentsOf L start above x ≡ pass cs → Put end owner from before cs k
+
+-- of whatever is read at c, as components of an object that gives them this
+abbrev pub RowsPut : Given → List ℕ → ℕ → ℕ → ℕ → ℕ → List ℕ → ℕ → ℕ → List ℕ → Type 0
+RowsPut g c start end owner from before n next after =
+    (t : Node Ends) (q : List ℕ) → Reads 29 c t q → Whichever g λ above. Says (layoutOf (g .layout)) above start end owner from before t (kept n next after)

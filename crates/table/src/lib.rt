@@ -1,14 +1,16 @@
 // The rows of an accepted manifest, written into the lent table (document 01, "The table and the view") in a second pass, by the walkers that judged it.
 // Every slice runs to the manifest's end, which is the file's place `end`; a place in it is the number of bytes left there, 0 for none.
+mod late;
 mod lay;
-mod object;
+mod object_row;
 mod pass;
 mod row;
 mod rows;
 pub mod span;
 
+use late::late;
 use lay::ahead;
-use object::put_object;
+use object_row::put_object;
 use pass::pass_object;
 use rows::Run;
 use walk::Entry;
@@ -20,6 +22,7 @@ ghost use Rattle.table.specs.Objects.{WholePut, AllLaid, Written};
 
 // Puts the rows of object number `owner`, whose key begins s and whose value begins c, at depth 3: its own from i on, its components' from `from` on.
 fn put_whole(
+    layout: u64,
     s: &[u8],
     c: &[u8],
     start: u64,
@@ -29,9 +32,9 @@ fn put_whole(
     from: usize,
     t: &mut [u64],
 ) -> Run
-    ensures { λ r. ⌜ (r .end ≡ code (itemEnd 30 (now (c .entry)))) × WholePut (now (s .entry)) (now (c .entry)) start end owner i from (now (t .entry)) (r .next) (now (t .exit)) ⌝ }
+    ensures { λ r. ⌜ (r .end ≡ code (itemEnd 30 (now (c .entry)))) × WholePut layout (now (s .entry)) (now (c .entry)) start end owner i from (now (t .entry)) (r .next) (now (t .exit)) ⌝ }
 {
-    let mut p = [0usize; 7];
+    let mut p = [0usize; 8];
     match walk::map(&c[0..]) {
         Opening::NotOpen => Run {
             end: cbor::skip(&c[0..], 30),
@@ -39,28 +42,60 @@ fn put_whole(
             next: from,
         },
         Opening::Opened(mode, count, size) => {
-            let w = pass_object(&c[size..], start, end, mode, count, owner, from, &mut p, t);
-            put_object(&s[0..], &c[size..], &p, w.count, w.size, end, i, t);
+            let w = pass_object(
+                layout,
+                &c[size..],
+                start,
+                end,
+                mode,
+                count,
+                owner,
+                from,
+                &mut p,
+                t,
+            );
+            let k = late(
+                layout,
+                &c[size..],
+                &p,
+                start,
+                end,
+                owner,
+                from,
+                w.count,
+                w.next,
+                t,
+            );
+            put_object(&s[0..], &c[size..], &p, k.count, w.size, end, i, t);
             if c.len() - size < w.end {
                 return Run {
                     end: w.end,
-                    count: w.count,
-                    next: w.next,
+                    count: k.count,
+                    next: k.next,
                 };
             }
             Run {
                 end: size + w.end,
-                count: w.count,
-                next: w.next,
+                count: k.count,
+                next: k.next,
             }
         }
     }
 }
 
 // Entries that begin s, counted as `walk::map` says: the objects' rows are put from the table's start on, the components' from `from` on.
-fn pass_objects(s: &[u8], start: u64, end: usize, mode: u64, count: u64, from: usize, t: &mut [u64])
+fn pass_objects(
+    layout: u64,
+    s: &[u8],
+    start: u64,
+    end: usize,
+    mode: u64,
+    count: u64,
+    from: usize,
+    t: &mut [u64],
+)
     requires { ⌜ Modes mode count ⌝ }
-    ensures { λ r. ⌜ AllLaid start end from mode count (now (s .entry)) (now (t .entry)) (now (t .exit)) ⌝ }
+    ensures { λ r. ⌜ AllLaid layout start end from mode count (now (s .entry)) (now (t .entry)) (now (t .exit)) ⌝ }
 {
     let mut at = 0;
     let mut due = count;
@@ -72,7 +107,7 @@ fn pass_objects(s: &[u8], start: u64, end: usize, mode: u64, count: u64, from: u
             Entry::End(_) => return,
             Entry::Value(k) => {
                 let v = at + k;
-                let w = put_whole(&s[at..], &s[v..], start, end, n, row, next, t);
+                let w = put_whole(layout, &s[at..], &s[v..], start, end, n, row, next, t);
                 if s.len() - v < w.end {
                     return;
                 }
@@ -87,13 +122,13 @@ fn pass_objects(s: &[u8], start: u64, end: usize, mode: u64, count: u64, from: u
 }
 
 // The rows of the objects whose map begins s, at depth 2, in a file whose manifest begins at `start`: those of objects first, then from number `from` on those of components.
-pub fn write(s: &[u8], start: u64, end: usize, from: usize, t: &mut [u64])
-    ensures { λ r. ⌜ Written (now (s .entry)) start end from (now (t .entry)) (now (t .exit)) ⌝ }
+pub fn write(layout: u64, s: &[u8], start: u64, end: usize, from: usize, t: &mut [u64])
+    ensures { λ r. ⌜ Written layout (now (s .entry)) start end from (now (t .entry)) (now (t .exit)) ⌝ }
 {
     match walk::map(&s[0..]) {
         Opening::NotOpen => {}
         Opening::Opened(mode, count, size) => {
-            pass_objects(&s[size..], start, end, mode, count, from, t);
+            pass_objects(layout, &s[size..], start, end, mode, count, from, t);
         }
     }
 }

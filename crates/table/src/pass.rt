@@ -1,12 +1,13 @@
 // Passing over the entries of an object's map: where its fields stand, its components' rows, and its attributes' size.
 use crate::rows::Run;
 use crate::rows::put_rows;
+use object::pass::waits;
 use walk::Entry;
 use walk::Letters;
 ghost use mathlib.Core.Path.{_≡_};
 ghost use Prim.Native.Nat.{_≤_};
 ghost use lib.ListN.{replicate};
-ghost use Rattle.meaning.specs.Layouts.{objectNames};
+ghost use Rattle.meaning.specs.Layouts.{layoutOf};
 ghost use Rattle.cbor.specs.Ending.{code, itemEnd, rest};
 ghost use Rattle.walk.proofs.Turns.{Modes};
 ghost use Rattle.fields.specs.Slots.{SlotIs};
@@ -21,21 +22,22 @@ pub struct Walk {
 }
 
 // The slot of the key that begins s.
-fn slot(s: &[u8]) -> usize
-    ensures { λ r. ⌜ (r ≤ 5) × SlotIs objectNames (now (s .entry)) r ⌝ }
+fn slot(layout: u64, s: &[u8]) -> usize
+    ensures { λ r. ⌜ (r ≤ 6) × SlotIs (layoutOf layout .object) (now (s .entry)) r ⌝ }
 {
     match walk::text(&s[0..]) {
-        Letters::NoText => 5,
+        Letters::NoText => 6,
         Letters::Text(at, n) => {
             let e = at + n;
-            types::object_key(&s[at..e])
+            types::object_key(layout, &s[at..e])
         }
     }
 }
 
-// The value that begins c, whose key has slot k. The rows of the first components (slot 3 still holds 0, which is `seen`) are put; with any other value, what
-// was kept before stays.
+// The value that begins c, whose key has slot k. The rows of the first components (slot 4 still holds 0, which is `seen`) are put; with any other value, what
+// was kept before stays. In layout 1.0 components wait for their tensor's dtype.
 fn value(
+    layout: u64,
     c: &[u8],
     start: u64,
     end: usize,
@@ -47,25 +49,23 @@ fn value(
     next: usize,
     t: &mut [u64],
 ) -> Run
-    ensures { λ r. ⌜ (r .end ≡ code (itemEnd 29 (now (c .entry)))) × ValuePut start end owner from k seen (now (c .entry)) (now (t .entry)) count next (r .count) (r .next) (now (t .exit)) ⌝ }
+    ensures { λ r. ⌜ (r .end ≡ code (itemEnd 29 (now (c .entry)))) × ValuePut layout start end owner from k seen (now (c .entry)) (now (t .entry)) count next (r .count) (r .next) (now (t .exit)) ⌝ }
 {
-    if k == 3 {
-        if seen == 0 {
-            return put_rows(&c[0..], start, end, owner, from, t);
-        }
+    if waits(layout, k, seen) {
+        return Run {
+            end: cbor::skip(&c[0..], 29),
+            count: count,
+            next: next,
+        };
     }
-    Run {
-        end: cbor::skip(&c[0..], 29),
-        count: count,
-        next: next,
-    }
+    put_rows(layout, 4, 13, &c[0..], start, end, owner, from, t)
 }
 
 // The size of the attributes, after a value of e bytes whose key has slot k: that of the first attributes is kept.
 fn sized(k: usize, seen: usize, e: usize, size: usize) -> usize
     ensures { λ r. ⌜ Sized k seen e size r ⌝ }
 {
-    if k == 2 {
+    if k == 3 {
         if seen == 0 {
             return e;
         }
@@ -73,8 +73,10 @@ fn sized(k: usize, seen: usize, e: usize, size: usize) -> usize
     size
 }
 
-// Entries that begin s, counted as `walk::map` says, of object number `owner`. The places of its fields are left in p, its components' rows are put from `from` on.
+// Entries that begin s, counted as `walk::map` says, of object number `owner`. The places of its fields are left in p, its components' rows are put from `from` on, but
+// not in layout 1.0.
 pub fn pass_object(
+    layout: u64,
     s: &[u8],
     start: u64,
     end: usize,
@@ -85,8 +87,8 @@ pub fn pass_object(
     p: &mut [usize],
     t: &mut [u64],
 ) -> Walk
-    requires { ⌜ (now p ≡ replicate 7 0) × Modes mode count ⌝ }
-    ensures { λ r. ⌜ (r .end ≡ code (rest mode count 29 (now (s .entry)))) × Passed start end owner from mode count (now (s .entry)) (now (t .entry)) (now (p .exit)) (r .count) (r .next) (now (t .exit)) (r .size) ⌝ }
+    requires { ⌜ (now p ≡ replicate 8 0) × Modes mode count ⌝ }
+    ensures { λ r. ⌜ (r .end ≡ code (rest mode count 29 (now (s .entry)))) × Passed layout start end owner from mode count (now (s .entry)) (now (t .entry)) (now (p .exit)) (r .count) (r .next) (now (t .exit)) (r .size) ⌝ }
 {
     let mut at = 0;
     let mut due = count;
@@ -113,8 +115,20 @@ pub fn pass_object(
             }
             Entry::Value(k) => {
                 let v = at + k;
-                let j = slot(&s[at..]);
-                let w = value(&s[v..], start, end, owner, from, j, p[3], n, next, t);
+                let j = slot(layout, &s[at..]);
+                let w = value(
+                    layout,
+                    &s[v..],
+                    start,
+                    end,
+                    owner,
+                    from,
+                    j,
+                    p[4],
+                    n,
+                    next,
+                    t,
+                );
                 let e = w.end;
                 n = w.count;
                 next = w.next;
@@ -126,8 +140,8 @@ pub fn pass_object(
                         size: size,
                     };
                 }
-                size = sized(j, p[2], e, size);
-                fields::mark(p, 4, j, s.len() - v);
+                size = sized(j, p[3], e, size);
+                fields::mark(p, 5, j, s.len() - v);
                 at = v + e;
                 due -= 2;
             }

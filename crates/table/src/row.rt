@@ -6,6 +6,8 @@ use crate::span::spelt;
 use crate::span::spelt_at;
 use crate::span::whole_from;
 use component::Judged;
+use components::row::role;
+use components::row::stored;
 ghost use mathlib.Core.Path.{_≡_};
 ghost use lib.Seq.{sets};
 ghost use Rattle.table.specs.Spans.{spanned};
@@ -41,8 +43,11 @@ fn put_twelve(
     }
 }
 
-// Puts the row of a component, whose key begins s and whose value, judged as v, begins c and takes `size` bytes. `owner` is its object's index.
+// Puts the row of a component, whose key begins s and whose value, judged as v with its object's code, begins c and takes `size` bytes. `format` is its object's
+// (types::format_code), `owner` its object's index.
 pub fn put_row(
+    layout: u64,
+    format: u64,
     s: &[u8],
     c: &[u8],
     v: Judged,
@@ -52,7 +57,7 @@ pub fn put_row(
     i: usize,
     t: &mut [u64],
 )
-    ensures { λ r. ⌜ RowPut (now (s .entry)) (now (c .entry)) v size end owner i (now (t .entry)) (now (t .exit)) ⌝ }
+    ensures { λ r. ⌜ RowPut layout format (now (s .entry)) (now (c .entry)) v size end owner i (now (t .entry)) (now (t .exit)) ⌝ }
 {
     match v {
         Judged::No(_) => {}
@@ -61,11 +66,12 @@ pub fn put_row(
             let typed = spelt_at(&c[0..], kind, end);
             let digested = spelt_at(&c[0..], digest, end);
             let entry = whole_from(&c[0..], size, end);
+            let kept = stored(layout, format, role(&s[0..]), code);
             put_twelve(
                 t,
                 i,
                 name,
-                code,
+                kept,
                 typed,
                 offset,
                 length,

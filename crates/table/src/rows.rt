@@ -4,8 +4,9 @@ use crate::row::put_row;
 use walk::Entry;
 use walk::Opening;
 ghost use mathlib.Core.Path.{_≡_};
-ghost use Rattle.cbor.specs.Ending.{code, itemEnd, rest};
+ghost use Rattle.cbor.specs.Ending.{code as ending, itemEnd, rest};
 ghost use Rattle.walk.proofs.Turns.{Modes};
+ghost use Rattle.components.specs.Firsts.{offered};
 ghost use Rattle.table.specs.Rows.{AllRowed, RowsPut};
 
 // Where entries end, as `cbor::skip` answers it, how many there are, and where the row after theirs begins.
@@ -17,6 +18,9 @@ pub struct Run {
 
 // Entries that begin s, counted as `walk::map` says, of object number `owner`: their rows are put from `from` on.
 fn entries(
+    layout: u64,
+    format: u64,
+    code: u64,
     s: &[u8],
     start: u64,
     end: usize,
@@ -27,7 +31,7 @@ fn entries(
     t: &mut [u64],
 ) -> Run
     requires { ⌜ Modes mode count ⌝ }
-    ensures { λ r. ⌜ (r .end ≡ code (rest mode count 28 (now (s .entry)))) × AllRowed start end owner from mode count (now (s .entry)) (now (t .entry)) (r .count) (r .next) (now (t .exit)) ⌝ }
+    ensures { λ r. ⌜ (r .end ≡ ending (rest mode count 28 (now (s .entry)))) × AllRowed (offered layout format code) start end owner from mode count (now (s .entry)) (now (t .entry)) (r .count) (r .next) (now (t .exit)) ⌝ }
 {
     let mut at = 0;
     let mut due = count;
@@ -51,7 +55,7 @@ fn entries(
             }
             Entry::Value(k) => {
                 let v = at + k;
-                let w = component::component(&s[v..], start);
+                let w = component::component(layout, code, &s[v..], start);
                 if s.len() - v < w.end {
                     return Run {
                         end: w.end,
@@ -60,7 +64,18 @@ fn entries(
                     };
                 }
                 let judged = w.verdict;
-                put_row(&s[at..], &s[v..], judged, w.end, end, owner, next, t);
+                put_row(
+                    layout,
+                    format,
+                    &s[at..],
+                    &s[v..],
+                    judged,
+                    w.end,
+                    end,
+                    owner,
+                    next,
+                    t,
+                );
                 next = ahead(next, columns::COMPONENT, t.len());
                 n += 1;
                 at = v + w.end;
@@ -70,9 +85,20 @@ fn entries(
     }
 }
 
-// The components that begin c, at depth 4, of object number `owner`: their rows are put from `from` on.
-pub fn put_rows(c: &[u8], start: u64, end: usize, owner: u64, from: usize, t: &mut [u64]) -> Run
-    ensures { λ r. ⌜ (r .end ≡ code (itemEnd 29 (now (c .entry)))) × RowsPut (now (c .entry)) start end owner from (now (t .entry)) (r .count) (r .next) (now (t .exit)) ⌝ }
+// The components that begin c, at depth 4, of object number `owner`: their rows are put from `from` on. `format` (types::format_code) and `code`, 13 or more for none, are what
+// their object says of their storage.
+pub fn put_rows(
+    layout: u64,
+    format: u64,
+    code: u64,
+    c: &[u8],
+    start: u64,
+    end: usize,
+    owner: u64,
+    from: usize,
+    t: &mut [u64],
+) -> Run
+    ensures { λ r. ⌜ (r .end ≡ ending (itemEnd 29 (now (c .entry)))) × RowsPut (offered layout format code) (now (c .entry)) start end owner from (now (t .entry)) (r .count) (r .next) (now (t .exit)) ⌝ }
 {
     match walk::map(&c[0..]) {
         Opening::NotOpen => Run {
@@ -81,7 +107,19 @@ pub fn put_rows(c: &[u8], start: u64, end: usize, owner: u64, from: usize, t: &m
             next: from,
         },
         Opening::Opened(mode, count, size) => {
-            let w = entries(&c[size..], start, end, mode, count, owner, from, t);
+            let w = entries(
+                layout,
+                format,
+                code,
+                &c[size..],
+                start,
+                end,
+                mode,
+                count,
+                owner,
+                from,
+                t,
+            );
             if c.len() - size < w.end {
                 return w;
             }

@@ -19,6 +19,6 @@ write-spec =
     (λ c. opens.size-inside ((c .before .before .before .before .before .before .before .args .s .now)) _ ((c .before .before .before .map .ensures)) _ _ _ ((c .before .mode .given .1)))
     (λ c. search needs)
     (λ c κs. opens.modes ((c .before .before .before .before .before .before .before .before .before .args .s .now)) _ ((c .before .before .before .before .before .map .ensures)) _ _ _ ((c .before .before .before .mode .given .1)))
-    (λ c. objecting.no-map ((c .before .before .before .before .before .before .args .s .now)) ((c .before .before .before .before .before .before .args .start)) ((c .before .before .before .before .before .before .args .end)) ((c .before .before .before .before .before .before .args .from)) ((c .before .before .before .before .before .before .args .t .now)) _ _ ((c .before .before .map .ensures)) ((c .enum-told .given .1)))
+    (λ c. objecting.no-map (c .before .before .before .before .before .before .args .layout) (c .before .before .before .before .before .before .args .s .now) ((c .before .before .before .before .before .before .args .start)) ((c .before .before .before .before .before .before .args .end)) ((c .before .before .before .before .before .before .args .from)) ((c .before .before .before .before .before .before .args .t .now)) _ _ ((c .before .before .map .ensures)) ((c .enum-told .given .1)))
     (λ c. search needs)
-    (λ c. objecting.map-written ((c .before .before .before .before .before .before .before .before .before .before .before .before .args .s .now)) ((c .before .before .before .before .before .before .before .before .before .before .before .before .args .start)) ((c .before .before .before .before .before .before .before .before .before .before .before .before .args .end)) ((c .before .before .before .before .before .before .before .before .before .before .before .before .args .from)) ((c .before .before .before .before .before .before .before .before .before .before .before .before .args .t .now)) _ _ ((c .before .before .before .before .before .before .before .before .map .ensures)) _ _ _ ((c .before .before .before .before .before .before .mode .given .1)) ((c .before .before .pass-objects .ensures))))
+    (λ c. objecting.map-written (c .before .before .before .before .before .before .before .before .before .before .before .before .args .layout) (c .before .before .before .before .before .before .before .before .before .before .before .before .args .s .now) ((c .before .before .before .before .before .before .before .before .before .before .before .before .args .start)) ((c .before .before .before .before .before .before .before .before .before .before .before .before .args .end)) ((c .before .before .before .before .before .before .before .before .before .before .before .before .args .from)) ((c .before .before .before .before .before .before .before .before .before .before .before .before .args .t .now)) _ _ ((c .before .before .before .before .before .before .before .before .map .ensures)) _ _ _ ((c .before .before .before .before .before .before .mode .given .1)) ((c .before .before .pass-objects .ensures))))

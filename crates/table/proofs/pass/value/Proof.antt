@@ -1,9 +1,8 @@
 -- `table::pass::value` meets its contract: a law for each branch.
-use Rattle.table.proofs.Passing as passing
-use mathlib.Core.Path.{ap, _∙_}
-use mathlib.Core.Logic.{⊎-elim}
-use borrow.Rule.Slice.PartAt.{part-to-end}
 use Rattle.cbor.specs.Ending.{code, itemEnd}
+use borrow.Rule.Slice.PartAt.{part-to-end}
+use mathlib.Core.Path.{ap, _∙_}
+use Rattle.table.proofs.Passing as passing
 use borrow.Author.Needs.{needs}
 use Rattle.table.proofs.pass.value.Statement.{statement}
 use Rattle.table.proofs.pass.value.Tie as tie
@@ -12,14 +11,19 @@ pub value-spec : {M : Type 1} → statement M
 value-spec =
     tie.close
     (tie.spec
+    (λ c κs. search needs)
+    (λ c. search needs)
+    (λ c. search needs)
+    (λ c. search needs)
+    (λ c κs. search needs)
+    (λ c. let a = (c .before .before .before .before .before .before .args) in ((c .skip .ensures) ∙ ap (λ s. code (itemEnd 29 s)) (part-to-end (a .c .now) 0), passing.as-kept (a .layout) (a .start) (a .end) (a .owner) (a .from) (a .k) (a .seen) (a .c .now) (a .t .now) (a .count) (a .next) _ (c .before .before .before .waits .ensures) (c .before .before .if1 .taken)))
     (λ c. search needs)
     (λ c. search needs)
     (λ c. search needs)
     (λ c κs. search needs)
     (λ c. search needs)
-    (λ c. (((c .before .before .put-rows .ensures .0)) ∙ ap (λ s. code (itemEnd 29 s)) (part-to-end ((c .before .before .before .before .before .before .before .before .before .args .c .now)) 0), passing.first-put ((c .before .before .before .before .before .before .before .before .before .args .start)) ((c .before .before .before .before .before .before .before .before .before .args .end)) ((c .before .before .before .before .before .before .before .before .before .args .owner)) ((c .before .before .before .before .before .before .before .before .before .args .from)) ((c .before .before .before .before .before .before .before .before .before .args .k)) ((c .before .before .before .before .before .before .before .before .before .args .seen)) ((c .before .before .before .before .before .before .before .before .before .args .c .now)) ((c .before .before .before .before .before .before .before .before .before .args .t .now)) ((c .before .before .before .before .before .before .before .before .before .args .count)) ((c .before .before .before .before .before .before .before .before .before .args .next)) ((c .before .before .before .before .before .before .if1 .taken)) ((c .before .before .before .before .before .if2 .taken)) _ _ _ ((c .before .before .put-rows .ensures .1))))
-    (λ c. search needs)
-    (λ c. search needs)
-    (λ c. search needs)
-    (λ c κs. search needs)
-    (λ c. (((c .skip .ensures)) ∙ ap (λ s. code (itemEnd 29 s)) (part-to-end ((c .before .before .before .before .before .args .c .now)) 0), passing.as-kept ((c .before .before .before .before .before .args .start)) ((c .before .before .before .before .before .args .end)) ((c .before .before .before .before .before .args .owner)) ((c .before .before .before .before .before .args .from)) ((c .before .before .before .before .before .args .k)) ((c .before .before .before .before .before .args .seen)) ((c .before .before .before .before .before .args .c .now)) ((c .before .before .before .before .before .args .t .now)) ((c .before .before .before .before .before .args .count)) ((c .before .before .before .before .before .args .next)) (⊎-elim (λ x. λ a b. x .1 .left b) (λ y. λ a b. y .left a) ((c .before .before .if1 .came))))))
+    (λ c. let a = (c .before .before .before .before .before .before .before .before .before .args) in (
+      (c .before .before .put-rows .ensures .0) ∙ ap (λ s. code (itemEnd 29 s)) (part-to-end (a .c .now) 0),
+      passing.first-put (a .layout) (a .start) (a .end) (a .owner) (a .from) (a .k) (a .seen) (a .c .now) (a .t .now) (a .count) (a .next) _ (c .before .before .before .before .before .before .waits .ensures)
+          (c .before .before .before .before .before .if1 .left) _ _ _ (c .before .before .put-rows .ensures .1),
+    )))

@@ -5,6 +5,7 @@ use lib.ListN.{length}
 use mathlib.Core.Path.{_≡_, refl, _∙_}
 use native.Mathlib.Omega.{arith}
 use Rattle.walk.proofs.Passed as walked
+use Rattle.components.specs.Firsts.{offered}
 use Rattle.table.specs.Rows.{Rowed}
 use Rattle.table.proofs.Rowing as rowing
 use borrow.Author.Needs.{needs}
@@ -12,11 +13,11 @@ use Rattle.table.proofs.rows.entries.Statement.{statement}
 use Rattle.table.proofs.rows.entries.Tie as tie
 
 abbrev Inv-loop : tie.InvT-loop
-Inv-loop s start end mode count owner from t₀ at₀ due₀ n₀ next₀ t at due n next =
-    walked.Passed 28 mode count s at due (Rowed start end owner from t₀ n next t) × (length s < FAULT) × (length t ≡ length t₀)
+Inv-loop layout format code s start end mode count owner from t₀ at₀ due₀ n₀ next₀ t at due n next =
+    walked.Passed 28 mode count s at due (Rowed (offered layout format code) start end owner from t₀ n next t) × (length s < FAULT) × (length t ≡ length t₀)
 
 abbrev μ-loop : tie.MeasureT-loop
-μ-loop s start end mode count owner from t₀ at₀ due₀ n₀ next₀ t at due n next = length s - at
+μ-loop layout format code s start end mode count owner from t₀ at₀ due₀ n₀ next₀ t at due n next = length s - at
 
 pub entries-spec : {M : Type 1} → statement M
 entries-spec =
@@ -24,7 +25,7 @@ entries-spec =
     (tie.spec
     Inv-loop
     μ-loop
-    (λ c. (walked.passed-starts 28 _ _ _ (c .before .before .pre) _ (rowing.none-rowed _ _ _ _ _), omega arith, refl))
+    (λ c. (walked.passed-starts 28 _ _ _ (c .before .before .pre) _ (rowing.none-rowed _ _ _ _ _ _), omega arith, refl))
     (λ c. search needs)
     (λ c. search needs)
     (λ c. search needs)
@@ -57,4 +58,4 @@ entries-spec =
     (λ c. let a = walked.value-inside 28 ((c .before .before .before .before .before .before .before .before .before .before .before .before .before .before .before .before .before .before .before .before .args .mode)) ((c .before .before .before .before .before .before .before .before .before .before .before .before .before .before .before .before .before .before .before .before .args .count)) ((c .before .before .before .before .before .before .before .before .before .before .before .before .before .before .before .before .before .before .before .before .args .s .now)) (c .before .before .before .before .before .before .before .before .before .before .before .before .before .before .before .before .before .before .before .before .pre) ((c .before .before .before .before .before .before .before .before .before .before .before .before .before .before .before .before .before .loop .inv .1)) ((c .before .before .before .before .before .before .before .before .before .before .before .before .before .before .before .before .before .loop .at)) ((c .before .before .before .before .before .before .before .before .before .before .before .before .before .before .before .before .before .loop .due)) _ ((c .before .before .before .before .before .before .before .before .before .before .before .before .before .before .before .before .before .loop .inv .0)) _ ((c .before .before .before .before .before .before .before .before .before .before .before .before .before .before .before .past-key .ensures)) _ ((c .before .before .before .before .before .before .before .before .before .before .before .before .before .k .given .1)) in let b = ((c .before .before .before .before .before .before .before .before .if2 .left)) in let d = ((c .before .before .before .before .before .before .before .before .before .before .before .before .before .before .before .before .before .loop .inv .1)) in omega arith)
     (λ c. omega (arith, walked.two-due 28 ((c .before .before .before .before .before .before .before .before .before .before .before .before .before .before .before .before .before .before .before .before .args .mode)) ((c .before .before .before .before .before .before .before .before .before .before .before .before .before .before .before .before .before .before .before .before .args .count)) ((c .before .before .before .before .before .before .before .before .before .before .before .before .before .before .before .before .before .before .before .before .args .s .now)) (c .before .before .before .before .before .before .before .before .before .before .before .before .before .before .before .before .before .before .before .before .pre) ((c .before .before .before .before .before .before .before .before .before .before .before .before .before .before .before .before .before .loop .inv .1)) ((c .before .before .before .before .before .before .before .before .before .before .before .before .before .before .before .before .before .loop .at)) ((c .before .before .before .before .before .before .before .before .before .before .before .before .before .before .before .before .before .loop .due)) _ ((c .before .before .before .before .before .before .before .before .before .before .before .before .before .before .before .before .before .loop .inv .0)) _ ((c .before .before .before .before .before .before .before .before .before .before .before .before .before .before .before .past-key .ensures)) _ ((c .before .before .before .before .before .before .before .before .before .before .before .before .before .k .given .1)) _ ((c .before .before .before .before .before .before .before .before .before .before .component .ensures .0))))
     (λ c. omega (arith, walked.value-inside 28 ((c .before .before .before .before .before .before .before .before .before .before .before .before .before .before .before .before .before .before .before .before .args .mode)) ((c .before .before .before .before .before .before .before .before .before .before .before .before .before .before .before .before .before .before .before .before .args .count)) ((c .before .before .before .before .before .before .before .before .before .before .before .before .before .before .before .before .before .before .before .before .args .s .now)) (c .before .before .before .before .before .before .before .before .before .before .before .before .before .before .before .before .before .before .before .before .pre) ((c .before .before .before .before .before .before .before .before .before .before .before .before .before .before .before .before .before .loop .inv .1)) ((c .before .before .before .before .before .before .before .before .before .before .before .before .before .before .before .before .before .loop .at)) ((c .before .before .before .before .before .before .before .before .before .before .before .before .before .before .before .before .before .loop .due)) _ ((c .before .before .before .before .before .before .before .before .before .before .before .before .before .before .before .before .before .loop .inv .0)) _ ((c .before .before .before .before .before .before .before .before .before .before .before .before .before .before .before .past-key .ensures)) _ ((c .before .before .before .before .before .before .before .before .before .before .before .before .before .k .given .1)), walked.goes-on 28 ((c .before .before .before .before .before .before .before .before .before .before .before .before .before .before .before .before .before .before .before .before .args .mode)) ((c .before .before .before .before .before .before .before .before .before .before .before .before .before .before .before .before .before .before .before .before .args .count)) ((c .before .before .before .before .before .before .before .before .before .before .before .before .before .before .before .before .before .before .before .before .args .s .now)) (c .before .before .before .before .before .before .before .before .before .before .before .before .before .before .before .before .before .before .before .before .pre) ((c .before .before .before .before .before .before .before .before .before .before .before .before .before .before .before .before .before .loop .inv .1)) ((c .before .before .before .before .before .before .before .before .before .before .before .before .before .before .before .before .before .loop .at)) ((c .before .before .before .before .before .before .before .before .before .before .before .before .before .before .before .before .before .loop .due)) _ ((c .before .before .before .before .before .before .before .before .before .before .before .before .before .before .before .before .before .loop .inv .0)) _ ((c .before .before .before .before .before .before .before .before .before .before .before .before .before .before .before .past-key .ensures)) _ ((c .before .before .before .before .before .before .before .before .before .before .before .before .before .k .given .1)) _ ((c .before .before .before .before .before .before .before .before .before .before .component .ensures .0)) ((c .before .before .before .before .before .before .before .before .if2 .left))))
-    (λ c. (walked.one-more 28 ((c .before .before .before .before .before .before .before .before .before .before .before .before .before .before .before .before .before .before .before .before .args .mode)) ((c .before .before .before .before .before .before .before .before .before .before .before .before .before .before .before .before .before .before .before .before .args .count)) ((c .before .before .before .before .before .before .before .before .before .before .before .before .before .before .before .before .before .before .before .before .args .s .now)) (c .before .before .before .before .before .before .before .before .before .before .before .before .before .before .before .before .before .before .before .before .pre) ((c .before .before .before .before .before .before .before .before .before .before .before .before .before .before .before .before .before .loop .inv .1)) ((c .before .before .before .before .before .before .before .before .before .before .before .before .before .before .before .before .before .loop .at)) ((c .before .before .before .before .before .before .before .before .before .before .before .before .before .before .before .before .before .loop .due)) _ ((c .before .before .before .before .before .before .before .before .before .before .before .before .before .before .before .before .before .loop .inv .0)) _ ((c .before .before .before .before .before .before .before .before .before .before .before .before .before .before .before .past-key .ensures)) _ ((c .before .before .before .before .before .before .before .before .before .before .before .before .before .k .given .1)) _ ((c .before .before .before .before .before .before .before .before .before .before .component .ensures .0)) ((c .before .before .before .before .before .before .before .before .if2 .left)) _ (λ done p few key value kept. rowing.one-more-rowed ((c .before .before .before .before .before .before .before .before .before .before .before .before .before .before .before .before .before .before .before .before .args .start)) ((c .before .before .before .before .before .before .before .before .before .before .before .before .before .before .before .before .before .before .before .before .args .end)) ((c .before .before .before .before .before .before .before .before .before .before .before .before .before .before .before .before .before .before .before .before .args .owner)) ((c .before .before .before .before .before .before .before .before .before .before .before .before .before .before .before .before .before .before .before .before .args .from)) _ ((c .before .before .before .before .before .before .before .before .before .before .before .before .before .before .before .before .before .before .before .before .args .s .now)) ((c .before .before .before .before .before .before .before .before .before .before .before .before .before .before .before .before .before .loop .at)) _ _ _ _ _ _ ((c .before .before .before .before .before .before .before .before .before .before .before .before .before .before .before .before .before .loop .inv .2)) _ ((c .before .before .before .before .before .before .before .before .before .before .component .ensures .1)) _ ((c .before .before .before .before .before .before .before .before .before .before .component .ensures .0)) ((c .before .before .before .before .put-row .ensures)) _ refl ((c .before .before .before .before .put-row .kept .1 .1 .1 .1 .1 .1 .1 .0)) ((c .before .ahead .ensures)) done p _ _ key value kept), (c .before .before .before .before .before .before .before .before .before .before .before .before .before .before .before .before .before .loop .inv .1), ((c .before .before .before .before .put-row .kept .1 .1 .1 .1 .1 .1 .1 .0)) ∙ ((c .before .before .before .before .before .before .before .before .before .before .before .before .before .before .before .before .before .loop .inv .2)))))
+    (λ c. (walked.one-more 28 ((c .before .before .before .before .before .before .before .before .before .before .before .before .before .before .before .before .before .before .before .before .args .mode)) ((c .before .before .before .before .before .before .before .before .before .before .before .before .before .before .before .before .before .before .before .before .args .count)) ((c .before .before .before .before .before .before .before .before .before .before .before .before .before .before .before .before .before .before .before .before .args .s .now)) (c .before .before .before .before .before .before .before .before .before .before .before .before .before .before .before .before .before .before .before .before .pre) ((c .before .before .before .before .before .before .before .before .before .before .before .before .before .before .before .before .before .loop .inv .1)) ((c .before .before .before .before .before .before .before .before .before .before .before .before .before .before .before .before .before .loop .at)) ((c .before .before .before .before .before .before .before .before .before .before .before .before .before .before .before .before .before .loop .due)) _ ((c .before .before .before .before .before .before .before .before .before .before .before .before .before .before .before .before .before .loop .inv .0)) _ ((c .before .before .before .before .before .before .before .before .before .before .before .before .before .before .before .past-key .ensures)) _ ((c .before .before .before .before .before .before .before .before .before .before .before .before .before .k .given .1)) _ ((c .before .before .before .before .before .before .before .before .before .before .component .ensures .0)) ((c .before .before .before .before .before .before .before .before .if2 .left)) _ (λ done p few key value kept. rowing.one-more-rowed (offered (c .before .before .before .before .before .before .before .before .before .before .before .before .before .before .before .before .before .before .before .before .args .layout) (c .before .before .before .before .before .before .before .before .before .before .before .before .before .before .before .before .before .before .before .before .args .format) (c .before .before .before .before .before .before .before .before .before .before .before .before .before .before .before .before .before .before .before .before .args .code)) (c .before .before .before .before .before .before .before .before .before .before .before .before .before .before .before .before .before .before .before .before .args .start) ((c .before .before .before .before .before .before .before .before .before .before .before .before .before .before .before .before .before .before .before .before .args .end)) ((c .before .before .before .before .before .before .before .before .before .before .before .before .before .before .before .before .before .before .before .before .args .owner)) ((c .before .before .before .before .before .before .before .before .before .before .before .before .before .before .before .before .before .before .before .before .args .from)) _ ((c .before .before .before .before .before .before .before .before .before .before .before .before .before .before .before .before .before .before .before .before .args .s .now)) ((c .before .before .before .before .before .before .before .before .before .before .before .before .before .before .before .before .before .loop .at)) _ _ _ _ _ _ ((c .before .before .before .before .before .before .before .before .before .before .before .before .before .before .before .before .before .loop .inv .2)) _ ((c .before .before .before .before .before .before .before .before .before .before .component .ensures .1)) _ ((c .before .before .before .before .before .before .before .before .before .before .component .ensures .0)) ((c .before .before .before .before .put-row .ensures)) _ refl ((c .before .before .before .before .put-row .kept .1 .1 .1 .1 .1 .1 .1 .1 .1 .0)) ((c .before .ahead .ensures)) done p _ _ key value kept), (c .before .before .before .before .before .before .before .before .before .before .before .before .before .before .before .before .before .loop .inv .1), ((c .before .before .before .before .put-row .kept .1 .1 .1 .1 .1 .1 .1 .1 .1 .0)) ∙ ((c .before .before .before .before .before .before .before .before .before .before .before .before .before .before .before .before .before .loop .inv .2)))))

@@ -85,14 +85,14 @@ pub fn put_object(
     i: usize,
     t: &mut [u64],
 )
-    requires { ⌜ length (now p) ≡ 7 ⌝ }
+    requires { ⌜ length (now p) ≡ 8 ⌝ }
     ensures { λ r. ⌜ is.ObjectPut (now (s .entry)) (now (m .entry)) (now (p .entry)) count size end i (now (t .entry)) (now (t .exit)) ⌝ }
 {
     let mut d = [0u64; 8];
-    let rank = dimensions_at(&m[0..], p[0], &mut d);
+    let rank = dimensions_at(&m[0..], p[1], &mut d);
     let name = spelt(&s[0..], end);
-    let format = spelt_at(&m[0..], p[1], end);
-    let attributes = whole(p[2], size, end);
+    let format = spelt_at(&m[0..], p[2], end);
+    let attributes = whole(p[3], size, end);
     put_sixteen(
         t,
         i,

@@ -1,14 +1,14 @@
--- `table::object::clear` meets its contract: a law for each branch.
+-- `table::object_row::clear` meets its contract: a law for each branch.
 use lib.ListN.{length-set}
--- `table::object::clear` meets its contract: the loop has cleared up to k.
+-- `table::object_row::clear` meets its contract: the loop has cleared up to k.
 use Prim.Native.Nat.{_-_, _≤_}
 use lib.ListN.{length, length-set}
 use mathlib.Core.Path.{_≡_, refl, _∙_}
 use native.Mathlib.Omega.{arith}
 use Rattle.table.proofs.ObjectRow as rows
 use borrow.Author.Needs.{needs}
-use Rattle.table.proofs.object.clear.Statement.{statement}
-use Rattle.table.proofs.object.clear.Tie as tie
+use Rattle.table.proofs.object_row.clear.Statement.{statement}
+use Rattle.table.proofs.object_row.clear.Tie as tie
 
 abbrev Inv-loop : tie.InvT-loop
 Inv-loop d₀ rank k₀ d k = (rank ≤ k) × (length d ≡ length d₀) × rows.ClearedTo rank d₀ k d

@@ -1,4 +1,4 @@
--- `table::object::put_sixteen` meets its contract: a law for each branch.
+-- `table::object_row::put_sixteen` meets its contract: a law for each branch.
 use Rattle.table.proofs.ObjectRow as rows
 use Rattle.table.proofs.Laying as laying
 use Rattle.table.specs.Object.{eight, sixteen}
@@ -6,8 +6,8 @@ use Rattle.table.specs.Spans.{spanned}
 use native.Mathlib.Omega.{arith}
 use mathlib.Core.Path.{sym}
 use borrow.Author.Needs.{needs}
-use Rattle.table.proofs.object.put_sixteen.Statement.{statement}
-use Rattle.table.proofs.object.put_sixteen.Tie as tie
+use Rattle.table.proofs.object_row.put_sixteen.Statement.{statement}
+use Rattle.table.proofs.object_row.put_sixteen.Tie as tie
 
 pub put-sixteen-spec : {M : Type 1} → statement M
 put-sixteen-spec =
