@@ -32,8 +32,9 @@ use Rattle.walk.proofs.Passed.{Here}
 use Rattle.walk.proofs.Chains.{ate}
 use Rattle.walk.proofs.ReadSays.{note-of}
 use Rattle.fields.specs.Slots.{Holds}
+use Rattle.fields.proofs.Standing.{field-found-stands}
 use Rattle.components.proofs.Typed.{passed, passed-on, pass-same}
-use Rattle.components.proofs.Lettered.{pairs-chained, field-found-stands}
+use Rattle.components.proofs.Lettered.{pairs-chained}
 use Rattle.root.proofs.Walks.{holds-whole}
 use Rattle.table.specs.Spans.{spanOf, spanned, WholeIs}
 use Rattle.table.specs.Objects.{Written}

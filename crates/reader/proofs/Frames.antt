@@ -12,7 +12,7 @@ use Rattle.meaning.specs.Check.{pass, refuse, _>>=_, _>>_, _unless_}
 use Rattle.meaning.specs.Text.{same}
 use Rattle.meaning.specs.Refusal.{SHORT, HEADER, FOOTER, BIG, FIT}
 use Rattle.meaning.specs.Limit.{manifestLimit}
-use Rattle.meaning.specs.Layouts.{Layout, magic, layoutOf}
+use Rattle.meaning.specs.Layouts.{Layout, magic, current, layoutOf}
 use Rattle.meaning.specs.Frame.{Frame, frame, little, reading}
 use Rattle.frame.specs.Told.{told}
 use Rattle.frame.proofs.Frames.{size-back}
@@ -20,6 +20,11 @@ use Rattle.frame.specs.declared.Framed.{Framed}
 use Rattle.frame.specs.declared.Framed.the-variants.{No, At}
 use Rattle.fields.proofs.Texts.{Here}
 use Rattle.reader.specs.Verdict.{refusal, verdict, manifestReading, Accepted}
+
+-- 0 is 1.2.0
+pub at-zero : layoutOf 0 ≡ current
+unfolding layoutOf
+at-zero = refl
 
 -- a manifest lies inside its file
 module _ (layout : ℕ) (file : List ℕ) where

@@ -113,5 +113,5 @@ pub fn read_as(layout: u64, file: &[u8], t: &mut [u64]) -> Answer
 pub fn read(file: &[u8], t: &mut [u64]) -> Answer
     ensures { λ r. ⌜ (r ≡ is.answered (readInto current (now (file .entry)) (length (now (t .entry))))) × (now (t .exit) ≡ tableAfter (now (t .entry)) (readInto current (now (file .entry)) (length (now (t .entry))))) ⌝ }
 {
-    read_as(0, &file[0..], t)
+    read_as(0, file, t)
 }

@@ -75,5 +75,5 @@ pub fn accept_as(layout: u64, file: &[u8]) -> Verdict
 pub fn accept(file: &[u8]) -> Verdict
     ensures { λ r. ⌜ r ≡ is.verdict (reading current (now (file .entry))) ⌝ }
 {
-    accept_as(0, &file[0..])
+    accept_as(0, file)
 }
