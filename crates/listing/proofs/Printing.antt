@@ -21,6 +21,7 @@ use Rattle.reader.specs.Answer.{answered}
 use Rattle.panel.specs.declared.Listed.{Listed}
 use Rattle.panel.specs.Lines.{listed}
 use Rattle.panel.specs.Told.{told, textAfter}
+use Rattle.shown.proofs.ReadingJudged.{current-framing}
 use Rattle.shown.proofs.AfterReading.{read-zero, read-listing}
 
 -- what is told of fits where it is
@@ -67,8 +68,8 @@ module _ (file : List ℕ) where
     pub printed-listed : a .number ≡ 0 → pass (printed file) ≡ listed file after (a .objects) (a .components)
     unfolding listingOf
     printed-listed zero =
-        let q = read-zero file (length table) (sym (ap (λ (b : Answer). b .number) (told .0)) ∙ zero) in
+        let q = read-zero current file (length table) current-framing (sym (ap (λ (b : Answer). b .number) (told .0)) ∙ zero) in
         sym (ap (λ (b : Answer). listed file after (b .objects) (b .components)) (told .0)
         ∙ ap (λ (t : List ℕ). listed file t (answered (readInto current file (length table)) .objects) (answered (readInto current file (length table)) .components)) (told .1)
-        ∙ read-listing file table (q .0) (q .1)
+        ∙ read-listing current current-framing file table (q .0) (q .1)
         ∙ ap (λ (l : List ℕ). pass l) (sym (by-reading ∙ ap listingOf (q .1))))

@@ -16,7 +16,7 @@ use Rattle.meaning.specs.Read.{Span, bytesAt, item, noNote}
 use Rattle.meaning.specs.Notes.{mapOption}
 use Rattle.meaning.specs.Model.{Component, Object, Model}
 use Rattle.meaning.specs.Format.{Part, formatRules}
-use Rattle.meaning.specs.Layouts.{current}
+use Rattle.meaning.specs.Layouts.{Layout, current}
 use Rattle.meaning.specs.Judge.{lettersOf, part}
 use Rattle.meaning.specs.Frame.{Reading, reading}
 use Rattle.meaning.specs.Sound.{rootLevels, objectLevels}
@@ -27,7 +27,8 @@ use Rattle.readback.specs.Spelled.{SpelledComponent, SpelledObject}
 use Rattle.readback.specs.Back.{ReadsBack}
 use Rattle.readback.specs.Judged.{judgedNames, judgedComponent, partOf, judgedObject, judgedObjects, deepOption, anyTooDeep, tooDeep, judged}
 use Rattle.panel.specs.Stands.{Each}
-use Rattle.shown.specs.Accepted.{IfAny, AttributesStand, ObjectAccepted}
+use Rattle.shown.specs.Accepted.{Framing, IfAny, AttributesStand, ObjectAccepted}
+use Rattle.shown.proofs.ReadingJudged.{current-framing}
 use Rattle.shown.proofs.AcceptedFile.{accepted}
 use Rattle.roundtrip.proofs.If.{passed-so}
 use Rattle.roundtrip.proofs.AcceptedSpelled.{accepted-spelled}
@@ -107,13 +108,13 @@ module _ (file : List ℕ) where
   objects-passed [] g s = tt
   objects-passed (o ∷ os) (g, gs) (s, ss) = (object-passed o g s, objects-passed os gs ss)
 
-  module _ (start : ℕ) where
-    shallow-option : (levels : ℕ) (o : Option (Node Span)) → IfAny (AttributesStand file start levels) o → deepOption levels (mapOption (λ t. bytesAt file (noteOf t)) o) ≡ false
+  module _ (L : Layout) (start : ℕ) where
+    shallow-option : (levels : ℕ) (o : Option (Node Span)) → IfAny (AttributesStand L file start levels) o → deepOption levels (mapOption (λ t. bytesAt file (noteOf t)) o) ≡ false
     unfolding deepOption deepAt isDeep
     shallow-option levels none h = refl
     shallow-option levels (some t) h = rw (h .stands .read) refl
 
-    shallow-objects : (os : List (Object Span)) → Each (ObjectAccepted current file start) os → anyTooDeep (map (readObject file) os) ≡ false
+    shallow-objects : (os : List (Object Span)) → Each (ObjectAccepted L file start) os → anyTooDeep (map (readObject file) os) ≡ false
     unfolding anyTooDeep readObject Each
     shallow-objects [] h = refl
     shallow-objects (o ∷ os) h = rw (shallow-option objectLevels (o .attributes) (h .0 .attributes)) (shallow-objects os (h .1))
@@ -134,27 +135,29 @@ names-texts limit ns = go (all utf8 ns)
     go true h = refl
     go false h = absurd (refused-not h)
 
-pub read-passed : {file : List ℕ} {d : Described} → ReadsBack file d → Passed d
+pub accepted-passed : (L : Layout) → Framing L → (file : List ℕ) (r : Reading) → reading L file ≡ pass r → Passed (describedBy file (r .model))
 unfolding describedBy
-read-passed {file} b =
-    let r : Reading = b .read in
-    let g : GoodModel (r .model) = passed-so (reading-good current file) (b .is) in
-    let a = accepted file r (b .is) in
-    subst Passed (b .back) (record {
-      shallow = shallow-option file (r .start) rootLevels (r .model .attributes) (a .attributes);
-      shallows = shallow-objects file (r .start) (r .model .objects) (a .objects);
+accepted-passed L framing file r e =
+    let g : GoodModel (r .model) = passed-so (reading-good L file) e in
+    let a = accepted L framing file r e in
+    record {
+      shallow = shallow-option file L (r .start) rootLevels (r .model .attributes) (a .attributes);
+      shallows = shallow-objects file L (r .start) (r .model .objects) (a .objects);
       texts = rw (object-names file (r .model .objects)) (names-texts objectLimit (map (λ o. o .name .letters) (r .model .objects)) (g .names));
-      objects = objects-passed file (r .model .objects) (g .objects) (accepted-spelled file r (b .is) .objects);
-    })
+      objects = objects-passed file (r .model .objects) (g .objects) (accepted-spelled L framing file r e .objects);
+    }
+
+pub read-passed : {file : List ℕ} {d : Described} → ReadsBack file d → Passed d
+read-passed {file} b = subst Passed (b .back) (accepted-passed current current-framing file (b .read) (b .is))
 
 names-left : (limit : ℕ) (ns : List (List ℕ)) → judgedNames limit ns ≡ pass tt → ((COUNT unless leb (length ns) limit) >> (TWICE unless distinct ns)) ≡ pass tt
 unfolding judgedNames
 names-left limit ns h = sym (rw (names-texts limit ns h) refl) ∙ h
 
 -- the reader's refusal of the file that the writer makes of it: none
-pub accepted-judged : (file : List ℕ) (r : Reading) → reading current file ≡ pass r → judged (describedBy file (r .model)) ≡ pass tt
+pub accepted-judged : (L : Layout) → Framing L → (file : List ℕ) (r : Reading) → reading L file ≡ pass r → judged (describedBy file (r .model)) ≡ pass tt
 unfolding describedBy
-accepted-judged file r e =
-    let g : GoodModel (r .model) = passed-so (reading-good current file) e in
-    passed-judged (describedBy file (r .model)) (read-passed (record { read = r; is = e; back = refl }))
+accepted-judged L framing file r e =
+    let g : GoodModel (r .model) = passed-so (reading-good L file) e in
+    passed-judged (describedBy file (r .model)) (accepted-passed L framing file r e)
     ∙ rw (object-names file (r .model .objects)) (names-left objectLimit (map (λ o. o .name .letters) (r .model .objects)) (g .names))

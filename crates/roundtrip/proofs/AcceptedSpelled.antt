@@ -10,18 +10,18 @@ use Rattle.meaning.specs.Tree.{Node, noteOf}
 use Rattle.meaning.specs.Read.{Span, bytesAt}
 use Rattle.meaning.specs.Model.{Word, Component, Object}
 use Rattle.meaning.specs.Types.{storages}
-use Rattle.meaning.specs.Layouts.{current}
+use Rattle.meaning.specs.Layouts.{Layout}
 use Rattle.meaning.specs.Frame.{Reading, reading}
 use Rattle.readback.specs.Every.{Every}
 use Rattle.readback.specs.Spelled as back
 use Rattle.readback.specs.Spelled.{SpelledWord, SpelledMap, SpelledComponent, SpelledObject, Spelled}
 use Rattle.readback.proofs.BeginsAsMap.{map-is-well-formed}
 use Rattle.panel.specs.Stands.{Each}
-use Rattle.shown.specs.Accepted.{IfAny, WordStands, AttributesStand, ComponentAccepted, ObjectAccepted}
+use Rattle.shown.specs.Accepted.{Framing, IfAny, WordStands, AttributesStand, ComponentAccepted, ObjectAccepted}
 use Rattle.shown.proofs.AcceptedFile.{accepted}
 
-module _ (file : List ℕ) (start : ℕ) (header : 8 ≤ start) (inside : start ≤ length file) where
-  word-spelled : (w : Word Span) → WordStands file start w → SpelledWord file w
+module _ (L : Layout) (file : List ℕ) (start : ℕ) (header : 8 ≤ start) (inside : start ≤ length file) where
+  word-spelled : (w : Word Span) → WordStands L file start w → SpelledWord file w
   word-spelled w h = record {
     lies = record { inside = let a = h .lies .ends in omega (arith, a); later = let a = h .lies .begins in omega (arith, a, header) };
     spelled = h .spelled;
@@ -31,13 +31,13 @@ module _ (file : List ℕ) (start : ℕ) (header : 8 ≤ start) (inside : start 
   if-any none f h = tt
   if-any (some a) f h = f a h
 
-  map-spelled : (d : ℕ) (t : Node Span) → AttributesStand file start (suc d) t → SpelledMap file (suc d) t
+  map-spelled : (d : ℕ) (t : Node Span) → AttributesStand L file start (suc d) t → SpelledMap file (suc d) t
   map-spelled d t h = record {
     lies = record { inside = let a = h .stands .lies .ends in omega (arith, a); later = let a = h .stands .lies .begins in omega (arith, a, header) };
     well-formed = map-is-well-formed d (bytesAt file (noteOf t)) t (h .pairs) (h .stands .read) (h .map);
   }
 
-  component-spelled : (c : Component Span) → ComponentAccepted current file start c → SpelledComponent file c
+  component-spelled : (c : Component Span) → ComponentAccepted L file start c → SpelledComponent file c
   unfolding storages
   component-spelled c h = record {
     name = word-spelled (c .name) (h .name);
@@ -52,7 +52,7 @@ module _ (file : List ℕ) (start : ℕ) (header : 8 ≤ start) (inside : start 
   each-every [] f h = tt
   each-every (a ∷ l) f h = (f a (h .0), each-every l f (h .1))
 
-  object-spelled : (o : Object Span) → ObjectAccepted current file start o → SpelledObject file o
+  object-spelled : (o : Object Span) → ObjectAccepted L file start o → SpelledObject file o
   object-spelled o h = record {
     name = word-spelled (o .name) (h .name);
     rank = h .rank;
@@ -61,11 +61,11 @@ module _ (file : List ℕ) (start : ℕ) (header : 8 ≤ start) (inside : start 
     components = each-every (o .components) component-spelled (h .components);
   }
 
-pub accepted-spelled : (file : List ℕ) (r : Reading) → reading current file ≡ pass r → Spelled file (r .model)
-accepted-spelled file r e =
-    let h = accepted file r e in let f = h .footer in
+pub accepted-spelled : (L : Layout) → Framing L → (file : List ℕ) (r : Reading) → reading L file ≡ pass r → Spelled file (r .model)
+accepted-spelled L framing file r e =
+    let h = accepted L framing file r e in let f = h .footer in
     let inside : r .start ≤ length file = omega (arith, f) in
     record {
-      attributes = if-any file (r .start) (h .header) inside (r .model .attributes) (map-spelled file (r .start) (h .header) inside 30) (h .attributes);
-      objects = each-every file (r .start) (h .header) inside (r .model .objects) (object-spelled file (r .start) (h .header) inside) (h .objects);
+      attributes = if-any L file (r .start) (h .header) inside (r .model .attributes) (map-spelled L file (r .start) (h .header) inside 30) (h .attributes);
+      objects = each-every L file (r .start) (h .header) inside (r .model .objects) (object-spelled L file (r .start) (h .header) inside) (h .objects);
     }

@@ -22,6 +22,7 @@ use Rattle.readback.specs.Lent.{Lent}
 use Rattle.readback.specs.Back.{ReadsBack}
 use Rattle.readback.proofs.SoundIsFine.{each-row-length}
 use Rattle.readback.proofs.RowsWritten.{written-reads-back, written-file, blobs-of-rows, rows-counted}
+use Rattle.shown.proofs.ReadingJudged.{current-framing}
 use Rattle.roundtrip.specs.TableBack.{TableBack}
 use Rattle.roundtrip.proofs.WrittenAgain as again
 
@@ -63,8 +64,8 @@ module _ {file : List ℕ} {d : Described} (back : ReadsBack file d) where
       number = rw reads refl;
       objects-same = rw reads o;
       components-same = rw reads c;
-      sound = rw (reads, sym o, sym c) (again.rows-sound file (back .read) (back .is) rest);
-      describes = rw (reads, sym o, sym c) (again.rows-described file (back .read) (back .is) rest ∙ back .back);
+      sound = rw (reads, sym o, sym c) (again.rows-sound current current-framing file (back .read) (back .is) rest);
+      describes = rw (reads, sym o, sym c) (again.rows-described current current-framing file (back .read) (back .is) rest ∙ back .back);
     }
 
 -- ---- the writer's file

@@ -5,7 +5,7 @@ use mathlib.Core.Bool.{true}
 use mathlib.Core.Path.{_≡_}
 use lib.ListN.{length}
 use lib.Dec.{leb}
-use Rattle.meaning.specs.Check.{Check, pass, _>>_, _unless_}
+use Rattle.meaning.specs.Check.{Check, pass, refuse, _>>_, _unless_}
 use Rattle.meaning.specs.Refusal.{COUNT, BIG, ROOM}
 use Rattle.meaning.specs.Limit.{manifestLimit, endLimit}
 use Rattle.meaning.specs.Read.{Span}
@@ -18,6 +18,7 @@ use Rattle.meaning.specs.Described.{Described, blobs, described}
 use Rattle.meaning.specs.Placement.{placement, lastEnd}
 use Rattle.meaning.specs.Manifest.{manifestBytes}
 use Rattle.meaning.specs.WrittenFile.{fileOf}
+use Rattle.readback.specs.Back.{ReadsBack}
 
 module _ (d : Described) where
   -- where the rule places the blobs
@@ -34,6 +35,13 @@ module _ (d : Described) where
     BIG unless leb (length (manifestBytes d placed)) manifestLimit
     ROOM unless leb (length plainFile) room
     pass plainFile
+
+-- what the writer answers where nothing but the sizes can stand in its way: a refusal for one of them, with 0 and 0, or a file that reads back as d
+pub data WrittenOrSize (d : Described) : Check (List ℕ) → Type 0 where
+  too-far : WrittenOrSize d (refuse COUNT 0 0)
+  too-big : WrittenOrSize d (refuse BIG 0 0)
+  no-room : WrittenOrSize d (refuse ROOM 0 0)
+  reads-back : {once : List ℕ} → ReadsBack once d → WrittenOrSize d (pass once)
 
 -- the rows of a model, whatever follows them in the table, with the file as buffer
 module _ (file : List ℕ) (m : Model Span) (R : List ℕ) where

@@ -12,70 +12,70 @@ use Rattle.meaning.specs.Read.{Span}
 use Rattle.meaning.specs.Model.{Word, Component, Object}
 use Rattle.meaning.specs.Frame.{Reading, reading}
 use Rattle.meaning.specs.Rows.{optionalSpan, attributesSpan}
-use Rattle.meaning.specs.Layouts.{current}
+use Rattle.meaning.specs.Layouts.{Layout}
 use Rattle.reader.specs.Verdict.{verdict}
 use Rattle.view.specs.All.{allComponents}
 use Rattle.panel.specs.Stands.{Each, Stands, ComponentStands, ObjectStands}
-use Rattle.shown.specs.Accepted.{IfAny, WordStands, AttributesStand, BlobLies, ComponentAccepted, ObjectAccepted, Accepted}
+use Rattle.shown.specs.Accepted.{Framing, IfAny, WordStands, AttributesStand, BlobLies, ComponentAccepted, ObjectAccepted, Accepted}
 use Rattle.shown.proofs.Judged.{between, passed-so, refused-so}
 use Rattle.shown.proofs.ReadingJudged.{reading-so}
 
 -- ---------------------------------------------------------------- a file that is refused
 
 -- SHORT to LENGTH: the acceptance of a file never gives ROOM, ROW or INDEX
-pub refusals-of-reading : (file : List ℕ) (n o c : ℕ) → reading current file ≡ refuse n o c → (SHORT ≤ n) × (n ≤ LENGTH)
-refusals-of-reading file n o c e = between n (refused-so (reading-so file) e)
+pub refusals-of-reading : (L : Layout) → Framing L → (file : List ℕ) (n o c : ℕ) → reading L file ≡ refuse n o c → (SHORT ≤ n) × (n ≤ LENGTH)
+refusals-of-reading L framing file n o c e = between n (refused-so (reading-so L framing file) e)
 
 -- the number that the acceptance check gives: never ROOM, and 0 only for a file that is accepted
-module _ (file : List ℕ) where
-  pub accept-never-room : verdict (reading current file) .number < ROOM
-  accept-never-room = by (reading current file) refl
+module _ (L : Layout) (framing : Framing L) (file : List ℕ) where
+  pub accept-never-room : verdict (reading L file) .number < ROOM
+  accept-never-room = by (reading L file) refl
     where
-      by : (k : Check Reading) → reading current file ≡ k → verdict k .number < ROOM
+      by : (k : Check Reading) → reading L file ≡ k → verdict k .number < ROOM
       by (pass r) e = omega arith
-      by (refuse n o c) e = let h = refusals-of-reading file n o c e .1 in omega (arith, h)
+      by (refuse n o c) e = let h = refusals-of-reading L framing file n o c e .1 in omega (arith, h)
 
-  pub accept-zero : verdict (reading current file) .number ≡ 0 → (r : Reading) × (reading current file ≡ pass r)
-  accept-zero = by (reading current file) refl
+  pub accept-zero : verdict (reading L file) .number ≡ 0 → (r : Reading) × (reading L file ≡ pass r)
+  accept-zero = by (reading L file) refl
     where
-      by : (k : Check Reading) → reading current file ≡ k → verdict k .number ≡ 0 → (r : Reading) × (reading current file ≡ pass r)
+      by : (k : Check Reading) → reading L file ≡ k → verdict k .number ≡ 0 → (r : Reading) × (reading L file ≡ pass r)
       by (pass r) e z = (r, e)
-      by (refuse n o c) e z = let h = refusals-of-reading file n o c e .0 in absurd (omega (arith, h, z))
+      by (refuse n o c) e z = let h = refusals-of-reading L framing file n o c e .0 in absurd (omega (arith, h, z))
 
 -- ---------------------------------------------------------------- a file that is accepted
 
-module _ (file : List ℕ) (r : Reading) (accepts : reading current file ≡ pass r) where
-  pub accepted : Accepted file r
-  accepted = passed-so (reading-so file) accepts
+module _ (L : Layout) (framing : Framing L) (file : List ℕ) (r : Reading) (accepts : reading L file ≡ pass r) where
+  pub accepted : Accepted L file r
+  accepted = passed-so (reading-so L framing file) accepts
 
 -- ---- a place of 0 in its rows is given to what is absent and to nothing else
 
-module _ (file : List ℕ) (start : ℕ) (header : 8 ≤ start) where
-  pub zero-is-no-word : (o : Option (Word Span)) → IfAny (WordStands file start) o → optionalSpan o .place ≡ 0 → o ≡ none
+module _ (L : Layout) (file : List ℕ) (start : ℕ) (header : 8 ≤ start) where
+  pub zero-is-no-word : (o : Option (Word Span)) → IfAny (WordStands L file start) o → optionalSpan o .place ≡ 0 → o ≡ none
   unfolding optionalSpan
   zero-is-no-word none h e = refl
   zero-is-no-word (some w) h e = let a = h .lies .begins in absurd (omega (arith, a, e, header))
 
-  pub zero-is-no-map : (d : ℕ) (o : Option (Node Span)) → IfAny (AttributesStand file start d) o → attributesSpan o .place ≡ 0 → o ≡ none
+  pub zero-is-no-map : (d : ℕ) (o : Option (Node Span)) → IfAny (AttributesStand L file start d) o → attributesSpan o .place ≡ 0 → o ≡ none
   unfolding attributesSpan
   zero-is-no-map d none h e = refl
   zero-is-no-map d (some t) h e = let a = h .stands .lies .begins in absurd (omega (arith, a, e, header))
 
 -- ---- its texts, as the listing asks for them
 
-module _ (file : List ℕ) (start : ℕ) (inside : start ≤ length file) where
-  word-stands : (w : Word Span) → WordStands file start w → Stands file w
+module _ (L : Layout) (file : List ℕ) (start : ℕ) (inside : start ≤ length file) where
+  word-stands : (w : Word Span) → WordStands L file start w → Stands file w
   word-stands w h = record { inside = let a = h .lies .ends in omega (arith, a); spelled = h .spelled }
 
-  component-stands : (c : Component Span) → ComponentAccepted current file start c → ComponentStands file c
+  component-stands : (c : Component Span) → ComponentAccepted L file start c → ComponentStands file c
   component-stands c h = record { name = word-stands (c .name) (h .name); storage = h .storage; blob = let a = h .blob .before-manifest in omega (arith, a, inside) }
 
-  components-stand : (cs : List (Component Span)) → Each (ComponentAccepted current file start) cs → Each (ComponentStands file) cs
+  components-stand : (cs : List (Component Span)) → Each (ComponentAccepted L file start) cs → Each (ComponentStands file) cs
   unfolding Each
   components-stand [] h = tt
   components-stand (c ∷ cs) h = (component-stands c (h .0), components-stand cs (h .1))
 
-  objects-stand : (os : List (Object Span)) → Each (ObjectAccepted current file start) os → Each (ObjectStands file) os
+  objects-stand : (os : List (Object Span)) → Each (ObjectAccepted L file start) os → Each (ObjectStands file) os
   unfolding Each
   objects-stand [] h = tt
   objects-stand (o ∷ os) h = (
@@ -87,10 +87,10 @@ module _ (file : List ℕ) (start : ℕ) (inside : start ≤ length file) where
     objects-stand os (h .1),
   )
 
-pub accepted-stands : (file : List ℕ) (r : Reading) → reading current file ≡ pass r → Each (ObjectStands file) (r .model .objects)
-accepted-stands file r e =
-    let h = accepted file r e in let f = h .footer in
-    objects-stand file (r .start) (omega (arith, f)) (r .model .objects) (h .objects)
+pub accepted-stands : (L : Layout) → Framing L → (file : List ℕ) (r : Reading) → reading L file ≡ pass r → Each (ObjectStands file) (r .model .objects)
+accepted-stands L framing file r e =
+    let h = accepted L framing file r e in let f = h .footer in
+    objects-stand L file (r .start) (omega (arith, f)) (r .model .objects) (h .objects)
 
 -- ---- its blobs
 
@@ -106,16 +106,16 @@ module _ {A : Type 0} (Q : A → Type 0) where
   each-found (b ∷ l) zero a h g = let z : b ≡ a = cc in subst Q z (h .0)
   each-found (b ∷ l) (suc j) a h g = each-found l j a (h .1) g
 
-module _ (file : List ℕ) (start : ℕ) where
-  all-accepted : (os : List (Object Span)) → Each (ObjectAccepted current file start) os → Each (ComponentAccepted current file start) (allComponents os)
+module _ (L : Layout) (file : List ℕ) (start : ℕ) where
+  all-accepted : (os : List (Object Span)) → Each (ObjectAccepted L file start) os → Each (ComponentAccepted L file start) (allComponents os)
   unfolding Each allComponents
   all-accepted [] h = tt
-  all-accepted (o ∷ os) h = each-append (ComponentAccepted current file start) (o .components) (allComponents os) (h .0 .components) (all-accepted os (h .1))
+  all-accepted (o ∷ os) h = each-append (ComponentAccepted L file start) (o .components) (allComponents os) (h .0 .components) (all-accepted os (h .1))
 
-module _ (file : List ℕ) (r : Reading) (accepts : reading current file ≡ pass r) (j : ℕ) (c : Component Span) (there : getElem? (allComponents (r .model .objects)) j ≡ some c) where
-  pub accepted-component : ComponentAccepted current file (r .start) c
-  accepted-component = each-found (ComponentAccepted current file (r .start)) (allComponents (r .model .objects)) j c (all-accepted file (r .start) (r .model .objects) (accepted file r accepts .objects)) there
+module _ (L : Layout) (framing : Framing L) (file : List ℕ) (r : Reading) (accepts : reading L file ≡ pass r) (j : ℕ) (c : Component Span) (there : getElem? (allComponents (r .model .objects)) j ≡ some c) where
+  pub accepted-component : ComponentAccepted L file (r .start) c
+  accepted-component = each-found (ComponentAccepted L file (r .start)) (allComponents (r .model .objects)) j c (all-accepted L file (r .start) (r .model .objects) (accepted L framing file r accepts .objects)) there
 
   -- and a byte of the manifest at least, its size and the footer follow inside the file
-  pub accepted-blobs : BlobLies (r .start) c × (r .start + 1 + 16 ≤ length file)
-  accepted-blobs = (accepted-component .blob, accepted file r accepts .footer)
+  pub accepted-blobs : BlobLies (r .start) c × (r .start + 1 + L .sizeBack ≤ length file)
+  accepted-blobs = (accepted-component .blob, accepted L framing file r accepts .footer)

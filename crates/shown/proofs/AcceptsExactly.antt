@@ -28,7 +28,7 @@ use Rattle.reader.specs.Verdict.{verdict}
 use Rattle.shown.specs.Placed.{Placed}
 use Rattle.shown.specs.Exactly.{number, manifestIn, Sound, NoTree, Exactly}
 use Rattle.shown.proofs.Judged.{JudgedFrom, between, passed-so, refused-so}
-use Rattle.shown.proofs.ReadingJudged.{Framed, frame-so, tree-so, manifest-refusals}
+use Rattle.shown.proofs.ReadingJudged.{current-framing, Framed, frame-so, tree-so, manifest-refusals}
 use Rattle.shown.proofs.Judgement.{judge-so}
 use Rattle.shown.proofs.AcceptedFile.{accept-zero}
 
@@ -127,7 +127,7 @@ module _ (file : List ℕ) (h : Bytes file) where
 
   accepted-sound : number file ≡ 0 → Sound file
   unfolding checked
-  accepted-sound z = let q = accept-zero file z in framing (frame current file) refl (q .0) (q .1)
+  accepted-sound z = let q = accept-zero current current-framing file z in framing (frame current file) refl (q .0) (q .1)
     where
       never-passed : {A : Type 0} {n o c : ℕ} {r : A} → refuse n o c ≡ pass r → ⊥
       never-passed e = let z : _≡_ {A = ℕ} 0 1 = cc in omega arith
@@ -154,11 +154,11 @@ module _ (file : List ℕ) (h : Bytes file) where
       framing (refuse n o c) e r g = absurd (never-passed (sym (step-of (refuse n o c) e) ∙ g))
 
   module _ (f : Frame) (e : frame current file ≡ pass f) where
-    so : Framed file f
-    so = passed-so (frame-so file) e
+    so : Framed current file f
+    so = passed-so (frame-so current current-framing file) e
 
     -- the judgement of a tree refuses with neither
-    judged-late : (t : Node Span) → Placed file (f .start) depthLimit t → (number-is : ℕ) → verdict (rest f t) .number ≡ number-is → (number-is ≡ CBOR) ⊎ (number-is ≡ DEEP) → ⊥
+    judged-late : (t : Node Span) → Placed current file (f .start) depthLimit t → (number-is : ℕ) → verdict (rest f t) .number ≡ number-is → (number-is ≡ CBOR) ⊎ (number-is ≡ DEEP) → ⊥
     judged-late t p n v = go (judge current (f .start) t) refl v
       where
         late : (n : ℕ) → KIND ≤ n → (n ≡ CBOR) ⊎ (n ≡ DEEP) → ⊥
@@ -172,7 +172,7 @@ module _ (file : List ℕ) (h : Bytes file) where
     unfolding checked
     malformed-none w t i =
         let a = encoded-reads (endOf f) (manifestIn file f) (part f) t i in
-        let p : Placed file (f .start) depthLimit (a .node) = passed-so (tree-so file f so) (rw (a .read) refl) in
+        let p : Placed current file (f .start) depthLimit (a .node) = passed-so (tree-so current file f so) (rw (a .read) refl) in
         judged-late (a .node) p (number file) (ap (λ (k : Check Reading). verdict k .number) (sym (reading-of f e (a .node) (a .read)))) w
 
     none-malformed : NoTree file f → (number file ≡ CBOR) ⊎ (number file ≡ DEEP)
@@ -185,7 +185,7 @@ module _ (file : List ℕ) (h : Bytes file) where
         go : (o : Outcome (Node Span)) → manifest (spanTo (endOf f)) (manifestIn file f) ≡ o → (number file ≡ CBOR) ⊎ (number file ≡ DEEP)
         go (got t q) i = absurd (none (meaning t) (read-encodes (endOf f) (manifestIn file f) (part f) t q i))
         go (refused n q) i =
-            let b = manifest-refusals file f so i in
+            let b = manifest-refusals current file f so i in
             let is : reading current file ≡ refuse n 0 0 = step-of (pass f) e ∙ ap (λ (o : Outcome (Node Span)). checked o >>= rest f) i in
             let v : number file ≡ n = ap (λ (k : Check Reading). verdict k .number) is in
             ⊎-elim (λ z. inl (v ∙ z)) (λ z. inr (v ∙ z)) (either n (b .0) (b .1))

@@ -90,13 +90,13 @@ required-in (some n) (some a) h = record { is = h }
 module _ (L : Layout) (file : List ℕ) (start : ℕ) where
   -- with d levels left
   abbrev At : ℕ → Node Span → Type 0
-  At = Placed file start
+  At = Placed L file start
 
   abbrev Pairing : ℕ → Pair Span → Type 0
-  Pairing = PlacedPair file start
+  Pairing = PlacedPair L file start
 
   abbrev Spelt : Word Span → Type 0
-  Spelt = WordStands file start
+  Spelt = WordStands L file start
 
   -- what is taken out of a placed node
   abbrev Kinds : ℕ → Kind Span → Type 0
@@ -107,7 +107,7 @@ module _ (L : Layout) (file : List ℕ) (start : ℕ) where
   Kinds d null = Unit {0}
   Kinds d another = Unit {0}
 
-  pairs-so : (d : ℕ) (ps : Pairs Span) → PlacedPairs file start d ps → Each (Pairing d) (pairList ps)
+  pairs-so : (d : ℕ) (ps : Pairs Span) → PlacedPairs L file start d ps → Each (Pairing d) (pairList ps)
   unfolding Each
   pairs-so d ∅ h = tt
   pairs-so d (_⇒_▸_ k v ps) h = (h .0, pairs-so d ps (h .1))
@@ -261,7 +261,7 @@ module _ (L : Layout) (file : List ℕ) (start : ℕ) where
   raw-so t h = bind (aWord t) _ (word-so 27 t h) λ w q. test ENCODING (same (ascii "raw") (w .letters)) tt
 
   record ComponentFieldsAt (t : Node Span) (c : ComponentFields Span) : Type 0 where
-    map : AttributesStand file start 28 t
+    map : AttributesStand L file start 28 t
     dtype : IfAny (At 27) (c .dtype)
     type : IfAny (At 27) (c .type)
     offset : IfAny (At 27) (c .offset)
@@ -287,7 +287,7 @@ module _ (L : Layout) (file : List ℕ) (start : ℕ) where
   record Found (n : Named Span) (c : Component Span) : Type 0 where
     named : n .name ≡ c .name
     noted : c .entry ≡ noteOf (n .value)
-    map : AttributesStand file start 28 (n .value)
+    map : AttributesStand L file start 28 (n .value)
     name : Spelt (c .name)
     storage : c .dtype < 13
     type : IfAny Spelt (c .type)
@@ -367,11 +367,11 @@ module _ (L : Layout) (file : List ℕ) (start : ℕ) where
       bind (each (λ i. aNumber) 0 dims) _ (each-so (λ i. aNumber) (λ i a v. number-so a) 0 dims (any-each dims)) λ s v.
       tested COUNT (leb (length s) 8) _ tt λ e. passes s (leb-true (length s) 8 e)
 
-  attributes-so : (d : ℕ) (t : Node Span) → At d t → Judged (AttributesStand file start d) (attributesOf t)
+  attributes-so : (d : ℕ) (t : Node Span) → At d t → Judged (AttributesStand L file start d) (attributesOf t)
   unfolding attributesOf
   attributes-so d t h = by (aTable t) refl (table-so d t h)
     where
-      by : (k : Check (List (Pair Span))) → aTable t ≡ k → Judged (Each (Pairing (less d))) k → Judged (AttributesStand file start d) (k >> pass t)
+      by : (k : Check (List (Pair Span))) → aTable t ≡ k → Judged (Each (Pairing (less d))) k → Judged (AttributesStand L file start d) (k >> pass t)
       by (pass ps) e j = passes t (record { stands = h .0; pairs = ps; map = e })
       by (refuse n o c) e j = record { is = j .is }
 
@@ -438,7 +438,7 @@ module _ (L : Layout) (file : List ℕ) (start : ℕ) where
       bind (fields (L .root) t) _ (fields-so 32 (L .root) t h) λ ps q. passes _ (record { version = field-so 31 _ ps (q .1); attributes = field-so 31 _ ps (q .1); objects = field-so 31 _ ps (q .1) })
 
   pub record ModelStands (m : Model Span) : Type 0 where
-    pub attributes : IfAny (AttributesStand file start 31) (m .attributes)
+    pub attributes : IfAny (AttributesStand L file start 31) (m .attributes)
     pub objects : Each (ObjectAccepted L file start) (m .objects)
 
   pub judge-so : (t : Node Span) → At 32 t → Judged ModelStands (judge L start t)

@@ -11,6 +11,7 @@ use Rattle.meaning.specs.Tree.{Node, uint, nint, bytes, text, tag, simple, floa
 use Rattle.meaning.specs.Read.{Outcome, got, refused, Reader, after, _>>=_, pure, malformed, here, byte, run, number, stop, times, untilBreak, toBreak}
 use Rattle.meaning.specs.Read.{Argument, known, indefinite, wide, longArguments, argument, majorOf, infoOf, definite, chunk, closed, reserved, close, pair, content, beyond, item, manifest, Span, spanTo}
 use Rattle.meaning.specs.Read.{Major, unsigned, negative, byteString, textString, arrayOf, mapOf, tagged, special}
+use Rattle.meaning.specs.Layouts.{Layout}
 use Rattle.panel.specs.Stands.{Each}
 use Rattle.shown.specs.Placed.{Placed, Within, PlacedNodes, PlacedPairs, PlacedPair}
 use Rattle.shown.proofs.Judged.{Between, Any}
@@ -136,35 +137,36 @@ module _ (file back : List ℕ) (start end : ℕ) where
 
   -- ---- the nodes
 
-  nodes-placed : (d : ℕ) (xs : List (Node Span)) → Each (Placed file start d) xs → PlacedNodes file start d (nodes xs)
-  unfolding Each
-  nodes-placed d [] h = tt
-  nodes-placed d (x ∷ xs) h = (h .0, nodes-placed d xs (h .1))
+  module _ (L : Layout) where
+    nodes-placed : (d : ℕ) (xs : List (Node Span)) → Each (Placed L file start d) xs → PlacedNodes L file start d (nodes xs)
+    unfolding Each
+    nodes-placed d [] h = tt
+    nodes-placed d (x ∷ xs) h = (h .0, nodes-placed d xs (h .1))
 
-  pairs-placed : (d : ℕ) (ps : List (Pair Span)) → Each (PlacedPair file start d) ps → PlacedPairs file start d (pairs ps)
-  unfolding Each
-  pairs-placed d [] h = tt
-  pairs-placed d (p ∷ ps) h = (h .0, pairs-placed d ps (h .1))
+    pairs-placed : (d : ℕ) (ps : List (Pair Span)) → Each (PlacedPair L file start d) ps → PlacedPairs L file start d (pairs ps)
+    unfolding Each
+    pairs-placed d [] h = tt
+    pairs-placed d (p ∷ ps) h = (h .0, pairs-placed d ps (h .1))
 
-  module _ (whole : end + length back ≡ length file) (sixteen : 16 ≤ length back) where
+  module _ (L : Layout) (whole : end + length back ≡ length file) (sized : L .sizeBack ≤ length back) where
     -- an item that has parts where d levels are left
-    module _ (d : ℕ) (it : Reader (Node Span)) (hi : Keeps (Placed file start d) it) where
-      pair-keeps : Keeps (PlacedPair file start d) (pair (spanTo end) it)
+    module _ (d : ℕ) (it : Reader (Node Span)) (hi : Keeps (Placed L file start d) it) where
+      pair-keeps : Keeps (PlacedPair L file start d) (pair (spanTo end) it)
       unfolding pair
       pair-keeps = bind-keeps it _ hi λ k q. bind-keeps it _ hi λ v p. pure-keeps (record { key = k; value = v }) (q, p)
 
       -- it began at o
       module _ (o : List ℕ) (l : Left file back start end o) where
         abbrev Ends : Outcome (Node Span) → Type 0
-        Ends = So (λ (t : Node Span) (r : List ℕ). Within file start (suc d) t × (noteOf t ≡ spanTo end o r) × Later o r)
+        Ends = So (λ (t : Node Span) (r : List ℕ). Within L file start (suc d) t × (noteOf t ≡ spanTo end o r) × Later o r)
 
-        ending : (make : Span → Node Span) → ((p : Span) → Within file start (suc d) (make p) × (noteOf (make p) ≡ p)) → (s : List ℕ) → Later o s → Ends (close (spanTo end) o make s)
+        ending : (make : Span → Node Span) → ((p : Span) → Within L file start (suc d) (make p) × (noteOf (make p) ≡ p)) → (s : List ℕ) → Later o s → Ends (close (spanTo end) o make s)
         unfolding close
         ending make within s k = let w = within (spanTo end o s) in record { is = (w .0, w .1, k) }
 
         -- a part of it is read, then it ends
         closing : {A : Type 0} {Q : A → Type 0} (m : Reader A) (make : A → Span → Node Span) → Keeps Q m
-            → ((a : A) (p : Span) → Q a → Within file start (suc d) (make a p) × (noteOf (make a p) ≡ p))
+            → ((a : A) (p : Span) → Q a → Within L file start (suc d) (make a p) × (noteOf (make a p) ≡ p))
             → (s : List ℕ) → Later o s → Ends ((m >>= λ a. close (spanTo end) o (make a)) s)
         closing m make hm within s k =
             so-after (m s) _ (hm s (left-later file back start end l k)) λ a r h. ending (make a) (λ p. within a p (h .0)) r (later-on k (h .1))
@@ -173,14 +175,14 @@ module _ (file back : List ℕ) (start end : ℕ) where
         unfolding close
         spelling n s k =
             so-after (run n s) _ (run-gets n s) λ bs r e.
-            record { is = (word-stands file back start end whole sixteen bs r l k e, refl, later-on k (record { eaten = bs; split = e })) }
+            record { is = (word-stands file back start end L whole sized bs r l k e, refl, later-on k (record { eaten = bs; split = e })) }
 
-        unreserved : (b : Bool) (make : Span → Node Span) → ((p : Span) → Within file start (suc d) (make p) × (noteOf (make p) ≡ p))
+        unreserved : (b : Bool) (make : Span → Node Span) → ((p : Span) → Within L file start (suc d) (make p) × (noteOf (make p) ≡ p))
             → (s : List ℕ) → Later o s → Ends (cond b (malformed o) (close (spanTo end) o make) s)
         unreserved true make within s k = ended o
         unreserved false make within s k = ending make within s k
 
-        simply : (b : Bool) (p : Span) (n w : ℕ) → Within file start (suc d) (cond b (simple p n) (float p w n)) × (noteOf (cond b (simple p n) (float p w n)) ≡ p)
+        simply : (b : Bool) (p : Span) (n w : ℕ) → Within L file start (suc d) (cond b (simple p n) (float p w n)) × (noteOf (cond b (simple p n) (float p w n)) ≡ p)
         simply true p n w = (tt, refl)
         simply false p n w = (tt, refl)
 
@@ -194,10 +196,10 @@ module _ (file back : List ℕ) (start end : ℕ) where
         content-ends byteString indefinite = closing (toBreak (chunk 2)) _ (toBreak-keeps (chunk 2) (chunk-keeps 2)) λ cs p q. (tt, refl)
         content-ends textString (known w n) = spelling n
         content-ends textString indefinite = closing (toBreak (chunk 3)) _ (toBreak-keeps (chunk 3) (chunk-keeps 3)) λ cs p q. (tt, refl)
-        content-ends arrayOf (known w n) = closing (times it n) _ (times-keeps it hi n) λ xs p q. (nodes-placed d xs q, refl)
-        content-ends arrayOf indefinite = closing (toBreak it) _ (toBreak-keeps it hi) λ xs p q. (nodes-placed d xs q, refl)
-        content-ends mapOf (known w n) = closing (times (pair (spanTo end) it) n) _ (times-keeps (pair (spanTo end) it) pair-keeps n) λ xs p q. (pairs-placed d xs q, refl)
-        content-ends mapOf indefinite = closing (toBreak (pair (spanTo end) it)) _ (toBreak-keeps (pair (spanTo end) it) pair-keeps) λ xs p q. (pairs-placed d xs q, refl)
+        content-ends arrayOf (known w n) = closing (times it n) _ (times-keeps it hi n) λ xs p q. (nodes-placed L d xs q, refl)
+        content-ends arrayOf indefinite = closing (toBreak it) _ (toBreak-keeps it hi) λ xs p q. (nodes-placed L d xs q, refl)
+        content-ends mapOf (known w n) = closing (times (pair (spanTo end) it) n) _ (times-keeps (pair (spanTo end) it) pair-keeps n) λ xs p q. (pairs-placed L d xs q, refl)
+        content-ends mapOf indefinite = closing (toBreak (pair (spanTo end) it)) _ (toBreak-keeps (pair (spanTo end) it) pair-keeps) λ xs p q. (pairs-placed L d xs q, refl)
         content-ends tagged (known w n) = closing it (λ x p. tag p n x) hi λ x p q. (q, refl)
         content-ends tagged indefinite = λ s k. ended o
         content-ends special (known w n) = unreserved (reserved w n) (λ p. cond (leb w 1) (simple p n) (float p w n)) λ p. simply (leb w 1) p n w
@@ -212,25 +214,25 @@ module _ (file back : List ℕ) (start end : ℕ) where
         by true = tt
         by false = tt
 
-    item-ends : (d : ℕ) → Keeps (Placed file start d) (item (spanTo end) d) → (s : List ℕ) (l : Left file back start end s)
-        → So (λ (t : Node Span) (r : List ℕ). Within file start (suc d) t × (noteOf t ≡ spanTo end s r) × Later s r) (item (spanTo end) (suc d) s)
+    item-ends : (d : ℕ) → Keeps (Placed L file start d) (item (spanTo end) d) → (s : List ℕ) (l : Left file back start end s)
+        → So (λ (t : Node Span) (r : List ℕ). Within L file start (suc d) t × (noteOf t ≡ spanTo end s r) × Later s r) (item (spanTo end) (suc d) s)
     unfolding item here
     item-ends d hi s l =
         so-after (byte s) _ (byte-keeps s l) λ h r q.
         so-after (argument s (infoOf h) r) _ (argument-keeps s (infoOf h) r (left-later file back start end l (q .1))) λ a z p.
         content-ends d (item (spanTo end) d) hi s l (majorOf h) a z (later-on (q .1) (p .1))
 
-    item-keeps : (d : ℕ) → Keeps (Placed file start d) (item (spanTo end) d)
+    item-keeps : (d : ℕ) → Keeps (Placed L file start d) (item (spanTo end) d)
     item-keeps zero s l = none-left s l
     item-keeps (suc d) s l =
         so-with (item (spanTo end) (suc d) s) (item-ends d (item-keeps d) s l) λ t r e h.
-        ((node-stands file back start end whole sixteen (suc d) t l (h .2) (h .1) e, h .0), h .2)
+        ((node-stands file back start end L whole sized (suc d) t l (h .2) (h .1) e, h .0), h .2)
 
     closed-so : {Q : Node Span → Type 0} (t : Node Span) → Q t → (s : List ℕ) → So (λ (t : Node Span) (r : List ℕ). Q t) (closed t s)
     unfolding closed
     closed-so t q [] = record { is = q }
     closed-so t q (b ∷ s) = ended (b ∷ s)
 
-    pub manifest-placed : (s : List ℕ) → Left file back start end s → So (λ (t : Node Span) (r : List ℕ). Placed file start depthLimit t) (manifest (spanTo end) s)
+    pub manifest-placed : (s : List ℕ) → Left file back start end s → So (λ (t : Node Span) (r : List ℕ). Placed L file start depthLimit t) (manifest (spanTo end) s)
     unfolding manifest
     manifest-placed s l = so-after (item (spanTo end) depthLimit s) _ (item-keeps depthLimit s l) λ t r h. closed-so t (h .0) r

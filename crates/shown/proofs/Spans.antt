@@ -7,6 +7,7 @@ use lib.ListN.{length, take, drop, length-append}
 use lib.Seq.{take-at, drop-at}
 use Rattle.meaning.specs.Tree.{Node, noteOf, mapP, nothing, meaning}
 use Rattle.meaning.specs.Read.{Span, spanTo, noNote, got, item}
+use Rattle.meaning.specs.Layouts.{Layout}
 use Rattle.meaning.specs.Rows.{wordSpan}
 use Rattle.meaning.proofs.ReadNatural.{mapOut, item-follows}
 use Rattle.meaning.proofs.ReadPrefix.{item-exact}
@@ -50,12 +51,12 @@ module _ (file back : List ℕ) (start end : ℕ) where
   left-length : {s : List ℕ} (l : Left s) → length file ≡ length (l .front) + (length s + length back)
   left-length {s} l = ap length (l .is) ∙ length-append (l .front) (s ++ back) ∙ ap (λ (n : ℕ). length (l .front) + n) (length-append s back)
 
-  module _ (whole : end + length back ≡ length file) (sixteen : 16 ≤ length back) where
-    span-lies : {o r : List ℕ} → Left o → Later o r → InManifest file start (spanTo end o r)
+  module _ (L : Layout) (whole : end + length back ≡ length file) (sized : L .sizeBack ≤ length back) where
+    span-lies : {o r : List ℕ} → Left o → Later o r → InManifest L file start (spanTo end o r)
     unfolding spanTo
     span-lies {o} {r} l k =
         let a = left-length l in let b = later-length k in let c = l .from in
-        record { begins = omega (arith, a, b, c, whole, sixteen); ends = omega (arith, a, b, c, whole, sixteen) }
+        record { begins = omega (arith, a, b, c, whole, sized); ends = omega (arith, a, b, c, whole, sized) }
 
     -- without its annotations
     unnoted : (d : ℕ) (s : List ℕ) → item noNote d s ≡ mapOut (mapP nothing) (item (spanTo end) d s)
@@ -73,7 +74,7 @@ module _ (file back : List ℕ) (start end : ℕ) where
         ∙ take-at (k .eaten) (r ++ back) (length s - length r) (omega (arith, b))
 
     -- a text that ends where its letters do
-    pub word-stands : {o s : List ℕ} (bs r : List ℕ) → Left o → Later o s → s ≡ bs ++ r → WordStands file start (record { note = spanTo end o r; letters = bs })
+    pub word-stands : {o s : List ℕ} (bs r : List ℕ) → Left o → Later o s → s ≡ bs ++ r → WordStands L file start (record { note = spanTo end o r; letters = bs })
     unfolding spanTo wordSpan
     word-stands {o} {s} bs r l k e =
         let m = left-later l k in
@@ -84,19 +85,19 @@ module _ (file back : List ℕ) (start end : ℕ) where
         let at : end - length s ≡ place = omega (arith, a, b, d, f, whole) in
         let size : length s - length r ≡ length bs = omega (arith, d) in
         record {
-          lies = record { begins = omega (arith, at, a, c, whole); ends = omega (arith, a, d, at, whole, sixteen) };
+          lies = record { begins = omega (arith, at, a, c, whole); ends = omega (arith, a, d, at, whole, sized) };
           spelled = ap₂ (λ (n k : ℕ). take n (drop k file)) (sym size) (sym at) ∙ part-is m (record { eaten = bs; split = e });
         }
 
     -- an item that was read at s, up to r
-    pub node-stands : (d : ℕ) {s r : List ℕ} (t : Node Span) → Left s → Later s r → noteOf t ≡ spanTo end s r → item (spanTo end) d s ≡ got t r → NodeStands file start d t
+    pub node-stands : (d : ℕ) {s r : List ℕ} (t : Node Span) → Left s → Later s r → noteOf t ≡ spanTo end s r → item (spanTo end) d s ≡ got t r → NodeStands L file start d t
     unfolding spanTo
     node-stands d {s} {r} t l k noted e =
         let bare : item noNote d s ≡ got (meaning t) r = unnoted d s ∙ ap (mapOut (mapP nothing)) e in
         let took = item-exact d [] s (meaning t) r bare in
         let there = part-is l (record { eaten = took .eaten; split = took .split }) in
         record {
-          lies = subst (InManifest file start) (sym noted) (span-lies l k);
+          lies = subst (InManifest L file start) (sym noted) (span-lies l k);
           read = ap (λ (p : Span). item noNote d (take (p .size) (drop (p .place) file))) noted
               ∙ ap (item noNote d) (there ∙ sym (append-nil (took .eaten)))
               ∙ took .again [] [];

@@ -9,7 +9,7 @@ use Rattle.meaning.specs.Check.{pass}
 use Rattle.meaning.specs.Read.{Span, got, item, noNote}
 use Rattle.meaning.specs.Kind.{aTable}
 use Rattle.meaning.specs.Model.{Word, Component, Object}
-use Rattle.meaning.specs.Layouts.{slot, Layout, current, dtypeAt}
+use Rattle.meaning.specs.Layouts.{slot, Layout, dtypeAt}
 use Rattle.meaning.specs.Judge.{component}
 use Rattle.meaning.specs.Frame.{Reading}
 use Rattle.meaning.specs.Rows.{wordSpan}
@@ -26,11 +26,15 @@ pub record BlobLies (start : ℕ) (c : Component Span) : Type 0 where
   pub past-header : 64 ≤ c .offset
   pub before-manifest : c .offset + c .length ≤ start
 
--- the manifest ends 16 bytes before the end of the file
-module _ (file : List ℕ) (start : ℕ) where
+-- besides its blobs and its manifest a file holds the header's 8 bytes, and what stands from the manifest's size on
+abbrev pub Framing : Layout → Type 0
+Framing L = L .sizeBack + 8 ≡ L .least
+
+-- the manifest ends where its size begins
+module _ (L : Layout) (file : List ℕ) (start : ℕ) where
   pub record InManifest (s : Span) : Type 0 where
     pub begins : start ≤ s .place
-    pub ends : s .place + s .size + 16 ≤ length file
+    pub ends : s .place + s .size + L .sizeBack ≤ length file
 
   -- the text's letters are the file's bytes at the place and of the length that its row gives
   pub record WordStands (w : Word Span) : Type 0 where
@@ -48,37 +52,36 @@ module _ (file : List ℕ) (start : ℕ) where
     pub pairs : List (Pair Span)
     pub map : aTable t ≡ pass pairs
 
-module _ (L : Layout) (file : List ℕ) (start : ℕ) where
   -- the entry of a component's row is one whole map of the manifest, at depth 5: 28 levels are left there; under the component's name, with the code that its object gives it, that
   -- map is this component; an object that can have no dtype gives none
   pub record EntryStands (c : Component Span) : Type 0 where
     pub node : Node Span
     pub noted : c .entry ≡ noteOf node
-    pub stands : AttributesStand file start 28 node
+    pub stands : AttributesStand 28 node
     pub above : Option ℕ
     pub ungiven : slot dtypeAt (L .object) ≡ none → above ≡ none
     pub judged : component L start above (record { name = c .name; value = node }) ≡ pass c
 
   pub record ComponentAccepted (c : Component Span) : Type 0 where
-    pub name : WordStands file start (c .name)
+    pub name : WordStands (c .name)
     pub storage : c .dtype < 13
-    pub type : IfAny (WordStands file start) (c .type)
-    pub digest : IfAny (WordStands file start) (c .digest)
+    pub type : IfAny WordStands (c .type)
+    pub digest : IfAny WordStands (c .digest)
     pub blob : BlobLies start c
     pub entry : EntryStands c
 
   -- its attributes are at depth 4: 29 levels are left there
   pub record ObjectAccepted (o : Object Span) : Type 0 where
-    pub name : WordStands file start (o .name)
+    pub name : WordStands (o .name)
     pub rank : length (o .shape) ≤ 8
-    pub format : WordStands file start (o .format)
-    pub attributes : IfAny (AttributesStand file start 29) (o .attributes)
+    pub format : WordStands (o .format)
+    pub attributes : IfAny (AttributesStand 29) (o .attributes)
     pub components : Each ComponentAccepted (o .components)
 
 -- the root's attributes are at depth 2: 31 levels are left there
-pub record Accepted (file : List ℕ) (r : Reading) : Type 0 where
+pub record Accepted (L : Layout) (file : List ℕ) (r : Reading) : Type 0 where
   pub header : 8 ≤ r .start
   -- a manifest of a byte at least, its size and the footer
-  pub footer : r .start + 1 + 16 ≤ length file
-  pub attributes : IfAny (AttributesStand file (r .start) 31) (r .model .attributes)
-  pub objects : Each (ObjectAccepted current file (r .start)) (r .model .objects)
+  pub footer : r .start + 1 + L .sizeBack ≤ length file
+  pub attributes : IfAny (AttributesStand L file (r .start) 31) (r .model .attributes)
+  pub objects : Each (ObjectAccepted L file (r .start)) (r .model .objects)

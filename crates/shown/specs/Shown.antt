@@ -13,13 +13,13 @@ use Rattle.meaning.specs.Judge.{component}
 use Rattle.meaning.specs.Frame.{Reading}
 use Rattle.meaning.specs.Rows.{answer, tableAfter, readInto}
 use Rattle.meaning.specs.View.{viewed, view}
-use Rattle.meaning.specs.Layouts.{current}
+use Rattle.meaning.specs.Layouts.{slot, Layout, dtypeAt}
 use Rattle.panel.specs.Lines.{listed}
 use Rattle.shown.specs.Accepted.{BlobLies, EntryStands}
 
-module _ (file table : List ℕ) where
+module _ (L : Layout) (file table : List ℕ) where
   abbrev afterwards : Check Reading
-  afterwards = readInto current file (length table)
+  afterwards = readInto L file (length table)
 
   -- asked with what the reading left
   abbrev pub viewedThen : ℕ → Check Span
@@ -39,15 +39,15 @@ module _ (file table : List ℕ) where
 
   -- the bytes there, read alone, are one map and nothing more: the component's own
   pub record EntryShown (r : Reading) (j : ℕ) (c : Component Span) : Type 0 where
-    pub entry : EntryStands current file (r .start) c
-    -- under the component's name that map is this component
-    pub judged : component current (r .start) none (record { name = c .name; value = entry .node }) ≡ pass c
+    pub entry : EntryStands L file (r .start) c
+    -- under the component's name that map is this component, where the object can give it no code
+    pub judged : slot dtypeAt (L .object) ≡ none → component L (r .start) none (record { name = c .name; value = entry .node }) ≡ pass c
     pub said : entryThen j ≡ c .entry
     pub alone : item noNote 28 (bytesAt file (entryThen j)) ≡ got (meaning (entry .node)) []
 
   -- the component c of the reading r, at index j among all components
   pub record Shown (r : Reading) (j : ℕ) (c : Component Span) : Type 0 where
     pub blob : BlobLies (r .start) c
-    pub manifest-inside : r .start + 1 + 16 ≤ length file
+    pub manifest-inside : r .start + 1 + L .sizeBack ≤ length file
     pub range : viewedThen j ≡ pass (record { place = c .offset; size = c .length })
     pub bytes : viewThen j ≡ take (c .length) (drop (c .offset) file)
