@@ -1,26 +1,23 @@
--- The entries of two manifests that mean the same, unknown fields and the minor version apart: component by component, one whole map in each file, the same once unknown fields
--- are dropped.
+-- The components of two manifests that pass, beside the entries that they were read from: one whole map in each file, related as the manifests' entries are.
 use Prim.Native.Nat.{ℕ, _≤_}
-use native.Mathlib.Omega.{arith}
-use mathlib.Core.List.{List, [], _∷_, map}
+use mathlib.Core.List.{List, [], _∷_}
 use mathlib.Core.Option.{some}
-use mathlib.Core.Path.{_≡_, refl, ap, sym, subst, _∙_}
+use mathlib.Core.Path.{_≡_, sym, subst}
 use Rattle.meaning.specs.Limit.{depthLimit}
-use Rattle.meaning.specs.Tree.{Node, meaning, nothing, noteOf}
-use Rattle.meaning.specs.Check.{Check, pass, refuse}
+use Rattle.meaning.specs.Tree.{Node, meaning}
+use Rattle.meaning.specs.Check.{pass}
 use Rattle.meaning.specs.Read.{Span}
 use Rattle.meaning.specs.Model.{Component, Object, Model}
-use Rattle.meaning.specs.Layouts.{current}
+use Rattle.meaning.specs.Layouts.{Layout}
 use Rattle.meaning.specs.Judge.{judge}
 use Rattle.meaning.specs.Rows.{attributesSpan}
-use Rattle.meaning.specs.Drop.{dropComponent, dropRoot}
-use Rattle.meaning.proofs.JudgeNatural.{map-map}
-use Rattle.meaning.proofs.Entries.{entriesOf, entriesOf-map, entriesOf-drop, Along, EntryIs, EntriesAre, judged-entries}
+use Rattle.meaning.proofs.Entries.{entriesOf, Along, EntryIs, EntriesAre, judged-entries}
 use Rattle.panel.specs.Stands.{Each}
 use Rattle.shown.specs.Placed.{Placed}
 use Rattle.shown.proofs.Judgement.{entries-so}
 use Rattle.tolerance.specs.Alike.{OneMap}
 use Rattle.tolerance.proofs.RowsAlike.{map-at, Entry, Entries}
+use Rattle.tolerance.proofs.EntriesMoved.{EntriesRelated}
 
 -- ---------------------------------------------------------------- lists, one beside the other
 
@@ -31,76 +28,71 @@ along-each R Q [] (b ∷ bs) h q = h
 along-each R Q (a ∷ as′) [] h q = h
 along-each R Q (a ∷ as′) (b ∷ bs) h q = ((h .0, q .0), along-each R Q as′ bs (h .1) (q .1))
 
--- what stands beside lists whose images are the same
-module _ {A B C D : Type 0} (R₁ : A → B → Type 0) (R₂ : C → B → Type 0) (Q : A → C → Type 0) (g : B → D)
-    (pair : (a : A) (b : B) (c : C) (d : B) → R₁ a b → R₂ c d → g b ≡ g d → Q a c) where
-  beside : (as′ : List A) (bs : List B) (cs : List C) (ds : List B) → Along R₁ as′ bs → Along R₂ cs ds → map g bs ≡ map g ds → Along Q as′ cs
-  beside [] [] [] [] h k e = tt
-  beside [] [] [] (d ∷ ds) h k e = absurd k
-  beside [] [] (c ∷ cs) [] h k e = absurd k
-  beside [] [] (c ∷ cs) (d ∷ ds) h k e = absurd (let z : _≡_ {A = ℕ} 0 1 = cc in omega arith)
-  beside [] (b ∷ bs) cs ds h k e = absurd h
-  beside (a ∷ as′) [] cs ds h k e = absurd h
-  beside (a ∷ as′) (b ∷ bs) [] [] h k e = absurd (let z : _≡_ {A = ℕ} 0 1 = cc in omega arith)
-  beside (a ∷ as′) (b ∷ bs) [] (d ∷ ds) h k e = absurd k
-  beside (a ∷ as′) (b ∷ bs) (c ∷ cs) [] h k e = absurd k
-  beside (a ∷ as′) (b ∷ bs) (c ∷ cs) (d ∷ ds) h k e =
-      let first : g b ≡ g d = cc in let others : map g bs ≡ map g ds = cc in
-      (pair a b c d (h .0) (k .0) first, beside as′ bs cs ds (h .1) (k .1) others)
+-- what stands beside lists that are related
+module _ {A B C D : Type 0} (R₁ : A → B → Type 0) (R₂ : C → D → Type 0) (S : B → D → Type 0) (Q : A → C → Type 0)
+    (pair : (a : A) (b : B) (c : C) (d : D) → R₁ a b → R₂ c d → S b d → Q a c) where
+  beside : (as′ : List A) (bs : List B) (cs : List C) (ds : List D) → Along R₁ as′ bs → Along R₂ cs ds → Along S bs ds → Along Q as′ cs
+  beside [] [] [] [] h k s = tt
+  beside [] [] [] (d ∷ ds) h k s = absurd k
+  beside [] [] (c ∷ cs) [] h k s = absurd k
+  beside [] [] (c ∷ cs) (d ∷ ds) h k s = absurd s
+  beside [] (b ∷ bs) cs ds h k s = absurd h
+  beside (a ∷ as′) [] cs ds h k s = absurd h
+  beside (a ∷ as′) (b ∷ bs) [] [] h k s = absurd s
+  beside (a ∷ as′) (b ∷ bs) [] (d ∷ ds) h k s = absurd k
+  beside (a ∷ as′) (b ∷ bs) (c ∷ cs) [] h k s = absurd k
+  beside (a ∷ as′) (b ∷ bs) (c ∷ cs) (d ∷ ds) h k s = (pair a b c d (h .0) (k .0) (s .0), beside as′ bs cs ds (h .1) (k .1) (s .1))
 
 -- ---------------------------------------------------------------- entries
 
--- what an entry says, and what those of an object say
-abbrev told : Node Span → Node (Unit {0})
-told x = dropComponent current (meaning x)
-
-abbrev toldAll : List (Node Span) → List (Node (Unit {0}))
-toldAll xs = map (dropComponent current) (map meaning xs)
-
-told-all : (xs : List (Node Span)) → toldAll xs ≡ map told xs
-told-all xs = map-map meaning (dropComponent current) xs
-
-entries-told : (t : Node Span) → entriesOf current (dropRoot current (meaning t)) ≡ map toldAll (entriesOf current t)
-entries-told t =
-    entriesOf-drop current (meaning t) ∙ ap (map (map (dropComponent current))) (entriesOf-map nothing current t) ∙ map-map (map meaning) (map (dropComponent current)) (entriesOf current t)
-
-module _ (file : List ℕ) (start : ℕ) (header : 8 ≤ start) where
+module _ (L : Layout) (file : List ℕ) (start : ℕ) (header : 8 ≤ start) where
   -- a component and the node that it was read from
   abbrev From : Component Span → Node Span → Type 0
-  From c x = EntryIs c x × Placed file start 28 x
+  From c x = EntryIs c x × Placed L file start 28 x
 
   abbrev AllFrom : Object Span → List (Node Span) → Type 0
-  AllFrom o xs = EntriesAre o xs × Each (Placed file start 28) xs
+  AllFrom o xs = EntriesAre o xs × Each (Placed L file start 28) xs
 
   entry-at : (c : Component Span) (x : Node Span) → From c x → OneMap file 28 (c .entry) (meaning x)
   unfolding attributesSpan
   entry-at c x h =
       subst (λ (s : Span). OneMap file 28 s (meaning x)) (sym (h .0 .noted))
-      (map-at file start header 28 (some x) (record { stands = h .1 .0; pairs = h .0 .map .pairs; map = h .0 .map .is }))
+      (map-at L file start header 28 (some x) (record { stands = h .1 .0; pairs = h .0 .map .pairs; map = h .0 .map .is }))
 
-  all-from : (t : Node Span) (m : Model Span) → Placed file start depthLimit t → judge current start t ≡ pass m → Along AllFrom (m .objects) (entriesOf current t)
+  all-from : (t : Node Span) (m : Model Span) → Placed L file start depthLimit t → judge L start t ≡ pass m → Along AllFrom (m .objects) (entriesOf L t)
   all-from t m placed passes =
-      along-each EntriesAre (Each (Placed file start 28)) (m .objects) (entriesOf current t) (judged-entries current start t m passes) (entries-so current file start t placed)
+      along-each EntriesAre (Each (Placed L file start 28)) (m .objects) (entriesOf L t) (judged-entries L start t m passes) (entries-so L file start t placed)
 
-module _ (file₁ file₂ : List ℕ) (start : ℕ) (header : 8 ≤ start) where
-  of-component : (c₁ : Component Span) (x₁ : Node Span) (c₂ : Component Span) (x₂ : Node Span) → From file₁ start header c₁ x₁ → From file₂ start header c₂ x₂ → told x₁ ≡ told x₂ → Entry file₁ file₂ c₁ c₂
+  every-from : (o : Object Span) (xs : List (Node Span)) → AllFrom o xs → Along From (o .components) xs
+  every-from o xs h = along-each EntryIs (Placed L file start 28) (o .components) xs (h .0) (h .1)
+
+module _ (L : Layout) (E : Node (Unit {0}) → Node (Unit {0}) → Type 0) (file₁ file₂ : List ℕ) (start : ℕ) (header : 8 ≤ start) where
+  abbrev From₁ : Component Span → Node Span → Type 0
+  From₁ = From L file₁ start header
+
+  abbrev From₂ : Component Span → Node Span → Type 0
+  From₂ = From L file₂ start header
+
+  abbrev Told : Node Span → Node Span → Type 0
+  Told x y = E (meaning x) (meaning y)
+
+  of-component : (c₁ : Component Span) (x₁ : Node Span) (c₂ : Component Span) (x₂ : Node Span) → From₁ c₁ x₁ → From₂ c₂ x₂ → Told x₁ x₂ → Entry L E file₁ file₂ c₁ c₂
   of-component c₁ x₁ c₂ x₂ h₁ h₂ e = record {
     tree₁ = meaning x₁;
     tree₂ = meaning x₂;
-    first = entry-at file₁ start header c₁ x₁ h₁;
-    second = entry-at file₂ start header c₂ x₂ h₂;
-    same = e;
+    first = entry-at L file₁ start header c₁ x₁ h₁;
+    second = entry-at L file₂ start header c₂ x₂ h₂;
+    related = e;
   }
 
   of-object : (o₁ : Object Span) (xs₁ : List (Node Span)) (o₂ : Object Span) (xs₂ : List (Node Span))
-      → AllFrom file₁ start header o₁ xs₁ → AllFrom file₂ start header o₂ xs₂ → toldAll xs₁ ≡ toldAll xs₂ → Entries file₁ file₂ o₁ o₂
+      → AllFrom L file₁ start header o₁ xs₁ → AllFrom L file₂ start header o₂ xs₂ → Along Told xs₁ xs₂ → Entries L E file₁ file₂ o₁ o₂
   of-object o₁ xs₁ o₂ xs₂ h₁ h₂ e =
-      beside (From file₁ start header) (From file₂ start header) (Entry file₁ file₂) told of-component (o₁ .components) xs₁ (o₂ .components) xs₂
-      (along-each EntryIs (Placed file₁ start 28) (o₁ .components) xs₁ (h₁ .0) (h₁ .1)) (along-each EntryIs (Placed file₂ start 28) (o₂ .components) xs₂ (h₂ .0) (h₂ .1)) (sym (told-all xs₁) ∙ e ∙ told-all xs₂)
+      beside From₁ From₂ Told (Entry L E file₁ file₂) of-component (o₁ .components) xs₁ (o₂ .components) xs₂
+      (every-from L file₁ start header o₁ xs₁ h₁) (every-from L file₂ start header o₂ xs₂ h₂) e
 
-  pub entries-alike : (t₁ t₂ : Node Span) → Placed file₁ start depthLimit t₁ → Placed file₂ start depthLimit t₂ → dropRoot current (meaning t₁) ≡ dropRoot current (meaning t₂)
-      → (m₁ m₂ : Model Span) → judge current start t₁ ≡ pass m₁ → judge current start t₂ ≡ pass m₂ → Along (Entries file₁ file₂) (m₁ .objects) (m₂ .objects)
-  entries-alike t₁ t₂ placed₁ placed₂ same m₁ m₂ e₁ e₂ =
-      beside (AllFrom file₁ start header) (AllFrom file₂ start header) (Entries file₁ file₂) toldAll of-object (m₁ .objects) (entriesOf current t₁) (m₂ .objects) (entriesOf current t₂)
-      (all-from file₁ start header t₁ m₁ placed₁ e₁) (all-from file₂ start header t₂ m₂ placed₂ e₂)
-      (sym (entries-told t₁) ∙ ap (entriesOf current) same ∙ entries-told t₂)
+  pub entries-alike : (t₁ t₂ : Node Span) → Placed L file₁ start depthLimit t₁ → Placed L file₂ start depthLimit t₂ → EntriesRelated L t₁ t₂ E
+      → (m₁ m₂ : Model Span) → judge L start t₁ ≡ pass m₁ → judge L start t₂ ≡ pass m₂ → Along (Entries L E file₁ file₂) (m₁ .objects) (m₂ .objects)
+  entries-alike t₁ t₂ placed₁ placed₂ related m₁ m₂ e₁ e₂ =
+      beside (AllFrom L file₁ start header) (AllFrom L file₂ start header) (Along Told) (Entries L E file₁ file₂) of-object (m₁ .objects) (entriesOf L t₁) (m₂ .objects) (entriesOf L t₂)
+      (all-from L file₁ start header t₁ m₁ placed₁ e₁) (all-from L file₂ start header t₂ m₂ placed₂ e₂) related

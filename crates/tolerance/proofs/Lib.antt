@@ -1,5 +1,6 @@
 -- Theorems on what an old reader answers alike.
 pub mod RowsAlike
+pub mod EntriesMoved
 pub mod Entries
 pub mod ReadsAlike
 pub mod ShownAlike

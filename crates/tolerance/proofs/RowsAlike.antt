@@ -12,7 +12,7 @@ use Rattle.meaning.specs.Check.{pass}
 use Rattle.meaning.specs.Read.{Span}
 use Rattle.meaning.specs.Kind.{Kind, null, another, kind, asTable, aTable}
 use Rattle.meaning.specs.Model.{Word, Component, Object, Model}
-use Rattle.meaning.specs.Layouts.{current}
+use Rattle.meaning.specs.Layouts.{Layout}
 use Rattle.meaning.specs.Judge.{lettersOf}
 use Rattle.meaning.specs.Notes.{mapOption, mapWord, mapComponent, mapObject, mapModel}
 use Rattle.meaning.specs.Rows.{wordSpan, optionalSpan, attributesSpan, dimensions, objectRow, componentRow, objectRows, rowsOf, componentRows, rows, componentCount}
@@ -44,22 +44,22 @@ map-is (simple p n) ps e = by (eqb n 22) e
     by false e = absurd (let z : _≡_ {A = ℕ} 0 1 = cc in omega arith)
 map-is (float p w b) ps e = absurd (let z : _≡_ {A = ℕ} 0 1 = cc in omega arith)
 
-module _ (file : List ℕ) (start : ℕ) (header : 8 ≤ start) where
-  lies-inside : (s : Span) → InManifest file start s → Inside file s
+module _ (L : Layout) (file : List ℕ) (start : ℕ) (header : 8 ≤ start) where
+  lies-inside : (s : Span) → InManifest L file start s → Inside file s
   lies-inside s h = record {
     there = let a = h .begins in omega (arith, a, header);
     ends = let a = h .ends in omega (arith, a);
   }
 
-  word-at : (w : Word Span) → WordStands file start w → TextAt file (wordSpan w) (some (w .letters))
+  word-at : (w : Word Span) → WordStands L file start w → TextAt file (wordSpan w) (some (w .letters))
   word-at w h = record { inside = lies-inside (wordSpan w) (h .lies); bytes = h .spelled }
 
-  text-at : (o : Option (Word Span)) → IfAny (WordStands file start) o → TextAt file (optionalSpan o) (lettersOf o)
+  text-at : (o : Option (Word Span)) → IfAny (WordStands L file start) o → TextAt file (optionalSpan o) (lettersOf o)
   unfolding optionalSpan lettersOf
   text-at none h = record { no-place = refl; no-size = refl }
   text-at (some w) h = word-at w h
 
-  pub map-at : (levels : ℕ) (o : Option (Node Span)) → IfAny (AttributesStand file start levels) o → MapAt file levels (attributesSpan o) (mapOption meaning o)
+  pub map-at : (levels : ℕ) (o : Option (Node Span)) → IfAny (AttributesStand L file start levels) o → MapAt file levels (attributesSpan o) (mapOption meaning o)
   unfolding attributesSpan
   map-at levels none h = record { no-place = refl; no-size = refl }
   map-at levels (some t) h =
@@ -68,13 +68,13 @@ module _ (file : List ℕ) (start : ℕ) (header : 8 ≤ start) where
 
 -- ---------------------------------------------------------------- rows
 
-module _ (file₁ file₂ : List ℕ) where
+module _ (L : Layout) (E : Node (Unit {0}) → Node (Unit {0}) → Type 0) (file₁ file₂ : List ℕ) where
   abbrev Alike : List Field → List ℕ → List ℕ → Type 0
-  Alike = FieldsAlike file₁ file₂
+  Alike = FieldsAlike file₁ file₂ E
 
   -- entries of two components, and of two objects' components
   abbrev pub Entry : Component Span → Component Span → Type 0
-  Entry c₁ c₂ = EntriesAlike file₁ file₂ 28 (c₁ .entry) (c₂ .entry)
+  Entry c₁ c₂ = EntriesAlike file₁ file₂ E 28 (c₁ .entry) (c₂ .entry)
 
   abbrev pub Entries : Object Span → Object Span → Type 0
   Entries o₁ o₂ = Along Entry (o₁ .components) (o₂ .components)
@@ -96,32 +96,32 @@ module _ (file₁ file₂ : List ℕ) where
       (let z : suc n + m ≡ suc (n + m) = omega arith in ap (λ (j : ℕ). rowsThen j row more) z) ∙ ap (λ (fs : List Field). row ++ fs) (rows-more n m row more)
 
   module _ (start : ℕ) (header : 8 ≤ start) where
-    words-alike : (w₁ w₂ : Word Span) → WordStands file₁ start w₁ → WordStands file₂ start w₂ → w₁ .letters ≡ w₂ .letters → TextsAlike file₁ file₂ (wordSpan w₁) (wordSpan w₂)
+    words-alike : (w₁ w₂ : Word Span) → WordStands L file₁ start w₁ → WordStands L file₂ start w₂ → w₁ .letters ≡ w₂ .letters → TextsAlike file₁ file₂ (wordSpan w₁) (wordSpan w₂)
     unfolding wordSpan
     words-alike w₁ w₂ h₁ h₂ e = record {
       size = ap length e;
       found = some (w₁ .letters);
-      first = word-at file₁ start header w₁ h₁;
-      second = subst (λ (x : List ℕ). TextAt file₂ (wordSpan w₂) (some x)) (sym e) (word-at file₂ start header w₂ h₂);
+      first = word-at L file₁ start header w₁ h₁;
+      second = subst (λ (x : List ℕ). TextAt file₂ (wordSpan w₂) (some x)) (sym e) (word-at L file₂ start header w₂ h₂);
     }
 
-    texts-alike : (o₁ o₂ : Option (Word Span)) → IfAny (WordStands file₁ start) o₁ → IfAny (WordStands file₂ start) o₂
+    texts-alike : (o₁ o₂ : Option (Word Span)) → IfAny (WordStands L file₁ start) o₁ → IfAny (WordStands L file₂ start) o₂
         → mapOption (mapWord nothing) o₁ ≡ mapOption (mapWord nothing) o₂ → TextsAlike file₁ file₂ (optionalSpan o₁) (optionalSpan o₂)
     unfolding optionalSpan lettersOf
-    texts-alike none none h₁ h₂ e = record { size = refl; found = none; first = text-at file₁ start header none tt; second = text-at file₂ start header none tt }
+    texts-alike none none h₁ h₂ e = record { size = refl; found = none; first = text-at L file₁ start header none tt; second = text-at L file₂ start header none tt }
     texts-alike none (some w₂) h₁ h₂ e = absurd (let z : _≡_ {A = ℕ} 0 1 = cc in omega arith)
     texts-alike (some w₁) none h₁ h₂ e = absurd (let z : _≡_ {A = ℕ} 0 1 = cc in omega arith)
     texts-alike (some w₁) (some w₂) h₁ h₂ e = let z : mapWord nothing w₁ ≡ mapWord nothing w₂ = cc in words-alike w₁ w₂ h₁ h₂ (ap (λ (w : Word (Unit {0})). w .letters) z)
 
-    pub maps-alike : (levels : ℕ) (o₁ o₂ : Option (Node Span)) → IfAny (AttributesStand file₁ start levels) o₁ → IfAny (AttributesStand file₂ start levels) o₂
+    pub maps-alike : (levels : ℕ) (o₁ o₂ : Option (Node Span)) → IfAny (AttributesStand L file₁ start levels) o₁ → IfAny (AttributesStand L file₂ start levels) o₂
         → mapOption meaning o₁ ≡ mapOption meaning o₂ → MapsAlike file₁ file₂ levels (attributesSpan o₁) (attributesSpan o₂)
     maps-alike levels o₁ o₂ h₁ h₂ e = record {
       found = mapOption meaning o₁;
-      first = map-at file₁ start header levels o₁ h₁;
-      second = subst (λ (x : Option (Node (Unit {0}))). MapAt file₂ levels (attributesSpan o₂) x) (sym e) (map-at file₂ start header levels o₂ h₂);
+      first = map-at L file₁ start header levels o₁ h₁;
+      second = subst (λ (x : Option (Node (Unit {0}))). MapAt file₂ levels (attributesSpan o₂) x) (sym e) (map-at L file₂ start header levels o₂ h₂);
     }
 
-    component-alike : (i : ℕ) (c₁ c₂ : Component Span) → ComponentAccepted current file₁ start c₁ → ComponentAccepted current file₂ start c₂ → mapComponent nothing c₁ ≡ mapComponent nothing c₂
+    component-alike : (i : ℕ) (c₁ c₂ : Component Span) → ComponentAccepted L file₁ start c₁ → ComponentAccepted L file₂ start c₂ → mapComponent nothing c₁ ≡ mapComponent nothing c₂
         → Entry c₁ c₂ → (fs : List Field) (l k : List ℕ) → Alike fs l k → Alike (componentFields ++ fs) (componentRow i c₁ ++ l) (componentRow i c₂ ++ k)
     unfolding componentRow
     component-alike i c₁ c₂ h₁ h₂ e entries fs l k more = (
@@ -144,7 +144,7 @@ module _ (file₁ file₂ : List ℕ) where
       ),
     )
 
-    object-alike : (o₁ o₂ : Object Span) → ObjectAccepted current file₁ start o₁ → ObjectAccepted current file₂ start o₂ → mapObject nothing o₁ ≡ mapObject nothing o₂
+    object-alike : (o₁ o₂ : Object Span) → ObjectAccepted L file₁ start o₁ → ObjectAccepted L file₂ start o₂ → mapObject nothing o₁ ≡ mapObject nothing o₂
         → (fs : List Field) (l k : List ℕ) → Alike fs l k → Alike (objectFields ++ fs) (objectRow o₁ ++ l) (objectRow o₂ ++ k)
     unfolding objectRow shape ending
     object-alike o₁ o₂ h₁ h₂ e fs l k more =
@@ -167,7 +167,7 @@ module _ (file₁ file₂ : List ℕ) where
           subst (λ (x : List ℕ). alike ((shape o₁ ++ ending o₁) ++ l) x) (sym (append-assoc (shape o₂) (ending o₂) k)) first,
         )
 
-    rows-alike : (i : ℕ) (cs₁ cs₂ : List (Component Span)) → Each (ComponentAccepted current file₁ start) cs₁ → Each (ComponentAccepted current file₂ start) cs₂
+    rows-alike : (i : ℕ) (cs₁ cs₂ : List (Component Span)) → Each (ComponentAccepted L file₁ start) cs₁ → Each (ComponentAccepted L file₂ start) cs₂
         → map (mapComponent nothing) cs₁ ≡ map (mapComponent nothing) cs₂ → Along Entry cs₁ cs₂
         → (fs : List Field) (l k : List ℕ) → Alike fs l k → Alike (rowsThen (length cs₁) componentFields fs) (rowsOf i cs₁ ++ l) (rowsOf i cs₂ ++ k)
     unfolding rowsOf Each
@@ -182,7 +182,7 @@ module _ (file₁ file₂ : List ℕ) where
         (rows-alike i cs₁ cs₂ (h₁ .1) (h₂ .1) others (es .1) fs l k more) in
         rw (append-assoc (componentRow i c₁) (rowsOf i cs₁) l, append-assoc (componentRow i c₂) (rowsOf i cs₂) k) done
 
-    objects-alike : (os₁ os₂ : List (Object Span)) → Each (ObjectAccepted current file₁ start) os₁ → Each (ObjectAccepted current file₂ start) os₂
+    objects-alike : (os₁ os₂ : List (Object Span)) → Each (ObjectAccepted L file₁ start) os₁ → Each (ObjectAccepted L file₂ start) os₂
         → map (mapObject nothing) os₁ ≡ map (mapObject nothing) os₂
         → (fs : List Field) (l k : List ℕ) → Alike fs l k → Alike (rowsThen (length os₁) objectFields fs) (objectRows os₁ ++ l) (objectRows os₂ ++ k)
     unfolding objectRows Each
@@ -197,7 +197,7 @@ module _ (file₁ file₂ : List ℕ) where
         (objects-alike os₁ os₂ (h₁ .1) (h₂ .1) others fs l k more) in
         rw (append-assoc (objectRow o₁) (objectRows os₁) l, append-assoc (objectRow o₂) (objectRows os₂) k) done
 
-    components-alike : (i : ℕ) (os₁ os₂ : List (Object Span)) → Each (ObjectAccepted current file₁ start) os₁ → Each (ObjectAccepted current file₂ start) os₂
+    components-alike : (i : ℕ) (os₁ os₂ : List (Object Span)) → Each (ObjectAccepted L file₁ start) os₁ → Each (ObjectAccepted L file₂ start) os₂
         → map (mapObject nothing) os₁ ≡ map (mapObject nothing) os₂ → Along Entries os₁ os₂
         → (fs : List Field) (l k : List ℕ) → Alike fs l k → Alike (rowsThen (componentCount os₁) componentFields fs) (componentRows i os₁ ++ l) (componentRows i os₂ ++ k)
     unfolding componentRows componentCount Each
@@ -218,7 +218,7 @@ module _ (file₁ file₂ : List ℕ) where
         (rowsThen m componentFields fs) (more₁ ++ l) (more₂ ++ k) (components-alike (suc i) os₁ os₂ (h₁ .1) (h₂ .1) others (es .1) fs l k more) in
         rw (rows-more n m componentFields fs, append-assoc own₁ more₁ l, append-assoc own₂ more₂ k) done
 
-    pub table-alike : (m₁ m₂ : Model Span) → Each (ObjectAccepted current file₁ start) (m₁ .objects) → Each (ObjectAccepted current file₂ start) (m₂ .objects)
+    pub table-alike : (m₁ m₂ : Model Span) → Each (ObjectAccepted L file₁ start) (m₁ .objects) → Each (ObjectAccepted L file₂ start) (m₂ .objects)
         → mapModel nothing m₁ ≡ mapModel nothing m₂ → Along Entries (m₁ .objects) (m₂ .objects)
         → (l k : List ℕ) → Alike (tableFields (length (m₁ .objects)) (componentCount (m₁ .objects))) (rows m₁ ++ l) (rows m₂ ++ k)
     table-alike m₁ m₂ h₁ h₂ e es l k =

@@ -1,4 +1,4 @@
--- What the firmware and the panel say of files whose manifests mean the same, unknown fields and the minor version apart, is the same, byte by byte.
+-- What the firmware and the panel say of files whose manifests are the same, unknown fields, the minor version and the order of fields apart, is the same, byte by byte.
 use Prim.Native.Nat.{ℕ}
 use native.Mathlib.Omega.{arith}
 use mathlib.Core.List.{List, [], _∷_, _++_, map}
@@ -15,15 +15,16 @@ use Rattle.meaning.specs.Notes.{mapCheck, mapComponent, mapObject, mapModel}
 use Rattle.meaning.specs.Frame.{Reading, reading}
 use Rattle.meaning.specs.Rows.{roomFor, roomy, answer, readInto}
 use Rattle.meaning.specs.Listing.{blobLine, blobLines, objectLine, objectLines, listing, listingOf}
-use Rattle.meaning.specs.Layouts.{current}
-use Rattle.meaning.specs.Parsed.{parsed}
+use Rattle.meaning.specs.Layouts.{Layout}
+use Rattle.meaning.specs.Parsed.{parsed, SameFiles}
 use Rattle.meaning.proofs.SameReading.{said, readings-same}
 use Rattle.reader.specs.Verdict.{verdict}
+use Rattle.shown.specs.Accepted.{Framing}
 use Rattle.shown.specs.Shown.{listedThen}
 use Rattle.shown.proofs.AfterReading.{read-zero, read-listing}
-use Rattle.tolerance.specs.Manifests.{SameOnceDropped}
+use Rattle.tolerance.specs.Manifests.{SameOnceDropped, FieldsMoved, AlikeEntry}
 use Rattle.tolerance.specs.Alike.{answerOf, ReadAlike, refused, accepted}
-use Rattle.tolerance.proofs.ReadsAlike.{once-dropped, components-counted, room-same, read-alike}
+use Rattle.tolerance.proofs.ReadsAlike.{once-dropped, fields-moved, components-counted, room-same, read-same}
 
 -- ---------------------------------------------------------------- a listing does not look at annotations
 
@@ -67,32 +68,61 @@ verdicts-alike (pass r₁) (refuse n o c) e = absurd (let z : _≡_ {A = ℕ} 0 
 verdicts-alike (refuse n o c) (pass r₂) e = absurd (let z : _≡_ {A = ℕ} 0 1 = cc in omega arith)
 verdicts-alike (refuse n o c) (refuse n′ o′ c′) e = let z : _≡_ {A = Check Reading} (refuse n o c) (refuse n′ o′ c′) = cc in ap verdict z
 
-module _ (file₁ file₂ : List ℕ) (same : SameOnceDropped (parsed current file₁) (parsed current file₂)) where
-  said-same : mapCheck said (reading current file₁) ≡ mapCheck said (reading current file₂)
-  said-same = readings-same current file₁ file₂ (once-dropped (parsed current file₁) (parsed current file₂) same)
+-- files that are the same once unknown fields are dropped and versions are read alike, but for the order of fields
+module _ (L : Layout) (file₁ file₂ : List ℕ) (same : SameFiles L (parsed L file₁) (parsed L file₂)) where
+  said-same : mapCheck said (reading L file₁) ≡ mapCheck said (reading L file₂)
+  said-same = readings-same L file₁ file₂ same
 
   -- the answer of the acceptance check
-  pub accept-alike : verdict (reading current file₁) ≡ verdict (reading current file₂)
-  accept-alike = verdicts-alike (reading current file₁) (reading current file₂) said-same
+  pub accept-same : verdict (reading L file₁) ≡ verdict (reading L file₂)
+  accept-same = verdicts-alike (reading L file₁) (reading L file₂) said-same
 
   -- the listing, or the refusal's line, of a reading into a table of any length
-  pub listing-alike : (room : ℕ) → listingOf (readInto current file₁ room) ≡ listingOf (readInto current file₂ room)
+  pub listing-same : (room : ℕ) → listingOf (readInto L file₁ room) ≡ listingOf (readInto L file₂ room)
   unfolding readInto
-  listing-alike room = listings-alike room (reading current file₁) (reading current file₂) said-same
+  listing-same room = listings-alike room (reading L file₁) (reading L file₂) said-same
 
-  module _ (table₁ table₂ : List ℕ) (tables : length table₁ ≡ length table₂) where
-    second-accepted : ReadAlike file₁ table₁ file₂ table₂ → answerOf file₁ table₁ .number ≡ 0 → answerOf file₂ table₂ .number ≡ 0
+  module _ (framing : Framing L) (table₁ table₂ : List ℕ) (tables : length table₁ ≡ length table₂) where
+    second-accepted : ReadAlike L (AlikeEntry L) file₁ table₁ file₂ table₂ → answerOf L file₁ table₁ .number ≡ 0 → answerOf L file₂ table₂ .number ≡ 0
     unfolding answer
     second-accepted (refused b) z =
-        let a : answerOf file₁ table₁ .number ≡ b .number = ap (λ x. x .number) (b .first) in let h = b .not-accepted in absurd (omega (arith, a, h, z))
+        let a : answerOf L file₁ table₁ .number ≡ b .number = ap (λ x. x .number) (b .first) in let h = b .not-accepted in absurd (omega (arith, a, h, z))
     second-accepted (accepted b) z = ap (λ x. x .number) (b .second)
 
     -- after the one file was accepted, and so the other: the panel's lines by the table and counts that the reading left
-    pub panel-alike : answerOf file₁ table₁ .number ≡ 0 → listedThen file₁ table₁ ≡ listedThen file₂ table₂
+    pub panel-same : answerOf L file₁ table₁ .number ≡ 0 → listedThen L file₁ table₁ ≡ listedThen L file₂ table₂
     unfolding listingOf
-    panel-alike z =
-        let r₁ = read-zero file₁ (length table₁) z in
-        let r₂ = read-zero file₂ (length table₂) (second-accepted (read-alike file₁ table₁ file₂ table₂ tables same) z) in
-        let lines : listingOf (readInto current file₁ (length table₁)) ≡ listingOf (readInto current file₂ (length table₂)) =
-        listing-alike (length table₁) ∙ ap (λ (n : ℕ). listingOf (readInto current file₂ n)) tables in
-        read-listing file₁ table₁ (r₁ .0) (r₁ .1) ∙ ap pass (sym (ap listingOf (r₁ .1)) ∙ lines ∙ ap listingOf (r₂ .1)) ∙ sym (read-listing file₂ table₂ (r₂ .0) (r₂ .1))
+    panel-same z =
+        let r₁ = read-zero L file₁ (length table₁) framing z in
+        let r₂ = read-zero L file₂ (length table₂) framing (second-accepted (read-same L framing file₁ table₁ file₂ table₂ tables same) z) in
+        let lines : listingOf (readInto L file₁ (length table₁)) ≡ listingOf (readInto L file₂ (length table₂)) =
+        listing-same (length table₁) ∙ ap (λ (n : ℕ). listingOf (readInto L file₂ n)) tables in
+        read-listing L framing file₁ table₁ (r₁ .0) (r₁ .1) ∙ ap pass (sym (ap listingOf (r₁ .1)) ∙ lines ∙ ap listingOf (r₂ .1)) ∙ sym (read-listing L framing file₂ table₂ (r₂ .0) (r₂ .1))
+
+-- demand 3: the same once unknown fields are dropped
+module _ (L : Layout) (file₁ file₂ : List ℕ) (same : SameOnceDropped L (parsed L file₁) (parsed L file₂)) where
+  by-dropping : SameFiles L (parsed L file₁) (parsed L file₂)
+  by-dropping = once-dropped L (parsed L file₁) (parsed L file₂) same
+
+  pub accept-alike : verdict (reading L file₁) ≡ verdict (reading L file₂)
+  accept-alike = accept-same L file₁ file₂ by-dropping
+
+  pub listing-alike : (room : ℕ) → listingOf (readInto L file₁ room) ≡ listingOf (readInto L file₂ room)
+  listing-alike = listing-same L file₁ file₂ by-dropping
+
+  pub panel-alike : Framing L → (table₁ table₂ : List ℕ) → length table₁ ≡ length table₂ → answerOf L file₁ table₁ .number ≡ 0 → listedThen L file₁ table₁ ≡ listedThen L file₂ table₂
+  panel-alike = panel-same L file₁ file₂ by-dropping
+
+-- Req 06: the same but for the order of fields
+module _ (L : Layout) (file₁ file₂ : List ℕ) (same : FieldsMoved L (parsed L file₁) (parsed L file₂)) where
+  by-moving : SameFiles L (parsed L file₁) (parsed L file₂)
+  by-moving = fields-moved L (parsed L file₁) (parsed L file₂) same
+
+  pub accept-shuffled : verdict (reading L file₁) ≡ verdict (reading L file₂)
+  accept-shuffled = accept-same L file₁ file₂ by-moving
+
+  pub listing-shuffled : (room : ℕ) → listingOf (readInto L file₁ room) ≡ listingOf (readInto L file₂ room)
+  listing-shuffled = listing-same L file₁ file₂ by-moving
+
+  pub panel-shuffled : Framing L → (table₁ table₂ : List ℕ) → length table₁ ≡ length table₂ → answerOf L file₁ table₁ .number ≡ 0 → listedThen L file₁ table₁ ≡ listedThen L file₂ table₂
+  panel-shuffled = panel-same L file₁ file₂ by-moving

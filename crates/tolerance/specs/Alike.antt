@@ -1,5 +1,5 @@
 -- Answers and tables that are alike: the same numbers, but for places of texts, spans of attributes and spans of entries, where each file has the same text, the same map, or
--- a map that means the same once unknown fields are dropped.
+-- an entry that is related to the other's (by E: the same once unknown fields are dropped, or put in order, or both).
 use Prim.Native.Nat.{ℕ, zero, suc, _+_, _-_, _*_, _≤_}
 use mathlib.Core.List.{List, [], _∷_, _++_}
 use mathlib.Core.Bool.{Bool, true, false}
@@ -11,8 +11,7 @@ use Rattle.meaning.specs.Tree.{Node, Pairs, dict}
 use Rattle.meaning.specs.Check.{refuse}
 use Rattle.meaning.specs.Read.{Span, bytesAt, got, item, noNote}
 use Rattle.meaning.specs.Rows.{Answer, answer, tableAfter, readInto}
-use Rattle.meaning.specs.Layouts.{current}
-use Rattle.meaning.specs.Drop.{dropComponent}
+use Rattle.meaning.specs.Layouts.{Layout}
 
 -- ---------------------------------------------------------------- what stands in a file
 
@@ -104,21 +103,21 @@ module _ (file₁ file₂ : List ℕ) where
     pub first : MapAt file₁ levels s₁ found
     pub second : MapAt file₂ levels s₂ found
 
-  -- a map in each span, and they mean the same once unknown fields are dropped
-  pub record EntriesAlike (levels : ℕ) (s₁ s₂ : Span) : Type 0 where
+  -- a map in each span, and they are so related
+  pub record EntriesAlike (E : Node (Unit {0}) → Node (Unit {0}) → Type 0) (levels : ℕ) (s₁ s₂ : Span) : Type 0 where
     pub tree₁ : Node (Unit {0})
     pub tree₂ : Node (Unit {0})
     pub first : OneMap file₁ levels s₁ tree₁
     pub second : OneMap file₂ levels s₂ tree₂
-    pub same : dropComponent current tree₁ ≡ dropComponent current tree₂
+    pub related : E tree₁ tree₂
 
   -- field by field, from the front; an object's attributes are at depth 4: 29 levels are left there; a component's entry is at depth 5: 28
-  abbrev pub FieldsAlike : List Field → List ℕ → List ℕ → Type 0
-  FieldsAlike [] l₁ l₂ = Unit {0}
-  FieldsAlike (number ∷ fs) l₁ l₂ = (getD l₁ 0 0 ≡ getD l₂ 0 0) × FieldsAlike fs (drop 1 l₁) (drop 1 l₂)
-  FieldsAlike (textSpan ∷ fs) l₁ l₂ = TextsAlike (spanOf l₁) (spanOf l₂) × FieldsAlike fs (drop 2 l₁) (drop 2 l₂)
-  FieldsAlike (mapSpan ∷ fs) l₁ l₂ = MapsAlike 29 (spanOf l₁) (spanOf l₂) × FieldsAlike fs (drop 2 l₁) (drop 2 l₂)
-  FieldsAlike (entrySpan ∷ fs) l₁ l₂ = EntriesAlike 28 (spanOf l₁) (spanOf l₂) × FieldsAlike fs (drop 2 l₁) (drop 2 l₂)
+  abbrev pub FieldsAlike : (Node (Unit {0}) → Node (Unit {0}) → Type 0) → List Field → List ℕ → List ℕ → Type 0
+  FieldsAlike E [] l₁ l₂ = Unit {0}
+  FieldsAlike E (number ∷ fs) l₁ l₂ = (getD l₁ 0 0 ≡ getD l₂ 0 0) × FieldsAlike E fs (drop 1 l₁) (drop 1 l₂)
+  FieldsAlike E (textSpan ∷ fs) l₁ l₂ = TextsAlike (spanOf l₁) (spanOf l₂) × FieldsAlike E fs (drop 2 l₁) (drop 2 l₂)
+  FieldsAlike E (mapSpan ∷ fs) l₁ l₂ = MapsAlike 29 (spanOf l₁) (spanOf l₂) × FieldsAlike E fs (drop 2 l₁) (drop 2 l₂)
+  FieldsAlike E (entrySpan ∷ fs) l₁ l₂ = EntriesAlike E 28 (spanOf l₁) (spanOf l₂) × FieldsAlike E fs (drop 2 l₁) (drop 2 l₂)
 
 -- ---------------------------------------------------------------- two readings into tables
 
@@ -135,45 +134,45 @@ acceptance objects components start attributes = record {
 }
 
 -- the answer for a file read into a table, and that table afterwards
-abbrev pub answerOf : List ℕ → List ℕ → Answer
-answerOf file table = answer (readInto current file (length table))
+abbrev pub answerOf : Layout → List ℕ → List ℕ → Answer
+answerOf L file table = answer (readInto L file (length table))
 
-abbrev pub afterwards : List ℕ → List ℕ → List ℕ
-afterwards file table = tableAfter table (readInto current file (length table))
+abbrev pub afterwards : Layout → List ℕ → List ℕ → List ℕ
+afterwards L file table = tableAfter table (readInto L file (length table))
 
 -- numbers that the rows of so many objects and components take
 abbrev pub roomOf : ℕ → ℕ → ℕ
 roomOf objects components = objectWidth * objects + componentWidth * components
 
 -- the same refusal, and both tables as they were
-pub record BothRefused (file₁ table₁ file₂ table₂ : List ℕ) : Type 0 where
+pub record BothRefused (L : Layout) (file₁ table₁ file₂ table₂ : List ℕ) : Type 0 where
   pub number : ℕ
   pub object : ℕ
   pub component : ℕ
   pub not-accepted : 1 ≤ number
-  pub first : answerOf file₁ table₁ ≡ answer (refuse number object component)
-  pub second : answerOf file₂ table₂ ≡ answer (refuse number object component)
-  pub untouched₁ : afterwards file₁ table₁ ≡ table₁
-  pub untouched₂ : afterwards file₂ table₂ ≡ table₂
+  pub first : answerOf L file₁ table₁ ≡ answer (refuse number object component)
+  pub second : answerOf L file₂ table₂ ≡ answer (refuse number object component)
+  pub untouched₁ : afterwards L file₁ table₁ ≡ table₁
+  pub untouched₂ : afterwards L file₂ table₂ ≡ table₂
 
 -- the same counts and manifest start; the rows alike, and each table as it was beyond them; the root's attributes are at depth 2: 31 levels are left there
-pub record BothAccepted (file₁ table₁ file₂ table₂ : List ℕ) : Type 0 where
+pub record BothAccepted (L : Layout) (E : Node (Unit {0}) → Node (Unit {0}) → Type 0) (file₁ table₁ file₂ table₂ : List ℕ) : Type 0 where
   pub objects : ℕ
   pub components : ℕ
   pub start : ℕ
   pub attributes₁ : Span
   pub attributes₂ : Span
-  pub first : answerOf file₁ table₁ ≡ acceptance objects components start attributes₁
-  pub second : answerOf file₂ table₂ ≡ acceptance objects components start attributes₂
+  pub first : answerOf L file₁ table₁ ≡ acceptance objects components start attributes₁
+  pub second : answerOf L file₂ table₂ ≡ acceptance objects components start attributes₂
   pub root : MapsAlike file₁ file₂ 31 attributes₁ attributes₂
-  pub rows : FieldsAlike file₁ file₂ (tableFields objects components) (afterwards file₁ table₁) (afterwards file₂ table₂)
+  pub rows : FieldsAlike file₁ file₂ E (tableFields objects components) (afterwards L file₁ table₁) (afterwards L file₂ table₂)
   pub room : roomOf objects components ≤ length table₁
-  pub whole₁ : length (afterwards file₁ table₁) ≡ length table₁
-  pub whole₂ : length (afterwards file₂ table₂) ≡ length table₂
-  pub beyond₁ : drop (roomOf objects components) (afterwards file₁ table₁) ≡ drop (roomOf objects components) table₁
-  pub beyond₂ : drop (roomOf objects components) (afterwards file₂ table₂) ≡ drop (roomOf objects components) table₂
+  pub whole₁ : length (afterwards L file₁ table₁) ≡ length table₁
+  pub whole₂ : length (afterwards L file₂ table₂) ≡ length table₂
+  pub beyond₁ : drop (roomOf objects components) (afterwards L file₁ table₁) ≡ drop (roomOf objects components) table₁
+  pub beyond₂ : drop (roomOf objects components) (afterwards L file₂ table₂) ≡ drop (roomOf objects components) table₂
 
 -- what `read` may answer for the one file and for the other, and leave in their tables
-pub data ReadAlike (file₁ table₁ file₂ table₂ : List ℕ) : Type 0 where
-  refused : BothRefused file₁ table₁ file₂ table₂ → ReadAlike file₁ table₁ file₂ table₂
-  accepted : BothAccepted file₁ table₁ file₂ table₂ → ReadAlike file₁ table₁ file₂ table₂
+pub data ReadAlike (L : Layout) (E : Node (Unit {0}) → Node (Unit {0}) → Type 0) (file₁ table₁ file₂ table₂ : List ℕ) : Type 0 where
+  refused : BothRefused L file₁ table₁ file₂ table₂ → ReadAlike L E file₁ table₁ file₂ table₂
+  accepted : BothAccepted L E file₁ table₁ file₂ table₂ → ReadAlike L E file₁ table₁ file₂ table₂
