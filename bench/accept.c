@@ -28,6 +28,26 @@ static void beside(const char *what, zt_file z) {
     free(z.file.bytes);
 }
 
+/* One model in both layouts. */
+typedef struct {
+    zt_file current, first;
+} both_layouts;
+
+static bool current_accepted(const void *x) { return accepted(&((const both_layouts *)x)->current); }
+
+static bool first_accepted(const void *x) {
+    const both_layouts *b = x;
+    return zt_accept_as(ZT_LAYOUT_1_0, b->first.file.bytes, b->first.file.length) == ZT_ACCEPTED;
+}
+
+static void in_both_layouts(void) {
+    both_layouts b = {model(OBJECTS, 0), first_model(OBJECTS)};
+    program first = {"zt_accept_as, 1.0", first_accepted}, current = {"zt_accept, 1.2.0", current_accepted};
+    compare("a model of layout 1.0", first, current, &b, OBJECTS, b.first.manifest.length, 0);
+    free(b.current.file.bytes);
+    free(b.first.file.bytes);
+}
+
 /* Manifests of so many bytes or a little fewer. */
 static zt_file one_byte_items(size_t size) { return with_value(flat(size - 64)); }
 static zt_file nesting(size_t size) { return with_value(nested(size - 64, 2)); }
@@ -53,6 +73,7 @@ void acceptance(void) {
     heading("acceptance of 1000 objects", "per object");
     beside("a model", model(OBJECTS, 0));
     beside("with three unknown fields in every map", model(OBJECTS, 3));
+    in_both_layouts();
 
     heading("acceptance of 16 MiB", "per byte");
     grown("items of one byte", one_byte_items);

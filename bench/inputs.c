@@ -66,12 +66,10 @@ static void unknown_fields(input *in, unsigned count) {
     }
 }
 
-static uint64_t object(input *in, size_t i, uint64_t offset, unsigned unknown) {
+/* An object's shape; the length of its blob. */
+static uint64_t shape(input *in, size_t i) {
     unsigned rank = i % 9 < 7 ? 2 : 1;
     uint64_t length = i % 4 ? 2 : 4;
-    word(in, name_of(i));
-    head(in, 5, 3 + unknown);
-    unknown_fields(in, unknown);
     word(in, "shape");
     head(in, 4, rank);
     for (unsigned k = 0; k < rank; k++) {
@@ -79,33 +77,65 @@ static uint64_t object(input *in, size_t i, uint64_t offset, unsigned unknown) {
         head(in, 0, n);
         length *= n;
     }
+    return length;
+}
+
+/* The format, and the components up to the one's map. */
+static void dense(input *in) {
     word(in, "format");
     word(in, "dense");
     word(in, "components");
     head(in, 5, 1);
     word(in, "data");
-    head(in, 5, 4 + unknown);
-    word(in, "dtype");
-    word(in, i % 4 ? "f16" : "f32");
+}
+
+/* Where the blob lies, and its digest; where the next one lies. */
+static uint64_t blob(input *in, size_t i, uint64_t offset, uint64_t length) {
     field(in, "offset", offset);
     field(in, "length", length);
     word(in, "digest");
     digest(in, i);
-    unknown_fields(in, unknown);
     return (offset + length + 63) / 64 * 64;
 }
 
-/* The root of a manifest up to the first of its objects. */
-static input root_of(size_t objects, unsigned unknown) {
+static uint64_t object(input *in, size_t i, uint64_t offset, unsigned unknown) {
+    word(in, name_of(i));
+    head(in, 5, 3 + unknown);
+    unknown_fields(in, unknown);
+    uint64_t length = shape(in, i);
+    dense(in);
+    head(in, 5, 4 + unknown);
+    word(in, "dtype");
+    word(in, i % 4 ? "f16" : "f32");
+    uint64_t next = blob(in, i, offset, length);
+    unknown_fields(in, unknown);
+    return next;
+}
+
+static uint64_t tensor(input *in, size_t i, uint64_t offset) {
+    word(in, name_of(i));
+    head(in, 5, 4);
+    word(in, "dtype");
+    word(in, i % 4 ? "float16" : "float32");
+    uint64_t length = shape(in, i);
+    dense(in);
+    head(in, 5, 3);
+    return blob(in, i, offset, length);
+}
+
+/* The root of a manifest up to the first of its objects, which stand in this field. */
+static input root_as(const char *version, const char *objects_field, size_t objects, unsigned unknown) {
     input in = empty();
     head(&in, 5, 2 + unknown);
     word(&in, "version");
-    word(&in, "1.2.0");
+    word(&in, version);
     unknown_fields(&in, unknown);
-    word(&in, "objects");
+    word(&in, objects_field);
     head(&in, 5, objects);
     return in;
 }
+
+static input root_of(size_t objects, unsigned unknown) { return root_as("1.2.0", "objects", objects, unknown); }
 
 /* The file whose manifest starts at `start`. */
 static zt_file framed(input manifest, size_t start) {
@@ -128,6 +158,15 @@ zt_file model(size_t objects, unsigned unknown) {
     uint64_t offset = 64;
     for (size_t i = 0; i < objects; i++) offset = object(&in, i, offset, unknown);
     return framed(in, offset);
+}
+
+zt_file first_model(size_t objects) {
+    input in = root_as("1.0", "tensors", objects, 0);
+    uint64_t offset = 64;
+    for (size_t i = 0; i < objects; i++) offset = tensor(&in, i, offset);
+    zt_file z = framed(in, offset);
+    z.file.length -= 8; /* there is no footer */
+    return z;
 }
 
 zt_file with_value(input value) {

@@ -28,6 +28,7 @@ names long_names(size_t count, size_t length, size_t at); /* that differ only in
 
 /* Files that are accepted. */
 zt_file model(size_t objects, unsigned unknown);     /* of dense objects, with 0 to 3 unknown fields in every map */
+zt_file first_model(size_t objects);                 /* the same objects in layout 1.0 */
 zt_file with_value(input value);                     /* that has this item in an unknown field */
 zt_file named(names n);                              /* of objects without components, by these names */
 zt_file packed(size_t objects, size_t digest);       /* of objects with 16 components, each with a digest so long */

@@ -23,7 +23,19 @@ static bool listed(const void *x) {
     return zt_list(z->file.bytes, z->file.length, table, ROOM, counts.objects, counts.components, lines, TEXT).number == ZT_ACCEPTED;
 }
 
+static bool first_filled(const void *x) {
+    const zt_file *z = x;
+    counts = zt_read_as(ZT_LAYOUT_1_0, z->file.bytes, z->file.length, table, ROOM);
+    return counts.number == ZT_ACCEPTED;
+}
+
+static bool first_accepted(const void *x) {
+    const zt_file *z = x;
+    return zt_accept_as(ZT_LAYOUT_1_0, z->file.bytes, z->file.length) == ZT_ACCEPTED;
+}
+
 static const program table_read = {"zt_read", filled}, list = {"zt_list", listed};
+static const program first_read = {"zt_read_as, 1.0", first_filled}, first_check = {"zt_accept_as, 1.0", first_accepted};
 
 static void beside(const char *what, zt_file z) {
     compare(what, table_read, acceptance_check, &z, OBJECTS, z.manifest.length, 2.2);
@@ -35,4 +47,7 @@ void reading(void) {
     heading("table and listing of 1000 objects", "per object");
     beside("a model", model(OBJECTS, 0));
     beside("with three unknown fields in every map", model(OBJECTS, 3));
+    zt_file first = first_model(OBJECTS);
+    compare("a model of layout 1.0", first_read, first_check, &first, OBJECTS, first.manifest.length, 2.2);
+    free(first.file.bytes);
 }

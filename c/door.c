@@ -23,7 +23,7 @@ static void numbers(void) {
     SAME(ZT_RANK, 21), SAME(ZT_ROLE, 22), SAME(ZT_LENGTH, 23), SAME(ZT_ROOM, 24), SAME(ZT_ROW, 25), SAME(ZT_INDEX, 26);
 }
 
-/* The columns and widths of rows, the limits and the storage codes, each with its number in documents 01 and 02. */
+/* The columns and widths of rows, the limits, the storage codes and the layouts, each with its number in documents 01 and 02. */
 static void columns(void) {
     SAME(ZT_OBJECT_NAME, 0), SAME(ZT_OBJECT_NAME_LENGTH, 1), SAME(ZT_OBJECT_RANK, 2), SAME(ZT_OBJECT_SHAPE, 3), SAME(ZT_OBJECT_FORMAT, 11);
     SAME(ZT_OBJECT_FORMAT_LENGTH, 12), SAME(ZT_OBJECT_ATTRIBUTES, 13), SAME(ZT_OBJECT_ATTRIBUTES_LENGTH, 14), SAME(ZT_OBJECT_COMPONENTS, 15);
@@ -36,6 +36,7 @@ static void columns(void) {
     SAME(ZT_OBJECTS_MOST, 1024), SAME(ZT_COMPONENTS_MOST, 16), SAME(ZT_RANK_MOST, 8), SAME(ZT_MANIFEST_MOST, 16777216);
     SAME(ZT_F64, 0), SAME(ZT_F32, 1), SAME(ZT_F16, 2), SAME(ZT_BF16, 3), SAME(ZT_I64, 4), SAME(ZT_I32, 5), SAME(ZT_I16, 6), SAME(ZT_I8, 7);
     SAME(ZT_U64, 8), SAME(ZT_U32, 9), SAME(ZT_U16, 10), SAME(ZT_U8, 11), SAME(ZT_BOOL, 12);
+    SAME(ZT_LAYOUT_1_2, 0), SAME(ZT_LAYOUT_1_0, 1);
 }
 
 enum { OBJECTS = 3, COMPONENTS = 7, NUMBERS = ZT_NUMBERS(OBJECTS, COMPONENTS) };
@@ -150,10 +151,87 @@ static void refused(void) {
     }
 }
 
+/*
+ * A manifest of layout 1.0: a dense tensor of one component, and a sparse_csr one of three, whose pointers' length is the last byte. A letter that could be
+ * a digit of the number before it stands as a number too.
+ */
+#define LAID_AT(offset, length) "\x66offset" offset "\x66length" length
+static const uint8_t manifest[] =
+    "\xA4\x67version\x63\x31.0\x69generator\x64made\x6A\x61ttributes\xA1\x61k\x01\x67tensors\xA2"
+    "\x61m\xA4\x65\x64type\x65int16\x65shape\x81\x03\x66\x66ormat\x65\x64\x65nse\x6A\x63omponents\xA1"
+    "\x64\x64\x61ta\xA2" LAID_AT("\x18\x40", "\x06")
+    "\x61n\xA5\x65\x64type\x67\x66loat16\x65shape\x82\x02\x05\x66\x66ormat\x6Asparse_csr\x6A\x61ttributes\xA0\x6A\x63omponents\xA3"
+    "\x66values\xA2" LAID_AT("\x18\x80", "\x04")
+    "\x67indices\xA3\x66\x64igest\x61\x64" LAID_AT("\x18\xC0", "\x10")
+    "\x66indptr\xA2" LAID_AT("\x19\x01\x00", "\x18\x18");
+enum { TENSORS = 2, PIECES = 4, LAID = ZT_NUMBERS(TENSORS, PIECES) };
+enum { MANIFEST = sizeof manifest - 1, FIRST_START = 256 + 24, FIRST = FIRST_START + MANIFEST + 8 };
+static uint8_t first[FIRST];
+
+static void lay_first(void) {
+    size_t i;
+    memset(first, 0, FIRST);
+    memcpy(first, "ZTEN1000", 8);
+    for (i = 64; i < FIRST_START; i++) first[i] = (uint8_t)i;
+    memcpy(first + FIRST_START, manifest, MANIFEST);
+    first[FIRST - 8] = (uint8_t)MANIFEST, first[FIRST - 7] = (uint8_t)(MANIFEST >> 8);
+}
+
+/* A file of layout 1.0, accepted and refused, and the file that its rows write. */
+static void of_a_layout(void) {
+    static const uint64_t codes[PIECES] = {ZT_I16, ZT_F16, ZT_U64, ZT_U64}, lengths[PIECES] = {6, 4, 16, 24};
+    static const char lines[] = "objects 2 components 4\nobject m dense\nblob data i16 64 6\nobject n sparse_csr\nblob values f16 128 4\nblob indices u64 192 16\n";
+    zt_answer a, b;
+    zt_written w;
+    uint64_t i;
+    lay_first();
+    SAME(zt_accept_as(ZT_LAYOUT_1_0, first, FIRST), ZT_ACCEPTED);
+    /* every number but 1 is 1.2.0, which wants a footer; a 1.2.0 file's footer is no size */
+    SAME(zt_accept(first, FIRST), ZT_FOOTER), SAME(zt_accept_as(ZT_LAYOUT_1_2, first, FIRST), ZT_FOOTER);
+    SAME(zt_accept_as(2, first, FIRST), ZT_FOOTER), SAME(zt_accept_as(UINT64_MAX, first, FIRST), ZT_FOOTER);
+    SAME(zt_read_as(2, first, FIRST, table, LAID).number, ZT_FOOTER);
+    SAME(zt_accept_as(ZT_LAYOUT_1_0, first, 15), ZT_SHORT), SAME(zt_accept_as(ZT_LAYOUT_1_0, first, 16), ZT_FIT);
+
+    table[LAID] = 5;
+    a = zt_read_as(ZT_LAYOUT_1_0, first, FIRST, table, LAID + 1);
+    SAME(table[LAID], 5);
+    SAME(a.number, ZT_ACCEPTED), SAME(a.object, 0), SAME(a.component, 0), SAME(a.objects, TENSORS), SAME(a.components, PIECES);
+    SAME(a.start, FIRST_START), SAME(a.size, 4), SAME(memcmp(first + a.place, "\xA1\x61k\x01", 4), 0);
+    SAME(table[ZT_OBJECT_WIDTH + ZT_OBJECT_ATTRIBUTES], 0), SAME(table[ZT_OBJECT_WIDTH + ZT_OBJECT_ATTRIBUTES_LENGTH], 0);
+    for (i = 0; i < PIECES; i++) {
+        const uint64_t *row = table + ZT_NUMBERS(TENSORS, i);
+        SAME(row[ZT_COMPONENT_DTYPE], codes[i]), SAME(row[ZT_COMPONENT_OFFSET], 64 * (i + 1)), SAME(row[ZT_COMPONENT_LENGTH], lengths[i]);
+        SAME(row[ZT_COMPONENT_TYPE], 0), SAME(row[ZT_COMPONENT_TYPE_LENGTH], 0), SAME(row[ZT_COMPONENT_OWNER], i > 0);
+        SAME(first[row[ZT_COMPONENT_ENTRY]], i == 2 ? 0xA3 : 0xA2);
+    }
+    SAME(zt_list(first, FIRST, table, LAID, TENSORS, PIECES, text, sizeof text).number, ZT_ACCEPTED);
+    SAME(memcmp(text, lines, sizeof lines - 1), 0);
+
+    w = zt_write(table, LAID, TENSORS, PIECES, a.place, a.size, first, FIRST, out, sizeof out);
+    SAME(w.number, ZT_ACCEPTED), SAME(zt_accept(out, w.length), ZT_ACCEPTED), SAME(zt_accept_as(ZT_LAYOUT_1_0, out, w.length), ZT_BIG);
+    b = zt_read_as(ZT_LAYOUT_1_2, out, w.length, rows, LAID);
+    SAME(b.number, ZT_ACCEPTED), SAME(b.objects, TENSORS), SAME(b.components, PIECES), SAME(b.start, FIRST_START), SAME(b.size, 4);
+    for (i = 0; i < PIECES; i++) {
+        const uint64_t *row = rows + ZT_NUMBERS(TENSORS, i);
+        SAME(row[ZT_COMPONENT_DTYPE], codes[i]), SAME(row[ZT_COMPONENT_LENGTH], lengths[i]);
+        SAME(memcmp(out + row[ZT_COMPONENT_OFFSET], first + 64 * (i + 1), lengths[i]), 0);
+    }
+
+    /* one byte of pointers less: LENGTH in object 1, component 2 */
+    first[FIRST - 9] = 23;
+    memset(table, 0xA5, sizeof table);
+    SAME(zt_accept_as(ZT_LAYOUT_1_0, first, FIRST), ZT_LENGTH);
+    a = zt_read_as(ZT_LAYOUT_1_0, first, FIRST, table, LAID);
+    SAME(a.number, ZT_LENGTH), SAME(a.object, 1), SAME(a.component, 2);
+    SAME(a.objects, 0), SAME(a.components, 0), SAME(a.start, 0), SAME(a.place, 0), SAME(a.size, 0);
+    for (i = 0; i < LAID; i++) SAME(table[i], 0xA5A5A5A5A5A5A5A5u);
+}
+
 int main(void) {
     numbers();
     columns();
     accepted();
     refused();
+    of_a_layout();
     return wrong;
 }

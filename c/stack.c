@@ -1,6 +1,6 @@
 /*
- * How much stack the calls of zt.h take on the files named: each is judged, read, listed and written anew in a thread whose stack was painted before, and
- * what is no longer paint was used. Prints the deepest use; it must stay within what zt.h says.
+ * How much stack the calls of zt.h take on the files named: each is judged, read, listed and written anew, in either layout, in a thread whose stack was
+ * painted before, and what is no longer paint was used. Prints the deepest use; it must stay within what zt.h says.
  */
 #include "read_file.h"
 #include "zt.h"
@@ -20,14 +20,22 @@ typedef struct {
     const uint8_t *top; /* where the call begins */
 } task;
 
+/* The calls that go by the table. */
+static inline __attribute__((always_inline)) void all_of(bytes file, zt_answer a) {
+    zt_view(file.at, file.length, table, ROOM, a.objects, a.components, 0);
+    zt_list(file.at, file.length, table, ROOM, a.objects, a.components, text, TEXT);
+    zt_write(table, ROOM, a.objects, a.components, a.place, a.size, file.at, file.length, out, sizeof out);
+}
+
 static void *judge(void *given) {
     task *t = given;
     t->top = __builtin_frame_address(0);
     zt_accept(t->file.at, t->file.length);
-    zt_answer a = zt_read(t->file.at, t->file.length, table, ROOM);
-    zt_view(t->file.at, t->file.length, table, ROOM, a.objects, a.components, 0);
-    zt_list(t->file.at, t->file.length, table, ROOM, a.objects, a.components, text, TEXT);
-    zt_write(table, ROOM, a.objects, a.components, a.place, a.size, t->file.at, t->file.length, out, sizeof out);
+    all_of(t->file, zt_read(t->file.at, t->file.length, table, ROOM));
+    for (uint64_t layout = ZT_LAYOUT_1_2; layout <= ZT_LAYOUT_1_0; layout++) {
+        zt_accept_as(layout, t->file.at, t->file.length);
+        all_of(t->file, zt_read_as(layout, t->file.at, t->file.length, table, ROOM));
+    }
     return NULL;
 }
 

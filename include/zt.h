@@ -1,7 +1,7 @@
 /*
- * Radenvyth's reading and writing of .zt files (zTensor 1.2.0), for C99 and C++: the acceptance check, the table, the view, the listing, and the
- * writer. Link libzt.a or libzt.so, libraries for x86-64 Linux. examples/firmware and examples/maker are whole programs over it, zt(3) is its manual page; this
- * is the shortest program, which refuses to judge what doesn't fit:
+ * Radenvyth's reading and writing of .zt files (zTensor 1.2.0, and 1.0 to be read), for C99 and C++: the acceptance check, the table, the view, the listing,
+ * and the writer. Link libzt.a or libzt.so, libraries for x86-64 Linux. examples/firmware and examples/maker are whole programs over it, zt(3) is its manual
+ * page; this is the shortest program, which refuses to judge what doesn't fit:
  *
  *     #include "zt.h"
  *     #include <stdio.h>
@@ -172,6 +172,27 @@ typedef struct {
  */
 zt_answer zt_read(const uint8_t *file, size_t length, uint64_t *table, size_t room);
 
+/*
+ * A file's layout, said by the caller: document 000's, 1.2.0, or document 001's, 1.0, which field boxes hold (Request 05 of document 02). Every number
+ * but 1 says 1.2.0. A 1.0 file has no footer, its manifest's size stands in its last 8 bytes, the root's objects are `tensors`, a tensor has a `dtype`
+ * with long names such as float32, and a component has `offset`, `length`, `encoding` and `digest` alone.
+ */
+enum zt_layout { ZT_LAYOUT_1_2 = 0, ZT_LAYOUT_1_0 = 1 };
+
+/*
+ * zt_accept for a layout. A 1.0 file is ZT_SHORT under 16 bytes and ZT_FIT with a manifest of 0 bytes or over file length - 16; it is never ZT_FOOTER or
+ * ZT_TYPE, and ZT_ROLE only where a needed role is absent.
+ */
+uint64_t zt_accept_as(uint64_t layout, const uint8_t *file, size_t length);
+
+/*
+ * zt_read for a layout. The rows of a 1.0 file are those of 1.2.0: a component's code is u64 for indices and indptr of a sparse_csr and coords of a
+ * sparse_coo, and its tensor's for all else; types and objects' attributes are absent. zt_view, zt_list and zt_write go by the table and take no layout:
+ * with the 1.0 file as buffer, zt_write makes a 1.2.0 file of such rows, or answers ZT_BIG, ZT_COUNT for a last blob that would end above 2^40, or
+ * ZT_ROOM. What is unknown in 1.0, `generator` and a tensor's `attributes` among it, has no row and isn't carried over.
+ */
+zt_answer zt_read_as(uint64_t layout, const uint8_t *file, size_t length, uint64_t *table, size_t room);
+
 /* Where a component lies: ZT_ACCEPTED, its offset and its length; or ZT_INDEX, 0 and 0. */
 typedef struct {
     uint64_t number, offset, length;
@@ -191,9 +212,9 @@ typedef struct {
  * one of the 13 and the objects' counts add up to the components. No more is checked: a table goes with the file that it was read from, and with another
  * file's bytes it may be listed with other names. The text must overlap neither the file nor the table.
  *
- * A listing is never longer than 3 bytes for each byte of the manifest, whose length is `length - 16 - start`, so at most 3 * ZT_MANIFEST_MOST: a byte of a
- * text is printed as 3 at most, and the words around texts are shorter than three times what the manifest has around them. Worked out from the format, and
- * seen in the tests, not proved.
+ * A listing is never longer than 3 bytes for each byte of the manifest, whose length is `length - 16 - start` (`length - 8 - start` in layout 1.0), so at
+ * most 3 * ZT_MANIFEST_MOST: a byte of a text is printed as 3 at most, and the words around texts are shorter than three times what the manifest has around
+ * them. Worked out from the format, and seen in the tests, not proved.
  */
 zt_text zt_list(const uint8_t *file, size_t length, const uint64_t *table, size_t room, uint64_t objects, uint64_t components, uint8_t *text,
                 size_t text_room);

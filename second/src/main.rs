@@ -1,11 +1,11 @@
-//! `second list PATH…`, `second judge PATH…`, `second generate SEED COUNT DIR`, `second cases DIR`,
-//! `second table SEED EACH`, `second vectors CRATE`.
+//! `second list PATH…`, `second judge PATH…`, `second generate SEED COUNT DIR`, `second generate-1.0 SEED COUNT DIR`,
+//! `second cases DIR`, `second table SEED EACH`, `second vectors CRATE`.
 
 use second::antt;
 use second::appendix;
 use second::cases;
-use second::generate::nth_file;
-use second::judge::verdict;
+use second::generate::nth_file_as;
+use second::layout::Layout;
 use second::listing::{escaped, program_text};
 use second::probes;
 use second::vectors;
@@ -17,6 +17,7 @@ use std::process::ExitCode;
 const USAGE: &str = "usage: second list PATH…
        second judge PATH…
        second generate SEED COUNT DIR
+       second generate-1.0 SEED COUNT DIR
        second cases DIR
        second table SEED EACH
        second vectors CRATE";
@@ -41,17 +42,14 @@ fn run(arguments: &[&str]) -> io::Result<()> {
             text
         }),
         ["judge", paths @ ..] if !paths.is_empty() => {
-            for_each(paths, |_, file| format!("{}\n", judgement(file)).into_bytes())
+            for_each(paths, |_, file| format!("{}\n", judgement(Layout::Current, file)).into_bytes())
         }
-        ["generate", seed, count, directory] => {
-            let seed = number(seed)?;
-            let files = (0..number(count)?).map(|index| nth_file(seed, index));
-            write_files(Path::new(directory), files)
-        }
+        ["generate", seed, count, directory] => generate(Layout::Current, seed, count, directory),
+        ["generate-1.0", seed, count, directory] => generate(Layout::First, seed, count, directory),
         ["cases", directory] => {
             let cases = cases::all().into_iter().chain(appendix::files());
             let files = cases.map(|case| case.file).chain(probes::files());
-            write_files(Path::new(directory), files)
+            write_files(Layout::Current, Path::new(directory), files)
         }
         ["table", seed, each] => {
             let each = usize::try_from(number(each)?).map_err(io::Error::other)?;
@@ -91,18 +89,24 @@ fn for_each(paths: &[&str], answer: impl Fn(&str, &[u8]) -> Vec<u8>) -> io::Resu
     Ok(())
 }
 
-fn judgement(file: &[u8]) -> String {
-    let (number, object, component) = verdict(file);
+fn generate(layout: Layout, seed: &str, count: &str, directory: &str) -> io::Result<()> {
+    let seed = number(seed)?;
+    let files = (0..number(count)?).map(|index| nth_file_as(layout, seed, index));
+    write_files(layout, Path::new(directory), files)
+}
+
+fn judgement(layout: Layout, file: &[u8]) -> String {
+    let (number, object, component) = layout.verdict(file);
     format!("{number} {object} {component}")
 }
 
 /// Writes the files, and what this program answers for each.
-fn write_files(directory: &Path, files: impl Iterator<Item = Vec<u8>>) -> io::Result<()> {
+fn write_files(layout: Layout, directory: &Path, files: impl Iterator<Item = Vec<u8>>) -> io::Result<()> {
     fs::create_dir_all(directory)?;
     let mut answers = String::new();
     for (index, file) in files.enumerate() {
         let name = format!("{index:06}.zt");
-        answers += &format!("{name} {}\n", judgement(&file));
+        answers += &format!("{name} {}\n", judgement(layout, &file));
         fs::write(directory.join(name), file)?;
     }
     fs::write(directory.join("answers.txt"), answers)

@@ -1,7 +1,8 @@
 //! The small program: what it prints and what it leaves in a directory.
 
 use second::frame;
-use second::generate::nth_file;
+use second::generate::{nth_file, nth_file_as};
+use second::layout::Layout;
 use std::fs;
 use std::path::{Path, PathBuf};
 use std::process::{Command, Output};
@@ -64,6 +65,23 @@ fn generates_files_with_their_answers() {
         assert_eq!(fs::read(made.join(name)).unwrap(), nth_file(3, index));
         let judge = second(&["judge", name], &made);
         assert_eq!(judge.stdout, format!("{answer}\n").into_bytes());
+    }
+}
+
+#[test]
+fn generates_files_of_layout_1_0() {
+    let directory = directory("generates_files_of_layout_1_0");
+    assert!(second(&["generate-1.0", "3", "20", "made"], &directory)
+        .status
+        .success());
+    let made = directory.join("made");
+    let answers = fs::read_to_string(made.join("answers.txt")).unwrap();
+    for (index, line) in (0..20).zip(answers.lines()) {
+        let (name, answer) = line.split_once(' ').unwrap();
+        let file = fs::read(made.join(name)).unwrap();
+        assert_eq!(file, nth_file_as(Layout::First, 3, index));
+        let (number, object, component) = Layout::First.verdict(&file);
+        assert_eq!(answer, format!("{number} {object} {component}"));
     }
 }
 
