@@ -143,14 +143,18 @@ OF_TEXT(bool, TRUTH, leaf_utf8)
 OF_TEXT(bool, TRUTH, leaf_version_shape)
 OF_TEXT(bool, TRUTH, leaf_major_one)
 OF_TEXT(bool, TRUTH, leaf_is_magic)
-OF_TEXT(size_t, WORD, leaf_root_key)
-OF_TEXT(size_t, WORD, leaf_object_key)
-OF_TEXT(size_t, WORD, leaf_component_key)
 OF_TEXT(bool, TRUTH, leaf_is_raw)
-OF_TEXT(uint64_t, WORD, leaf_dtype_code)
 OF_TEXT(uint64_t, WORD, leaf_ratio_of)
 OF_TEXT(uint64_t, WORD, leaf_format_code)
 OF_TEXT(uint64_t, WORD, leaf_role_code)
+
+#define OF_LAYOUT(type, name) \
+    type name(uint64_t layout, const uint8_t *text, size_t length) { return WORD(name, NUMBER(layout), LENT(text, length)); }
+OF_LAYOUT(uint64_t, zt_accept_as)
+OF_LAYOUT(size_t, leaf_root_key)
+OF_LAYOUT(size_t, leaf_object_key)
+OF_LAYOUT(size_t, leaf_component_key)
+OF_LAYOUT(uint64_t, leaf_dtype_code)
 
 uint64_t leaf_width_of(uint64_t a) { return WORD(leaf_width_of, NUMBER(a)); }
 bool leaf_is_product(uint64_t a, uint64_t b, uint64_t c) { return TRUTH(leaf_is_product, NUMBER(a), NUMBER(b), NUMBER(c)); }
@@ -180,10 +184,13 @@ typedef struct {
 ruling leaf_judge(uint64_t code, const uint64_t *shape, size_t rank, const uint64_t *parts, size_t n) {
     STRUCT(ruling, leaf_judge, NUMBER(code), LENT(shape, rank), LENT(parts, n))
 }
-three leaf_frame(const uint8_t *file, size_t n) { STRUCT(three, leaf_frame, LENT(file, n)) }
-three leaf_accept(const uint8_t *file, size_t n) { STRUCT(three, leaf_accept, LENT(file, n)) }
+three leaf_frame(uint64_t layout, const uint8_t *file, size_t n) { STRUCT(three, leaf_frame, NUMBER(layout), LENT(file, n)) }
+three leaf_accept(uint64_t layout, const uint8_t *file, size_t n) { STRUCT(three, leaf_accept, NUMBER(layout), LENT(file, n)) }
 
 zt_answer zt_read(const uint8_t *file, size_t length, uint64_t *table, size_t room) { STRUCT(zt_answer, zt_read, LENT(file, length), WRITTEN(table, room)) }
+zt_answer zt_read_as(uint64_t layout, const uint8_t *file, size_t length, uint64_t *table, size_t room) {
+    STRUCT(zt_answer, zt_read_as, NUMBER(layout), LENT(file, length), WRITTEN(table, room))
+}
 zt_range zt_view(const uint8_t *file, size_t length, const uint64_t *table, size_t room, uint64_t objects, uint64_t components, uint64_t index) {
     STRUCT(zt_range, zt_view, LENT(file, length), LENT(table, room), NUMBER(objects), NUMBER(components), NUMBER(index))
 }

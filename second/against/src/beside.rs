@@ -6,7 +6,14 @@ use second::refusal::{INDEX, ROOM};
 use second::rows;
 
 pub fn read(file: &[u8], table: &mut [u64]) -> Answer {
-    let a = rows::read(file, table);
+    shaped(rows::read(file, table))
+}
+
+pub fn read_as(layout: u64, file: &[u8], table: &mut [u64]) -> Answer {
+    shaped(rows::read_as(layout, file, table))
+}
+
+fn shaped(a: rows::Answer) -> Answer {
     Answer {
         number: a.number.into(),
         object: a.object,

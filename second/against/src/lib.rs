@@ -34,8 +34,6 @@ mod exported {
             parts: *const u64,
             parts_length: usize,
         ) -> super::Ruling;
-        pub fn leaf_frame(file: *const u8, length: usize) -> super::Place;
-        pub fn leaf_accept(file: *const u8, length: usize) -> super::Verdict;
     }
 }
 
@@ -84,14 +82,33 @@ of_text! {
     version_shape: leaf_version_shape -> bool;
     major_one: leaf_major_one -> bool;
     is_magic: leaf_is_magic -> bool;
-    root_key: leaf_root_key -> usize;
-    object_key: leaf_object_key -> usize;
-    component_key: leaf_component_key -> usize;
     is_raw: leaf_is_raw -> bool;
-    dtype_code: leaf_dtype_code -> u64;
     ratio_of: leaf_ratio_of -> u64;
     format_code: leaf_format_code -> u64;
     role_code: leaf_role_code -> u64;
+}
+
+/// Leaves of a layout's number and one text, and what the box calls on a file of a layout, as safe functions.
+macro_rules! of_layout_and_text {
+    ($($name:ident: $leaf:ident -> $answer:ty;)*) => {$(
+        pub fn $name(layout: u64, text: &[u8]) -> $answer {
+            extern "C" {
+                fn $leaf(layout: u64, text: *const u8, length: usize) -> $answer;
+            }
+            // SAFETY: the pointer and the length are a slice's.
+            unsafe { $leaf(layout, text.as_ptr(), text.len()) }
+        }
+    )*};
+}
+
+of_layout_and_text! {
+    box_accept_as: zt_accept_as -> u64;
+    root_key: leaf_root_key -> usize;
+    object_key: leaf_object_key -> usize;
+    component_key: leaf_component_key -> usize;
+    dtype_code: leaf_dtype_code -> u64;
+    frame: leaf_frame -> Place;
+    accept_as: leaf_accept -> Verdict;
 }
 
 /// Leaves of numbers, as safe functions.
@@ -142,11 +159,6 @@ pub fn judge(format: u64, shape: &[u64], parts: &[[u64; 4]]) -> Ruling {
     }
 }
 
-pub fn frame(file: &[u8]) -> Place {
-    // SAFETY: the pointer and the length are a slice's.
-    unsafe { exported::leaf_frame(file.as_ptr(), file.len()) }
-}
-
 /// What a reading answers: the verdict, both counts, the manifest's start, and the root attributes' place and length.
 #[repr(C)]
 #[derive(Debug, PartialEq, Eq)]
@@ -192,6 +204,7 @@ pub struct Written {
 mod zt {
     extern "C" {
         pub fn zt_read(file: *const u8, length: usize, table: *mut u64, room: usize) -> super::Answer;
+        pub fn zt_read_as(layout: u64, file: *const u8, length: usize, table: *mut u64, room: usize) -> super::Answer;
         pub fn zt_view(
             file: *const u8,
             length: usize,
@@ -229,6 +242,11 @@ mod zt {
 pub fn read(file: &[u8], table: &mut [u64]) -> Answer {
     // SAFETY: each pointer and length are a slice's, and the slices don't overlap.
     unsafe { zt::zt_read(file.as_ptr(), file.len(), table.as_mut_ptr(), table.len()) }
+}
+
+pub fn read_as(layout: u64, file: &[u8], table: &mut [u64]) -> Answer {
+    // SAFETY: each pointer and length are a slice's, and the slices don't overlap.
+    unsafe { zt::zt_read_as(layout, file.as_ptr(), file.len(), table.as_mut_ptr(), table.len()) }
 }
 
 pub fn view(file: &[u8], table: &[u64], objects: u64, components: u64, index: u64) -> Extent {
@@ -278,11 +296,6 @@ pub fn write(set: &RowSet, out: &mut [u8]) -> Written {
             out.len(),
         )
     }
-}
-
-pub fn accept(file: &[u8]) -> Verdict {
-    // SAFETY: the pointer and the length are a slice's.
-    unsafe { exported::leaf_accept(file.as_ptr(), file.len()) }
 }
 
 /// How many bytes the item at the front takes, or 6 or 7.

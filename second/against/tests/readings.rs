@@ -10,7 +10,7 @@ use second::frame::assemble;
 /// Number, object and component that the library gives for this manifest at this start.
 fn judged(manifest: &[u8], manifest_start: usize) -> (u8, u64, u64) {
     let file = assemble(&vec![0; manifest_start - 8], manifest);
-    let answer = against::accept(&file);
+    let answer = against::accept_as(0, &file);
     assert_eq!(against::box_accept(&file), answer.number);
     let number = u8::try_from(answer.number).expect("a refusal's number");
     (number, answer.object, answer.component)

@@ -5,16 +5,19 @@
 
 use against::tally::{hex, rounds, seed, yes_or_no, Tally};
 use against::{Place, Ruling};
-use second::frame::{assemble, manifest_range, set_size, SIZE_LIMIT};
+use second::frame::SIZE_LIMIT;
 use second::generate::rng::Rng;
 use second::generate::Generator;
 use second::judge::{Component, Judge, Object, RANK_LIMIT};
+use second::layout::{Layout, LONG_NAMES};
 use second::types::{self, Format, DTYPES, LISTED, U64};
 
 const ROUNDS: u64 = rounds(400_000);
 
+/// The places of a map's fields, those of every layout: a layout knows some of them.
 const ROOT: [&str; 3] = ["version", "attributes", "objects"];
-const OBJECT: [&str; 4] = ["shape", "format", "attributes", "components"];
+const FIRST_ROOT: [&str; 3] = ["version", "attributes", "tensors"];
+const OBJECT: [&str; 5] = ["dtype", "shape", "format", "attributes", "components"];
 const COMPONENT: [&str; 7] = [
     "dtype",
     "type",
@@ -40,6 +43,20 @@ const ROLES: [&str; 8] = [
 fn position(names: &[&str], text: &[u8]) -> usize {
     let found = names.iter().position(|name| name.as_bytes() == text);
     found.unwrap_or(names.len())
+}
+
+/// The place of a field that a layout knows, the number of places for any other text.
+fn place_of(places: &[&str], known: &[&str], text: &[u8]) -> usize {
+    match position(known, text) < known.len() {
+        true => position(places, text),
+        false => places.len(),
+    }
+}
+
+/// Either layout's number; every number but 1 is 1.2.0, also one that is 1 in its low bits.
+fn layout(rng: &mut Rng) -> u64 {
+    let bit = 1 << (1 + rng.below(63));
+    *rng.pick(&[0, 1, 1, 2, 1 | bit, u64::MAX])
 }
 
 /// A known name; often one byte changed or more, cut, longer, or in the other case.
@@ -71,12 +88,14 @@ fn code(rng: &mut Rng) -> u64 {
 fn names() {
     let dtypes = DTYPES.map(|(name, _)| name);
     let logicals = LISTED.map(|listed| listed.name);
-    let all: [&[&str]; 7] = [
+    let all: [&[&str]; 9] = [
         &["raw"],
         &ROOT,
+        &FIRST_ROOT,
         &OBJECT,
         &COMPONENT,
         &dtypes,
+        &LONG_NAMES,
         &FORMATS,
         &ROLES,
     ];
@@ -93,22 +112,33 @@ fn names() {
         let text = like(&mut rng, &mut generator, &all);
         let shown = || hex(&text);
 
+        let number = layout(&mut rng);
+        let of = Layout::of(number);
+        let in_layout = |code: usize| format!("{of:?} {code}");
         let proved = [
-            against::root_key(&text),
-            against::object_key(&text),
-            against::component_key(&text),
+            against::root_key(number, &text),
+            against::object_key(number, &text),
+            against::component_key(number, &text),
         ];
-        let names: [&[&str]; 3] = [&ROOT, &OBJECT, &COMPONENT];
+        let [root, _, object, _, component] = of.fields();
+        let names: [(&[&str], &[&str]); 3] = [
+            (if of == Layout::First { &FIRST_ROOT } else { &ROOT }, root),
+            (&OBJECT, object),
+            (&COMPONENT, component),
+        ];
         for (at, tally) in keys.iter_mut().enumerate() {
-            let second = position(names[at], &text);
-            tally.compare(second, proved[at], second, shown);
+            let second = place_of(names[at].0, names[at].1, &text);
+            tally.compare(in_layout(second), proved[at], second, shown);
         }
 
         let second = text == b"raw";
         raw.compare(yes_or_no(second), against::is_raw(&text), second, shown);
 
-        let second = types::dtype_code(&text).unwrap_or(DTYPES.len()) as u64;
-        dtype.compare(second, against::dtype_code(&text), second, shown);
+        let second = match of {
+            Layout::Current => position(&dtypes, &text),
+            Layout::First => position(&LONG_NAMES, &text),
+        };
+        dtype.compare(in_layout(second), against::dtype_code(number, &text), second as u64, shown);
 
         let listed = types::listed_type(&text);
         let code = code(&mut rng);
@@ -127,11 +157,12 @@ fn names() {
         let second = position(&ROLES, &text) as u64;
         role.compare(second, against::role_code(&text), second, shown);
     }
-    for (tally, kinds) in keys.iter().zip([4, 5, 8]) {
+    // In each layout the names that it has, and none.
+    for (tally, kinds) in keys.iter().zip([4 + 4, 5 + 5, 8 + 5]) {
         tally.report(kinds);
     }
     raw.report(2);
-    dtype.report(14);
+    dtype.report(2 * 14);
     logical.report(13);
     format.report(5);
     role.report(9);
@@ -493,10 +524,11 @@ fn formats() {
     tally.report(18);
 }
 
-fn compare_frame(tally: &mut Tally, file: &[u8]) {
-    let (label, second) = match manifest_range(file) {
+fn compare_frame(tally: &mut Tally, number: u64, file: &[u8]) {
+    let of = Layout::of(number);
+    let (label, second) = match of.manifest_range(file) {
         Ok(range) => (
-            "framed".to_string(),
+            format!("{of:?} framed"),
             Place {
                 number: 0,
                 start: range.start,
@@ -504,7 +536,7 @@ fn compare_frame(tally: &mut Tally, file: &[u8]) {
             },
         ),
         Err(number) => (
-            number.to_string(),
+            format!("{of:?} {number}"),
             Place {
                 number: number.into(),
                 start: 0,
@@ -512,7 +544,7 @@ fn compare_frame(tally: &mut Tally, file: &[u8]) {
             },
         ),
     };
-    tally.compare(label, against::frame(file), second, || {
+    tally.compare(label, against::frame(number, file), second, || {
         let ends = &file[..file.len().min(8)];
         let last = &file[file.len().saturating_sub(16)..];
         format!("{} .. {}, {} bytes", hex(ends), hex(last), file.len())
@@ -525,26 +557,31 @@ fn frame() {
     let mut generator = Generator::new(seed());
     let mut rng = Rng::new(!seed());
     for _ in 0..ROUNDS {
-        let mut file = assemble(&rng.bytes(9), &rng.bytes(40));
-        let most = file.len() as u64 - 24;
+        let number_of_layout = layout(&mut rng);
+        let of = Layout::of(number_of_layout);
+        let mut file = of.assemble(&rng.bytes(9), &rng.bytes(40));
+        let most = (file.len() - of.frame()) as u64;
         let any = number(&mut rng);
         let close = [most, SIZE_LIMIT, 1, most | 1 << 32];
         let close = *rng.pick(&close);
         match rng.index(4) {
-            0 => set_size(&mut file, near(&mut rng, close)),
-            1 => set_size(&mut file, any),
+            0 => of.set_size(&mut file, near(&mut rng, close)),
+            1 => of.set_size(&mut file, any),
             2 => generator.damage(&mut file),
             _ => {}
         }
-        compare_frame(&mut tally, &file);
+        compare_frame(&mut tally, number_of_layout, &file);
     }
     // Files as long as the largest manifest asks for, and one byte either way.
-    for length in [SIZE_LIMIT - 1, SIZE_LIMIT, SIZE_LIMIT + 1] {
-        let mut file = assemble(&[], &vec![0; length as usize]);
-        for size in [SIZE_LIMIT - 1, SIZE_LIMIT, SIZE_LIMIT + 1] {
-            set_size(&mut file, size);
-            compare_frame(&mut tally, &file);
+    for of in Layout::ALL {
+        for length in [SIZE_LIMIT - 1, SIZE_LIMIT, SIZE_LIMIT + 1] {
+            let mut file = of.assemble(&[], &vec![0; length as usize]);
+            for size in [SIZE_LIMIT - 1, SIZE_LIMIT, SIZE_LIMIT + 1] {
+                of.set_size(&mut file, size);
+                compare_frame(&mut tally, of.number(), &file);
+            }
         }
     }
-    tally.report(6);
+    // 1.0 has no FOOTER.
+    tally.report(6 + 5);
 }
