@@ -4,6 +4,7 @@ use crate::input::{decode, Question};
 use against::{beside, Answer};
 use second::columns::numbers;
 use second::generate::RowSet;
+use second::layout::Layout;
 use second::refusal::DEEP;
 use std::fmt::Debug;
 
@@ -12,29 +13,36 @@ const BEYOND: usize = 7;
 
 pub fn input(bytes: &[u8]) {
     match decode(bytes) {
-        Some((Question::Read(file), near)) => drop(reading(&file, near)),
+        Some((Question::Read(layout, file), near)) => drop(reading(layout, &file, near)),
         Some((Question::Write(set), near)) => writing(&set, near),
         None => {}
     }
 }
 
 /// Acceptance, the table with ample room and with room near the exact one, the listing: the refusal's number.
-fn reading(file: &[u8], near: isize) -> u64 {
+fn reading(layout: Layout, file: &[u8], near: isize) -> u64 {
     // Ample: the known keys of an object and of a component are longer than their rows.
-    let (answer, table) = read(file, file.len());
-    assert_eq!(against::box_accept(file), answer.number, "zt_accept");
+    let (answer, table) = read(layout, file, file.len());
+    assert_eq!(against::box_accept_as(layout.number(), file), answer.number, "zt_accept_as");
+    if layout == Layout::Current {
+        assert_eq!(against::box_accept(file), answer.number, "zt_accept");
+    }
     let exact = numbers(answer.objects as usize, answer.components as usize);
-    read(file, exact.saturating_add_signed(near));
+    read(layout, file, exact.saturating_add_signed(near));
     if answer.number == 0 {
         listing(file, &table[..exact], &answer, near);
     }
     answer.number
 }
 
-fn read(file: &[u8], room: usize) -> (Answer, Vec<u64>) {
+fn read(layout: Layout, file: &[u8], room: usize) -> (Answer, Vec<u64>) {
     let lent = (0..room as u64).map(|at| !at).collect();
-    let second = |table: &mut [u64]| spoiled(beside::read(file, table));
-    agreed("zt_read", lent, |table| against::read(file, table), second)
+    let number = layout.number();
+    let second = |table: &mut [u64]| spoiled(beside::read_as(number, file, table));
+    match layout {
+        Layout::Current => agreed("zt_read", lent, |table| against::read(file, table), second),
+        Layout::First => agreed("zt_read_as", lent, |table| against::read_as(number, file, table), second),
+    }
 }
 
 /// Wrong on purpose where that was asked for.
@@ -65,7 +73,7 @@ fn writing(set: &RowSet, near: isize) {
     let (written, file) = write(exact + BEYOND);
     write(exact.saturating_add_signed(near));
     if written.number == 0 {
-        assert_eq!(reading(&file[..exact], near), 0, "a written file is refused");
+        assert_eq!(reading(Layout::Current, &file[..exact], near), 0, "a written file is refused");
     }
 }
 

@@ -1,7 +1,8 @@
-//! What an input's bytes mean: the first chooses among three forms, the second a room near the exact one.
+//! What an input's bytes mean: the first chooses among five forms, the second a room near the exact one.
 
 use second::frame;
 use second::generate::RowSet;
+use second::layout::Layout;
 
 /// The rest is a file.
 const FILE: u8 = 0;
@@ -9,13 +10,17 @@ const FILE: u8 = 0;
 const MANIFEST: u8 = 1;
 /// The rest is counts and attributes, how many numbers the rows have, these, and a buffer.
 const ROWS: u8 = 2;
-const FORMS: u8 = 3;
+/// The rest is a file of layout 1.0.
+const FIRST_FILE: u8 = 3;
+/// As a manifest, for a frame of layout 1.0.
+const FIRST_MANIFEST: u8 = 4;
+const FORMS: u8 = 5;
 
 /// The largest number that takes one byte; a larger byte says how many bytes follow, the least first.
 const SHORT: u8 = u8::MAX - 8;
 
 pub enum Question {
-    Read(Vec<u8>),
+    Read(Layout, Vec<u8>),
     Write(RowSet),
 }
 
@@ -23,15 +28,19 @@ pub enum Question {
 pub fn decode(input: &[u8]) -> Option<(Question, isize)> {
     let (&[form, room], rest) = input.split_first_chunk()?;
     let question = match form % FORMS {
-        FILE => Question::Read(rest.to_vec()),
-        MANIFEST => {
-            let (&before, manifest) = rest.split_first_chunk()?;
-            let blobs = vec![0; u16::from_le_bytes(before).into()];
-            Question::Read(frame::assemble(&blobs, manifest))
-        }
+        FILE => Question::Read(Layout::Current, rest.to_vec()),
+        FIRST_FILE => Question::Read(Layout::First, rest.to_vec()),
+        MANIFEST => framed(Layout::Current, rest)?,
+        FIRST_MANIFEST => framed(Layout::First, rest)?,
         _ => Question::Write(row_set(rest)),
     };
     Some((question, isize::from(room as i8)))
+}
+
+fn framed(layout: Layout, bytes: &[u8]) -> Option<Question> {
+    let (&before, manifest) = bytes.split_first_chunk()?;
+    let blobs = vec![0; u16::from_le_bytes(before).into()];
+    Some(Question::Read(layout, layout.assemble(&blobs, manifest)))
 }
 
 fn row_set(mut bytes: &[u8]) -> RowSet {
@@ -63,15 +72,23 @@ fn number(bytes: &mut &[u8]) -> u64 {
     }
 }
 
-pub fn of_file(file: &[u8]) -> Vec<u8> {
-    [&[FILE, 0], file].concat()
+pub fn of_file(layout: Layout, file: &[u8]) -> Vec<u8> {
+    let form = match layout {
+        Layout::Current => FILE,
+        Layout::First => FIRST_FILE,
+    };
+    [&[form, 0], file].concat()
 }
 
 /// The manifest of a file, if its frame is sound and two bytes can say where it starts.
-pub fn of_manifest(file: &[u8]) -> Option<Vec<u8>> {
-    let range = frame::manifest_range(file).ok()?;
+pub fn of_manifest(layout: Layout, file: &[u8]) -> Option<Vec<u8>> {
+    let form = match layout {
+        Layout::Current => MANIFEST,
+        Layout::First => FIRST_MANIFEST,
+    };
+    let range = layout.manifest_range(file).ok()?;
     let before = u16::try_from(range.start - frame::MAGIC.len()).ok()?;
-    Some([&[MANIFEST, 0], &before.to_le_bytes()[..], &file[range]].concat())
+    Some([&[form, 0], &before.to_le_bytes()[..], &file[range]].concat())
 }
 
 pub fn of_rows(set: &RowSet) -> Vec<u8> {

@@ -1,7 +1,8 @@
-//! `seeds LARGEST DIR`: 01's cases, generated files and generated rows as inputs of up to so many bytes.
+//! `seeds LARGEST DIR`: 01's cases, generated files of both layouts and generated rows as inputs of up to so many bytes.
 
 use fuzz::input::{decode, of_file, of_manifest, of_rows, Question};
-use second::generate::{nth_file, Generator, RowSet};
+use second::generate::{nth_file_as, Generator, RowSet};
+use second::layout::Layout;
 use second::{appendix, cases, probes, row_probes};
 use std::fs;
 use std::path::Path;
@@ -27,8 +28,9 @@ fn main() {
 fn of_files() -> impl Iterator<Item = Vec<u8>> {
     let cases = cases::all().into_iter().chain(appendix::files());
     let files = cases.map(|case| case.file).chain(probes::files());
-    let files = files.chain((0..FILES).map(|index| nth_file(SEED, index)));
-    files.flat_map(|file| std::iter::once(of_file(&file)).chain(of_manifest(&file)))
+    let made = |layout| (0..FILES).map(move |index| (layout, nth_file_as(layout, SEED, index)));
+    let files = files.map(|file| (Layout::Current, file)).chain(Layout::ALL.into_iter().flat_map(made));
+    files.flat_map(|(layout, file)| std::iter::once(of_file(layout, &file)).chain(of_manifest(layout, &file)))
 }
 
 fn of_sets() -> impl Iterator<Item = Vec<u8>> {
