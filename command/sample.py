@@ -49,6 +49,17 @@ def file(objects, blobs=b"", **more):
     return MAGIC + bytes(56) + blobs + behind(manifest(objects, **more))
 
 
+def first_component(offset, length, **more):
+    return Pairs([("offset", offset), ("length", length), *more.items()])
+
+
+def first_file(tensors, blobs=b"", **more):
+    """A file of layout 1.0: the size ends it. `tensors` are names, dtypes, shapes, formats and components."""
+    entries = [(name, Pairs([("dtype", dtype), *thing(*rest, **fields)])) for name, dtype, rest, fields in tensors]
+    text = item(Pairs([("version", "1.0"), *more.items(), ("tensors", Pairs(entries))]))
+    return MAGIC + bytes(56) + blobs + text + struct.pack("<Q", len(text))
+
+
 def named(name, part="data"):
     """One object, of a format without rules, of 12 bytes."""
     return file([(name, thing([3], "any", [(part, component("f32", 64, 12))]))], b"twelve bytes")

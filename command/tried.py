@@ -1,5 +1,5 @@
 """Runs the command as a person would, and holds what it says and how it ends to what it should.
-usage: tried.py FOLDER, with cases/ and made/ of the second program."""
+usage: tried.py FOLDER, with cases/, made/ and, of layout 1.0, first/ of the second program."""
 import json
 import os
 import re
@@ -75,9 +75,9 @@ def refusals():
     return {int(number): (name, words) for name, number, words in found}
 
 
-def sound_files(most):
+def sound_files(most, of=None):
     """Some sound files of the second program, spread over all of them."""
-    sound = [path for path, numbers in files if numbers[0] == 0]
+    sound = [path for path, numbers in of or files if numbers[0] == 0]
     return sound[:: max(1, len(sound) // most)]
 
 
@@ -256,6 +256,106 @@ def try_copy_keeps_mode_and_links():
     nothing_left(WORK)
 
 
+# Where the words of zt.h are 1.2.0's.
+FIRST_WORDS = {1: "file under 16 bytes", 5: "manifest size 0 or over file length - 16", 22: "needed role absent"}
+NOT_CARRIED = b"fields unknown to layout 1.0, generator and attributes of tensors among them, are not carried over"
+
+
+def try_every_refusal_of_layout_1_0():
+    known = {number: (name, FIRST_WORDS.get(number, words)) for number, (name, words) in refusals().items()}
+    wanted = []
+    for path, (number, owner, part) in first_files:
+        name, words = known[number]
+        wanted.append(f"{path}: sound" if number == 0 else f"{path}: refused {number} {name}, object {owner}, component {part}: {words}")
+    paths = [path for path, _ in first_files]
+    status, said, trouble = zt("check", "--layout", "1.0", *paths)
+    expect((status, trouble), (1, b""))
+    expect(said.decode().splitlines(), wanted)
+    expect({numbers[0] for _, numbers in first_files}, set(range(24)) - {3, 18}, "the files have every refusal but FOOTER and TYPE")
+    verdicts = json.loads(zt("check", "--json", "--layout=1.0", *paths)[1])
+    for verdict, (path, (number, owner, part)) in zip(verdicts, first_files, strict=True):
+        refusal = {"number": number, "name": known[number][0], "object": owner, "component": part, "words": known[number][1]}
+        expect(verdict, {"file": path, "sound": True} if number == 0 else {"file": path, "sound": False, "refusal": refusal})
+
+
+def first_sample():
+    parts = [("values", sample.first_component(64, 6)), ("indices", sample.first_component(128, 24, digest="crc32c:0x0")), ("indptr", sample.first_component(192, 24))]
+    tensors = [
+        ("w", "float32", ([2], "dense", [("data", sample.first_component(64, 8))]), {}),
+        ("m", "float16", ([2, 9], "sparse_csr", parts), {"attributes": sample.Pairs([("unit", "g")])}),
+    ]
+    return sample.first_file(tensors, bytes(range(152)), generator="an exporter", attributes=sample.Pairs([("a", 1)]))
+
+
+def try_reading_in_layout_1_0():
+    put("first.zt", first_sample())
+    lines = b"objects 2 components 4\nobject w dense\nblob data f32 64 8\nobject m sparse_csr\nblob values f16 64 6\nblob indices u64 128 24\nblob indptr u64 192 24\n"
+    expect(done("list", "--layout", "1.0", "first.zt"), lines)
+    expect(done("get", "--layout=1.0", "first.zt", "m", "indptr"), bytes(range(128, 152)))
+    full, account = told("show", "--json", "--layout", "1.0", "first.zt"), told("map", "--json", "first.zt", "--layout", "1.0")
+    length = len(content("first.zt"))
+    expect((account["frame"], account["gaps"], account["components"]), (16, 56 + 56 + 40, 8 + 24 + 24), account)
+    expect((full["manifest"]["length"], account["manifest"], full["objects"][1]["attributes"]), (length - 16 - 208, length - 16 - 208, None))
+    expect(len(done("show", "--layout", "1.0", "first.zt").splitlines()), 4 + 2 + 4)
+    for words in (["list"], ["list", "--layout", "1.2.0"]):
+        troubled(b"first.zt: refused 3 FOOTER, object 0, component 0: last 8 wrong", *words, "first.zt", status=1)
+    for path in sound_files(12, first_files):
+        full, account = told("show", "--json", "--layout", "1.0", path), told("map", "--json", "--layout", "1.0", path)
+        expect(account["manifest"], full["manifest"]["length"], path)
+        expect(sum(account[kind] for kind in ("frame", "components", "gaps", "manifest")), account["length"], path)
+        expect(done("list", "--layout", "1.0", path).count(b"\n"), 1 + len(full["objects"]) + sum(len(thing["components"]) for thing in full["objects"]))
+
+
+def imported(path, new):
+    status, said, trouble = zt("import", path, "-o", new)
+    expect((status, said, trouble), (0, b"", b"zt: " + path.encode() + b": " + NOT_CARRIED + b"\n"))
+
+
+def described(path, *words):
+    """What a file describes: offsets and places aside."""
+    full, whole = told("show", "--json", path, *words), content(path)
+    part_of = lambda of: whole[of["offset"] : of["offset"] + of["length"]] if of else None
+    parts = lambda thing: [[part[key] for key in ("name", "dtype", "type", "digest")] + [part_of(part)] for part in thing["components"]]
+    return part_of(full["attributes"]), [[thing[key] for key in ("name", "format", "shape", "attributes")] + [parts(thing)] for thing in full["objects"]]
+
+
+def try_imports():
+    for path in ["first.zt", *sound_files(24, first_files)]:
+        imported(path, "imported.zt")
+        expect(done("check", "imported.zt"), b"imported.zt: sound\n", path)
+        expect(described("imported.zt"), described(path, "--layout", "1.0"), path)
+        expect(done("copy", "imported.zt", "-o", "-"), content("imported.zt"), path)
+    imported("first.zt", "first.zt")
+    expect(done("check", "first.zt"), b"first.zt: sound\n", "a file may take its own place")
+    put("first.zt", first_sample())
+    status, said, trouble = zt("import", "-", "-o", "-", input=content("first.zt"))
+    expect((status, trouble), (0, b"zt: -: " + NOT_CARRIED + b"\n"))
+    imported("first.zt", "imported.zt")
+    expect(said, content("imported.zt"))
+
+
+def try_imports_that_are_refused():
+    put("kept.zt", b"old")
+    line = b"known.zt: refused 4 BIG, object 0, component 0: manifest size over the limit, 16,777,216"
+    put("short-first.zt", b"ZTEN1000")
+    for words in ("kept.zt", "none.zt"):
+        troubled(line, "import", "known.zt", "-o", words, status=1)
+        troubled(b"short-first.zt: refused 1 SHORT, object 0, component 0: file under 16 bytes", "import", "short-first.zt", "-o", words, status=1)
+        troubled(b"no.zt: No such file or directory", "import", "no.zt", "-o", words)
+    expect((content("kept.zt"), os.path.exists(os.path.join(WORK, "none.zt"))), (b"old", False))
+    troubled(b"no/where.zt: No such file or directory", "import", "first.zt", "-o", "no/where.zt")
+    troubled(b"kept.zt: File too large", "import", "first.zt", "-o", "kept.zt", preexec_fn=small_files)
+    expect(content("kept.zt"), b"old", "the old file stays")
+    # the greatest manifest of 1.0 has no room for a component's dtype
+    parts = [(f"c{i}", sample.first_component(64, 0)) for i in range(16)]
+    tensor = lambda name: sample.first_file([(name, "int8", ([], "any", parts), {})])
+    longest = 100000 + (1 << 24) + 64 + 8 - len(tensor("n" * 100000))
+    put("greatest.zt", tensor("n" * longest))
+    expect(done("check", "--layout", "1.0", "greatest.zt"), b"greatest.zt: sound\n")
+    troubled(b"greatest.zt" + line[8:], "import", "greatest.zt", "-o", "none.zt", status=1)
+    nothing_left(WORK)
+
+
 def nothing_left(folder):
     expect([name for name in os.listdir(folder) if name.startswith(".zt-")], [], "temporary files")
 
@@ -299,6 +399,7 @@ EVERY = (
     *([command, "known.zt"] for command in ("check", "list", "show", "map")),
     ["get", "known.zt", "w", "data"],
     ["copy", "known.zt", "-o", "-"],
+    ["list", "--layout", "1.0", "first.zt"],
     ["--help"],
     ["--version"],
 )
@@ -519,7 +620,7 @@ def try_an_interrupted_copy():
 
 def try_usage():
     commands = done("--commands").decode().split()
-    expect(commands[:6], ["check", "list", "show", "map", "get", "copy"])
+    expect(commands[:7], ["check", "list", "show", "map", "get", "copy", "import"])
     everything = done("--help").decode()
     for command in commands:
         expect(everything.count(f"zt {command} "), 1)
@@ -533,6 +634,11 @@ def try_usage():
     troubled(b"nothing: no such command; zt --help lists them", "nothing")
     troubled(b"b: one operand too many; zt list --help says how it is called", "list", "a", "b")
     troubled(b"copy: -o NEW is missing; zt copy --help says how it is called", "copy", "known.zt")
+    troubled(b"import: -o NEW is missing; zt import --help says how it is called", "import", "first.zt")
+    troubled(b"1.1: no layout: there are 1.0 and 1.2.0; zt list --help says how it is called", "list", "--layout", "1.1", "known.zt")
+    troubled(b"--layout: no layout: there are 1.0 and 1.2.0; zt list --help says how it is called", "list", "known.zt", "--layout")
+    troubled(b"--layout: no such option; zt copy --help says how it is called", "copy", "known.zt", "--layout", "1.0", "-o", "x")
+    expect(done("list", "--layout", "1.2.0", "known.zt"), done("list", "known.zt"))
     troubled(b"copy: -o has no path; zt copy --help says how it is called", "copy", "known.zt", "-o")
     troubled(b"--json: no such option; zt copy --help says how it is called", "copy", "known.zt", "--json", "-o", "x")
     expect(done("list", "known.zt", "--json"), done("list", "--json", "--", "known.zt"))
@@ -551,6 +657,7 @@ def try_completion():
 
 
 files = [*answers("cases"), *answers("made")]
+first_files = [*answers("first")]
 tried = failed = 0
 for name, function in list(globals().items()):
     if name.startswith("try_"):

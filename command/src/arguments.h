@@ -1,13 +1,15 @@
 /* A command's words: options, which may stand before and after its operands, and operands; "--" ends the options, "-" is an operand. */
 #ifndef ARGUMENTS_H
 #define ARGUMENTS_H
+#include <stdint.h>
 
 /* The options there are; a command names those that it takes. */
-enum option { TAKES_JSON = 1, TAKES_OUTPUT = 2, NEEDS_OUTPUT = 4, TAKES_ESCAPED = 8 };
+enum option { TAKES_JSON = 1, TAKES_OUTPUT = 2, NEEDS_OUTPUT = 4, TAKES_ESCAPED = 8, TAKES_LAYOUT = 16 };
 
 typedef struct {
     int json, escaped, help;
     const char *output; /* null if none was named */
+    uint64_t layout;    /* a zt_layout */
     int count;
     const char **operands;
 } arguments;

@@ -20,9 +20,9 @@ static void json_unread(const char *path) {
     json_words(last_trouble);
 }
 
-static int check_file(const char *path, int json, int first) {
+static int check_file(const char *path, uint64_t layout, int json, int first) {
     model of;
-    int status = model_open(&of, path);
+    int status = model_open(&of, path, layout);
     if (json) print_words(&out, first ? "[\n{" : ",\n{");
     if (status == DONE && json) json_verdict(path, fault_of(&of));
     if (status == DONE && !json) print_verdict(path, fault_of(&of));
@@ -35,7 +35,7 @@ static int check_file(const char *path, int json, int first) {
 int check_files(const arguments *given) {
     int worst = DONE;
     for (int i = 0; i < given->count; i++) {
-        int status = check_file(given->operands[i], given->json, i == 0);
+        int status = check_file(given->operands[i], given->layout, given->json, i == 0);
         if (status > worst) worst = status;
     }
     if (given->json) print_words(&out, "\n]\n");

@@ -9,4 +9,5 @@ int show_file(const arguments *given);
 int map_file(const arguments *given);
 int get_component(const arguments *given);
 int copy_file(const arguments *given);
+int import_file(const arguments *given);
 #endif

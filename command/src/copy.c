@@ -1,16 +1,20 @@
-/* zt copy: a file read, and its rows written anew by zt_write; unknown fields are gone, blobs stand in order with no more than the gaps that 64 asks for. */
+/*
+ * zt copy: a file read, and its rows written anew by zt_write; unknown fields are gone, blobs stand in order with no more than the gaps that 64 asks for.
+ * zt import: the same of a file of layout 1.0, which becomes one of 1.2.0.
+ */
 #include "commands.h"
 #include "model.h"
 #include "whole.h"
 
 /*
  * A length that the new file can't pass: 24 of frame, each component with up to 63 zeros before it, and the manifest. That is no longer than the old one, but for
- * offsets that may take 8 bytes more each, the version, which may be 2 longer, and the head of a map of objects, one. No more than SIZE_MAX.
+ * offsets that may take 8 bytes more each, the version, which may be 2 longer, and the head of a map of objects, one; and, out of layout 1.0, for each component's
+ * dtype, 11 at most. No more than SIZE_MAX.
  */
 static size_t room_for(const model *of) {
-    size_t room = 24 + 16 + (size_t)manifest_length(of);
+    size_t room = 24 + 16 + (size_t)manifest_length(of), dtype = of->layout == ZT_LAYOUT_1_0 ? 11 : 0;
     for (uint64_t i = 0; i < of->answer.components; i++) {
-        size_t blob = (size_t)component_row(of, i)[ZT_COMPONENT_LENGTH] + 63 + 8;
+        size_t blob = (size_t)component_row(of, i)[ZT_COMPONENT_LENGTH] + 63 + 8 + dtype;
         if (room > SIZE_MAX - blob) return SIZE_MAX;
         room += blob;
     }
@@ -27,7 +31,7 @@ static int copied(const model *of, const char *output) {
     zt_written written = write_to(of, NULL, 0);
     whole file;
     int status;
-    if (written.number != ZT_ROOM) return say_refused(of->file.path, (fault){written.number, written.object, written.component});
+    if (written.number != ZT_ROOM) return say_refused(of->file.path, (fault){written.number, written.object, written.component, ZT_LAYOUT_1_2});
     if (whole_open(&file, output, room_for(of)) != DONE) return TROUBLE;
     written = write_to(of, file.at, file.room);
     status = written.number == ZT_ACCEPTED ? input_unchanged(&of->file) : trouble(of->file.path, zt_refusal_words(written.number));
@@ -36,10 +40,19 @@ static int copied(const model *of, const char *output) {
     return status;
 }
 
-int copy_file(const arguments *given) {
+static int copy_as(uint64_t layout, const arguments *given) {
     model of;
-    int status = model_open_sound(&of, given->operands[0], 0);
+    int status = model_open_sound(&of, given->operands[0], layout, 0);
     if (status != DONE) return status;
     status = copied(&of, given->output);
     return model_close(&of, status);
+}
+
+int copy_file(const arguments *given) { return copy_as(ZT_LAYOUT_1_2, given); }
+
+/* Which unknown fields there are isn't known, so that it is said of every file. */
+int import_file(const arguments *given) {
+    int status = copy_as(ZT_LAYOUT_1_0, given);
+    if (status == DONE) remark(given->operands[0], "fields unknown to layout 1.0, generator and attributes of tensors among them, are not carried over");
+    return status;
 }

@@ -65,7 +65,7 @@ int get_component(const arguments *given) {
     model of;
     int status = name_read(&object, given->operands[1], given->escaped);
     if (status == DONE) status = name_read(&component, given->operands[2], given->escaped);
-    if (status == DONE) status = model_open_sound(&of, given->operands[0], 0);
+    if (status == DONE) status = model_open_sound(&of, given->operands[0], given->layout, 0);
     if (status == DONE) {
         uint64_t index = find(&of, given, object, component);
         status = index == of.answer.components ? TROUBLE : put(&of, given->output, index);

@@ -25,7 +25,7 @@ static void json_listing(const model *of) {
 int list_file(const arguments *given) {
     const char *path = given->operands[0];
     model of;
-    int status = model_open_sound(&of, path, given->json);
+    int status = model_open_sound(&of, path, given->layout, given->json);
     if (status != DONE) return status;
     if (given->json) json_listing(&of);
     else status = print_listing(&of, path);

@@ -7,7 +7,7 @@
 #include <stdlib.h>
 
 enum kind { FRAME, COMPONENTS, GAPS, MANIFEST, KINDS };
-enum { HEADER = 8, BEHIND = 16, CELLS = 64 };
+enum { HEADER = 8, CELLS = 64 };
 
 static const struct {
     char mark;
@@ -62,7 +62,7 @@ static int account_of(account *into, const model *of) {
         reach(into, COMPONENTS, parts[i].offset + parts[i].length);
     }
     reach(into, GAPS, of->answer.start);
-    reach(into, MANIFEST, into->length - BEHIND);
+    reach(into, MANIFEST, into->length - behind_manifest(of));
     reach(into, FRAME, into->length);
     free(parts);
     return DONE;
@@ -124,7 +124,7 @@ static void json_account(const account *of, const model *about) {
 int map_file(const arguments *given) {
     model of;
     account all;
-    int status = model_open_sound(&of, given->operands[0], given->json);
+    int status = model_open_sound(&of, given->operands[0], given->layout, given->json);
     if (status != DONE) return status;
     status = account_of(&all, &of);
     if (status == DONE && given->json) json_account(&all, &of);

@@ -1,23 +1,24 @@
-/* Reading a file by zt_read, and what stands in its rows. */
+/* Reading a file by zt_read_as, and what stands in its rows. */
 #include "model.h"
 #include "json.h"
 #include <errno.h>
 #include <stdlib.h>
 
-int model_open(model *of, const char *path) {
+int model_open(model *of, const char *path, uint64_t layout) {
+    of->layout = layout;
     if (input_open(&of->file, path) != DONE) return TROUBLE;
     of->table = malloc(ZT_TABLE_MOST * sizeof *of->table);
     if (!of->table) {
         input_close(&of->file);
         return trouble_of(path, ENOMEM);
     }
-    of->answer = zt_read(of->file.at, of->file.length, of->table, ZT_TABLE_MOST);
+    of->answer = zt_read_as(layout, of->file.at, of->file.length, of->table, ZT_TABLE_MOST);
     if (input_unchanged(&of->file) == DONE) return DONE;
     return model_close(of, TROUBLE);
 }
 
-int model_open_sound(model *of, const char *path, int json) {
-    int status = model_open(of, path);
+int model_open_sound(model *of, const char *path, uint64_t layout, int json) {
+    int status = model_open(of, path, layout);
     if (status != DONE || of->answer.number == ZT_ACCEPTED) return status;
     if (json) {
         print_words(&out, "{");
@@ -36,7 +37,7 @@ int model_close(model *of, int status) {
     return status;
 }
 
-fault fault_of(const model *of) { return (fault){of->answer.number, of->answer.object, of->answer.component}; }
+fault fault_of(const model *of) { return (fault){of->answer.number, of->answer.object, of->answer.component, of->layout}; }
 
 const uint64_t *object_row(const model *of, uint64_t object) { return of->table + ZT_OBJECT_WIDTH * object; }
 
@@ -52,5 +53,6 @@ text text_of(const model *of, const uint64_t *place) { return text_at(of, place[
 
 text attributes_of(const model *of) { return text_at(of, of->answer.place, of->answer.size); }
 
-/* The frame behind the manifest, its size and the footer, takes 16 bytes. */
-uint64_t manifest_length(const model *of) { return of->file.length - 16 - of->answer.start; }
+uint64_t behind_manifest(const model *of) { return of->layout == ZT_LAYOUT_1_0 ? 8 : 16; }
+
+uint64_t manifest_length(const model *of) { return of->file.length - behind_manifest(of) - of->answer.start; }

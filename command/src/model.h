@@ -1,4 +1,4 @@
-/* A file as the proved calls know it: its bytes, and the table and answer that zt_read gave. All that the command says of a file comes from here. */
+/* A file as the proved calls know it: its bytes, its layout, and the table and answer that zt_read_as gave. All that the command says of a file comes from here. */
 #ifndef MODEL_H
 #define MODEL_H
 #include "input.h"
@@ -7,6 +7,7 @@
 
 typedef struct {
     input file;
+    uint64_t layout; /* a zt_layout */
     uint64_t *table; /* of ZT_TABLE_MOST numbers, so that ROOM is never the answer */
     zt_answer answer;
 } model;
@@ -19,13 +20,13 @@ typedef struct {
 } text;
 
 /* DONE, with the answer, accepted or not; or TROUBLE, which was said, and nothing is held: the file can't be read, or changed while it was. */
-int model_open(model *of, const char *path);
+int model_open(model *of, const char *path, uint64_t layout);
 
 /*
  * For commands that show sound files: as model_open, but a refusal is said, as JSON on standard output or a line on standard error, nothing is held, and
  * the answer is REFUSED.
  */
-int model_open_sound(model *of, const char *path, int json);
+int model_open_sound(model *of, const char *path, uint64_t layout, int json);
 
 /* Gives everything back. The status; or TROUBLE, which is said, if the file changed meanwhile. */
 int model_close(model *of, int status);
@@ -35,5 +36,6 @@ const uint64_t *object_row(const model *of, uint64_t object);
 const uint64_t *component_row(const model *of, uint64_t component); /* its index among all components */
 text text_of(const model *of, const uint64_t *place);               /* a place in a row, with the length beside it */
 text attributes_of(const model *of);                                /* the root's */
+uint64_t behind_manifest(const model *of); /* bytes of frame: its size, and the footer if there is one */
 uint64_t manifest_length(const model *of);
 #endif

@@ -3,6 +3,14 @@
 #include "refusal.h"
 #include <string.h>
 
+/* The words of zt.h are 1.2.0's: in layout 1.0 the frame is 16 bytes, and an index role can't be anything but u64. */
+static const char *words_of(fault what) {
+    if (what.layout == ZT_LAYOUT_1_0 && what.number == ZT_SHORT) return "file under 16 bytes";
+    if (what.layout == ZT_LAYOUT_1_0 && what.number == ZT_FIT) return "manifest size 0 or over file length - 16";
+    if (what.layout == ZT_LAYOUT_1_0 && what.number == ZT_ROLE) return "needed role absent";
+    return zt_refusal_words(what.number);
+}
+
 void print_refused(stream *to, fault what) {
     print_words(to, "refused ");
     print_number(to, what.number);
@@ -13,7 +21,7 @@ void print_refused(stream *to, fault what) {
     print_words(to, ", component ");
     print_number(to, what.component);
     print_words(to, ": ");
-    print_words(to, zt_refusal_words(what.number));
+    print_words(to, words_of(what));
     print_words(to, "\n");
 }
 
@@ -41,6 +49,6 @@ void json_verdict(const char *path, fault what) {
     json_number(0, " ", "object", what.object);
     json_number(0, " ", "component", what.component);
     json_key(0, " ", "words");
-    json_words(zt_refusal_words(what.number));
+    json_words(words_of(what));
     print_words(&out, "}");
 }

@@ -4,9 +4,9 @@
 #include "stream.h"
 #include "zt.h"
 
-/* The number, ZT_ACCEPTED for none, and where it is. */
+/* The number, ZT_ACCEPTED for none, where it is, and the layout by whose rules it is one. */
 typedef struct {
-    uint64_t number, object, component;
+    uint64_t number, object, component, layout;
 } fault;
 
 /* "refused 20 BOUNDS, object 0, component 1: offset under 64, ..", as a line. */

@@ -77,7 +77,7 @@ static void json_model(const model *of) {
 
 int show_file(const arguments *given) {
     model of;
-    int status = model_open_sound(&of, given->operands[0], given->json);
+    int status = model_open_sound(&of, given->operands[0], given->layout, given->json);
     if (status != DONE) return status;
     if (given->json) json_model(&of);
     else print_model(&of);

@@ -66,9 +66,8 @@ size_t escaped_length(const uint8_t *at, size_t length) {
 
 char last_trouble[160];
 
-int trouble(const char *path, const char *words) {
+void remark(const char *path, const char *words) {
     flush(&out);
-    snprintf(last_trouble, sizeof last_trouble, "%s", words);
     print_words(&err, "zt: ");
     if (path) {
         print_escaped(&err, (const uint8_t *)path, strlen(path));
@@ -77,6 +76,11 @@ int trouble(const char *path, const char *words) {
     print_words(&err, words);
     print_words(&err, "\n");
     flush(&err);
+}
+
+int trouble(const char *path, const char *words) {
+    snprintf(last_trouble, sizeof last_trouble, "%s", words);
+    remark(path, words);
     return TROUBLE;
 }
 

@@ -27,7 +27,10 @@ void flush(stream *of);
 void print_escaped(stream *to, const uint8_t *at, size_t length);
 size_t escaped_length(const uint8_t *at, size_t length);
 
-/* A line on standard error about a file, or, where the path is null, about the command; answers TROUBLE. */
+/* A line on standard error about a file, or, where the path is null, about the command. */
+void remark(const char *path, const char *words);
+
+/* The same of what went wrong; answers TROUBLE. */
 int trouble(const char *path, const char *words);
 int trouble_of(const char *path, int error); /* the words of an errno */
 extern char last_trouble[160];               /* the words of the last one, for JSON */
