@@ -18,6 +18,7 @@ use second::generate::{nth_file_as, RowSet};
 use second::layout::Layout;
 use second::refusal::{BIG, COUNT, ROLE, ROOM};
 use second::rows::{self, split, Part};
+use second::sweep;
 
 const FILES: u64 = rounds(200_000);
 /// The number that says layout 1.0.
@@ -130,6 +131,24 @@ fn generated_and_damaged() {
     accepts.report(1 + 21);
     reads.report(1 + 21 + 1);
     assert!(accepts.part(&label(0)) > 0.05);
+}
+
+/// Holds the acceptance check against the second program on files of layout 1.0.
+fn compare_files(of: &'static str, files: Vec<Vec<u8>>, answers: usize) {
+    let mut tally = Tally::of(of);
+    for (at, file) in files.iter().enumerate() {
+        compare_accept(&mut tally, FIRST, file, || format!("file {at}"));
+    }
+    tally.report(answers);
+}
+
+#[test]
+fn every_place_changed() {
+    compare_files("1.0: every byte of a file", sweep::bytes_as(Layout::First), 16);
+    compare_files("1.0: every node of a manifest", sweep::nodes_as(Layout::First), 19);
+    compare_files("1.0: every role of a format", sweep::roles_as(Layout::First), 4);
+    compare_files("1.0: every two faults", sweep::two_faults_as(Layout::First), 16);
+    compare_files("1.0: names at their limits", sweep::many_names_as(Layout::First), 6);
 }
 
 /// The manifest of a file in the other layout's frame, where this layout's is sound.
