@@ -110,7 +110,7 @@ module _ {P : Type 0} where
   names-values limit t ns e =
       let s = step (aTable t) _ e in
       let u = step (each (λ i. nameOf) 0 (s .0)) _ (s .2) in
-      let z : pass (u .0) ≡ pass ns = 
+      let z : pass (u .0) ≡ pass ns =
       past (TWICE unless distinct (map (λ n. n .name .letters) (u .0))) _ (past (COUNT unless leb (length (u .0)) limit) _ (past (TEXT unless all (λ n. utf8 (n .name .letters)) (u .0)) _ (u .2))) in
       let y : u .0 ≡ ns = cc in
       ap (map (λ (n : Named P). n .value)) (sym y) ∙ each-value 0 (s .0) (u .0) (u .1) ∙ ap (λ k. map (λ p. p .value) (pairsOr k)) (sym (s .1))
