@@ -54,18 +54,9 @@ fn put_whole(
                 &mut p,
                 t,
             );
-            let k = late(
-                layout,
-                &c[size..],
-                &p,
-                start,
-                end,
-                owner,
-                from,
-                w.count,
-                w.next,
-                t,
-            );
+            let n = w.count;
+            let next = w.next;
+            let k = late(layout, &c[size..], &p, start, end, owner, from, n, next, t);
             put_object(&s[0..], &c[size..], &p, k.count, w.size, end, i, t);
             if c.len() - size < w.end {
                 return Run {

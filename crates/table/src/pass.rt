@@ -93,7 +93,7 @@ pub fn pass_object(
     let mut at = 0;
     let mut due = count;
     let mut n = 0;
-    let mut next = from;
+    let mut row = from;
     let mut size = 0;
     loop {
         match walk::past_key(&s[at..], mode, due, 29) {
@@ -102,41 +102,29 @@ pub fn pass_object(
                     return Walk {
                         end: e,
                         count: n,
-                        next: next,
+                        next: row,
                         size: size,
                     };
                 }
                 return Walk {
                     end: at + e,
                     count: n,
-                    next: next,
+                    next: row,
                     size: size,
                 };
             }
             Entry::Value(k) => {
                 let v = at + k;
                 let j = slot(layout, &s[at..]);
-                let w = value(
-                    layout,
-                    &s[v..],
-                    start,
-                    end,
-                    owner,
-                    from,
-                    j,
-                    p[4],
-                    n,
-                    next,
-                    t,
-                );
+                let w = value(layout, &s[v..], start, end, owner, from, j, p[4], n, row, t);
                 let e = w.end;
                 n = w.count;
-                next = w.next;
+                row = w.next;
                 if s.len() - v < e {
                     return Walk {
                         end: e,
                         count: n,
-                        next: next,
+                        next: row,
                         size: size,
                     };
                 }

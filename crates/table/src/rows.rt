@@ -63,19 +63,9 @@ fn entries(
                         next: next,
                     };
                 }
-                let judged = w.verdict;
-                put_row(
-                    layout,
-                    format,
-                    &s[at..],
-                    &s[v..],
-                    judged,
-                    w.end,
-                    end,
-                    owner,
-                    next,
-                    t,
-                );
+                let j = w.verdict;
+                let e = w.end;
+                put_row(layout, format, &s[at..], &s[v..], j, e, end, owner, next, t);
                 next = ahead(next, columns::COMPONENT, t.len());
                 n += 1;
                 at = v + w.end;
