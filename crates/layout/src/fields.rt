@@ -2,7 +2,7 @@
 use emit::bytes_at;
 use emit::number_at;
 use emit::text_at;
-use panel::put::NAMES;
+use put::NAMES;
 use rows::absent;
 ghost use mathlib.Core.Path.{_≡_};
 ghost use mathlib.Core.List.{_++_};

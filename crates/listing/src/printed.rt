@@ -1,6 +1,5 @@
 // What the program prints: of a file, proved for any bytes, and of a path. What is lent always has room.
 use panel::Listed;
-use panel::put;
 ghost use mathlib.Core.Path.{_≡_};
 ghost use Prim.Native.Nat.{_≤_, _*_};
 ghost use lib.ListN.{length};

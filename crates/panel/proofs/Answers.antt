@@ -9,11 +9,11 @@ use lib.ListN.{length, drop}
 use lib.Seq.{sets, sets-eq}
 use borrow.Author.Tests.{le-leb, lt-leb}
 use Rattle.meaning.specs.Check.{Check, pass, refuse}
-use Rattle.panel.specs.Wrote.{most, capped, Wrote}
+use Rattle.put.specs.Wrote.{most, capped, Wrote}
 use Rattle.panel.specs.Lines.{text, sound, listed}
 use Rattle.panel.specs.Told.{told, textAfter}
 use Rattle.panel.specs.declared.Listed.{Listed}
-use Rattle.panel.proofs.Writing.{by-place, capped-low, capped-high}
+use Rattle.put.proofs.Writing.{by-place, capped-low, capped-high}
 
 module _ (file table : List ℕ) (objects components : ℕ) where
   pub not-listed : false ≡ sound file table objects components → listed file table objects components ≡ refuse 26 0 0

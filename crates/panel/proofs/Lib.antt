@@ -1,7 +1,4 @@
 -- Laws behind panel's proofs.
-pub mod Writing
-pub mod Pieces
-pub mod Names
 pub mod Sound
 pub mod Following
 pub mod Answers

@@ -1,5 +1,4 @@
 -- The definitions that the contracts of panel cite.
 pub mod Lines
 pub mod Told
-pub mod Wrote
 pub mod Stands

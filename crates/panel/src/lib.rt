@@ -1,6 +1,5 @@
 // The listing's exact bytes, from a file and a table, into a lent text.
 mod lines;
-pub mod put;
 mod rows;
 
 ghost use mathlib.Core.Path.{_≡_};

@@ -1,10 +1,4 @@
 // The lines of a listing, into `out` from `at` on as far as they fit; each answers the place past its lines.
-use crate::put::blank_number;
-use crate::put::blank_storage;
-use crate::put::blank_text;
-use crate::put::byte;
-use crate::put::placed;
-use crate::put::word;
 use columns::COUNT;
 use columns::DTYPE;
 use columns::FORMAT;
@@ -12,6 +6,12 @@ use columns::FORMAT_LENGTH;
 use columns::LENGTH;
 use columns::NAME_LENGTH;
 use columns::OFFSET;
+use put::blank_number;
+use put::blank_storage;
+use put::blank_text;
+use put::byte;
+use put::placed;
+use put::word;
 use view::part;
 ghost use mathlib.Core.Path.{_≡_};
 ghost use mathlib.Core.List.{[], _∷_};
@@ -23,7 +23,7 @@ ghost use Rattle.meaning.specs.Text.{ascii};
 ghost use Rattle.meaning.specs.Types.{storageOf};
 ghost use Rattle.meaning.specs.Listing.{line, shownText, decimal};
 ghost use Rattle.panel.specs.Lines as is;
-ghost use Rattle.panel.specs.Wrote.{Wrote};
+ghost use Rattle.put.specs.Wrote.{Wrote};
 
 fn heading(objects: u64, components: u64, out: &mut [u8]) -> usize
     ensures { λ r. ⌜ Wrote (line (ascii "objects") (decimal objects ∷ ascii "components" ∷ decimal components ∷ [])) 0 (now (out .entry)) (now (out .exit)) r ⌝ }

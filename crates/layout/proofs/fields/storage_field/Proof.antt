@@ -1,7 +1,7 @@
 -- `layout::fields::storage_field` meets its contract: the name that stands at the code. Assumes nothing.
 use mathlib.Core.Path.{refl}
 use Rattle.meaning.specs.Manifest.{textBytes}
-use Rattle.panel.proofs.Names as names
+use Rattle.put.proofs.Names as names
 use mathlib.Core.Path.{sym, ap}
 use native.Mathlib.Omega.{arith}
 use Rattle.emit.proofs.Laying as laying

@@ -5,7 +5,7 @@ use Rattle.listing.proofs.printed.escaped.Statement.{statement}
 use Rattle.listing.proofs.printed.escaped.Tie as tie
 use Rattle.listing.proofs.printed.escaped.Reads as reads
 use Rattle.listing.proofs.printed.escaped.Lts as lts
-use Rattle.panel.proofs.put.text.Reads as text-reads
+use Rattle.put.proofs.text.Reads as text-reads
 
 pub escaped-spec : {M : Type 1} → statement M
 escaped-spec = tie.close (tie.spec (λ c κs. search needs) (λ c. search needs) (λ c. texts.escaped-stands (c .before .before .before .before .before .before .args .path .now) (c .before .before .before .before .before .before .args .text .now) (c .before .before .before .before .before .before .pre) (c .before .before .text .ensures)))

@@ -5,8 +5,8 @@ use Rattle.listing.proofs.printed.heading.Statement.{statement}
 use Rattle.listing.proofs.printed.heading.Tie as tie
 use Rattle.listing.proofs.printed.heading.Reads as reads
 use Rattle.listing.proofs.printed.heading.Lts as lts
-use Rattle.panel.proofs.put.text.Reads as text-reads
-use Rattle.panel.proofs.put.word.Reads as word-reads
+use Rattle.put.proofs.text.Reads as text-reads
+use Rattle.put.proofs.word.Reads as word-reads
 
 pub heading-spec : {M : Type 1} → statement M
 heading-spec =

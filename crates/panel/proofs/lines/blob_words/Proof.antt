@@ -1,6 +1,6 @@
 -- `panel::lines::blob_words` meets its contract: a law for each branch. Assumes nothing.
 use Rattle.meaning.specs.Listing.{line, blanked, shownText, decimal}
-use Rattle.panel.proofs.Writing as writing
+use Rattle.put.proofs.Writing as writing
 use Rattle.meaning.specs.Types.{storageOf}
 use Rattle.meaning.specs.Text.{ascii}
 use borrow.Rule.Slice.PartAt.{part-to-end}

@@ -3,7 +3,7 @@ use Prim.Native.Nat.{_+_, _*_, _≤_}
 use lib.ListN.{length}
 use Rattle.meaning.specs.Columns.{componentWidth}
 use Rattle.panel.specs.Lines.{blobLine, blobLines}
-use Rattle.panel.proofs.Writing as writing
+use Rattle.put.proofs.Writing as writing
 use Rattle.panel.proofs.Following as following
 use Rattle.panel.proofs.Sound as rows
 use borrow.Author.Needs.{needs}

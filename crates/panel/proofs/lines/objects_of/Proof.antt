@@ -4,7 +4,7 @@ use native.Mathlib.Omega.{arith}
 use lib.ListN.{length}
 use Rattle.meaning.specs.Columns.{objectWidth, componentWidth}
 use Rattle.panel.specs.Lines.{countAt, counted, blobLines, objectLine, objectLines}
-use Rattle.panel.proofs.Writing as writing
+use Rattle.put.proofs.Writing as writing
 use Rattle.panel.proofs.Following as following
 use Rattle.panel.proofs.Sound as rows
 use borrow.Author.Needs.{needs}

@@ -1,14 +1,14 @@
 -- `panel::refused` meets its contract: a law for each branch. Assumes nothing.
-use Rattle.panel.proofs.Writing as writing
+use Rattle.put.proofs.Writing as writing
 use Rattle.meaning.specs.Listing.{line, blanked}
 use borrow.Author.Needs.{needs}
 use Rattle.panel.proofs.lines.refused.Statement.{statement}
 use Rattle.panel.proofs.lines.refused.Tie as tie
 use Rattle.panel.proofs.lines.refused.Reads as reads
 use Rattle.panel.proofs.lines.refused.Lts as lts
-use Rattle.panel.proofs.put.blank_number.Reads as blank-number-reads
-use Rattle.panel.proofs.put.byte.Reads as byte-reads
-use Rattle.panel.proofs.put.word.Reads as word-reads
+use Rattle.put.proofs.blank_number.Reads as blank-number-reads
+use Rattle.put.proofs.byte.Reads as byte-reads
+use Rattle.put.proofs.word.Reads as word-reads
 
 pub refused-spec : {M : Type 1} → statement M
 refused-spec =

@@ -1,0 +1,4 @@
+-- Laws behind put's proofs, and of pieces one after the other.
+pub mod Writing
+pub mod Pieces
+pub mod Names

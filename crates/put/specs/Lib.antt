@@ -1,0 +1,2 @@
+-- The definitions that the contracts of put cite.
+pub mod Wrote
