@@ -1,0 +1,8 @@
+pub mod Scale
+pub mod Glue
+pub mod Units
+pub mod Powers
+pub mod Cutting
+pub mod Letters
+pub mod Believed
+pub mod Cases

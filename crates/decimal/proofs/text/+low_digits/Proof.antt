@@ -1,0 +1,146 @@
+-- `decimal::text::low_digits` meets its contract: it calls itself on one digit fewer. Assumes nothing.
+use native.Mathlib.Omega.{arith}
+use Rattle.put.proofs.Writing as writing
+use Rattle.decimal.proofs.Letters as letters
+use borrow.Author.Needs.{needs}
+use Prim.Native.Nat.{ℕ, _<_}
+use borrow.Fn.Kinds.{In}
+use borrow.Fn.PlainCycle.{Measures, is, falls, and}
+use Rattle.decimal.proofs.text.low_digits.Reads as low-digits
+use Rattle.decimal.proofs.text.low_digits.Kinds as low-digits-kinds
+use Rattle.decimal.proofs.text.+low_digits.Lts-low_digits as low-digits-lts
+use Rattle.put.proofs.byte.Reads as byte-reads
+use Rattle.put.proofs.placed.Reads as placed-reads
+use Rattle.decimal.proofs.text.+low_digits.{statement}
+use Rattle.decimal.proofs.text.+low_digits.Tie.{close}
+
+abbrev μ-low-digits : Measures 1 low-digits-kinds.ps ℕ
+μ-low-digits κs a = a .1 .1 .1 .0
+
+abbrev low-digits-at : ℕ → In 1 low-digits-kinds.ps
+low-digits-at t =
+    and 1 low-digits-kinds.ps (is 1 low-digits-kinds.ps μ-low-digits t) low-digits.Pre
+
+abbrev low-digits-below : ℕ → In 1 low-digits-kinds.ps
+low-digits-below t =
+    and 1 low-digits-kinds.ps (falls 1 low-digits-kinds.ps _<_ μ-low-digits t) low-digits.Pre
+
+-- src/text.rt:15:9
+low-digits-placed-requires : (t : ℕ) → low-digits-lts.Need-placed-requires (
+  placed-reads.Asked,
+  placed-reads.Learnt,
+  low-digits-below t,
+  low-digits.Post,
+  byte-reads.Asked,
+  byte-reads.Learnt,
+) (low-digits-at t) low-digits.Post
+low-digits-placed-requires t c κs = search needs
+
+-- src/text.rt:15:9
+low-digits-returns : (t : ℕ) → low-digits-lts.Need-returns (
+  placed-reads.Asked,
+  placed-reads.Learnt,
+  low-digits-below t,
+  low-digits.Post,
+  byte-reads.Asked,
+  byte-reads.Learnt,
+) (low-digits-at t) low-digits.Post
+low-digits-returns t c = let g = c .before .before .before .good in writing.as-bytes (letters.low-none (c .before .before .before .args .k) (c .before .before .before .args .n) (c .before .if1 .taken)) (writing.nothing _ (omega arith) (c .placed .ensures))
+
+-- src/text.rt:17:46
+low-digits-sub-low-digits : (t : ℕ) → low-digits-lts.Need-sub-low-digits (
+  placed-reads.Asked,
+  placed-reads.Learnt,
+  low-digits-below t,
+  low-digits.Post,
+  byte-reads.Asked,
+  byte-reads.Learnt,
+) (low-digits-at t) low-digits.Post
+low-digits-sub-low-digits t c = search needs
+
+-- src/text.rt:17:9
+low-digits-low-digits-requires : (t : ℕ) → low-digits-lts.Need-low-digits-requires (
+  placed-reads.Asked,
+  placed-reads.Learnt,
+  low-digits-below t,
+  low-digits.Post,
+  byte-reads.Asked,
+  byte-reads.Learnt,
+) (low-digits-at t) low-digits.Post
+low-digits-low-digits-requires t c κs = search needs
+
+-- src/text.rt:18:40
+low-digits-cast-byte : (t : ℕ) → low-digits-lts.Need-cast-byte (
+  placed-reads.Asked,
+  placed-reads.Learnt,
+  low-digits-below t,
+  low-digits.Post,
+  byte-reads.Asked,
+  byte-reads.Learnt,
+) (low-digits-at t) low-digits.Post
+low-digits-cast-byte t c = search needs
+
+-- src/text.rt:18:35
+low-digits-add-byte : (t : ℕ) → low-digits-lts.Need-add-byte (
+  placed-reads.Asked,
+  placed-reads.Learnt,
+  low-digits-below t,
+  low-digits.Post,
+  byte-reads.Asked,
+  byte-reads.Learnt,
+) (low-digits-at t) low-digits.Post
+low-digits-add-byte t c = search needs
+
+-- src/text.rt:18:5
+low-digits-byte-requires : (t : ℕ) → low-digits-lts.Need-byte-requires (
+  placed-reads.Asked,
+  placed-reads.Learnt,
+  low-digits-below t,
+  low-digits.Post,
+  byte-reads.Asked,
+  byte-reads.Learnt,
+) (low-digits-at t) low-digits.Post
+low-digits-byte-requires t c κs = search needs
+
+-- src/text.rt:11:1
+low-digits-same-length : (t : ℕ) → low-digits-lts.Need-same-length (
+  placed-reads.Asked,
+  placed-reads.Learnt,
+  low-digits-below t,
+  low-digits.Post,
+  byte-reads.Asked,
+  byte-reads.Learnt,
+) (low-digits-at t) low-digits.Post
+low-digits-same-length t c = search needs
+
+-- src/text.rt:11:1
+low-digits-returns-2 : (t : ℕ) → low-digits-lts.Need-returns-2 (
+  placed-reads.Asked,
+  placed-reads.Learnt,
+  low-digits-below t,
+  low-digits.Post,
+  byte-reads.Asked,
+  byte-reads.Learnt,
+) (low-digits-at t) low-digits.Post
+low-digits-returns-2 t c = writing.as-bytes (letters.low-more (c .before .before .before .before .before .before .before .before .before .before .args .k) (c .before .before .before .before .before .before .before .before .before .before .args .n) (c .before .before .before .before .before .before .before .before .if1 .left)) (writing.then (c .before .before .before .before .before .before .low-digits .ensures) (c .before .before .byte .ensures))
+
+pub +low-digits-spec : {M : Type 1} → statement M
++low-digits-spec = close μ-low-digits λ t. low-digits-lts.spec (
+  placed-reads.Asked,
+  placed-reads.Learnt,
+  low-digits-below t,
+  low-digits.Post,
+  byte-reads.Asked,
+  byte-reads.Learnt,
+)
+    (low-digits-at t)
+    low-digits.Post
+    (low-digits-placed-requires t)
+    (low-digits-returns t)
+    (low-digits-sub-low-digits t)
+    (low-digits-low-digits-requires t)
+    (low-digits-cast-byte t)
+    (low-digits-add-byte t)
+    (low-digits-byte-requires t)
+    (low-digits-same-length t)
+    (low-digits-returns-2 t)

@@ -1,0 +1,109 @@
+-- A component's row that was found lies in the table, and its finding is what its view shows.
+use Prim.Native.Nat.{ℕ, _+_, _*_, _-_, _%_, _≤_, _<_}
+use native.Mathlib.Omega.{arith}
+use mathlib.Core.Bool.{Bool, true, false, cond, _&&_}
+use mathlib.Core.List.{List}
+use mathlib.Core.Path.{_≡_, refl, sym, ap, _∙_, subst}
+use lib.ListN.{length, take, drop, getD}
+use lib.Dec.{eqb, leb, ltb}
+use borrow.Rule.Slice.PartAt.{part-to-end}
+use borrow.Author.Tests.{leb-true, eq-eqb, ne-eqb}
+use Rattle.meaning.specs.Columns.{objectWidth, componentWidth, dtypeColumn, typeColumn, typeLengthColumn, offsetColumn, lengthColumn}
+use Rattle.meaning.specs.Check.{Check, pass, refuse, _>>=_, _>>_, _unless_}
+use Rattle.meaning.specs.Read.{Span}
+use Rattle.meaning.specs.Types.{f32}
+use Rattle.meaning.specs.View.{viewed}
+use Rattle.view.specs.Told as view
+use Rattle.view.specs.declared.Extent.{Extent}
+use Rattle.finding.specs.Finding.{finding, shown}
+use Rattle.finding.specs.Table.{due, undue, atRow, told, found}
+use Rattle.finding.specs.declared.Shown.{Shown}
+use Rattle.finding.specs.declared.table.Found.{Found}
+
+-- the part of s from the beginning on, as it is lent
+abbrev Whole : List ℕ → List ℕ
+Whole s = take (length s - 0) (drop 0 s)
+
+twenty-six : _≡_ {A = ℕ} 26 0 → ⊥
+twenty-six e = omega (arith, e)
+
+second : (a b : Bool) → a && b ≡ true → b ≡ true
+second true b e = e
+second false b e = let z : _≡_ {A = ℕ} 0 1 = cc in absurd (omega arith)
+
+-- ---- whether one is due
+
+module _ (table : List ℕ) (row : ℕ) where
+  pub other-storage : (getD table (row + dtypeColumn) 0 ≡ 1 → ⊥) → false ≡ due table row
+  unfolding due f32
+  other-storage h = rw (ne-eqb (getD table (row + dtypeColumn) 0) 1 h) refl
+
+  pub typed : getD table (row + dtypeColumn) 0 ≡ 1 → (getD table (row + typeColumn) 0 ≡ 0 → ⊥) → false ≡ due table row
+  unfolding due f32
+  typed e h = rw (e, ne-eqb (getD table (row + typeColumn) 0) 0 h) refl
+
+  pub named : getD table (row + dtypeColumn) 0 ≡ 1 → getD table (row + typeColumn) 0 ≡ 0 → (getD table (row + typeLengthColumn) 0 ≡ 0 → ⊥) → false ≡ due table row
+  unfolding due f32
+  named e f h = rw (e, f, ne-eqb (getD table (row + typeLengthColumn) 0) 0 h) refl
+
+  pub by-length : getD table (row + dtypeColumn) 0 ≡ 1 → getD table (row + typeColumn) 0 ≡ 0 → getD table (row + typeLengthColumn) 0 ≡ 0
+      → eqb (getD table (row + lengthColumn) 0 % 4) 0 ≡ due table row
+  unfolding due f32
+  by-length e f g = rw (e, f, g) refl
+
+module _ (file table : List ℕ) (row : ℕ) where
+  pub not-due : due (Whole table) row ≡ false → undue ≡ atRow file table row
+  unfolding atRow
+  not-due e = let z : due table row ≡ false = ap (λ (t : List ℕ). due t row) (sym (part-to-end table 0)) ∙ e in rw z refl
+
+  pub is-due : (bytes : List ℕ) (r : Shown) → due (Whole table) row ≡ true
+      → bytes ≡ take (getD table (row + lengthColumn) 0) (drop (getD table (row + offsetColumn) 0) (Whole file)) → r ≡ shown (finding bytes) → r ≡ atRow file table row
+  unfolding atRow
+  is-due bytes r e b f =
+      let z : due table row ≡ true = ap (λ (t : List ℕ). due t row) (sym (part-to-end table 0)) ∙ e in
+      f ∙ ap (λ (s : List ℕ). shown (finding s)) (b ∙ ap (λ (s : List ℕ). take (getD table (row + lengthColumn) 0) (drop (getD table (row + offsetColumn) 0) s)) (part-to-end file 0)) ∙ rw z refl
+
+-- ---- by the index
+
+-- what a range's answer tells: no component there; or its row lies in the table, and its finding is that row's
+pub record Told (file table : List ℕ) (objects components index : ℕ) (r : Extent) : Type 0 where
+  pub none : (r .number ≡ 0 → ⊥) → _≡_ {A = Found} (record { number = r .number; finding = 0; smallest = 0; largest = 0; nans = 0 }) (found file table objects components index)
+  pub lies : r .number ≡ 0 → objectWidth * objects + componentWidth * index + componentWidth ≤ length table
+  pub some : (f : Shown) → r .number ≡ 0 → f ≡ atRow file table (objectWidth * objects + componentWidth * index)
+      → _≡_ {A = Found} (record { number = 0; finding = f .finding; smallest = f .smallest; largest = f .largest; nans = f .nans }) (found file table objects components index)
+
+module _ (file table : List ℕ) (objects components index : ℕ) where
+  row : ℕ
+  row = objectWidth * objects + componentWidth * index
+
+  place : ℕ
+  place = getD table (row + offsetColumn) 0
+
+  size : ℕ
+  size = getD table (row + lengthColumn) 0
+
+  by : (b d : Bool) → ltb index components && leb (row + componentWidth) (length table) ≡ b → leb (place + size) (length file) ≡ d
+      → Told file table objects components index (view.told (viewed file table objects components index))
+  unfolding viewed found told row place size
+  by true true e f = record {
+    none = λ h. absurd (h (rw (e, f) refl));
+    lies = λ h. leb-true (row + componentWidth) (length table) (second (ltb index components) (leb (row + componentWidth) (length table)) e);
+    some = λ g h i. rw (e, f, i) refl;
+  }
+  by true false e f = record { none = λ h. rw (e, f) refl; lies = λ h. absurd (twenty-six (rw (e, f) at h)); some = λ g h i. absurd (twenty-six (rw (e, f) at h)) }
+  by false d e f = record { none = λ h. rw e refl; lies = λ h. absurd (twenty-six (rw e at h)); some = λ g h i. absurd (twenty-six (rw e at h)) }
+
+  told-is : Told file table objects components index (view.told (viewed file table objects components index))
+  told-is = by (ltb index components && leb (row + componentWidth) (length table)) (leb (place + size) (length file)) refl refl
+
+-- asked of the two lists lent whole
+pub asked : (file table : List ℕ) (objects components index : ℕ) (r : Extent)
+    → r ≡ view.told (viewed (Whole file) (Whole table) objects components index) → Told file table objects components index r
+asked file table objects components index r e =
+    subst (Told file table objects components index)
+    (sym (e ∙ ap (λ (s : List ℕ). view.told (viewed s (Whole table) objects components index)) (part-to-end file 0)
+      ∙ ap (λ (s : List ℕ). view.told (viewed file s objects components index)) (part-to-end table 0)))
+    (told-is file table objects components index)
+
+pub lent-row : (file table : List ℕ) (row : ℕ) (r : Shown) → r ≡ atRow (Whole file) (Whole table) row → r ≡ atRow file table row
+lent-row file table row r e = e ∙ ap (λ (s : List ℕ). atRow s (Whole table) row) (part-to-end file 0) ∙ ap (λ (s : List ℕ). atRow file s row) (part-to-end table 0)

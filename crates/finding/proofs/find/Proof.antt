@@ -1,0 +1,51 @@
+-- `finding::find` meets its contract: the invariant says that the loop's own fold of the rest is the finding of all. Assumes nothing.
+use mathlib.Core.Path.{_≡_, sym, _∙_, ap, refl}
+use mathlib.Core.Bool.{true, false, cond}
+use lib.Ieee.{nanBits, binary32, ofBits}
+use Prim.Native.Nat.{_≤_, _-_, _+_}
+use native.Mathlib.Omega.{arith}
+use lib.ListN.{length, drop}
+use Rattle.finding.specs.Finding.{values, finding}
+use Rattle.finding.proofs.Turn as turn
+use Rattle.finding.proofs.Turn.{run}
+use borrow.Author.Needs.{needs}
+use Rattle.finding.proofs.find.Statement.{statement}
+use Rattle.finding.proofs.find.Tie as tie
+use Rattle.finding.proofs.find.Reads as reads
+use Rattle.finding.proofs.find.Lts as lts
+use Rattle.finding.proofs.greater.Reads as greater-reads
+use Rattle.finding.proofs.lesser.Reads as lesser-reads
+use Rattle.finding.proofs.nan.Reads as nan-reads
+use Rattle.finding.proofs.number.Reads as number-reads
+use Rattle.finding.proofs.pattern.Reads as pattern-reads
+
+abbrev Inv-loop : tie.InvT-loop
+Inv-loop s smallest₀ largest₀ nans₀ some₀ i₀ smallest largest nans some i = (i ≤ length s) × ((nans ≤ i) × (run smallest largest nans some (values (drop i s)) ≡ finding s))
+
+abbrev μ-loop : tie.MeasureT-loop
+μ-loop s smallest₀ largest₀ nans₀ some₀ i₀ smallest largest nans some i = length s - i
+
+pub find-spec : {M : Type 1} → statement M
+find-spec =
+    tie.close
+    (tie.spec
+    Inv-loop
+    μ-loop
+    (λ c. sym (turn.short ((c .before .before .args .s .now)) (omega arith)))
+    (λ c. unfold nanBits in search needs)
+    (λ c. unfold nanBits in search needs)
+    (λ c. (search needs, (search needs, turn.begins ((c .before .before .args .s .now)) (omega arith))))
+    (λ c. search needs)
+    (λ c κs. search needs)
+    (λ c. search needs)
+    (λ c κs. search needs)
+    (λ c. search needs)
+    (λ c. search needs)
+    (λ c. (search needs, (search needs, turn.turn-nan ((c .before .before .before .before .before .before .before .args .s .now)) ((c .before .before .before .before .loop .i)) (omega arith) ((c .before .before .before .before .loop .smallest)) ((c .before .before .before .before .loop .largest)) ((c .before .before .before .before .loop .nans)) ((c .before .before .before .before .loop .some)) (ap (nanBits binary32) (sym ((c .before .before .pattern .ensures .0))) ∙ (sym ((c .before .nan .ensures)) ∙ (c .if2 .taken))) ∙ (c .before .before .before .before .loop .inv .1 .1))))
+    (λ c κs. turn.no _ (sym ((c .before .nan .ensures)) ∙ (c .if2 .left)))
+    (λ c κs. search needs)
+    (λ c κs. search needs)
+    (λ c. search needs)
+    (λ c. (search needs, (search needs, rw ((c .greater .ensures), (c .before .lesser .ensures), (c .before .before .number .ensures), (c .before .before .before .before .before .pattern .ensures .0)) (turn.turn-number ((c .before .before .before .before .before .before .before .before .before .before .args .s .now)) ((c .before .before .before .before .before .before .before .loop .i)) (omega arith) ((c .before .before .before .before .before .before .before .loop .smallest)) ((c .before .before .before .before .before .before .before .loop .largest)) ((c .before .before .before .before .before .before .before .loop .nans)) ((c .before .before .before .before .before .before .before .loop .some)) (ap (nanBits binary32) (sym ((c .before .before .before .before .before .pattern .ensures .0))) ∙ (sym ((c .before .before .before .before .nan .ensures)) ∙ (c .before .before .before .if2 .left))) ∙ (c .before .before .before .before .before .before .before .loop .inv .1 .1)))))
+    (λ c. turn.ends ((c .before .before .before .before .before .args .s .now)) ((c .before .before .loop .i)) (omega arith) (omega arith) ((c .before .before .loop .smallest)) ((c .before .before .loop .largest)) ((c .before .before .loop .nans)) ((c .before .before .loop .some)) true ((c .if3 .taken)) ((c .before .before .loop .inv .1 .1)))
+    (λ c. turn.ends ((c .before .before .before .before .before .args .s .now)) ((c .before .before .loop .i)) (omega arith) (omega arith) ((c .before .before .loop .smallest)) ((c .before .before .loop .largest)) ((c .before .before .loop .nans)) ((c .before .before .loop .some)) false ((c .if3 .left)) ((c .before .before .loop .inv .1 .1))))

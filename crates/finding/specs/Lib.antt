@@ -1,0 +1,3 @@
+-- The definitions that the contracts of finding cite.
+pub mod Finding
+pub mod Table
