@@ -102,7 +102,7 @@ pub asked : (file table : List ℕ) (objects components index : ℕ) (r : Extent
 asked file table objects components index r e =
     subst (Told file table objects components index)
     (sym (e ∙ ap (λ (s : List ℕ). view.told (viewed s (Whole table) objects components index)) (part-to-end file 0)
-      ∙ ap (λ (s : List ℕ). view.told (viewed file s objects components index)) (part-to-end table 0)))
+    ∙ ap (λ (s : List ℕ). view.told (viewed file s objects components index)) (part-to-end table 0)))
     (told-is file table objects components index)
 
 pub lent-row : (file table : List ℕ) (row : ℕ) (r : Shown) → r ≡ atRow (Whole file) (Whole table) row → r ≡ atRow file table row

@@ -1,0 +1,5 @@
+-- Laws behind covering's proofs.
+pub mod Counting
+pub mod Sweeping
+pub mod Ranges
+pub mod Parting
