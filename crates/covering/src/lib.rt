@@ -1,6 +1,6 @@
 // How many positions ranges cover, overlapping in any way. A range is two numbers: where it begins, and the position past its last.
 // They are ordered in place by where they begin, and counted in one sweep.
-mod order;
+pub mod order;
 
 ghost use mathlib.Core.Path.{_≡_};
 ghost use Prim.Native.Nat.{_+_, _%_, _^_, _≤_, _<_};

@@ -27,7 +27,7 @@ use Rattle.shown.proofs.AcceptedFile.{refusals-of-reading, accepted-sta
 
 -- a reading into a table is an accepted one, if there is room
 module _ (L : Layout) (file : List ℕ) (room : ℕ) where
-  accepts : (r : Reading) → readInto L file room ≡ pass r → reading L file ≡ pass r
+  pub accepts : (r : Reading) → readInto L file room ≡ pass r → reading L file ≡ pass r
   unfolding readInto roomy
   accepts r = by (reading L file)
     where

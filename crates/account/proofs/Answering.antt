@@ -1,0 +1,136 @@
+-- What a reading's answer tells the account, and the account's own answer.
+use Prim.Native.Nat.{ℕ, zero, suc, _+_, _-_, _*_, _≤_, _<_}
+use native.Mathlib.Omega.{arith}
+use mathlib.Core.List.{List, [], _∷_, _++_}
+use mathlib.Core.Option.{some}
+use mathlib.Core.Path.{_≡_, refl, sym, ap, _∙_, subst}
+use lib.ListN.{length, take, drop, getElem?, length-append, take-append-drop}
+use lib.Seq.{length-take-le}
+use Rattle.meaning.specs.Columns.{objectWidth, componentWidth}
+use Rattle.meaning.specs.Check.{Check, pass, refuse}
+use Rattle.meaning.specs.Read.{Span}
+use Rattle.meaning.specs.Model.{Component}
+use Rattle.meaning.specs.Layouts.{current}
+use Rattle.meaning.specs.Frame.{Reading, reading}
+use Rattle.meaning.specs.Rows.{rows, roomFor, componentCount, answer, tableAfter, readInto}
+use Rattle.view.specs.All.{allComponents}
+use Rattle.panel.specs.Stands.{Each}
+use Rattle.reader.specs.declared.into.Answer.{Answer}
+use Rattle.reader.specs.Answer.{answered}
+use Rattle.shown.specs.Accepted.{BlobLies}
+use Rattle.shown.proofs.AcceptedFile.{accepted, accepted-blobs}
+use Rattle.shown.proofs.AfterReading.{accepts, read-zero}
+use Rattle.covering.specs.Covering.{inside}
+use Rattle.covering.specs.Order.{Begin, End}
+use Rattle.account.specs.Ranges.{ranges, Rows, Gathered}
+use Rattle.account.specs.Account as is
+use Rattle.account.specs.Placed.{Placed}
+use Rattle.account.specs.declared.Bytes.{Bytes}
+use Rattle.account.proofs.OfModel.{ranges-are, rows-of, inside-is, both, adds-up}
+
+subst2 : {A B : Type 0} (Q : A → B → Type 0) {x x′ : A} {y y′ : B} → x ≡ x′ → y ≡ y′ → Q x y → Q x′ y′
+subst2 Q {x} {x′} {y} {y′} e f q = subst (λ (a : _). Q a y′) e (subst (Q x) f q)
+
+each-of : {A : Type 0} (Q : A → Type 0) (l : List A) → ((j : ℕ) (a : A) → getElem? l j ≡ some a → Q a) → Each Q l
+unfolding Each
+each-of Q [] f = tt
+each-of Q (a ∷ l) f = (f 0 a refl, each-of Q l (λ j b g. f (suc j) b g))
+
+-- an accepted file of 1.2.0
+pub placed : (file : List ℕ) (r : Reading) → reading current file ≡ pass r → Placed current file r
+unfolding current
+placed file r e = record {
+  header = accepted file r e .header;
+  size = let f = accepted file r e .footer in omega (arith, f);
+  blobs = each-of (BlobLies (r .start)) (allComponents (r .model .objects)) (λ j c g. accepted-blobs file r e j c g .0);
+}
+
+-- ---- the ranges that were gathered are lent
+
+module _ {table : List ℕ} {first n most : ℕ} {b : List ℕ} (r : Rows table first n most) (g : Gathered table first n b) where
+  pub front-fits : 2 * n ≤ length b
+  front-fits = let a = r .lie in let l = g .long in omega (arith, a, l)
+
+  pub front-long : 2 * n ≡ length (take (2 * n) b)
+  front-long = sym (length-take-le (2 * n) b front-fits)
+
+  pub front-begin : Begin 0 (most + 1) (take (2 * n) b)
+  front-begin = subst (Begin 0 (most + 1)) (sym (g .front)) (r .begin)
+
+  pub front-end : End most (take (2 * n) b)
+  front-end = subst (End most) (sym (g .front)) (r .end)
+
+  pub counted : {i : ℕ} → i ≡ inside (take (2 * n) b) most → i ≡ inside (ranges table first n) most
+  counted e = e ∙ ap (λ (l : List ℕ). inside l most) (g .front)
+
+  pub still-long : (c : List ℕ) → length c ≡ length (take (2 * n) b) → length (c ++ drop (2 * n) b) ≡ length table
+  still-long c e =
+      length-append c (drop (2 * n) b) ∙ ap (λ (k : ℕ). k + length (drop (2 * n) b)) e ∙ sym (length-append (take (2 * n) b) (drop (2 * n) b))
+      ∙ ap length (take-append-drop (2 * n) b) ∙ g .long
+
+-- ---- the whole
+
+pub record Read (file work table : List ℕ) (a : Answer) : Type 0 where
+  pub reading-is : Reading
+  pub reads : readInto current file (length work) ≡ pass reading-is
+  pub lies : Placed current file reading-is
+  pub begins : a .start ≡ reading-is .start
+  pub rows-lie : Rows table (objectWidth * a .objects) (a .components) (a .start)
+  pub within : inside (ranges table (objectWidth * a .objects) (a .components)) (a .start) ≡ is.insideBytes current file reading-is
+
+module _ (file work table : List ℕ) (a : Answer) (e : a ≡ answered (readInto current file (length work))) (t : table ≡ tableAfter work (readInto current file (length work))) where
+  pub read : length file < 9223372036854775808 → a .number ≡ 0 → Read file work table a
+  unfolding answer tableAfter
+  read short z =
+      let y = read-zero file (length work) (ap (λ (x : Answer). x .number) (sym e) ∙ z) in
+      let r = y .0 in
+      let q = y .1 in
+      let p = placed file r (accepts file (length work) r q) in
+      let f : a ≡ answered (pass r) = e ∙ ap answered q in
+      let l : table ≡ rows (r .model) ++ drop (roomFor (r .model)) work = t ∙ ap (tableAfter work) q in
+      let s = p .size in
+      record {
+        reading-is = r;
+        reads = q;
+        lies = p;
+        begins = ap (λ (x : Answer). x .start) f;
+        rows-lie = subst2 (λ (x : List ℕ) (y : Answer). Rows x (objectWidth * y .objects) (y .components) (y .start)) (sym l) (sym f) (rows-of (r .start) (r .model) (drop (roomFor (r .model)) work) (p .blobs) (omega (arith, s, short)));
+        within = subst2 (λ (x : List ℕ) (y : Answer). inside (ranges x (objectWidth * y .objects) (y .components)) (y .start) ≡ is.insideBytes current file r) (sym l) (sym f) (ap (λ (x : List ℕ). inside x (r .start)) (ranges-are (r .model) (drop (roomFor (r .model)) work)) ∙ inside-is current file r p);
+      }
+
+  -- accepted
+  module _ (k : Read file work table a) {i : ℕ} (c : i ≡ inside (ranges table (objectWidth * a .objects) (a .components)) (a .start)) where
+    pub fits : (a .start + 16 ≤ length file) × ((8 ≤ a .start) × (i ≤ a .start - 8))
+    unfolding current
+    fits =
+        let s = k .lies .size in
+        let h = k .lies .header in
+        let b = k .begins in
+        let w = k .within in
+        let o = both current file (k .reading-is) (k .lies) in
+        (omega (arith, s, b), (omega (arith, h, b), omega (arith, c, w, o, b)))
+
+    pub accounted-is : _≡_ {A = Bytes} (record { number = 0; object = 0; component = 0; frame = 24; manifest = length file - 16 - a .start; inside = i; between = a .start - 8 - i })
+        (is.accounted current file (readInto current file (length work)))
+    unfolding is.accounted is.frameBytes is.manifestBytes current
+    accounted-is =
+        let o = both current file (k .reading-is) (k .lies) in
+        let w : i ≡ is.insideBytes current file (k .reading-is) = c ∙ k .within in
+        let v : k .reading-is .start - 8 - is.insideBytes current file (k .reading-is) ≡ is.betweenBytes current file (k .reading-is) = omega (arith, o) in
+        rw (k .reads, w, k .begins, v) refl
+
+  -- refused
+  pub refused : (a .number ≡ 0 → ⊥)
+      → _≡_ {A = Bytes} (record { number = a .number; object = a .object; component = a .component; frame = 0; manifest = 0; inside = 0; between = 0 })
+      (is.accounted current file (readInto current file (length work)))
+  refused h = by (readInto current file (length work)) e
+    where
+      by : (x : Check Reading) → a ≡ answered x
+          → _≡_ {A = Bytes} (record { number = a .number; object = a .object; component = a .component; frame = 0; manifest = 0; inside = 0; between = 0 }) (is.accounted current file x)
+      by (pass r) f = absurd (h (unfold answer in ap (λ (y : Answer). y .number) f))
+      by (refuse n o c) f = unfold answer is.accounted in rw f refl
+
+-- of every accepted file the four are the whole
+pub whole-file : (file : List ℕ) (r : Reading) → reading current file ≡ pass r
+    → is.frameBytes current file r + is.manifestBytes current file r + is.insideBytes current file r + is.betweenBytes current file r ≡ length file
+whole-file file r e = adds-up current file r (placed file r e)
