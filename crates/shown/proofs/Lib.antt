@@ -7,4 +7,5 @@ pub mod Judgement
 pub mod ReadingJudged
 pub mod AcceptedFile
 pub mod AfterReading
+pub mod FoundThen
 pub mod AcceptsExactly

@@ -2,4 +2,5 @@
 pub mod Accepted
 pub mod Placed
 pub mod Shown
+pub mod Found
 pub mod Exactly

@@ -15,6 +15,8 @@ use Rattle.meaning.specs.Rows.{answer, tableAfter, readInto}
 use Rattle.meaning.specs.View.{viewed, view}
 use Rattle.meaning.specs.Layouts.{slot, Layout, dtypeAt}
 use Rattle.panel.specs.Lines.{listed}
+use Rattle.finding.specs.Table.{found}
+use Rattle.finding.specs.declared.table.Found.{Found}
 use Rattle.shown.specs.Accepted.{BlobLies, EntryStands}
 
 module _ (L : Layout) (file table : List ℕ) where
@@ -30,6 +32,9 @@ module _ (L : Layout) (file table : List ℕ) where
 
   abbrev pub listedThen : Check (List ℕ)
   listedThen = listed file (tableAfter table afterwards) (answer afterwards .objects) (answer afterwards .components)
+
+  abbrev pub foundThen : ℕ → Found
+  foundThen = found file (tableAfter table afterwards) (answer afterwards .objects) (answer afterwards .components)
 
   -- where the row of the component `index` says that its map stands
   abbrev pub entryThen : ℕ → Span

@@ -6,10 +6,10 @@ use mathlib.Core.List.{List, [], _∷_, _++_, append-assoc}
 use mathlib.Core.Path.{_≡_, refl, sym, ap, _∙_}
 use lib.ListN.{length, drop, getD, replicate, length-append}
 use lib.Seq.{getD-drop, drop-drop, length-take-le, drop-at}
-use Rattle.meaning.specs.Columns.{objectWidth, componentWidth, dtypeColumn, offsetColumn, lengthColumn, entryColumn, entryLengthColumn}
+use Rattle.meaning.specs.Columns.{objectWidth, componentWidth, dtypeColumn, typeColumn, typeLengthColumn, offsetColumn, lengthColumn, entryColumn, entryLengthColumn}
 use Rattle.meaning.specs.Read.{Span}
 use Rattle.meaning.specs.Model.{Component, Object, Model}
-use Rattle.meaning.specs.Rows.{wordSpan, attributesSpan, dimensions, objectRow, componentRow, objectRows, rowsOf, componentRows, rows, componentCount}
+use Rattle.meaning.specs.Rows.{wordSpan, optionalSpan, attributesSpan, dimensions, objectRow, componentRow, objectRows, rowsOf, componentRows, rows, componentCount}
 
 -- a table that goes on as R from the place p on
 module _ (T : List ℕ) (p : ℕ) (R : List ℕ) (e : drop p T ≡ R) where
@@ -53,6 +53,14 @@ module _ (T : List ℕ) (q i : ℕ) (c : Component Span) (Y : List ℕ) (e : dro
   pub code-is : getD T (q + dtypeColumn) 0 ≡ c .dtype
   unfolding componentRow
   code-is = column T q (componentRow i c ++ Y) e dtypeColumn
+
+  pub type-place : getD T (q + typeColumn) 0 ≡ optionalSpan (c .type) .place
+  unfolding componentRow
+  type-place = column T q (componentRow i c ++ Y) e typeColumn
+
+  pub type-size : getD T (q + typeLengthColumn) 0 ≡ optionalSpan (c .type) .size
+  unfolding componentRow
+  type-size = column T q (componentRow i c ++ Y) e typeLengthColumn
 
   pub offset-is : getD T (q + offsetColumn) 0 ≡ c .offset
   unfolding componentRow

@@ -57,15 +57,19 @@ unfolding allComponents componentCount
 all-counted [] = refl
 all-counted (o ∷ os) = length-append (o .components) (allComponents os) ∙ ap (λ (n : ℕ). length (o .components) + n) (all-counted os)
 
--- the two numbers of its row that say where its map stands
+-- its row, and the two numbers that say where its map stands
 module _ (rest : List ℕ) (m : Model Span) (j : ℕ) (c : Component Span) (there : getElem? (allComponents (m .objects)) j ≡ some c) where
   abbrev at : ℕ
   at = objectWidth * length (m .objects) + componentWidth * j
 
-  pub entry-of-rows : (getD (rows m ++ rest) (at + entryColumn) 0 ≡ c .entry .place) × (getD (rows m ++ rest) (at + entryLengthColumn) 0 ≡ c .entry .size)
+  -- where it begins
+  pub row-of-rows : (i : ℕ) × (Y : List ℕ) × (drop at (rows m ++ rest) ≡ componentRow i c ++ Y)
   unfolding Begins
+  row-of-rows = in-objects (rows m ++ rest) c 0 (m .objects) (objectWidth * length (m .objects)) j rest (components-at m rest) there
+
+  pub entry-of-rows : (getD (rows m ++ rest) (at + entryColumn) 0 ≡ c .entry .place) × (getD (rows m ++ rest) (at + entryLengthColumn) 0 ≡ c .entry .size)
   entry-of-rows =
-      let b = in-objects (rows m ++ rest) c 0 (m .objects) (objectWidth * length (m .objects)) j rest (components-at m rest) there in
+      let b = row-of-rows in
       (entry-place (rows m ++ rest) at (b .0) c (b .1) (b .2), entry-size (rows m ++ rest) at (b .0) c (b .1) (b .2))
 
 module _ (file rest : List ℕ) (m : Model Span) (j : ℕ) (c : Component Span) (there : getElem? (allComponents (m .objects)) j ≡ some c)
