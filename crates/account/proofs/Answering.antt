@@ -10,14 +10,14 @@ use Rattle.meaning.specs.Columns.{objectWidth, componentWidth}
 use Rattle.meaning.specs.Check.{Check, pass, refuse}
 use Rattle.meaning.specs.Read.{Span}
 use Rattle.meaning.specs.Model.{Component}
-use Rattle.meaning.specs.Layouts.{current}
+use Rattle.meaning.specs.Layouts.{Layout}
 use Rattle.meaning.specs.Frame.{Reading, reading}
 use Rattle.meaning.specs.Rows.{rows, roomFor, componentCount, answer, tableAfter, readInto}
 use Rattle.view.specs.All.{allComponents}
 use Rattle.panel.specs.Stands.{Each}
 use Rattle.reader.specs.declared.into.Answer.{Answer}
 use Rattle.reader.specs.Answer.{answered}
-use Rattle.shown.specs.Accepted.{BlobLies}
+use Rattle.shown.specs.Accepted.{Framing, BlobLies}
 use Rattle.shown.proofs.AcceptedFile.{accepted, accepted-blobs}
 use Rattle.shown.proofs.AfterReading.{accepts, read-zero}
 use Rattle.covering.specs.Covering.{inside}
@@ -36,13 +36,12 @@ unfolding Each
 each-of Q [] f = tt
 each-of Q (a ∷ l) f = (f 0 a refl, each-of Q l (λ j b g. f (suc j) b g))
 
--- an accepted file of 1.2.0
-pub placed : (file : List ℕ) (r : Reading) → reading current file ≡ pass r → Placed current file r
-unfolding current
-placed file r e = record {
-  header = accepted file r e .header;
-  size = let f = accepted file r e .footer in omega (arith, f);
-  blobs = each-of (BlobLies (r .start)) (allComponents (r .model .objects)) (λ j c g. accepted-blobs file r e j c g .0);
+-- an accepted file
+pub placed : (L : Layout) → Framing L → (file : List ℕ) (r : Reading) → reading L file ≡ pass r → Placed L file r
+placed L framing file r e = record {
+  header = accepted L framing file r e .header;
+  size = let f = accepted L framing file r e .footer in omega (arith, f);
+  blobs = each-of (BlobLies (r .start)) (allComponents (r .model .objects)) (λ j c g. accepted-blobs L framing file r e j c g .0);
 }
 
 -- ---- the ranges that were gathered are lent
@@ -70,22 +69,22 @@ module _ {table : List ℕ} {first n most : ℕ} {b : List ℕ} (r : Rows table 
 
 -- ---- the whole
 
-pub record Read (file work table : List ℕ) (a : Answer) : Type 0 where
+pub record Read (L : Layout) (file work table : List ℕ) (a : Answer) : Type 0 where
   pub reading-is : Reading
-  pub reads : readInto current file (length work) ≡ pass reading-is
-  pub lies : Placed current file reading-is
+  pub reads : readInto L file (length work) ≡ pass reading-is
+  pub lies : Placed L file reading-is
   pub begins : a .start ≡ reading-is .start
   pub rows-lie : Rows table (objectWidth * a .objects) (a .components) (a .start)
-  pub within : inside (ranges table (objectWidth * a .objects) (a .components)) (a .start) ≡ is.insideBytes current file reading-is
+  pub within : inside (ranges table (objectWidth * a .objects) (a .components)) (a .start) ≡ is.insideBytes L file reading-is
 
-module _ (file work table : List ℕ) (a : Answer) (e : a ≡ answered (readInto current file (length work))) (t : table ≡ tableAfter work (readInto current file (length work))) where
-  pub read : length file < 9223372036854775808 → a .number ≡ 0 → Read file work table a
+module _ (L : Layout) (framing : Framing L) (file work table : List ℕ) (a : Answer) (e : a ≡ answered (readInto L file (length work))) (t : table ≡ tableAfter work (readInto L file (length work))) where
+  pub read : length file < 9223372036854775808 → a .number ≡ 0 → Read L file work table a
   unfolding answer tableAfter
   read short z =
-      let y = read-zero file (length work) (ap (λ (x : Answer). x .number) (sym e) ∙ z) in
+      let y = read-zero L file (length work) framing (ap (λ (x : Answer). x .number) (sym e) ∙ z) in
       let r = y .0 in
       let q = y .1 in
-      let p = placed file r (accepts file (length work) r q) in
+      let p = placed L framing file r (accepts L file (length work) r q) in
       let f : a ≡ answered (pass r) = e ∙ ap answered q in
       let l : table ≡ rows (r .model) ++ drop (roomFor (r .model)) work = t ∙ ap (tableAfter work) q in
       let s = p .size in
@@ -95,42 +94,42 @@ module _ (file work table : List ℕ) (a : Answer) (e : a ≡ answered (readInto
         lies = p;
         begins = ap (λ (x : Answer). x .start) f;
         rows-lie = subst2 (λ (x : List ℕ) (y : Answer). Rows x (objectWidth * y .objects) (y .components) (y .start)) (sym l) (sym f) (rows-of (r .start) (r .model) (drop (roomFor (r .model)) work) (p .blobs) (omega (arith, s, short)));
-        within = subst2 (λ (x : List ℕ) (y : Answer). inside (ranges x (objectWidth * y .objects) (y .components)) (y .start) ≡ is.insideBytes current file r) (sym l) (sym f) (ap (λ (x : List ℕ). inside x (r .start)) (ranges-are (r .model) (drop (roomFor (r .model)) work)) ∙ inside-is current file r p);
+        within = subst2 (λ (x : List ℕ) (y : Answer). inside (ranges x (objectWidth * y .objects) (y .components)) (y .start) ≡ is.insideBytes L file r) (sym l) (sym f) (ap (λ (x : List ℕ). inside x (r .start)) (ranges-are (r .model) (drop (roomFor (r .model)) work)) ∙ inside-is L file r p);
       }
 
   -- accepted
-  module _ (k : Read file work table a) {i : ℕ} (c : i ≡ inside (ranges table (objectWidth * a .objects) (a .components)) (a .start)) where
-    pub fits : (a .start + 16 ≤ length file) × ((8 ≤ a .start) × (i ≤ a .start - 8))
-    unfolding current
+  module _ (k : Read L file work table a) {i : ℕ} (c : i ≡ inside (ranges table (objectWidth * a .objects) (a .components)) (a .start)) where
+    pub fits : (a .start + L .sizeBack ≤ length file) × ((8 ≤ a .start) × (i ≤ a .start - 8))
     fits =
         let s = k .lies .size in
         let h = k .lies .header in
         let b = k .begins in
         let w = k .within in
-        let o = both current file (k .reading-is) (k .lies) in
+        let o = both L file (k .reading-is) (k .lies) in
         (omega (arith, s, b), (omega (arith, h, b), omega (arith, c, w, o, b)))
 
-    pub accounted-is : _≡_ {A = Bytes} (record { number = 0; object = 0; component = 0; frame = 24; manifest = length file - 16 - a .start; inside = i; between = a .start - 8 - i })
-        (is.accounted current file (readInto current file (length work)))
-    unfolding is.accounted is.frameBytes is.manifestBytes current
-    accounted-is =
-        let o = both current file (k .reading-is) (k .lies) in
-        let w : i ≡ is.insideBytes current file (k .reading-is) = c ∙ k .within in
-        let v : k .reading-is .start - 8 - is.insideBytes current file (k .reading-is) ≡ is.betweenBytes current file (k .reading-is) = omega (arith, o) in
-        rw (k .reads, w, k .begins, v) refl
+    pub accounted-is : (back : ℕ) → back ≡ L .sizeBack
+        → _≡_ {A = Bytes} (record { number = 0; object = 0; component = 0; frame = 8 + back; manifest = length file - back - a .start; inside = i; between = a .start - 8 - i })
+        (is.accounted L file (readInto L file (length work)))
+    unfolding is.accounted is.frameBytes is.manifestBytes
+    accounted-is back so =
+        let o = both L file (k .reading-is) (k .lies) in
+        let w : i ≡ is.insideBytes L file (k .reading-is) = c ∙ k .within in
+        let v : k .reading-is .start - 8 - is.insideBytes L file (k .reading-is) ≡ is.betweenBytes L file (k .reading-is) = omega (arith, o) in
+        rw (so, k .reads, w, k .begins, v) refl
 
   -- refused
   pub refused : (a .number ≡ 0 → ⊥)
       → _≡_ {A = Bytes} (record { number = a .number; object = a .object; component = a .component; frame = 0; manifest = 0; inside = 0; between = 0 })
-      (is.accounted current file (readInto current file (length work)))
-  refused h = by (readInto current file (length work)) e
+      (is.accounted L file (readInto L file (length work)))
+  refused h = by (readInto L file (length work)) e
     where
       by : (x : Check Reading) → a ≡ answered x
-          → _≡_ {A = Bytes} (record { number = a .number; object = a .object; component = a .component; frame = 0; manifest = 0; inside = 0; between = 0 }) (is.accounted current file x)
+          → _≡_ {A = Bytes} (record { number = a .number; object = a .object; component = a .component; frame = 0; manifest = 0; inside = 0; between = 0 }) (is.accounted L file x)
       by (pass r) f = absurd (h (unfold answer in ap (λ (y : Answer). y .number) f))
       by (refuse n o c) f = unfold answer is.accounted in rw f refl
 
 -- of every accepted file the four are the whole
-pub whole-file : (file : List ℕ) (r : Reading) → reading current file ≡ pass r
-    → is.frameBytes current file r + is.manifestBytes current file r + is.insideBytes current file r + is.betweenBytes current file r ≡ length file
-whole-file file r e = adds-up current file r (placed file r e)
+pub whole-file : (L : Layout) → Framing L → (file : List ℕ) (r : Reading) → reading L file ≡ pass r
+    → is.frameBytes L file r + is.manifestBytes L file r + is.insideBytes L file r + is.betweenBytes L file r ≡ length file
+whole-file L framing file r e = adds-up L file r (placed L framing file r e)

@@ -5,7 +5,7 @@ ghost use mathlib.Core.Path.{_≡_};
 ghost use Prim.Native.Nat.{_+_, _*_};
 ghost use lib.ListN.{length, replicate};
 ghost use Rattle.meaning.specs.Columns.{objectWidth};
-ghost use Rattle.meaning.specs.Layouts.{current};
+ghost use Rattle.meaning.specs.Layouts.{layoutOf};
 ghost use Rattle.meaning.specs.Rows.{readInto};
 ghost use Rattle.covering.specs.Covering as covering;
 ghost use Rattle.account.specs.Account as is;
@@ -58,12 +58,13 @@ fn clear(a: &mut [u64])
     }
 }
 
-// A file, lent whole, with room for its rows.
-pub fn of_file(file: &[u8], work: &mut [u64]) -> Bytes
-    ensures answer { λ r. ⌜ r ≡ is.accounted current (now (file .entry)) (readInto current (now (file .entry)) (length (now (work .entry)))) ⌝ }
+// A file of this layout, lent whole, with room for its rows.
+pub fn of_file(layout: u64, file: &[u8], work: &mut [u64]) -> Bytes
+    ensures answer { λ r. ⌜ r ≡ is.accounted (layoutOf layout) (now (file .entry)) (readInto (layoutOf layout) (now (file .entry)) (length (now (work .entry)))) ⌝ }
     ensures cleared { λ r. ⌜ now (work .exit) ≡ replicate (length (now (work .entry))) 0 ⌝ }
 {
-    let a = reader::into::read(file, work);
+    let back = frame::size_back(layout) as u64;
+    let a = reader::into::read_as(layout, file, work);
     if a.number == 0 {
         let first = columns::OBJECT * a.objects as usize;
         let inside = inside(work, first, a.components as usize, a.start);
@@ -72,8 +73,8 @@ pub fn of_file(file: &[u8], work: &mut [u64]) -> Bytes
             number: 0,
             object: 0,
             component: 0,
-            frame: 24,
-            manifest: file.len() as u64 - 16 - a.start,
+            frame: 8 + back,
+            manifest: file.len() as u64 - back - a.start,
             inside: inside,
             between: a.start - 8 - inside,
         };

@@ -14,7 +14,7 @@ pub enum Framed {
 }
 
 // How far before the end the size begins; eight bytes more is the least length of a file.
-fn size_back(layout: u64) -> usize
+pub fn size_back(layout: u64) -> usize
     ensures { λ r. ⌜ (r ≡ layoutOf layout .sizeBack) × (r + 8 ≡ layoutOf layout .least) × (r ≤ 16) × (8 ≤ r) ⌝ }
 {
     if layout == 1 {
