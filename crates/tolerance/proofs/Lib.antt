@@ -7,3 +7,4 @@ pub mod ShownAlike
 pub mod Columns
 pub mod MajorRefused
 pub mod NotVacuous
+pub mod Shuffled

@@ -1,4 +1,4 @@
--- Small files: a plain one, the same from a newer writer, one that says something else, and one of another major.
+-- Small files: a plain one, the same from a newer writer, one that says something else, one of another major, and those of two exporters.
 use Prim.Native.Nat.{ℕ, _+_}
 use Prim.Native.String.{String}
 use mathlib.Core.List.{List, [], _∷_, _++_}
@@ -13,6 +13,10 @@ text s = (0x60 + length (ascii s)) ∷ ascii s
 
 abbrev wideText : String → List ℕ
 wideText s = 0x78 ∷ length (ascii s) ∷ ascii s
+
+abbrev joined : List (List ℕ) → List ℕ
+joined [] = []
+joined (s ∷ ss) = s ++ joined ss
 
 -- the head of an indefinite map, and the break that ends it
 abbrev openMap : List ℕ
@@ -58,3 +62,45 @@ newer = framed (replicate 64 0xa5) (
 -- version 2.0, and an unknown field; objects are a number, which no 1.x file may have
 abbrev pub nextMajor : List ℕ
 nextMajor = framed [] (0xa3 ∷ text "x" ++ 1 ∷ text "objects" ++ 5 ∷ text "version" ++ text "2.0")
+
+-- a map with these entries
+abbrev mapWith : List (List ℕ) → List ℕ
+mapWith es = (0xa0 + length es) ∷ joined es
+
+-- what an exporter writes of the objects a and b, in its order of fields and with unknown ones among them; b's blob begins at `offset`
+module _ (order : List (List ℕ) → List (List ℕ)) where
+  abbrev component : ℕ → ℕ → List ℕ
+  component offset size = mapWith (order (
+      (text "dtype" ++ text "u8") ∷ (text "stride" ++ 1 ∷ []) ∷ (text "offset" ++ 0x18 ∷ offset ∷ []) ∷ (text "length" ++ size ∷ []) ∷ (text "digest" ++ text "crc32:0") ∷ []))
+
+  abbrev object : ℕ → ℕ → List ℕ
+  object offset size = mapWith (order (
+      (text "shape" ++ 0x81 ∷ size ∷ []) ∷ (text "format" ++ text "dense") ∷ (text "chart" ++ 0xf6 ∷ []) ∷ (text "components" ++ 0xa1 ∷ text "data" ++ component offset size) ∷ []))
+
+  abbrev root : List ℕ → List ℕ
+  root objects = framed (replicate 64 0) (mapWith (order (
+      (text "version" ++ text "1.2.0") ∷ (text "x" ++ 0x80 ∷ []) ∷ (text "attributes" ++ 0xa1 ∷ text "by" ++ text "us") ∷ (text "objects" ++ objects) ∷ [])))
+
+  abbrev pub exported : ℕ → List ℕ
+  exported offset = root (mapWith ((text "a" ++ object 64 8) ∷ (text "b" ++ object offset 4) ∷ []))
+
+  -- b before a
+  abbrev pub exchanged : List ℕ
+  exchanged = root (mapWith ((text "b" ++ object 64 4) ∷ (text "a" ++ object 64 8) ∷ []))
+
+  -- layout 1.0 has no footer; one tensor, and an unknown field
+  abbrev pub tensorFile : String → List ℕ
+  tensorFile version =
+      let tensor = mapWith (order (
+      (text "dtype" ++ text "uint8") ∷ (text "shape" ++ 0x81 ∷ 8 ∷ []) ∷ (text "format" ++ text "dense")
+      ∷ (text "components" ++ 0xa1 ∷ text "data" ++ mapWith (order ((text "offset" ++ 0x18 ∷ 64 ∷ []) ∷ (text "length" ++ 8 ∷ []) ∷ []))) ∷ [])) in
+      let manifest = mapWith (order ((text "version" ++ text version) ∷ (text "x" ++ 0x80 ∷ []) ∷ (text "tensors" ++ 0xa1 ∷ text "w" ++ tensor) ∷ [])) in
+      magic ++ replicate 64 0 ++ manifest ++ length manifest ∷ replicate 7 0
+
+-- one exporter's order, and the other's
+abbrev pub forwards : List (List ℕ) → List (List ℕ)
+forwards es = es
+
+abbrev pub backwards : List (List ℕ) → List (List ℕ)
+backwards [] = []
+backwards (e ∷ es) = backwards es ++ e ∷ []
