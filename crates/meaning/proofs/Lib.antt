@@ -15,7 +15,6 @@ pub mod SameVerdict
 pub mod CurrentIsBase
 pub mod OldIs001
 pub mod SameReading
-pub mod LateCode
 pub mod WhichLayout
 pub mod AcceptedModel
 pub mod DropFields
