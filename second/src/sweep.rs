@@ -2,7 +2,7 @@
 //! every two faults together.
 
 mod faults;
-mod first;
+pub mod first;
 mod roles;
 
 pub use faults::{many_names, many_names_as, two_faults, two_faults_as};

@@ -38,14 +38,16 @@ pub fn manifest() -> Item {
     with(root, "generator", Item::text("zTensor-Rust v0.1.0"))
 }
 
-fn place(offset: u64, length: u64) -> Item {
+/// A component that lies there.
+pub fn place(offset: u64, length: u64) -> Item {
     Item::map([
         ("offset", Item::Unsigned(offset)),
         ("length", Item::Unsigned(length)),
     ])
 }
 
-fn tensor(dtype: &str, shape: &[u64], format: &str, components: Item) -> Item {
+/// A tensor's map.
+pub fn tensor(dtype: &str, shape: &[u64], format: &str, components: Item) -> Item {
     let shape = shape.iter().map(|&n| Item::Unsigned(n)).collect();
     Item::map([
         ("dtype", Item::text(dtype)),
@@ -55,6 +57,7 @@ fn tensor(dtype: &str, shape: &[u64], format: &str, components: Item) -> Item {
     ])
 }
 
-fn tensors(entries: Item) -> Item {
+/// A root with these tensors.
+pub fn tensors(entries: Item) -> Item {
     Item::map([("version", Item::text("1.0")), ("tensors", entries)])
 }

@@ -12,33 +12,13 @@ use second::refusal::{
     MISSING, RANK, ROLE, ROOM, SHORT, TEXT, TWICE, VERSION,
 };
 use second::rows::{split, Answer, Part};
+use second::sweep::first::{place, tensor, tensors};
 use second::types::{DTYPES, U64};
 
 /// The number that says layout 1.0.
 const FIRST: u64 = 1;
 /// Every reading here has room enough.
 const AMPLE: usize = 500;
-
-fn place(offset: u64, length: u64) -> Item {
-    Item::map([
-        ("offset", Item::Unsigned(offset)),
-        ("length", Item::Unsigned(length)),
-    ])
-}
-
-fn tensor(dtype: &str, shape: &[u64], format: &str, components: Item) -> Item {
-    let shape = shape.iter().map(|&n| Item::Unsigned(n)).collect();
-    Item::map([
-        ("dtype", Item::text(dtype)),
-        ("shape", Item::Array(shape)),
-        ("format", Item::text(format)),
-        ("components", components),
-    ])
-}
-
-fn tensors(entries: Item) -> Item {
-    Item::map([("version", Item::text("1.0")), ("tensors", entries)])
-}
 
 /// A file of a manifest that starts at `start`.
 fn file(manifest: &Item, start: usize) -> Vec<u8> {
