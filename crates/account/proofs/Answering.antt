@@ -19,7 +19,7 @@ use Rattle.reader.specs.declared.into.Answer.{Answer}
 use Rattle.reader.specs.Answer.{answered}
 use Rattle.shown.specs.Accepted.{Framing, BlobLies}
 use Rattle.shown.proofs.AcceptedFile.{accepted, accepted-blobs}
-use Rattle.shown.proofs.AfterReading.{accepts, read-zero}
+use Rattle.shown.proofs.AfterReading.{read-accepts, read-zero}
 use Rattle.covering.specs.Covering.{inside}
 use Rattle.covering.specs.Order.{Begin, End}
 use Rattle.account.specs.Ranges.{ranges, Rows, Gathered}
@@ -84,7 +84,7 @@ module _ (L : Layout) (framing : Framing L) (file work table : List ℕ) (a : An
       let y = read-zero L file (length work) framing (ap (λ (x : Answer). x .number) (sym e) ∙ z) in
       let r = y .0 in
       let q = y .1 in
-      let p = placed L framing file r (accepts L file (length work) r q) in
+      let p = placed L framing file r (read-accepts L file (length work) r q) in
       let f : a ≡ answered (pass r) = e ∙ ap answered q in
       let l : table ≡ rows (r .model) ++ drop (roomFor (r .model)) work = t ∙ ap (tableAfter work) q in
       let s = p .size in

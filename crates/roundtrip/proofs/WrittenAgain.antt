@@ -4,13 +4,14 @@ use Prim.Native.Nat.{ℕ}
 use mathlib.Core.List.{List, map}
 use mathlib.Core.Bool.{Bool, true, false}
 use mathlib.Core.Path.{_≡_, refl, sym, subst, _∙_}
-use lib.ListN.{length}
+use lib.ListN.{length, drop}
 use lib.Dec.{leb}
 use Rattle.meaning.specs.Check.{pass, _>>_, _unless_}
 use Rattle.meaning.specs.Refusal.{COUNT, BIG, ROOM}
 use Rattle.meaning.specs.Limit.{manifestLimit, endLimit}
 use Rattle.meaning.specs.Layouts.{Layout, current}
 use Rattle.meaning.specs.Frame.{Reading, reading}
+use Rattle.meaning.specs.Rows.{roomFor, answer, tableAfter, readInto}
 use Rattle.meaning.specs.Described.{Described, blobs, describedBy}
 use Rattle.meaning.specs.Placement.{lastEnd}
 use Rattle.meaning.specs.Manifest.{manifestBytes}
@@ -21,7 +22,8 @@ use Rattle.readback.proofs.ReadBack.{written-plain-is, written-plain-reads-back
 use Rattle.readback.proofs.RowsOfReading as rows-laws
 use Rattle.shown.specs.Accepted.{Framing}
 use Rattle.shown.proofs.ReadingJudged.{current-framing}
-use Rattle.roundtrip.specs.Again.{placed, plainFile, writtenAgain, WrittenOrSize, too-far, too-big, no-room, reads-back, soundAgain, describedAgain, rewritten}
+use Rattle.shown.proofs.AfterReading.{read-accepts}
+use Rattle.roundtrip.specs.Again.{placed, plainFile, writtenAgain, WrittenOrSize, too-far, too-big, no-room, reads-back, soundAgain, describedAgain, rewritten, writtenThen}
 use Rattle.roundtrip.proofs.AcceptedSpelled.{accepted-spelled}
 use Rattle.roundtrip.proofs.HeldFine.{accepted-fine}
 use Rattle.roundtrip.proofs.AcceptedPassed.{accepted-judged}
@@ -62,9 +64,16 @@ module _ (L : Layout) (framing : Framing L) (file : List ℕ) (r : Reading) (acc
         written-plain-reads-back says room (accepted-fine L framing held r accepts) once
         (sym (rows-laws.written-again file (r .model) R room (accepted-spelled L framing file r accepts)) ∙ e)
 
-    -- an accepted file of either layout, imported: the rows that its reading leaves, with the file as buffer, through the writer
+    -- an accepted file of either layout, imported
     pub imported : WrittenOrSize says (rewritten file (r .model) R room)
     imported = subst (WrittenOrSize says) (sym written-again) (size-or-back says room λ once e. again-reads-back once (written-again ∙ e))
+
+-- the same, in the numbers that a caller holds
+pub imported-table : (L : Layout) → Framing L → (file table : List ℕ) → Held file → (r : Reading) → readInto L file (length table) ≡ pass r → (room : ℕ)
+    → WrittenOrSize (describedBy file (r .model)) (writtenThen L file table room)
+unfolding answer tableAfter
+imported-table L framing file table held r reads room =
+    rw reads (imported L framing file r (read-accepts L file (length table) r reads) (drop (roomFor (r .model)) table) held room)
 
 -- a file that our writer wrote, read and written once more, is the same file
 pub written-twice : (d : Described) (room : ℕ) (file R : List ℕ) (back : ReadsBack file d) → writtenPlain d room ≡ pass file

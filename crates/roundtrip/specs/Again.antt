@@ -10,7 +10,9 @@ use Rattle.meaning.specs.Refusal.{COUNT, BIG, ROOM}
 use Rattle.meaning.specs.Limit.{manifestLimit, endLimit}
 use Rattle.meaning.specs.Read.{Span}
 use Rattle.meaning.specs.Model.{Model}
-use Rattle.meaning.specs.Rows.{rows, componentCount, attributesSpan}
+use Rattle.meaning.specs.Layouts.{Layout}
+use Rattle.meaning.specs.Frame.{Reading}
+use Rattle.meaning.specs.Rows.{rows, componentCount, attributesSpan, answer, tableAfter, readInto}
 use Rattle.meaning.specs.Asked.{asked}
 use Rattle.meaning.specs.Sound.{rowsSound}
 use Rattle.meaning.specs.Write.{written}
@@ -54,3 +56,11 @@ module _ (file : List ℕ) (m : Model Span) (R : List ℕ) where
   -- into an output of so many bytes
   abbrev pub rewritten : ℕ → Check (List ℕ)
   rewritten room = written (rows m ++ R) (length (m .objects)) (componentCount (m .objects)) (attributesSpan (m .attributes)) file room
+
+-- the table that a reading left, with its counts and root attributes and the file as buffer, into an output of so many bytes
+module _ (L : Layout) (file table : List ℕ) where
+  abbrev left : Check Reading
+  left = readInto L file (length table)
+
+  abbrev pub writtenThen : ℕ → Check (List ℕ)
+  writtenThen room = written (tableAfter table left) (answer left .objects) (answer left .components) (answer left .attributes) file room

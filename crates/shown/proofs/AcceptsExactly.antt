@@ -1,4 +1,4 @@
--- The reader accepts exactly what zTensor 1.2.0 and RFC 7049 allow under document 01: one theorem from a file's bytes to the number answered.
+-- The reader accepts exactly what a layout and RFC 8949 allow under document 01: one theorem from a file's bytes to the number answered.
 use Prim.Native.Nat.{ℕ, zero, suc, _+_, _≤_}
 use native.Mathlib.Omega.{arith}
 use mathlib.Core.List.{List, [], _∷_}
@@ -18,17 +18,18 @@ use Rattle.meaning.specs.Read.{Span, spanTo, Outcome, got, refused, after, clos
 use Rattle.meaning.specs.Encoding.{Bytes, Tree, Encodes}
 use Rattle.meaning.specs.Model.{Model}
 use Rattle.meaning.specs.Notes.{mapModel, mapCheck}
-use Rattle.meaning.specs.Layouts.{current}
+use Rattle.meaning.specs.Layouts.{Layout}
 use Rattle.meaning.specs.Judge.{judge}
 use Rattle.meaning.specs.Frame.{Frame, frame, checked, Reading, reading}
 use Rattle.meaning.proofs.Exact.{exactly-the-encodings-are-read}
 use Rattle.meaning.proofs.ReadNatural.{mapOut, item-follows}
 use Rattle.meaning.proofs.JudgeNatural.{judge-map}
 use Rattle.reader.specs.Verdict.{verdict}
+use Rattle.shown.specs.Accepted.{Framing}
 use Rattle.shown.specs.Placed.{Placed}
 use Rattle.shown.specs.Exactly.{number, manifestIn, Sound, NoTree, Exactly}
 use Rattle.shown.proofs.Judged.{JudgedFrom, between, passed-so, refused-so}
-use Rattle.shown.proofs.ReadingJudged.{current-framing, Framed, frame-so, tree-so, manifest-refusals}
+use Rattle.shown.proofs.ReadingJudged.{Framed, frame-so, tree-so, manifest-refusals}
 use Rattle.shown.proofs.Judgement.{judge-so}
 use Rattle.shown.proofs.AcceptedFile.{accept-zero}
 
@@ -89,106 +90,106 @@ module _ (end : ℕ) (s : List ℕ) where
 
 -- ---- past the frame
 
-module _ (file : List ℕ) (h : Bytes file) where
+module _ (L : Layout) (fits : Framing L) (file : List ℕ) (h : Bytes file) where
   abbrev endOf : Frame → ℕ
   endOf f = f .start + f .size
 
   part : (f : Frame) → Bytes (manifestIn file f)
   part f = bytes-take (f .size) (drop (f .start) file) (bytes-drop (f .start) file h)
 
-  judged-as : (f : Frame) {t : Tree} (a : ReadAs (endOf f) (manifestIn file f) t) → judge current (f .start) t ≡ mapCheck (mapModel nothing) (judge current (f .start) (a .node))
-  judged-as f a = ap (judge current (f .start)) (sym (a .means)) ∙ judge-map nothing current (f .start) (a .node)
+  judged-as : (f : Frame) {t : Tree} (a : ReadAs (endOf f) (manifestIn file f) t) → judge L (f .start) t ≡ mapCheck (mapModel nothing) (judge L (f .start) (a .node))
+  judged-as f a = ap (judge L (f .start)) (sym (a .means)) ∙ judge-map nothing L (f .start) (a .node)
 
   -- the reading of a file whose manifest is read as this node
   abbrev rest : Frame → Node Span → Check Reading
-  rest f t = judge current (f .start) t >>= λ m. pass (record { start = f .start; model = m })
+  rest f t = judge L (f .start) t >>= λ m. pass (record { start = f .start; model = m })
 
   -- of one whose frame is this
   abbrev step : Frame → Check Reading
   step f = checked (manifest (spanTo (endOf f)) (manifestIn file f)) >>= rest f
 
-  step-of : (k : Check Frame) → frame current file ≡ k → reading current file ≡ (k >>= step)
+  step-of : (k : Check Frame) → frame L file ≡ k → reading L file ≡ (k >>= step)
   unfolding reading
   step-of k e = ap (λ (k : Check Frame). k >>= step) e
 
-  reading-of : (f : Frame) → frame current file ≡ pass f → (t : Node Span) → manifest (spanTo (endOf f)) (manifestIn file f) ≡ got t [] → reading current file ≡ rest f t
+  reading-of : (f : Frame) → frame L file ≡ pass f → (t : Node Span) → manifest (spanTo (endOf f)) (manifestIn file f) ≡ got t [] → reading L file ≡ rest f t
   unfolding checked
   reading-of f e t i = step-of (pass f) e ∙ ap (λ (o : Outcome (Node Span)). checked o >>= rest f) i
 
-  sound-accepted : Sound file → number file ≡ 0
+  sound-accepted : Sound L file → number L file ≡ 0
   sound-accepted s =
       let a = encoded-reads (endOf (s .framing)) (manifestIn file (s .framing)) (part (s .framing)) (s .tree) (s .encodes) in
       ap (λ (k : Check Reading). verdict k .number) (reading-of (s .framing) (s .framed) (a .node) (a .read))
-      ∙ go (judge current (s .framing .start) (a .node)) (sym (judged-as (s .framing) a) ∙ s .judged)
+      ∙ go (judge L (s .framing .start) (a .node)) (sym (judged-as (s .framing) a) ∙ s .judged)
     where
       go : (k : Check (Model Span)) → mapCheck (mapModel nothing) k ≡ pass (s .model) → verdict (k >>= λ m. pass (record { start = s .framing .start; model = m })) .number ≡ 0
       go (pass m) e = refl
       go (refuse n o c) e = absurd (let z : _≡_ {A = ℕ} 0 1 = cc in omega arith)
 
-  accepted-sound : number file ≡ 0 → Sound file
+  accepted-sound : number L file ≡ 0 → Sound L file
   unfolding checked
-  accepted-sound z = let q = accept-zero current current-framing file z in framing (frame current file) refl (q .0) (q .1)
+  accepted-sound z = let q = accept-zero L fits file z in framing (frame L file) refl (q .0) (q .1)
     where
       never-passed : {A : Type 0} {n o c : ℕ} {r : A} → refuse n o c ≡ pass r → ⊥
       never-passed e = let z : _≡_ {A = ℕ} 0 1 = cc in omega arith
 
-      judging : (f : Frame) → frame current file ≡ pass f → (t : Node Span) → Encodes depthLimit (meaning t) (manifestIn file f) → (k : Check (Model Span)) → judge current (f .start) t ≡ k → (r : Reading)
-          → (k >>= λ m. pass (record { start = f .start; model = m })) ≡ pass r → Sound file
+      judging : (f : Frame) → frame L file ≡ pass f → (t : Node Span) → Encodes depthLimit (meaning t) (manifestIn file f) → (k : Check (Model Span)) → judge L (f .start) t ≡ k → (r : Reading)
+          → (k >>= λ m. pass (record { start = f .start; model = m })) ≡ pass r → Sound L file
       judging f e t i (pass m) j r g = record {
         framing = f;
         framed = e;
         tree = meaning t;
         encodes = i;
         model = mapModel nothing m;
-        judged = judge-map nothing current (f .start) t ∙ ap (mapCheck (mapModel nothing)) j;
+        judged = judge-map nothing L (f .start) t ∙ ap (mapCheck (mapModel nothing)) j;
       }
       judging f e t i (refuse n o c) j r g = absurd (never-passed g)
 
-      treeing : (f : Frame) → frame current file ≡ pass f → (o : Outcome (Node Span)) → manifest (spanTo (endOf f)) (manifestIn file f) ≡ o → (r : Reading)
-          → (checked o >>= rest f) ≡ pass r → Sound file
-      treeing f e (got t q) i r g = judging f e t (read-encodes (endOf f) (manifestIn file f) (part f) t q i) (judge current (f .start) t) refl r g
+      treeing : (f : Frame) → frame L file ≡ pass f → (o : Outcome (Node Span)) → manifest (spanTo (endOf f)) (manifestIn file f) ≡ o → (r : Reading)
+          → (checked o >>= rest f) ≡ pass r → Sound L file
+      treeing f e (got t q) i r g = judging f e t (read-encodes (endOf f) (manifestIn file f) (part f) t q i) (judge L (f .start) t) refl r g
       treeing f e (refused n q) i r g = absurd (never-passed g)
 
-      framing : (k : Check Frame) → frame current file ≡ k → (r : Reading) → reading current file ≡ pass r → Sound file
+      framing : (k : Check Frame) → frame L file ≡ k → (r : Reading) → reading L file ≡ pass r → Sound L file
       framing (pass f) e r g = treeing f e (manifest (spanTo (endOf f)) (manifestIn file f)) refl r (sym (step-of (pass f) e) ∙ g)
       framing (refuse n o c) e r g = absurd (never-passed (sym (step-of (refuse n o c) e) ∙ g))
 
-  module _ (f : Frame) (e : frame current file ≡ pass f) where
-    so : Framed current file f
-    so = passed-so (frame-so current current-framing file) e
+  module _ (f : Frame) (e : frame L file ≡ pass f) where
+    so : Framed L file f
+    so = passed-so (frame-so L fits file) e
 
     -- the judgement of a tree refuses with neither
-    judged-late : (t : Node Span) → Placed current file (f .start) depthLimit t → (number-is : ℕ) → verdict (rest f t) .number ≡ number-is → (number-is ≡ CBOR) ⊎ (number-is ≡ DEEP) → ⊥
-    judged-late t p n v = go (judge current (f .start) t) refl v
+    judged-late : (t : Node Span) → Placed L file (f .start) depthLimit t → (number-is : ℕ) → verdict (rest f t) .number ≡ number-is → (number-is ≡ CBOR) ⊎ (number-is ≡ DEEP) → ⊥
+    judged-late t p n v = go (judge L (f .start) t) refl v
       where
         late : (n : ℕ) → KIND ≤ n → (n ≡ CBOR) ⊎ (n ≡ DEEP) → ⊥
         late n h k = ⊎-elim (λ z. omega (arith, h, z)) (λ z. omega (arith, h, z)) k
 
-        go : (k : Check (Model Span)) → judge current (f .start) t ≡ k → verdict (k >>= λ m. pass (record { start = f .start; model = m })) .number ≡ n → (n ≡ CBOR) ⊎ (n ≡ DEEP) → ⊥
+        go : (k : Check (Model Span)) → judge L (f .start) t ≡ k → verdict (k >>= λ m. pass (record { start = f .start; model = m })) .number ≡ n → (n ≡ CBOR) ⊎ (n ≡ DEEP) → ⊥
         go (pass m) j v w = ⊎-elim (λ z. omega (arith, v, z)) (λ z. omega (arith, v, z)) w
-        go (refuse m o c) j v w = let b = between m (refused-so (judge-so current file (f .start) t p) j) .0 in late n (omega (arith, b, v)) w
+        go (refuse m o c) j v w = let b = between m (refused-so (judge-so L file (f .start) t p) j) .0 in late n (omega (arith, b, v)) w
 
-    malformed-none : (number file ≡ CBOR) ⊎ (number file ≡ DEEP) → NoTree file f
+    malformed-none : (number L file ≡ CBOR) ⊎ (number L file ≡ DEEP) → NoTree file f
     unfolding checked
     malformed-none w t i =
         let a = encoded-reads (endOf f) (manifestIn file f) (part f) t i in
-        let p : Placed current file (f .start) depthLimit (a .node) = passed-so (tree-so current file f so) (rw (a .read) refl) in
-        judged-late (a .node) p (number file) (ap (λ (k : Check Reading). verdict k .number) (sym (reading-of f e (a .node) (a .read)))) w
+        let p : Placed L file (f .start) depthLimit (a .node) = passed-so (tree-so L file f so) (rw (a .read) refl) in
+        judged-late (a .node) p (number L file) (ap (λ (k : Check Reading). verdict k .number) (sym (reading-of f e (a .node) (a .read)))) w
 
-    none-malformed : NoTree file f → (number file ≡ CBOR) ⊎ (number file ≡ DEEP)
+    none-malformed : NoTree file f → (number L file ≡ CBOR) ⊎ (number L file ≡ DEEP)
     unfolding checked
     none-malformed none = go (manifest (spanTo (endOf f)) (manifestIn file f)) refl
       where
         either : (n : ℕ) → CBOR ≤ n → n ≤ DEEP → (n ≡ CBOR) ⊎ (n ≡ DEEP)
         either n h k = ⊎-elim (λ g. inl (omega (arith, h, g))) (λ g. inr (omega (arith, k, g))) (lt-or n DEEP)
 
-        go : (o : Outcome (Node Span)) → manifest (spanTo (endOf f)) (manifestIn file f) ≡ o → (number file ≡ CBOR) ⊎ (number file ≡ DEEP)
+        go : (o : Outcome (Node Span)) → manifest (spanTo (endOf f)) (manifestIn file f) ≡ o → (number L file ≡ CBOR) ⊎ (number L file ≡ DEEP)
         go (got t q) i = absurd (none (meaning t) (read-encodes (endOf f) (manifestIn file f) (part f) t q i))
         go (refused n q) i =
-            let b = manifest-refusals current file f so i in
-            let is : reading current file ≡ refuse n 0 0 = step-of (pass f) e ∙ ap (λ (o : Outcome (Node Span)). checked o >>= rest f) i in
-            let v : number file ≡ n = ap (λ (k : Check Reading). verdict k .number) is in
+            let b = manifest-refusals L file f so i in
+            let is : reading L file ≡ refuse n 0 0 = step-of (pass f) e ∙ ap (λ (o : Outcome (Node Span)). checked o >>= rest f) i in
+            let v : number L file ≡ n = ap (λ (k : Check Reading). verdict k .number) is in
             ⊎-elim (λ z. inl (v ∙ z)) (λ z. inr (v ∙ z)) (either n (b .0) (b .1))
 
-  pub accepts-exactly : Exactly file
+  pub accepts-exactly : Exactly L file
   accepts-exactly = record { accepted = (accepted-sound, sound-accepted); malformed = λ f e. (malformed-none f e, none-malformed f e) }

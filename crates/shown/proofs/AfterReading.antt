@@ -27,9 +27,9 @@ use Rattle.shown.proofs.AcceptedFile.{refusals-of-reading, accepted-sta
 
 -- a reading into a table is an accepted one, if there is room
 module _ (L : Layout) (file : List ℕ) (room : ℕ) where
-  pub accepts : (r : Reading) → readInto L file room ≡ pass r → reading L file ≡ pass r
+  pub read-accepts : (r : Reading) → readInto L file room ≡ pass r → reading L file ≡ pass r
   unfolding readInto roomy
-  accepts r = by (reading L file)
+  read-accepts r = by (reading L file)
     where
       roomy-same : (q : Reading) (b : Bool) → (ROOM unless b >> pass q) ≡ pass r → pass q ≡ pass r
       roomy-same q true e = e
@@ -54,7 +54,7 @@ module _ (L : Layout) (file : List ℕ) (room : ℕ) where
 
 module _ (L : Layout) (framing : Framing L) (file table : List ℕ) (r : Reading) (reads : readInto L file (length table) ≡ pass r) where
   read-so : reading L file ≡ pass r
-  read-so = accepts L file (length table) r reads
+  read-so = read-accepts L file (length table) r reads
 
   pub read-view : (j : ℕ) (c : Component Span) → getElem? (allComponents (r .model .objects)) j ≡ some c → Shown L file table r j c
   unfolding answer tableAfter

@@ -25,7 +25,7 @@ use Rattle.shown.specs.Accepted.{Framing, IfAny, WordStands}
 use Rattle.shown.specs.Found.{isNone, dueOf, findingOf}
 use Rattle.shown.specs.Shown.{foundThen}
 use Rattle.shown.proofs.AcceptedFile.{accepted, accepted-component, accepted-blobs}
-use Rattle.shown.proofs.AfterReading.{accepts}
+use Rattle.shown.proofs.AfterReading.{read-accepts}
 
 -- a type that is there stands in the manifest, so its place isn't 0
 module _ (L : Layout) (file : List ℕ) (start : ℕ) (header : 8 ≤ start) where
@@ -50,7 +50,7 @@ module _ (L : Layout) (framing : Framing L) (file table : List ℕ) (r : Reading
   due-is : due T row ≡ dueOf c
   unfolding due dueOf
   due-is =
-      let so = accepts L file (length table) r reads in
+      let so = read-accepts L file (length table) r reads in
       let b = row-of-rows rest (r .model) j c there in
       rw (code-is T row (b .0) c (b .1) (b .2), type-place T row (b .0) c (b .1) (b .2), type-size T row (b .0) c (b .1) (b .2), length-is T row (b .0) c (b .1) (b .2))
       (typed L file (r .start) (accepted L framing file r so .header) (eqb (c .dtype) f32) (eqb (c .length % 4) 0) (c .type) (accepted-component L framing file r so j c there .type))
@@ -64,7 +64,7 @@ module _ (L : Layout) (framing : Framing L) (file table : List ℕ) (r : Reading
   pub read-found : foundThen L file table j ≡ findingOf file c
   unfolding answer tableAfter found findingOf
   read-found =
-      let so = accepts L file (length table) r reads in
+      let so = read-accepts L file (length table) r reads in
       let lies = accepted-blobs L framing file r so j c there in
       let a = lies .0 .before-manifest in
       let f = lies .1 in
