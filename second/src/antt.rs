@@ -2,7 +2,8 @@
 
 use crate::cbor;
 use crate::columns::{numbers, COUNT, OBJECT_ROW};
-use crate::generate::{Generator, RowSet};
+use crate::generate::{nth_file_as, Generator, RowSet};
+use crate::layout::Layout;
 use crate::listing;
 use crate::probes;
 use crate::row_probes;
@@ -13,6 +14,8 @@ use std::collections::BTreeMap;
 
 /// Larger files, items and row sets are passed over: antt computes on lists.
 const SIZE_LIMIT: usize = 1_000;
+/// The number that says layout 1.0.
+const FIRST: u64 = 1;
 /// What every number of the lent table holds before a reading.
 const BEFORE: u64 = 7;
 /// A lent table of this many numbers is ample for every file within the size limit.
@@ -22,7 +25,7 @@ const AMPLE_OUTPUT: usize = 1_000_000;
 /// What every byte of the lent output holds before a writing.
 const BYTE_BEFORE: u8 = 7;
 
-/// `each` files for every answer of the reader, as many items for every answer of the CBOR reading, and as many row sets for every answer of the writer but BIG and its own
+/// `each` files for every answer of the reader, in both layouts, as many items for every answer of the CBOR reading, and as many row sets for every answer of the writer but BIG and its own
 /// COUNT, as an antt module.
 pub fn module(seed: u64, each: usize) -> String {
     let mut generator = Generator::new(seed);
@@ -34,6 +37,17 @@ pub fn module(seed: u64, each: usize) -> String {
         |file| rows::read(file, &mut [BEFORE; AMPLE]).number,
     );
     files.extend(probes::files());
+    let mut index = 0;
+    let first_files = of_every_answer(
+        each,
+        22,
+        || {
+            index += 1;
+            nth_file_as(Layout::First, seed, index)
+        },
+        |file| file.len(),
+        |file| rows::read_as(FIRST, file, &mut [BEFORE; AMPLE]).number,
+    );
     let items = of_every_answer(
         each,
         3,
@@ -53,6 +67,11 @@ pub fn module(seed: u64, each: usize) -> String {
     [
         HEADER.to_string(),
         table("files", "FileCase", files.iter().enumerate().map(file_case)),
+        table(
+            "firstFiles",
+            "LayoutCase",
+            first_files.iter().enumerate().map(first_case),
+        ),
         table(
             "items",
             "ItemCase",
@@ -82,7 +101,7 @@ const HEADER: &str =
 use mathlib.Core.List.{List, [], _∷_, _++_}
 use mathlib.Core.Bool.{true, false}
 use lib.ListN.{replicate}
-use Rattle.agreement.specs.Case.{FileCase, ItemCase, ProgramCase, RowCase, PlacementCase}
+use Rattle.agreement.specs.Case.{FileCase, LayoutCase, ItemCase, ProgramCase, RowCase, PlacementCase}
 ";
 
 /// Lengths of blobs: none, empty ones, around a multiple of 64, and a last end at 2^40 and one past it.
@@ -120,33 +139,34 @@ fn of_every_answer<T>(
     kept.into_values().flatten().collect()
 }
 
-/// A file read into a table that is ample, exact, or one number short.
-fn file_case((index, file): (usize, &Vec<u8>)) -> String {
-    let needed = rows::read(file, &mut [BEFORE; AMPLE]);
+/// A file read into a table that is ample, exact, or one number short: the fields that every such case has.
+fn read_case(layout: u64, index: usize, file: &[u8]) -> String {
+    let needed = rows::read_as(layout, file, &mut [BEFORE; AMPLE]);
     let exact = numbers(needed.objects as usize, needed.components as usize);
     let room = [AMPLE, exact, exact.saturating_sub(1)][index % 3];
     let mut table = vec![BEFORE; room];
-    let answer = rows::read(file, &mut table);
-    let numbers = [
-        u64::from(answer.number),
-        answer.object,
-        answer.component,
-        answer.objects,
-        answer.components,
-        answer.manifest_start,
-        answer.attributes_place,
-        answer.attributes_length,
-    ];
+    let answer = rows::read_as(layout, file, &mut table);
     let seen = view::view(file, &table, answer.objects, answer.components, 0);
     let seen = seen.map_or(vec![], |(offset, length)| vec![offset, length]);
     format!(
-        "record {{ file = {}; room = {room}; answer = {}; table = {}; seen = {}; text = {} }}",
+        "file = {}; room = {room}; answer = {}; table = {}; seen = {}",
         bytes(file),
-        list(&numbers),
+        list(&answer.numbers()),
         list(&table),
         list(&seen),
-        bytes(&listing::program_text(file)),
     )
+}
+
+fn file_case((index, file): (usize, &Vec<u8>)) -> String {
+    let read = read_case(Layout::Current.number(), index, file);
+    let text = bytes(&listing::program_text(file));
+    format!("record {{ {read}; text = {text} }}")
+}
+
+/// A file of layout 1.0; one in four is asked for as 1.2.0, by one number or another.
+fn first_case((index, file): (usize, &Vec<u8>)) -> String {
+    let layout = [FIRST, FIRST, FIRST, [0, 2, 3, 257][index / 4 % 4]][index % 4];
+    format!("record {{ layout = {layout}; {} }}", read_case(layout, index, file))
 }
 
 /// An item as a whole manifest: the refusal and the place where it was met; 0 and 0 if it is well-formed.

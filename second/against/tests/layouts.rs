@@ -20,7 +20,7 @@ use second::refusal::{BIG, COUNT, ROLE, ROOM};
 use second::rows::{self, split, Part};
 use second::sweep;
 
-const FILES: u64 = rounds(200_000);
+const FILES: u64 = rounds(120_000);
 /// The number that says layout 1.0.
 const FIRST: u64 = 1;
 /// Numbers that say layout 1.2.0, one of them 1 in its low half.
