@@ -201,6 +201,25 @@ typedef struct {
 /* The component at `index` among all components, by a table that zt_read filled; any other table, any counts and any index are answered too. */
 zt_range zt_view(const uint8_t *file, size_t length, const uint64_t *table, size_t room, uint64_t objects, uint64_t components, uint64_t index);
 
+/* What a component's numbers show. */
+enum zt_finding_kind {
+    ZT_FINDING_NONE = 0,     /* none is due: the storage isn't f32, there is a type, or the length is no multiple of 4 */
+    ZT_FINDING_EMPTY = 1,    /* no bytes */
+    ZT_FINDING_ONLY_NAN = 2, /* NaNs and nothing else */
+    ZT_FINDING_SPAN = 3      /* numbers, and perhaps NaNs */
+};
+
+/* ZT_ACCEPTED and the finding; or ZT_INDEX and zeros. The smallest and the largest are the f32's bits, 0 unless there are numbers. */
+typedef struct {
+    uint64_t number, finding, smallest, largest, nans;
+} zt_finding;
+
+/*
+ * The finding of the component at `index` among all components, by any table, as zt_view. Its bytes are f32, the least significant first. Both infinities are
+ * numbers; -0 and +0 are equal, and of equal numbers the first met is answered. Every byte of the component is read.
+ */
+zt_finding zt_find(const uint8_t *file, size_t length, const uint64_t *table, size_t room, uint64_t objects, uint64_t components, uint64_t index);
+
 /* ZT_ACCEPTED and a listing's length; or ZT_INDEX or ZT_ROOM, and 0. */
 typedef struct {
     uint64_t number, length;

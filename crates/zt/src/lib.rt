@@ -1,4 +1,5 @@
 // The C interface: thin exported functions, nothing else.
+use finding::table::Found;
 use panel::Listed;
 use reader::into::Answer;
 use view::Extent;
@@ -13,6 +14,7 @@ ghost use Rattle.meaning.specs.Layouts.{current, layoutOf};
 ghost use Rattle.reader.specs.Verdict.{verdict};
 ghost use Rattle.reader.specs.Answer.{answered};
 ghost use Rattle.view.specs.Told as extent;
+ghost use Rattle.finding.specs.Table.{found};
 ghost use Rattle.panel.specs.Lines.{listed};
 ghost use Rattle.panel.specs.Told as listing;
 ghost use Rattle.writer.specs.Told.{Answered};
@@ -64,6 +66,20 @@ pub extern "C" fn zt_view(
     ensures { λ r. ⌜ r ≡ extent.told (viewed (now (file .entry)) (now (table .entry)) objects components index) ⌝ }
 {
     view::range(file, table, objects, components, index)
+}
+
+// What the f32 numbers of one component show, by any table: 0, its finding, the patterns of the smallest and the largest, and how many NaNs; or INDEX and zeros.
+#[no_mangle]
+pub extern "C" fn zt_find(
+    file: &[u8],
+    table: &[u64],
+    objects: u64,
+    components: u64,
+    index: u64,
+) -> Found
+    ensures { λ r. ⌜ r ≡ found (now (file .entry)) (now (table .entry)) objects components index ⌝ }
+{
+    finding::table::find_in(file, table, objects, components, index)
 }
 
 // The listing, by any table, put into a lent text: 0 and its length; or INDEX or ROOM, and 0.
