@@ -220,6 +220,18 @@ typedef struct {
  */
 zt_finding zt_find(const uint8_t *file, size_t length, const uint64_t *table, size_t room, uint64_t objects, uint64_t components, uint64_t index);
 
+/* Where the bytes of a file are. The verdict's number, object and component; and for a file that is accepted how many bytes are the frame's and the manifest's, lie in at
+   least one component, and lie between the first 8 bytes and the manifest in none: together the file's length. All four are 0 on refusal. */
+typedef struct {
+    uint64_t number, object, component, frame, manifest, inside, between;
+} zt_bytes;
+
+/*
+ * The account of a file. The lent room needs as many numbers as zt_read's table, else ZT_ROOM; the whole of it ends as zeros, whatever the answer. Components that share bytes
+ * count them once.
+ */
+zt_bytes zt_account(uint64_t layout, const uint8_t *file, size_t length, uint64_t *work, size_t room);
+
 /* ZT_ACCEPTED and a listing's length; or ZT_INDEX or ZT_ROOM, and 0. */
 typedef struct {
     uint64_t number, length;

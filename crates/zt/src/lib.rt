@@ -1,11 +1,12 @@
 // The C interface: thin exported functions, nothing else.
+use account::Bytes;
 use finding::table::Found;
 use panel::Listed;
 use reader::into::Answer;
 use view::Extent;
 use writer::Written;
 ghost use mathlib.Core.Path.{_≡_};
-ghost use lib.ListN.{length};
+ghost use lib.ListN.{length, replicate};
 ghost use Rattle.meaning.specs.Frame.{reading};
 ghost use Rattle.meaning.specs.Rows.{readInto, tableAfter};
 ghost use Rattle.meaning.specs.View.{viewed};
@@ -17,6 +18,7 @@ ghost use Rattle.view.specs.Told as extent;
 ghost use Rattle.finding.specs.Table.{found};
 ghost use Rattle.panel.specs.Lines.{listed};
 ghost use Rattle.panel.specs.Told as listing;
+ghost use Rattle.account.specs.Account.{accounted};
 ghost use Rattle.writer.specs.Told.{Answered};
 ghost use Rattle.readback.specs.Lent.{Lent};
 
@@ -80,6 +82,15 @@ pub extern "C" fn zt_find(
     ensures { λ r. ⌜ r ≡ found (now (file .entry)) (now (table .entry)) objects components index ⌝ }
 {
     finding::table::find_in(file, table, objects, components, index)
+}
+
+// Where the bytes of a file of a layout are: the verdict, and the bytes of frame and manifest, in components and in none. The lent room, as much as a table's, ends as zeros.
+#[no_mangle]
+pub extern "C" fn zt_account(layout: u64, file: &[u8], work: &mut [u64]) -> Bytes
+    ensures answer { λ r. ⌜ r ≡ accounted (layoutOf layout) (now (file .entry)) (readInto (layoutOf layout) (now (file .entry)) (length (now (work .entry)))) ⌝ }
+    ensures cleared { λ r. ⌜ now (work .exit) ≡ replicate (length (now (work .entry))) 0 ⌝ }
+{
+    account::of_file(layout, file, work)
 }
 
 // The listing, by any table, put into a lent text: 0 and its length; or INDEX or ROOM, and 0.
