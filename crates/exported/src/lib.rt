@@ -19,6 +19,8 @@ ghost use Rattle.types.specs.Known as known;
 ghost use Rattle.lengths.specs.Place.{placed, number};
 ghost use Rattle.formats.specs.Parts.{partRows};
 ghost use Rattle.reader.specs.Verdict.{verdict};
+ghost use Rattle.put.specs.Wrote.{Wrote};
+ghost use Rattle.decimal.specs.Text as decimals;
 ghost use Rattle.exported.specs.Told.{ruling, place};
 
 #[no_mangle]
@@ -263,4 +265,11 @@ pub extern "C" fn leaf_accept(layout: u64, file: &[u8]) -> Verdict
     ensures { λ r. ⌜ r ≡ verdict (frames.reading (layouts.layoutOf layout) (now (file .entry))) ⌝ }
 {
     reader::accept_as(layout, file)
+}
+
+#[no_mangle]
+pub extern "C" fn leaf_float(out: &mut [u8], n: u32) -> usize
+    ensures { λ r. ⌜ Wrote (decimals.text n) 0 (now (out .entry)) (now (out .exit)) r ⌝ }
+{
+    decimal::text::float(out, 0, n)
 }

@@ -175,6 +175,8 @@ bool leaf_dense_length(uint64_t n, const uint64_t *shape, size_t rank, uint64_t 
     return TRUTH(leaf_dense_length, NUMBER(n), LENT(shape, rank), NUMBER(unit));
 }
 
+size_t leaf_float(uint8_t *out, size_t room, uint32_t n) { return WORD(leaf_float, WRITTEN(out, room), NUMBER(n)); }
+
 typedef struct {
     uint64_t number, component;
 } ruling;
@@ -193,6 +195,9 @@ zt_answer zt_read_as(uint64_t layout, const uint8_t *file, size_t length, uint64
 }
 zt_range zt_view(const uint8_t *file, size_t length, const uint64_t *table, size_t room, uint64_t objects, uint64_t components, uint64_t index) {
     STRUCT(zt_range, zt_view, LENT(file, length), LENT(table, room), NUMBER(objects), NUMBER(components), NUMBER(index))
+}
+zt_finding zt_find(const uint8_t *file, size_t length, const uint64_t *table, size_t room, uint64_t objects, uint64_t components, uint64_t index) {
+    STRUCT(zt_finding, zt_find, LENT(file, length), LENT(table, room), NUMBER(objects), NUMBER(components), NUMBER(index))
 }
 zt_text zt_list(const uint8_t *file, size_t length, const uint64_t *table, size_t room, uint64_t objects, uint64_t components, uint8_t *text, size_t text_room) {
     STRUCT(zt_text, zt_list, LENT(file, length), LENT(table, room), NUMBER(objects), NUMBER(components), WRITTEN(text, text_room))

@@ -34,6 +34,7 @@ mod exported {
             parts: *const u64,
             parts_length: usize,
         ) -> super::Ruling;
+        pub fn leaf_float(out: *mut u8, room: usize, bits: u32) -> usize;
     }
 }
 
@@ -159,6 +160,25 @@ pub fn judge(format: u64, shape: &[u64], parts: &[[u64; 4]]) -> Ruling {
     }
 }
 
+/// The text of the f32 with these bits.
+pub fn float(bits: u32) -> String {
+    let mut out = [0; 24];
+    // SAFETY: the pointer and the length are an array's.
+    let length = unsafe { exported::leaf_float(out.as_mut_ptr(), out.len(), bits) };
+    String::from_utf8_lossy(&out[..length]).into_owned()
+}
+
+/// What the C library prints of it.
+pub fn printed(bits: u32) -> String {
+    extern "C" {
+        fn snprintf(out: *mut u8, room: usize, format: *const u8, ...) -> i32;
+    }
+    let mut out = [0; 24];
+    // SAFETY: room for 23 bytes and a zero, and one double for the one that the format asks for.
+    let length = unsafe { snprintf(out.as_mut_ptr(), out.len(), c"%.8e".as_ptr().cast(), f64::from(f32::from_bits(bits))) };
+    String::from_utf8_lossy(&out[..length as usize]).into_owned()
+}
+
 /// What a reading answers: the verdict, both counts, the manifest's start, and the root attributes' place and length.
 #[repr(C)]
 #[derive(Debug, PartialEq, Eq)]
@@ -180,6 +200,17 @@ pub struct Extent {
     pub number: u64,
     pub offset: u64,
     pub length: u64,
+}
+
+/// 0 and what a component's numbers show; or INDEX and zeros.
+#[repr(C)]
+#[derive(Debug, PartialEq, Eq)]
+pub struct Found {
+    pub number: u64,
+    pub finding: u64,
+    pub smallest: u64,
+    pub largest: u64,
+    pub nans: u64,
 }
 
 /// 0 and a listing's length; or INDEX or ROOM, and 0.
@@ -214,6 +245,15 @@ mod zt {
             components: u64,
             index: u64,
         ) -> super::Extent;
+        pub fn zt_find(
+            file: *const u8,
+            length: usize,
+            table: *const u64,
+            room: usize,
+            objects: u64,
+            components: u64,
+            index: u64,
+        ) -> super::Found;
         pub fn zt_list(
             file: *const u8,
             length: usize,
@@ -253,6 +293,21 @@ pub fn view(file: &[u8], table: &[u64], objects: u64, components: u64, index: u6
     // SAFETY: each pointer and length are a slice's.
     unsafe {
         zt::zt_view(
+            file.as_ptr(),
+            file.len(),
+            table.as_ptr(),
+            table.len(),
+            objects,
+            components,
+            index,
+        )
+    }
+}
+
+pub fn find(file: &[u8], table: &[u64], objects: u64, components: u64, index: u64) -> Found {
+    // SAFETY: each pointer and length are a slice's.
+    unsafe {
+        zt::zt_find(
             file.as_ptr(),
             file.len(),
             table.as_ptr(),
