@@ -213,6 +213,19 @@ pub struct Found {
     pub nans: u64,
 }
 
+/// The verdict, and how many bytes are the frame's, the manifest's, in components and in none.
+#[repr(C)]
+#[derive(Debug, PartialEq, Eq)]
+pub struct Bytes {
+    pub number: u64,
+    pub object: u64,
+    pub component: u64,
+    pub frame: u64,
+    pub manifest: u64,
+    pub inside: u64,
+    pub between: u64,
+}
+
 /// 0 and a listing's length; or INDEX or ROOM, and 0.
 #[repr(C)]
 #[derive(Debug, PartialEq, Eq)]
@@ -236,6 +249,7 @@ mod zt {
     extern "C" {
         pub fn zt_read(file: *const u8, length: usize, table: *mut u64, room: usize) -> super::Answer;
         pub fn zt_read_as(layout: u64, file: *const u8, length: usize, table: *mut u64, room: usize) -> super::Answer;
+        pub fn zt_account(layout: u64, file: *const u8, length: usize, work: *mut u64, room: usize) -> super::Bytes;
         pub fn zt_view(
             file: *const u8,
             length: usize,
@@ -287,6 +301,11 @@ pub fn read(file: &[u8], table: &mut [u64]) -> Answer {
 pub fn read_as(layout: u64, file: &[u8], table: &mut [u64]) -> Answer {
     // SAFETY: each pointer and length are a slice's, and the slices don't overlap.
     unsafe { zt::zt_read_as(layout, file.as_ptr(), file.len(), table.as_mut_ptr(), table.len()) }
+}
+
+pub fn account(layout: u64, file: &[u8], work: &mut [u64]) -> Bytes {
+    // SAFETY: each pointer and length are a slice's, and the slices don't overlap.
+    unsafe { zt::zt_account(layout, file.as_ptr(), file.len(), work.as_mut_ptr(), work.len()) }
 }
 
 pub fn view(file: &[u8], table: &[u64], objects: u64, components: u64, index: u64) -> Extent {

@@ -1,10 +1,11 @@
-//! Findings and the decimal text of an f32: the calls against the second program, and against what the C library prints.
+//! Findings, the account of a file's bytes, and the decimal text of an f32: the calls against the second program, and against what the C library prints.
 
 #![forbid(unsafe_code)]
 
 use against::tally::{rounds, seed, Tally};
-use against::{beside, Found};
-use second::generate::nth_file;
+use against::{beside, Bytes, Found};
+use second::generate::{nth_file, nth_file_as};
+use second::layout::Layout;
 use second::{columns, decimal, findings};
 
 /// Patterns at every edge: both zeros, the denormals' ends, ones, the largest, both infinities, NaNs of both signs and several payloads.
@@ -84,7 +85,7 @@ fn files() {
     let mut state = seed();
     let mut table = vec![0; columns::MOST];
     let mut other = nth_file(seed(), 0);
-    for index in 0..FILES {
+    for index in 0..rounds(FILES) {
         let file = nth_file(seed(), index);
         let a = beside::read(&file, &mut table);
         let room = columns::numbers(a.objects as usize, a.components as usize);
@@ -97,10 +98,45 @@ fn files() {
             for bytes in [&file, &other] {
                 let second = second_find(bytes, &table[..room], objects, components, at);
                 let proved = against::find(bytes, &table[..room], objects, components, at);
-                tally.compare(label(&second), proved, second, || format!("seed {}, file {index}: {objects} {components} {at}", seed()));
+                // Blobs of NaNs alone are rare among files.
+                let label = label(&second).replace("only NaNs", "numbers");
+                tally.compare(&label, proved, second, || format!("seed {}, file {index}: {objects} {components} {at}", seed()));
             }
         }
         other = file;
+    }
+    tally.report(4);
+}
+
+/// In both layouts, with a room that suffices and one that is a number short; what is lent ends as zeros.
+#[test]
+fn accounts() {
+    let mut tally = Tally::of("accounts");
+    for index in 0..rounds(FILES) {
+        for (layout, number) in [(Layout::Current, 0), (Layout::First, 1)] {
+            let file = nth_file_as(layout, seed(), index);
+            let most = findings::account(number, &file, &mut vec![7; columns::MOST]);
+            let exact = against::read_as(number, &file, &mut vec![0; columns::MOST]);
+            let room = columns::numbers(exact.objects as usize, exact.components as usize);
+            for room in [room, room.saturating_sub(1)] {
+                let mut lent = vec![7; room];
+                let mut also = vec![7; room];
+                let [number_, object, component, frame, manifest, inside, between] = findings::account(number, &file, &mut also).numbers();
+                let second = Bytes { number: number_, object, component, frame, manifest, inside, between };
+                let proved = against::account(number, &file, &mut lent);
+                assert!(lent.iter().all(|&n| n == 0) && lent == also);
+                if proved.number == 0 {
+                    assert_eq!(proved.frame + proved.manifest + proved.inside + proved.between, file.len() as u64);
+                    assert_eq!(most.numbers()[3..], [proved.frame, proved.manifest, proved.inside, proved.between]);
+                }
+                let label = match second.number {
+                    0 => "accounted",
+                    24 => "ROOM",
+                    _ => "refused",
+                };
+                tally.compare(label, proved, second, || format!("seed {}, file {index}, layout {number}, room {room}", seed()));
+            }
+        }
     }
     tally.report(3);
 }
