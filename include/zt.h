@@ -64,7 +64,8 @@ enum zt_refusal {
     ZT_LENGTH = 23,   /* length rule broken */
     ZT_ROOM = 24,     /* lent table or output too short */
     ZT_ROW = 25,      /* writer's rows unsound */
-    ZT_INDEX = 26     /* row outside count or table, or range not inside the file */
+    ZT_INDEX = 26,    /* row outside count or table, or range not inside the file */
+    ZT_PLAN = 27      /* placement plan refused; the object's index is the first row at fault, or the count of rows where offsets are left over */
 };
 
 /*
@@ -263,6 +264,16 @@ typedef struct {
  */
 zt_written zt_write(const uint64_t *rows, size_t numbers, uint64_t objects, uint64_t components, uint64_t attributes_place, uint64_t attributes_length,
                     const uint8_t *buffer, size_t buffer_length, uint8_t *out, size_t out_room);
+
+/*
+ * The same with each blob where a plan says (document 02, Request 02): `plan` holds `planned` offsets, one for each component's row, in any order. Accepted
+ * if each is a multiple of 64 and at least 64, no two blobs that aren't empty share a byte, and every end is at most `ceiling`, itself at most 2^40. The
+ * manifest follows the greatest end (8 if there is no row); bytes in no blob are 0. Refused in this order: ZT_ROW; ZT_PLAN with the row where the object's
+ * index stands (a ceiling above 2^40 is row 0, offsets left over the count of rows); ZT_BIG; what zt_read would refuse; ZT_ROOM.
+ * A plan that rises takes one pass over the rows; any other may take the square of their number, since nothing is lent to sort in.
+ */
+zt_written zt_write_planned(const uint64_t *rows, size_t numbers, uint64_t objects, uint64_t components, uint64_t attributes_place, uint64_t attributes_length,
+                            const uint8_t *buffer, size_t buffer_length, const uint64_t *plan, size_t planned, uint64_t ceiling, uint8_t *out, size_t out_room);
 
 /*
  * Words about numbers: plain C, library/words.c, no part of what is proved. The installed libraries hold it; beside the archive that `rt staticlib zt` writes,

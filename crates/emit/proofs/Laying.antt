@@ -6,7 +6,7 @@ use native.Mathlib.Omega.{arith}
 use mathlib.Core.List.{List, [], _∷_, _++_, map, append-assoc, append-nil}
 use mathlib.Core.Path.{_≡_, refl, sym, ap, _∙_, subst}
 use lib.ListN.{length, take, drop, getD, set, length-append, length-drop, length-set, drop-of-length-le, take-append-drop}
-use lib.Seq.{take-suc, drop-cons, set-at, set-split, take-at, drop-at, take-length, drop-drop, length-take-le}
+use lib.Seq.{take-suc, drop-cons, set-at, set-split, take-at, drop-at, take-length, drop-append-add, drop-drop, length-take-le}
 use borrow.Rule.Slice.PartAt.{part-to-end}
 use Rattle.meaning.specs.Read.{joined}
 use Rattle.emit.specs.Laid.{Room, Laid}
@@ -62,6 +62,46 @@ then {us} {bs} {xs} {ys} {zs} {at} {r} {q} v w =
           ∙ ap (λ (z : List ℕ). take at xs ++ z) (sym (append-assoc us bs _))
           ∙ ap (λ (n : ℕ). take at xs ++ ((us ++ bs) ++ drop n xs))
           (let n : at + length us + length bs ≡ at + length (us ++ bs) = omega (arith, length-append us bs) in n));
+    }
+
+-- ---- the front of the output
+
+-- what stands there already
+pub stands : (at : ℕ) (xs : List ℕ) → at ≤ length xs → Laid (take at xs) 0 xs xs at
+stands at xs h =
+    let k : length (take at xs) ≡ at = length-take-le at xs h in
+    record { past = omega (arith, k); fits = omega (arith, k); is = rw (zero-add (length (take at xs)), k) (sym (take-append-drop at xs)) }
+
+module _ {f xs ys : List ℕ} {r : ℕ} (w : Laid f 0 xs ys r) where
+  front-is : ys ≡ f ++ drop (length f) xs
+  front-is = w .is ∙ ap (λ (k : ℕ). f ++ drop k xs) (zero-add (length f))
+
+  pub front-of : take r ys ≡ f
+  front-of = ap (take r) front-is ∙ take-at f (drop (length f) xs) r (sym (w .past ∙ zero-add (length f)))
+
+  -- a longer front over it
+  pub relaid : {g zs : List ℕ} {q : ℕ} → Laid g 0 ys zs q → length f ≤ length g → Laid g 0 xs zs q
+  relaid {g} {zs} v h = record {
+    past = v .past;
+    fits = omega (arith, v .fits, same-length w);
+    is = v .is ∙ ap (λ (d : List ℕ). g ++ d) beyond;
+  }
+    where
+      beyond : drop (0 + length g) ys ≡ drop (0 + length g) xs
+      beyond =
+          let k : 0 + length g ≡ length f + (length g - length f) = omega (arith, h) in
+          ap (λ (n : ℕ). drop n ys) k ∙ ap (drop (length f + (length g - length f))) front-is
+          ∙ drop-append-add f (drop (length f) xs) (length g - length f) ∙ drop-drop (length g - length f) (length f) xs ∙ ap (λ (n : ℕ). drop n xs) (sym k)
+
+-- a piece after it
+pub with-front : {bs xs ys : List ℕ} {at r : ℕ} → Laid bs at xs ys r → Laid (take at xs ++ bs) 0 xs ys r
+with-front {bs} {xs} {ys} {at} {r} w =
+    let k : length (take at xs) ≡ at = length-take-le at xs (omega (arith, w .fits)) in
+    let l : length (take at xs ++ bs) ≡ at + length bs = omega (arith, length-append (take at xs) bs, k) in
+    record {
+      past = omega (arith, w .past, l);
+      fits = omega (arith, w .fits, l);
+      is = w .is ∙ sym (append-assoc (take at xs) bs (drop (at + length bs) xs)) ∙ ap (λ (n : ℕ). (take at xs ++ bs) ++ drop n xs) (sym (zero-add (length (take at xs ++ bs)) ∙ l));
     }
 
 -- ---- a loop whose turns lay the pieces of `all`: what is laid, and what is still to be

@@ -8,15 +8,12 @@ use lib.ListN.{length, drop, length-drop}
 use borrow.Author.Tests.{leb-true}
 use Rattle.meaning.specs.Columns.{objectWidth, componentWidth}
 use Rattle.meaning.specs.Text.{all}
-use Rattle.meaning.specs.Limit.{endLimit}
 use Rattle.meaning.specs.Read.{Span}
-use Rattle.meaning.specs.Placement.{placement, lastEnd}
 use Rattle.meaning.specs.Asked.{eachRow, askedObject, askedComponent, asked}
 use Rattle.meaning.specs.Sound.{inside, objectSound, componentSound, rowsSound}
 use Rattle.meaning.specs.Described.{blobs, described}
-use Rattle.rows.specs.Running.{reached}
+use Rattle.rows.specs.Running.{begun, turnLimit, reached}
 use Rattle.rows.proofs.EachRow.{first-so, others-so}
-use Rattle.rows.proofs.Running.{last-is-reached}
 use Rattle.rows.proofs.Whole.{sound-lies, sound-attributes, sound-objects, sound-components}
 use Rattle.rows.proofs.SoundRow as row-of
 use Rattle.rows.proofs.Describes as describes
@@ -59,29 +56,29 @@ module _ (buffer : List ℕ) where
     attributes = within (askedObject row .attributes) (row-of.attributes-inside buffer 29 (askedObject row .attributes) (row-of.object-attributes-sound buffer (askedObject row) e));
   }
 
-module _ (buffer rows : List ℕ) (objects components : ℕ) (attributes : Span) (sound : rowsSound buffer rows objects components attributes ≡ true) where
+module _ (buffer plan rows : List ℕ) (objects components : ℕ) (attributes : Span) (sound : rowsSound buffer rows objects components attributes ≡ true) where
   abbrev lengths : List ℕ
   lengths = map length (blobs (described buffer (asked rows objects components attributes)))
 
   lies : objectWidth * objects + componentWidth * components ≤ length rows
   lies = sound-lies buffer rows objects components attributes sound
 
-  module _ (low : lastEnd (placement lengths) lengths ≤ endLimit) where
-    blob-rows : ComponentRows buffer rows components (objectWidth * objects) 8
+  module _ (low : reached plan (begun plan) lengths ≤ turnLimit plan) where
+    blob-rows : ComponentRows buffer plan rows components (objectWidth * objects) (begun plan)
     blob-rows = record {
       each = λ j h. component-fits buffer (drop (objectWidth * objects + componentWidth * j) rows) (omega (arith, h, lies, length-drop (objectWidth * objects + componentWidth * j) rows))
           (each-so (componentSound buffer) askedComponent componentWidth components (objectWidth * objects) rows (sound-components buffer rows objects components attributes sound) j h);
       lie = lies;
-      low = subst (λ (k : ℕ). k ≤ endLimit) (last-is-reached lengths ∙ ap (reached 8) (describes.blob-lengths buffer rows objects components attributes sound)) low;
+      low = subst (λ (k : ℕ). k ≤ turnLimit plan) (ap (reached plan (begun plan)) (describes.blob-lengths buffer rows objects components attributes sound)) low;
     }
 
-    pub rows-fit : WholeRows buffer rows objects components (attributes .place) (attributes .size)
+    pub rows-fit : WholeRows buffer plan rows objects components (attributes .place) (attributes .size)
     rows-fit = record {
       attributes = within buffer attributes (row-of.attributes-inside buffer 31 attributes (sound-attributes buffer rows objects components attributes sound));
       each = record {
         each = λ i h. object-fits buffer (drop (0 + objectWidth * i) rows) (omega (arith, h, lies, length-drop (0 + objectWidth * i) rows))
             (each-so (objectSound buffer) askedObject objectWidth objects 0 rows (sound-objects buffer rows objects components attributes sound) i h);
-        components = subst (λ (m : ℕ). ComponentRows buffer rows m (objectWidth * objects) 8) (sym (describes.rows-counted buffer rows objects components attributes sound)) blob-rows;
+        components = subst (λ (m : ℕ). ComponentRows buffer plan rows m (objectWidth * objects) (begun plan)) (sym (describes.rows-counted buffer rows objects components attributes sound)) blob-rows;
       };
       blobs = blob-rows;
     }

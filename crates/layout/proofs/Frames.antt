@@ -3,47 +3,63 @@ use Prim.Native.Nat.{ℕ, _+_, _*_, _≤_}
 use native.Mathlib.Nat.{zero-add}
 use mathlib.Core.List.{List, _++_}
 use mathlib.Core.Path.{_≡_, sym, ap, _∙_, subst}
-use lib.ListN.{length, drop}
+use lib.ListN.{length, take, drop}
+use native.Mathlib.Omega.{arith}
 use Rattle.meaning.specs.Columns.{objectWidth}
 use Rattle.meaning.specs.Layouts.{magic}
 use Rattle.meaning.specs.WrittenFile.{littleBytes}
+use Rattle.rows.specs.Running.{begun}
+use Rattle.rows.proofs.Lent.{lent-both}
 use Rattle.emit.specs.Laid.{Room, Laid}
-use Rattle.emit.proofs.Laying.{part, back, as-bytes, room-as, room-first, room-next, then, lent}
+use Rattle.emit.proofs.Laying.{part, back, as-bytes, room-as, room-first, room-next, then, lent, same-length, front-of, relaid}
 use Rattle.layout.specs.Pieces.{blobsOf, manifestFrom, wholeOf}
-use Rattle.layout.specs.Rows.{ComponentRows, WholeRows}
+use Rattle.layout.specs.Rows.{FrontRoom, WholeRows}
+use Rattle.layout.proofs.Walking.{blobs-grow}
 
-module _ {buffer rows xs : List ℕ} {objects components place size : ℕ} (rs : WholeRows buffer rows objects components place size)
-    (room : Room (wholeOf buffer rows objects components place size) 0 xs) where
-  abbrev blobs : ℕ → List ℕ
-  blobs at = blobsOf buffer rows components (objectWidth * objects) at
+module _ {buffer plan rows xs : List ℕ} {objects components place size : ℕ} (rs : WholeRows buffer plan rows objects components place size)
+    (room : Room (wholeOf buffer plan rows objects components place size) 0 xs) where
+  -- the front of the file, over what stands there
+  abbrev front : List ℕ → List ℕ
+  front file = blobsOf buffer plan rows file components (objectWidth * objects) (begun plan)
 
   abbrev manifest : List ℕ
-  manifest = manifestFrom buffer rows objects (objectWidth * objects) place size
+  manifest = manifestFrom buffer plan rows objects (objectWidth * objects) place size
 
-  in-order : Room (magic ++ (blobs 8 ++ (manifest ++ (littleBytes 8 (length manifest) ++ magic)))) 0 xs
+  in-order : Room (front magic ++ (manifest ++ (littleBytes 8 (length manifest) ++ magic))) 0 xs
   unfolding wholeOf
   in-order = room
 
+  grows : length magic ≤ length (front magic)
+  grows = blobs-grow buffer plan rows magic components (objectWidth * objects) (begun plan)
+
   pub room-magic : Room magic 0 xs
-  room-magic = room-first _ in-order
+  room-magic = record { fits = omega (arith, room-first {us = front magic} _ in-order .fits, grows) }
 
   module _ {ys : List ℕ} {start : ℕ} (m : Laid magic 0 xs ys start) where
-    starts : start ≡ 8
-    unfolding magic
-    starts = m .past
+    over-magic : front (take start ys) ≡ front magic
+    over-magic = ap front (front-of m)
 
-    pub blobs-from : ComponentRows buffer rows components (objectWidth * objects) start
-    blobs-from = subst (λ (k : ℕ). ComponentRows buffer rows components (objectWidth * objects) k) (sym starts) (rs .blobs)
+    -- of a buffer and rows that are lent whole
+    abbrev lent-front : List ℕ
+    lent-front = blobsOf (part 0 buffer) plan (part 0 rows) (take start ys) components (objectWidth * objects) (begun plan)
 
-    after-magic : Room (blobs start ++ (manifest ++ (littleBytes 8 (length manifest) ++ magic))) start ys
-    after-magic = room-as (ap (λ (k : ℕ). blobs k ++ (manifest ++ (littleBytes 8 (length manifest) ++ magic))) (sym starts)) (room-next m in-order)
+    lent-is : lent-front ≡ front (take start ys)
+    lent-is = lent-both buffer rows 0 (λ b r. blobsOf b plan r (take start ys) components (objectWidth * objects) (begun plan))
 
-    pub room-blobs : Room (blobs start) start ys
-    room-blobs = room-first _ after-magic
+    pub room-blobs : FrontRoom lent-front start ys
+    room-blobs =
+        subst (λ (bs : List ℕ). FrontRoom bs start ys) (sym lent-is)
+        (record {
+          front = omega (arith, m .past, m .fits, same-length m);
+          fits = rw over-magic (omega (arith, room-first {us = front magic} _ in-order .fits, same-length m));
+        })
 
-    module _ {zs : List ℕ} {end : ℕ} (b : Laid (blobs start) start ys zs end) where
+    module _ {zs : List ℕ} {end : ℕ} (g : Laid lent-front 0 ys zs end) where
+      b : Laid (front magic) 0 xs zs end
+      b = relaid m (as-bytes (lent-is ∙ over-magic) g) grows
+
       pub room-manifest : Room manifest end zs
-      room-manifest = room-first _ (room-next b after-magic)
+      room-manifest = room-first _ (room-next b in-order)
 
       module _ {us : List ℕ} {n : ℕ} (f : Laid manifest 0 (part end zs) us n) where
         manifest-laid : Laid manifest end zs (back end zs us) (end + n)
@@ -53,7 +69,7 @@ module _ {buffer rows xs : List ℕ} {objects components place size : ℕ} (rs :
         size-is = ap (littleBytes 8) (sym (f .past ∙ zero-add (length manifest)))
 
         after-manifest : Room (littleBytes 8 (length manifest) ++ magic) (end + n) (back end zs us)
-        after-manifest = room-next manifest-laid (room-next b after-magic)
+        after-manifest = room-next manifest-laid (room-next b in-order)
 
         pub room-size : Room (littleBytes 8 n) (end + n) (back end zs us)
         room-size = room-as size-is (room-first _ after-manifest)
@@ -62,9 +78,9 @@ module _ {buffer rows xs : List ℕ} {objects components place size : ℕ} (rs :
           pub room-footer : Room magic past vs
           room-footer = room-next (as-bytes (sym size-is) s) after-manifest
 
-          pub whole-laid : {ws : List ℕ} {r : ℕ} → Laid magic past vs ws r → Laid (wholeOf buffer rows objects components place size) 0 xs ws r
+          pub whole-laid : {ws : List ℕ} {r : ℕ} → Laid magic past vs ws r → Laid (wholeOf buffer plan rows objects components place size) 0 xs ws r
           unfolding wholeOf
-          whole-laid w = then m (then (as-bytes (ap blobs starts) b) (then manifest-laid (then (as-bytes (sym size-is) s) w)))
+          whole-laid w = then b (then manifest-laid (then (as-bytes (sym size-is) s) w))
 
 -- a piece laid at the front of the output
 pub from-start : {bs xs ys : List ℕ} {r : ℕ} → Laid bs 0 xs ys r → (r ≡ length bs) × (ys ≡ bs ++ drop (length bs) xs)

@@ -5,3 +5,4 @@ pub mod Turns
 pub mod Frames
 pub mod Meant
 pub mod Fit
+pub mod BlobOver

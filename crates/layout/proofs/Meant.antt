@@ -6,8 +6,8 @@ use mathlib.Core.List.{List, [], _∷_, _++_, map, append-assoc, append-nil}
 use mathlib.Core.Bool.{Bool, true, false, cond, _&&_}
 use mathlib.Core.Option.{none, some}
 use mathlib.Core.Path.{_≡_, refl, sym, ap, _∙_, subst}
-use lib.ListN.{length, take, drop, getD, replicate, length-drop, length-map}
-use lib.Seq.{getD-drop, drop-drop, length-take-le}
+use lib.ListN.{length, take, drop, getD, length-map}
+use lib.Seq.{getD-drop, drop-drop}
 use lib.Dec.{eqb}
 use Rattle.meaning.specs.Columns.{objectWidth, componentWidth, rankColumn, shapeColumn, formatColumn, formatLengthColumn, attributesColumn, attributesLengthColumn, countColumn, dtypeColumn, typeColumn, typeLengthColumn, offsetColumn, lengthColumn, digestColumn, digestLengthColumn}
 use Rattle.meaning.specs.Text.{ascii, all}
@@ -15,13 +15,12 @@ use Rattle.meaning.specs.Read.{joined}
 use Rattle.meaning.specs.Notes.{mapOption}
 use Rattle.meaning.specs.Types.{storageOf}
 use Rattle.meaning.specs.Layouts.{rootNames, objectNames, componentNames, magic}
-use Rattle.meaning.specs.Placement.{aligned, placedFrom, placement}
 use Rattle.meaning.specs.Asked.{AskedObject, AskedComponent, eachRow, askedObject, askedComponent, asked, presentAt}
 use Rattle.meaning.specs.Sound.{componentSound, rowsSound}
 use Rattle.meaning.specs.Described.{DescribedComponent, DescribedObject, Described, blobs, describedComponent, describedObject, describedObjects, described}
 use Rattle.meaning.specs.Manifest.{Keyed, under, given, entryBytes, mapBytes, shortestHead, numberBytes, textBytes, listBytes, componentBytes, manifestBytes}
-use Rattle.meaning.specs.WrittenFile.{littleBytes, blobsFrom, closing, fileOf}
-use Rattle.rows.specs.Running.{reached, blobLengths, entriesFrom, objectFrom, objectsFrom, counted}
+use Rattle.meaning.specs.WrittenFile.{littleBytes, over, blobsOver, closing, fileOf}
+use Rattle.rows.specs.Running.{begun, offsetAt, stepped, reached, offsetsFrom, blobLengths, entriesFrom, objectFrom, objectsFrom, counted}
 use Rattle.rows.proofs.EachRow.{how-many, later-rows, all-dropped}
 use Rattle.rows.proofs.Running.{manifest-placed}
 use Rattle.rows.proofs.Whole.{sound-components}
@@ -30,7 +29,7 @@ use Rattle.rows.proofs.Describes as describes
 use Rattle.rows.proofs.Describes.{counted-next, rows-counted}
 use Rattle.layout.specs.Pieces.{presence, range, optional, componentAt, objectFront, objectRest, blobsOf, componentsOf, reachedPast, objectsOf, rootFront, manifestFrom, wholeOf}
 use Rattle.layout.specs.Rows.{Within, ComponentRow, ComponentRows, ObjectRows, WholeRows}
-use Rattle.layout.proofs.Walking.{first-component, next-components, its-components, next-objects}
+use Rattle.layout.proofs.Walking.{within-length, first-component, next-components, its-components, next-objects}
 
 abbrev field : String → List ℕ → List ℕ
 field key value = textBytes (ascii key) ++ value
@@ -62,9 +61,6 @@ root-fields true N A O = simp append-nil
 root-fields false N A O = simp append-nil
 
 module _ (buffer : List ℕ) where
-  within-length : {place size : ℕ} → Within buffer place size → length (range buffer place size) ≡ size
-  within-length {place} {size} w = length-take-le size (drop place buffer) (omega (arith, w .inside, length-drop place buffer))
-
   -- ---- components
 
   -- as long as its row says
@@ -84,21 +80,21 @@ module _ (buffer : List ℕ) where
       ∙ component-fields (eqb (getD row typeColumn 0) 0 && eqb (getD row typeLengthColumn 0) 0) (eqb (getD row digestColumn 0) 0 && eqb (getD row digestLengthColumn 0) 0) (textBytes (storageOf (getD row dtypeColumn 0) .called))
       (range buffer (getD row typeColumn 0) (getD row typeLengthColumn 0)) (numberBytes offset) (numberBytes (getD row lengthColumn 0)) (range buffer (getD row digestColumn 0) (getD row digestLengthColumn 0))))
 
-  components-meant : (rows : List ℕ) (n row place : ℕ) → ComponentRows buffer rows n row place
-      → componentsOf buffer rows n row place ≡ joined (map entryBytes (entriesFrom place (map (describedComponent buffer) (eachRow askedComponent componentWidth n (drop row rows)))))
+  components-meant : (plan rows : List ℕ) (n row place : ℕ) → ComponentRows buffer plan rows n row place
+      → componentsOf buffer plan rows n row place ≡ joined (map entryBytes (entriesFrom plan place (map (describedComponent buffer) (eachRow askedComponent componentWidth n (drop row rows)))))
   unfolding componentsOf entriesFrom eachRow
-  components-meant rows zero row place rs = refl
-  components-meant rows (suc n) row place rs =
+  components-meant plan rows zero row place rs = refl
+  components-meant plan rows (suc n) row place rs =
       let some-left : 0 < suc n = omega arith in
       let e : suc n - 1 ≡ n = omega arith in
       let c : DescribedComponent = describedComponent buffer (askedComponent (drop row rows)) in
-      let l : aligned place + getD rows (row + lengthColumn) 0 ≡ aligned place + length (c .blob) = ap (λ (k : ℕ). aligned place + k) (blob-long rows row (first-component rs some-left)) in
-      ap (λ (z : List ℕ). z ++ componentsOf buffer rows n (row + componentWidth) (aligned place + getD rows (row + lengthColumn) 0)) (component-meant (drop row rows) (aligned place) (first-component rs some-left .blob))
-      ∙ ap (λ (z : List ℕ). entryBytes (under (c .name) (componentBytes (aligned place) c)) ++ z)
-      (components-meant rows n (row + componentWidth) (aligned place + getD rows (row + lengthColumn) 0)
-      (subst (λ (k : ℕ). ComponentRows buffer rows k (row + componentWidth) (aligned place + getD rows (row + lengthColumn) 0)) e (next-components rs some-left))
-      ∙ ap (λ (s : List ℕ). joined (map entryBytes (entriesFrom (aligned place + getD rows (row + lengthColumn) 0) (map (describedComponent buffer) (eachRow askedComponent componentWidth n s))))) (sym (drop-drop componentWidth row rows))
-      ∙ ap (λ (k : ℕ). joined (map entryBytes (entriesFrom k (map (describedComponent buffer) (eachRow askedComponent componentWidth n (drop componentWidth (drop row rows))))))) l)
+      let l : stepped plan place (getD rows (row + lengthColumn) 0) ≡ stepped plan place (length (c .blob)) = ap (stepped plan place) (blob-long rows row (first-component rs some-left)) in
+      ap (λ (z : List ℕ). z ++ componentsOf buffer plan rows n (row + componentWidth) (stepped plan place (getD rows (row + lengthColumn) 0))) (component-meant (drop row rows) (offsetAt plan place) (first-component rs some-left .blob))
+      ∙ ap (λ (z : List ℕ). entryBytes (under (c .name) (componentBytes (offsetAt plan place) c)) ++ z)
+      (components-meant plan rows n (row + componentWidth) (stepped plan place (getD rows (row + lengthColumn) 0))
+      (subst (λ (k : ℕ). ComponentRows buffer plan rows k (row + componentWidth) (stepped plan place (getD rows (row + lengthColumn) 0))) e (next-components rs some-left))
+      ∙ ap (λ (s : List ℕ). joined (map entryBytes (entriesFrom plan (stepped plan place (getD rows (row + lengthColumn) 0)) (map (describedComponent buffer) (eachRow askedComponent componentWidth n s))))) (sym (drop-drop componentWidth row rows))
+      ∙ ap (λ (k : ℕ). joined (map entryBytes (entriesFrom plan k (map (describedComponent buffer) (eachRow askedComponent componentWidth n (drop componentWidth (drop row rows))))))) l)
 
   -- ---- blobs
 
@@ -109,35 +105,33 @@ module _ (buffer : List ℕ) where
   abbrev blobs-in : List AskedComponent → List (List ℕ)
   blobs-in cs = describes.blobsOf buffer cs
 
-  blobs-meant : (rows : List ℕ) (n row place : ℕ) → ComponentRows buffer rows n row place
-      → blobsOf buffer rows n row place
-      ≡ blobsFrom place (placedFrom place (map length (blobs-in (eachRow askedComponent componentWidth n (drop row rows))))) (blobs-in (eachRow askedComponent componentWidth n (drop row rows)))
-  unfolding blobsOf blobsFrom placedFrom eachRow describedComponent
-  blobs-meant rows zero row place rs = refl
-  blobs-meant rows (suc n) row place rs =
+  blobs-meant : (plan rows file : List ℕ) (n row turn : ℕ) → ComponentRows buffer plan rows n row turn
+      → blobsOf buffer plan rows file n row turn
+      ≡ blobsOver file (offsetsFrom plan turn (map length (blobs-in (eachRow askedComponent componentWidth n (drop row rows))))) (blobs-in (eachRow askedComponent componentWidth n (drop row rows)))
+  unfolding blobsOf blobsOver offsetsFrom eachRow describedComponent
+  blobs-meant plan rows file zero row turn rs = refl
+  blobs-meant plan rows file (suc n) row turn rs =
       let some-left : 0 < suc n = omega arith in
       let e : suc n - 1 ≡ n = omega arith in
       let b : List ℕ = describedComponent buffer (askedComponent (drop row rows)) .blob in
-      let k : ℕ = aligned place + getD rows (row + lengthColumn) 0 in
-      let l : k ≡ aligned place + length b = ap (λ (z : ℕ). aligned place + z) (blob-long rows row (first-component rs some-left)) in
-      ap (λ (z : List ℕ). replicate (aligned place - place) 0 ++ (z ++ blobsOf buffer rows n (row + componentWidth) k)) (blob-same rows row)
-      ∙ ap (λ (z : List ℕ). replicate (aligned place - place) 0 ++ (b ++ z))
-      (blobs-meant rows n (row + componentWidth) k (subst (λ (j : ℕ). ComponentRows buffer rows j (row + componentWidth) k) e (next-components rs some-left))
-      ∙ ap (λ (s : List ℕ). blobsFrom k (placedFrom k (map length (blobs-in (eachRow askedComponent componentWidth n s)))) (blobs-in (eachRow askedComponent componentWidth n s))) (sym (drop-drop componentWidth row rows))
-      ∙ ap (λ (j : ℕ). blobsFrom j (placedFrom j (map length (blobs-in (eachRow askedComponent componentWidth n (drop componentWidth (drop row rows)))))) (blobs-in (eachRow askedComponent componentWidth n (drop componentWidth (drop row rows))))) l)
-      ∙ sym (append-assoc (replicate (aligned place - place) 0) b _)
+      let k : ℕ = stepped plan turn (getD rows (row + lengthColumn) 0) in
+      let l : k ≡ stepped plan turn (length b) = ap (stepped plan turn) (blob-long rows row (first-component rs some-left)) in
+      ap (λ (z : List ℕ). blobsOf buffer plan rows (over file (offsetAt plan turn) z) n (row + componentWidth) k) (blob-same rows row)
+      ∙ blobs-meant plan rows (over file (offsetAt plan turn) b) n (row + componentWidth) k (subst (λ (j : ℕ). ComponentRows buffer plan rows j (row + componentWidth) k) e (next-components rs some-left))
+      ∙ ap (λ (s : List ℕ). blobsOver (over file (offsetAt plan turn) b) (offsetsFrom plan k (map length (blobs-in (eachRow askedComponent componentWidth n s)))) (blobs-in (eachRow askedComponent componentWidth n s))) (sym (drop-drop componentWidth row rows))
+      ∙ ap (λ (j : ℕ). blobsOver (over file (offsetAt plan turn) b) (offsetsFrom plan j (map length (blobs-in (eachRow askedComponent componentWidth n (drop componentWidth (drop row rows)))))) (blobs-in (eachRow askedComponent componentWidth n (drop componentWidth (drop row rows))))) l
 
   -- ---- objects
 
-  entries-counted : (n : ℕ) (cs : List DescribedComponent) → length (entriesFrom n cs) ≡ length cs
+  entries-counted : (plan : List ℕ) (n : ℕ) (cs : List DescribedComponent) → length (entriesFrom plan n cs) ≡ length cs
   unfolding entriesFrom
-  entries-counted n [] = refl
-  entries-counted n (c ∷ cs) = ap suc (entries-counted (aligned n + length (c .blob)) cs)
+  entries-counted plan n [] = refl
+  entries-counted plan n (c ∷ cs) = ap suc (entries-counted plan (stepped plan n (length (c .blob))) cs)
 
-  objects-counted : (n : ℕ) (os : List DescribedObject) → length (objectsFrom n os) ≡ length os
+  objects-counted : (plan : List ℕ) (n : ℕ) (os : List DescribedObject) → length (objectsFrom plan n os) ≡ length os
   unfolding objectsFrom
-  objects-counted n [] = refl
-  objects-counted n (o ∷ os) = ap suc (objects-counted (reached n (blobLengths (o .components))) os)
+  objects-counted plan n [] = refl
+  objects-counted plan n (o ∷ os) = ap suc (objects-counted plan (reached plan n (blobLengths (o .components))) os)
 
   described-counted : (os : List AskedObject) (cs : List AskedComponent) → length (describedObjects buffer os cs) ≡ length os
   unfolding describedObjects
@@ -147,7 +141,7 @@ module _ (buffer : List ℕ) where
   regrouped : (N H s S f F A k h E : List ℕ) → (N ++ (H ++ (s ++ S))) ++ (((f ++ F) ++ (A ++ (k ++ h))) ++ E) ≡ N ++ (H ++ ((s ++ S) ++ ((f ++ F) ++ (A ++ (k ++ (h ++ E))))))
   regrouped N H s S f F A k h E = simp append-assoc
 
-  module _ (rows : List ℕ) where
+  module _ (plan rows : List ℕ) where
     module _ (row from place : ℕ) where
       abbrev count : ℕ
       count = getD rows (row + countColumn) 0
@@ -158,16 +152,16 @@ module _ (buffer : List ℕ) where
       abbrev object : DescribedObject
       object = describedObject buffer (askedObject (drop row rows)) its
 
-      components-map : ComponentRows buffer rows count from place
-          → mapBytes (entriesFrom place (map (describedComponent buffer) its)) ≡ shortestHead 5 (getD (drop row rows) countColumn 0) ++ componentsOf buffer rows count from place
+      components-map : ComponentRows buffer plan rows count from place
+          → mapBytes (entriesFrom plan place (map (describedComponent buffer) its)) ≡ shortestHead 5 (getD (drop row rows) countColumn 0) ++ componentsOf buffer plan rows count from place
       unfolding mapBytes
       components-map rs =
-          ap (λ (k : ℕ). shortestHead 5 k ++ joined (map entryBytes (entriesFrom place (map (describedComponent buffer) its))))
-          (entries-counted place (map (describedComponent buffer) its) ∙ length-map its (describedComponent buffer) ∙ how-many askedComponent componentWidth count (drop from rows) ∙ sym (getD-drop row rows countColumn 0))
-          ∙ ap (λ (z : List ℕ). shortestHead 5 (getD (drop row rows) countColumn 0) ++ z) (sym (components-meant rows count from place rs))
+          ap (λ (k : ℕ). shortestHead 5 k ++ joined (map entryBytes (entriesFrom plan place (map (describedComponent buffer) its))))
+          (entries-counted plan place (map (describedComponent buffer) its) ∙ length-map its (describedComponent buffer) ∙ how-many askedComponent componentWidth count (drop from rows) ∙ sym (getD-drop row rows countColumn 0))
+          ∙ ap (λ (z : List ℕ). shortestHead 5 (getD (drop row rows) countColumn 0) ++ z) (sym (components-meant plan rows count from place rs))
 
-      object-meant : ComponentRows buffer rows count from place
-          → objectFront buffer (drop row rows) ++ (objectRest buffer (drop row rows) ++ componentsOf buffer rows count from place) ≡ entryBytes (under (object .name) (objectFrom place object))
+      object-meant : ComponentRows buffer plan rows count from place
+          → objectFront buffer (drop row rows) ++ (objectRest buffer (drop row rows) ++ componentsOf buffer plan rows count from place) ≡ entryBytes (under (object .name) (objectFrom plan place object))
       unfolding objectFront objectRest optional presence entryBytes objectFrom describedObject askedObject presentAt
       object-meant rs =
           let r : List ℕ = drop row rows in
@@ -175,10 +169,10 @@ module _ (buffer : List ℕ) where
           regrouped (textBytes (range buffer (getD r 0 0) (getD r 1 0))) (shortestHead 5 (3 + cond t 0 1)) (textBytes (ascii "shape")) (listBytes (take (getD r rankColumn 0) (drop shapeColumn r)))
           (textBytes (ascii "format")) (textBytes (range buffer (getD r formatColumn 0) (getD r formatLengthColumn 0)))
           (cond t [] (textBytes (ascii "attributes") ++ range buffer (getD r attributesColumn 0) (getD r attributesLengthColumn 0))) (textBytes (ascii "components")) (shortestHead 5 (getD r countColumn 0))
-          (componentsOf buffer rows count from place)
+          (componentsOf buffer plan rows count from place)
           ∙ ap (λ (z : List ℕ). textBytes (range buffer (getD r 0 0) (getD r 1 0)) ++ z)
           (sym (object-fields t (listBytes (take (getD r rankColumn 0) (drop shapeColumn r))) (textBytes (range buffer (getD r formatColumn 0) (getD r formatLengthColumn 0))) (range buffer (getD r attributesColumn 0) (getD r attributesLengthColumn 0))
-          (shortestHead 5 (getD r countColumn 0) ++ componentsOf buffer rows count from place))
+          (shortestHead 5 (getD r countColumn 0) ++ componentsOf buffer plan rows count from place))
           ∙ ap (λ (z : List ℕ). mapBytes (given objectNames (some (listBytes (take (getD r rankColumn 0) (drop shapeColumn r))) ∷ some (textBytes (range buffer (getD r formatColumn 0) (getD r formatLengthColumn 0)))
           ∷ cond t none (some (range buffer (getD r attributesColumn 0) (getD r attributesLengthColumn 0))) ∷ some z ∷ []))) (sym (components-map rs)))
 
@@ -192,7 +186,7 @@ module _ (buffer : List ℕ) where
     abbrev described-from : ℕ → ℕ → ℕ → ℕ → List DescribedObject
     described-from n m row from = describedObjects buffer (eachRow askedObject objectWidth n (drop row rows)) (asked-from m from)
 
-    module _ (n row from place : ℕ) (rs : ObjectRows buffer rows (suc n) row from place)
+    module _ (n row from place : ℕ) (rs : ObjectRows buffer plan rows (suc n) row from place)
         (sound : all (componentSound buffer) (asked-from (all-counted (suc n) row) from) ≡ true) where
       abbrev k : ℕ
       k = getD rows (row + countColumn) 0
@@ -220,52 +214,52 @@ module _ (buffer : List ℕ) where
           sym (ap (all (componentSound buffer)) (later-rows askedComponent componentWidth (all-counted (suc n) row) k from rows few ∙ ap (λ (j : ℕ). asked-from j q) left-over))
           ∙ all-dropped (componentSound buffer) k (asked-from (all-counted (suc n) row) from) sound
 
-      first-entry : objectsFrom place (described-from (suc n) (all-counted (suc n) row) row from)
-          ≡ under (object row from place .name) (objectFrom place (object row from place))
-          ∷ objectsFrom (reachedPast rows k from place) (described-from n (all-counted n (row + objectWidth)) (row + objectWidth) q)
+      first-entry : objectsFrom plan place (described-from (suc n) (all-counted (suc n) row) row from)
+          ≡ under (object row from place .name) (objectFrom plan place (object row from place))
+          ∷ objectsFrom plan (reachedPast plan rows k from place) (described-from n (all-counted n (row + objectWidth)) (row + objectWidth) q)
       unfolding describedObject
       first-entry =
-          next-object buffer rows rows (suc n) (all-counted (suc n) row) row from place some-left few
-          (own-sound buffer rows rows (suc n) (all-counted (suc n) row) row from place few sound)
-          ∙ ap (λ (j : ℕ). under (object row from place .name) (objectFrom place (object row from place))
-          ∷ objectsFrom (reachedPast rows k from place) (described-from j (all-counted (suc n) row - k) (row + objectWidth) q)) one-less
-          ∙ ap (λ (j : ℕ). under (object row from place .name) (objectFrom place (object row from place))
-          ∷ objectsFrom (reachedPast rows k from place) (described-from n j (row + objectWidth) q)) left-over
+          next-object plan buffer rows rows (suc n) (all-counted (suc n) row) row from place some-left few
+          (own-sound plan buffer rows rows (suc n) (all-counted (suc n) row) row from place few sound)
+          ∙ ap (λ (j : ℕ). under (object row from place .name) (objectFrom plan place (object row from place))
+          ∷ objectsFrom plan (reachedPast plan rows k from place) (described-from j (all-counted (suc n) row - k) (row + objectWidth) q)) one-less
+          ∙ ap (λ (j : ℕ). under (object row from place .name) (objectFrom plan place (object row from place))
+          ∷ objectsFrom plan (reachedPast plan rows k from place) (described-from n j (row + objectWidth) q)) left-over
 
-      others : ObjectRows buffer rows n (row + objectWidth) q (reachedPast rows k from place)
-      others = subst (λ (j : ℕ). ObjectRows buffer rows j (row + objectWidth) q (reachedPast rows k from place)) one-less (next-objects rs some-left)
+      others : ObjectRows buffer plan rows n (row + objectWidth) q (reachedPast plan rows k from place)
+      others = subst (λ (j : ℕ). ObjectRows buffer plan rows j (row + objectWidth) q (reachedPast plan rows k from place)) one-less (next-objects rs some-left)
 
-      first-meant : objectsOf buffer rows (suc n) row from place
-          ≡ entryBytes (under (object row from place .name) (objectFrom place (object row from place))) ++ objectsOf buffer rows n (row + objectWidth) q (reachedPast rows k from place)
+      first-meant : objectsOf buffer plan rows (suc n) row from place
+          ≡ entryBytes (under (object row from place .name) (objectFrom plan place (object row from place))) ++ objectsOf buffer plan rows n (row + objectWidth) q (reachedPast plan rows k from place)
       unfolding objectsOf
       first-meant =
-          together (objectFront buffer (drop row rows)) (objectRest buffer (drop row rows)) (componentsOf buffer rows k from place)
-          (objectsOf buffer rows n (row + objectWidth) q (reachedPast rows k from place))
-          ∙ ap (λ (z : List ℕ). z ++ objectsOf buffer rows n (row + objectWidth) q (reachedPast rows k from place)) (object-meant row from place (its-components rs some-left))
+          together (objectFront buffer (drop row rows)) (objectRest buffer (drop row rows)) (componentsOf buffer plan rows k from place)
+          (objectsOf buffer plan rows n (row + objectWidth) q (reachedPast plan rows k from place))
+          ∙ ap (λ (z : List ℕ). z ++ objectsOf buffer plan rows n (row + objectWidth) q (reachedPast plan rows k from place)) (object-meant row from place (its-components rs some-left))
         where
           together : (A B C D : List ℕ) → A ++ (B ++ (C ++ D)) ≡ (A ++ (B ++ C)) ++ D
           together A B C D = simp append-assoc
 
-    objects-meant : (n row from place : ℕ) → ObjectRows buffer rows n row from place → all (componentSound buffer) (asked-from (all-counted n row) from) ≡ true
-        → objectsOf buffer rows n row from place ≡ joined (map entryBytes (objectsFrom place (described-from n (all-counted n row) row from)))
+    objects-meant : (n row from place : ℕ) → ObjectRows buffer plan rows n row from place → all (componentSound buffer) (asked-from (all-counted n row) from) ≡ true
+        → objectsOf buffer plan rows n row from place ≡ joined (map entryBytes (objectsFrom plan place (described-from n (all-counted n row) row from)))
     unfolding objectsOf objectsFrom eachRow describedObjects
     objects-meant zero row from place rs e = refl
     objects-meant (suc n) row from place rs e =
         first-meant n row from place rs e
-        ∙ ap (λ (z : List ℕ). entryBytes (under (object row from place .name) (objectFrom place (object row from place))) ++ z)
-        (objects-meant n (row + objectWidth) (from + componentWidth * getD rows (row + countColumn) 0) (reachedPast rows (getD rows (row + countColumn) 0) from place) (others n row from place rs e)
+        ∙ ap (λ (z : List ℕ). entryBytes (under (object row from place .name) (objectFrom plan place (object row from place))) ++ z)
+        (objects-meant n (row + objectWidth) (from + componentWidth * getD rows (row + countColumn) 0) (reachedPast plan rows (getD rows (row + countColumn) 0) from place) (others n row from place rs e)
         (others-sound n row from place rs e))
         ∙ ap (λ (es : List (Keyed (List ℕ))). joined (map entryBytes es)) (sym (first-entry n row from place rs e))
 
 -- ---- all of it, of sound rows
 
-module _ (buffer rows : List ℕ) (objects components place size : ℕ) (sound : rowsSound buffer rows objects components (record { place = place; size = size }) ≡ true)
-    (whole : WholeRows buffer rows objects components place size) where
+module _ (buffer plan rows : List ℕ) (objects components place size : ℕ) (sound : rowsSound buffer rows objects components (record { place = place; size = size }) ≡ true)
+    (whole : WholeRows buffer plan rows objects components place size) where
   abbrev d : Described
   d = described buffer (asked rows objects components (record { place = place; size = size }))
 
   abbrev offsets : List ℕ
-  offsets = placement (map length (blobs d))
+  offsets = offsetsFrom plan (begun plan) (map length (blobs d))
 
   abbrev cs : List AskedComponent
   cs = eachRow askedComponent componentWidth components (drop (objectWidth * objects) rows)
@@ -276,42 +270,38 @@ module _ (buffer rows : List ℕ) (objects components place size : ℕ) (sound :
   all-there : counted (eachRow askedObject objectWidth objects rows) ≡ components
   all-there = rows-counted buffer rows objects components (record { place = place; size = size }) sound
 
-  objects-map : mapBytes (objectsFrom 8 (d .objects)) ≡ shortestHead 5 objects ++ objectsOf buffer rows objects 0 (objectWidth * objects) 8
+  objects-map : mapBytes (objectsFrom plan (begun plan) (d .objects)) ≡ shortestHead 5 objects ++ objectsOf buffer plan rows objects 0 (objectWidth * objects) (begun plan)
   unfolding mapBytes described asked
   objects-map =
-      ap (λ (k : ℕ). shortestHead 5 k ++ joined (map entryBytes (objectsFrom 8 (d .objects))))
-      (objects-counted buffer 8 (d .objects) ∙ described-counted buffer (eachRow askedObject objectWidth objects rows) cs ∙ how-many askedObject objectWidth objects rows)
+      ap (λ (k : ℕ). shortestHead 5 k ++ joined (map entryBytes (objectsFrom plan (begun plan) (d .objects))))
+      (objects-counted buffer plan (begun plan) (d .objects) ∙ described-counted buffer (eachRow askedObject objectWidth objects rows) cs ∙ how-many askedObject objectWidth objects rows)
       ∙ ap (λ (z : List ℕ). shortestHead 5 objects ++ z)
-      (sym (objects-meant buffer rows objects 0 (objectWidth * objects) 8 (whole .each)
+      (sym (objects-meant buffer plan rows objects 0 (objectWidth * objects) (begun plan) (whole .each)
       (subst (λ (m : ℕ). all (componentSound buffer) (eachRow askedComponent componentWidth m (drop (objectWidth * objects) rows)) ≡ true) (sym all-there) all-sound)
-      ∙ ap (λ (m : ℕ). joined (map entryBytes (objectsFrom 8 (describedObjects buffer (eachRow askedObject objectWidth objects rows) (eachRow askedComponent componentWidth m (drop (objectWidth * objects) rows))))))
+      ∙ ap (λ (m : ℕ). joined (map entryBytes (objectsFrom plan (begun plan) (describedObjects buffer (eachRow askedObject objectWidth objects rows) (eachRow askedComponent componentWidth m (drop (objectWidth * objects) rows))))))
       all-there))
 
-  pub manifest-meant : manifestFrom buffer rows objects (objectWidth * objects) place size ≡ manifestBytes d offsets
+  pub manifest-meant : manifestFrom buffer plan rows objects (objectWidth * objects) place size ≡ manifestBytes d offsets
   unfolding manifestFrom rootFront optional presence described asked presentAt
   manifest-meant =
       let t : Bool = eqb place 0 && eqb size 0 in
       joined-up (shortestHead 5 (2 + cond t 0 1)) (textBytes (ascii "version")) (textBytes (ascii "1.2.0")) (cond t [] (textBytes (ascii "attributes") ++ range buffer place size))
-      (textBytes (ascii "objects")) (shortestHead 5 objects) (objectsOf buffer rows objects 0 (objectWidth * objects) 8)
-      ∙ sym (root-fields t (textBytes (ascii "1.2.0")) (range buffer place size) (shortestHead 5 objects ++ objectsOf buffer rows objects 0 (objectWidth * objects) 8))
+      (textBytes (ascii "objects")) (shortestHead 5 objects) (objectsOf buffer plan rows objects 0 (objectWidth * objects) (begun plan))
+      ∙ sym (root-fields t (textBytes (ascii "1.2.0")) (range buffer place size) (shortestHead 5 objects ++ objectsOf buffer plan rows objects 0 (objectWidth * objects) (begun plan)))
       ∙ ap (λ (z : List ℕ). mapBytes (given rootNames (some (textBytes (ascii "1.2.0")) ∷ cond t none (some (range buffer place size)) ∷ some z ∷ []))) (sym objects-map)
-      ∙ sym (manifest-placed d)
+      ∙ sym (manifest-placed plan d)
     where
       joined-up : (H v w A o h E : List ℕ) → (H ++ (v ++ (w ++ (A ++ (o ++ h))))) ++ E ≡ H ++ ((v ++ w) ++ (A ++ (o ++ (h ++ E))))
       joined-up H v w A o h E = simp append-assoc
 
-  blobs-placed : blobsOf buffer rows components (objectWidth * objects) 8 ≡ blobsFrom 8 offsets (blobs d)
-  unfolding placement magic
+  blobs-placed : blobsOf buffer plan rows magic components (objectWidth * objects) (begun plan) ≡ blobsOver magic offsets (blobs d)
   blobs-placed =
-      blobs-meant buffer rows components (objectWidth * objects) 8 (whole .blobs)
-      ∙ ap (λ (bs : List (List ℕ)). blobsFrom 8 (placedFrom 8 (map length bs)) bs) (sym (describes.blobs-are buffer rows objects components (record { place = place; size = size }) sound))
+      blobs-meant buffer plan rows magic components (objectWidth * objects) (begun plan) (whole .blobs)
+      ∙ ap (λ (bs : List (List ℕ)). blobsOver magic (offsetsFrom plan (begun plan) (map length bs)) bs) (sym (describes.blobs-are buffer rows objects components (record { place = place; size = size }) sound))
 
-  pub whole-meant : wholeOf buffer rows objects components place size ≡ fileOf d offsets
-  unfolding wholeOf fileOf closing magic
+  pub whole-meant : wholeOf buffer plan rows objects components place size ≡ fileOf d offsets
+  unfolding wholeOf fileOf closing
   whole-meant =
-      ap (λ (m : List ℕ). magic ++ (blobsOf buffer rows components (objectWidth * objects) 8 ++ (m ++ (littleBytes 8 (length m) ++ magic)))) manifest-meant
-      ∙ ap (λ (b : List ℕ). magic ++ (b ++ (manifestBytes d offsets ++ (littleBytes 8 (length (manifestBytes d offsets)) ++ magic)))) blobs-placed
-      ∙ in-a-row magic (blobsFrom 8 offsets (blobs d)) (manifestBytes d offsets) (littleBytes 8 (length (manifestBytes d offsets))) magic
-    where
-      in-a-row : (a b m l z : List ℕ) → a ++ (b ++ (m ++ (l ++ z))) ≡ (a ++ b) ++ ((m ++ l) ++ z)
-      in-a-row a b m l z = simp append-assoc
+      ap (λ (m : List ℕ). blobsOf buffer plan rows magic components (objectWidth * objects) (begun plan) ++ (m ++ (littleBytes 8 (length m) ++ magic))) manifest-meant
+      ∙ ap (λ (b : List ℕ). b ++ (manifestBytes d offsets ++ (littleBytes 8 (length (manifestBytes d offsets)) ++ magic))) blobs-placed
+      ∙ ap (λ (z : List ℕ). blobsOver magic offsets (blobs d) ++ z) (sym (append-assoc (manifestBytes d offsets) (littleBytes 8 (length (manifestBytes d offsets))) magic))

@@ -1,18 +1,17 @@
--- The file's bytes by places in the rows: what the n rows from a place on contribute, where the place `reached` is reached in the file.
-use Prim.Native.Nat.{ℕ, zero, suc, _+_, _-_, _*_}
+-- The file's bytes by places in the rows: what the n rows from a place on contribute, where a turn is reached.
+use Prim.Native.Nat.{ℕ, zero, suc, _+_, _*_}
 use mathlib.Core.List.{List, [], _++_}
 use mathlib.Core.Bool.{cond, _&&_}
-use lib.ListN.{length, take, drop, getD, replicate}
+use lib.ListN.{length, take, drop, getD}
 use lib.Dec.{eqb}
 use Rattle.meaning.specs.Columns.{objectWidth, componentWidth, rankColumn, shapeColumn, formatColumn, formatLengthColumn, attributesColumn, attributesLengthColumn, countColumn, dtypeColumn, typeColumn, typeLengthColumn, offsetColumn, lengthColumn, digestColumn, digestLengthColumn}
 use Rattle.meaning.specs.Text.{ascii}
 use Rattle.meaning.specs.Types.{storageOf}
-use Rattle.meaning.specs.Placement.{aligned}
 use Rattle.meaning.specs.Manifest.{shortestHead, numberBytes, textBytes, listBytes}
-use Rattle.meaning.specs.WrittenFile.{littleBytes}
+use Rattle.meaning.specs.WrittenFile.{littleBytes, over}
 use Rattle.meaning.specs.Layouts.{magic}
 use Rattle.meaning.specs.Asked.{eachRow, askedComponent}
-use Rattle.rows.specs.Running.{reached, blobSizes}
+use Rattle.rows.specs.Running.{begun, offsetAt, stepped, reached, blobSizes}
 
 -- 0 where a range is absent, else 1
 unfoldable pub presence : ℕ → ℕ → ℕ
@@ -61,40 +60,41 @@ module _ (buffer : List ℕ) where
       ++ (textBytes (ascii "1.2.0")
       ++ (optional (ascii "attributes") (λ bs. bs) place size ++ (textBytes (ascii "objects") ++ shortestHead 5 objects))))
 
-  module _ (rows : List ℕ) where
-    -- ---- of n components, the first at this place
+  module _ (plan rows : List ℕ) where
+    -- ---- of n components, the first at this place, where this turn is reached
 
-    unfoldable pub blobsOf : ℕ → ℕ → ℕ → List ℕ
-    blobsOf zero row reached = []
-    blobsOf (suc n) row reached =
-        replicate (aligned reached - reached) 0
-        ++ (range (getD rows (row + offsetColumn) 0) (getD rows (row + lengthColumn) 0) ++ blobsOf n (row + componentWidth) (aligned reached + getD rows (row + lengthColumn) 0))
+    -- their blobs over what stands
+    unfoldable pub blobsOf : List ℕ → ℕ → ℕ → ℕ → List ℕ
+    blobsOf file zero row turn = file
+    blobsOf file (suc n) row turn =
+        blobsOf (over file (offsetAt plan turn) (range (getD rows (row + offsetColumn) 0) (getD rows (row + lengthColumn) 0))) n (row + componentWidth)
+        (stepped plan turn (getD rows (row + lengthColumn) 0))
 
     unfoldable pub componentsOf : ℕ → ℕ → ℕ → List ℕ
-    componentsOf zero row reached = []
-    componentsOf (suc n) row reached =
-        componentAt (drop row rows) (aligned reached) ++ componentsOf n (row + componentWidth) (aligned reached + getD rows (row + lengthColumn) 0)
+    componentsOf zero row turn = []
+    componentsOf (suc n) row turn =
+        componentAt (drop row rows) (offsetAt plan turn) ++ componentsOf n (row + componentWidth) (stepped plan turn (getD rows (row + lengthColumn) 0))
 
--- where n components' blobs end
-abbrev pub reachedPast : List ℕ → ℕ → ℕ → ℕ → ℕ
-reachedPast rows n row place = reached place (blobSizes (eachRow askedComponent componentWidth n (drop row rows)))
+-- the turn after n components
+abbrev pub reachedPast : List ℕ → List ℕ → ℕ → ℕ → ℕ → ℕ
+reachedPast plan rows n row turn = reached plan turn (blobSizes (eachRow askedComponent componentWidth n (drop row rows)))
 
-module _ (buffer rows : List ℕ) where
+module _ (buffer plan rows : List ℕ) where
   -- of n objects, the first at the place `row`, its components from the place `from` on
   unfoldable pub objectsOf : ℕ → ℕ → ℕ → ℕ → List ℕ
-  objectsOf zero row from reached = []
-  objectsOf (suc n) row from reached =
+  objectsOf zero row from turn = []
+  objectsOf (suc n) row from turn =
       objectFront buffer (drop row rows)
       ++ (objectRest buffer (drop row rows)
-      ++ (componentsOf buffer rows (getD rows (row + countColumn) 0) from reached
-      ++ objectsOf n (row + objectWidth) (from + componentWidth * getD rows (row + countColumn) 0) (reachedPast rows (getD rows (row + countColumn) 0) from reached)))
+      ++ (componentsOf buffer plan rows (getD rows (row + countColumn) 0) from turn
+      ++ objectsOf n (row + objectWidth) (from + componentWidth * getD rows (row + countColumn) 0) (reachedPast plan rows (getD rows (row + countColumn) 0) from turn)))
 
   -- `first` is where the components' rows begin
   unfoldable pub manifestFrom : ℕ → ℕ → ℕ → ℕ → List ℕ
-  manifestFrom objects first place size = rootFront buffer objects place size ++ objectsOf objects 0 first 8
+  manifestFrom objects first place size = rootFront buffer objects place size ++ objectsOf objects 0 first (begun plan)
 
   -- header, blobs, manifest, size, footer
   unfoldable pub wholeOf : ℕ → ℕ → ℕ → ℕ → List ℕ
   wholeOf objects components place size =
       let manifest = manifestFrom objects (objectWidth * objects) place size in
-      magic ++ (blobsOf buffer rows components (objectWidth * objects) 8 ++ (manifest ++ (littleBytes 8 (length manifest) ++ magic)))
+      blobsOf buffer plan rows magic components (objectWidth * objects) (begun plan) ++ (manifest ++ (littleBytes 8 (length manifest) ++ magic))

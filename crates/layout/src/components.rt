@@ -16,46 +16,77 @@ use columns::TYPE;
 use columns::TYPE_LENGTH;
 use emit::head_at;
 use emit::zeros_at;
-use sizes::entries::aligned;
+use sizes::placing::first_turn;
+use sizes::placing::offset_at;
+use sizes::placing::stepped;
 ghost use mathlib.Core.Path.{_≡_};
-ghost use Prim.Native.Nat.{_+_};
-ghost use lib.ListN.{length};
+ghost use Prim.Native.Nat.{max};
+ghost use lib.ListN.{take};
+ghost use Rattle.meaning.specs.WrittenFile.{over};
+ghost use Rattle.rows.specs.Running.{begun};
 ghost use Rattle.emit.specs.Laid.{Room, Laid};
 ghost use Rattle.layout.specs.Pieces as is;
-ghost use Rattle.layout.specs.Rows.{ComponentRow, ComponentRows};
+ghost use Rattle.layout.specs.Rows.{Within, BlobRoom, FrontRoom, ComponentRow, ComponentRows};
 
-// Where a piece ends in the output, and where its blobs end in the file.
+// Where a piece ends in the output, and whose turn is next.
 pub struct Past {
     pub at: usize,
-    pub reached: u64,
+    pub turn: u64,
 }
 
-// The blobs of n components from the place `at` on, zeros between.
+fn farther(a: usize, b: usize) -> usize
+    ensures { λ r. ⌜ r ≡ max a b ⌝ }
+{
+    if a < b {
+        return b;
+    }
+    a
+}
+
+// A range of the buffer as a blob over the front of the output, which is laid up to `past`; zeros up to it where that isn't so far. Answers where the front then ends.
+fn blob_at(
+    out: &mut [u8],
+    past: usize,
+    start: usize,
+    buffer: &[u8],
+    place: u64,
+    size: u64,
+) -> usize
+    requires { ⌜ Within (now buffer) place size ⌝ }
+    requires { ⌜ BlobRoom (now out) past start size ⌝ }
+    ensures { λ r. ⌜ Laid (over (take past (now (out .entry))) start (is.range (now (buffer .entry)) place size)) 0 (now (out .entry)) (now (out .exit)) r ⌝ }
+{
+    if past < start {
+        let from = zeros_at(out, past, start - past);
+        return range_at(out, from, buffer, place, size);
+    }
+    let end = range_at(out, start, buffer, place, size);
+    farther(past, end)
+}
+
+// The blobs of n components over the front of the output, which is laid up to `at`: in any order, each at its offset.
 pub fn blobs_at(
     out: &mut [u8],
     at: usize,
     buffer: &[u8],
+    plan: &[u64],
     rows: &[u64],
     n: u64,
     first: usize,
 ) -> usize
-    requires { ⌜ ComponentRows (now buffer) (now rows) n first at ⌝ }
-    requires { ⌜ Room (is.blobsOf (now buffer) (now rows) n first at) at (now out) ⌝ }
-    ensures { λ r. ⌜ Laid (is.blobsOf (now (buffer .entry)) (now (rows .entry)) n first at) at (now (out .entry)) (now (out .exit)) r ⌝ }
+    requires { ⌜ ComponentRows (now buffer) (now plan) (now rows) n first (begun (now plan)) ⌝ }
+    requires { ⌜ FrontRoom (is.blobsOf (now buffer) (now plan) (now rows) (take at (now out)) n first (begun (now plan))) at (now out) ⌝ }
+    ensures { λ r. ⌜ Laid (is.blobsOf (now (buffer .entry)) (now (plan .entry)) (now (rows .entry)) (take at (now (out .entry))) n first (begun (now (plan .entry)))) 0 (now (out .entry)) (now (out .exit)) r ⌝ }
 {
     let mut past = at;
     let mut row = first;
     let mut left = n;
+    let mut turn = first_turn(plan);
     while 0 < left {
-        let gap = aligned(past as u64) as usize - past;
-        let start = zeros_at(out, past, gap);
-        past = range_at(
-            out,
-            start,
-            &buffer[0..],
-            rows[row + OFFSET],
-            rows[row + LENGTH],
-        );
+        let start = offset_at(plan, turn) as usize;
+        let size = rows[row + LENGTH];
+        past = blob_at(out, past, start, buffer, rows[row + OFFSET], size);
+        turn = stepped(plan, turn, size);
         row += columns::COMPONENT;
         left -= 1;
     }
@@ -82,34 +113,35 @@ fn component_at(out: &mut [u8], at: usize, buffer: &[u8], row: &[u64], offset: u
     optional_word(out, f, b"digest", buffer, row[DIGEST], row[DIGEST_LENGTH])
 }
 
-// The entries of n components, whose blobs begin after the place `reached`.
+// The entries of n components, where the turn `turn` is reached.
 pub fn components_at(
     out: &mut [u8],
     at: usize,
     buffer: &[u8],
+    plan: &[u64],
     rows: &[u64],
     n: u64,
     first: usize,
-    reached: u64,
+    turn: u64,
 ) -> Past
-    requires { ⌜ ComponentRows (now buffer) (now rows) n first reached ⌝ }
-    requires { ⌜ Room (is.componentsOf (now buffer) (now rows) n first reached) at (now out) ⌝ }
-    ensures laid { λ r. ⌜ Laid (is.componentsOf (now (buffer .entry)) (now (rows .entry)) n first reached) at (now (out .entry)) (now (out .exit)) (r .at) ⌝ }
-    ensures reached { λ r. ⌜ r .reached ≡ is.reachedPast (now (rows .entry)) n first reached ⌝ }
+    requires { ⌜ ComponentRows (now buffer) (now plan) (now rows) n first turn ⌝ }
+    requires { ⌜ Room (is.componentsOf (now buffer) (now plan) (now rows) n first turn) at (now out) ⌝ }
+    ensures laid { λ r. ⌜ Laid (is.componentsOf (now (buffer .entry)) (now (plan .entry)) (now (rows .entry)) n first turn) at (now (out .entry)) (now (out .exit)) (r .at) ⌝ }
+    ensures turn { λ r. ⌜ r .turn ≡ is.reachedPast (now (plan .entry)) (now (rows .entry)) n first turn ⌝ }
 {
     let mut past = at;
     let mut row = first;
     let mut left = n;
-    let mut end = reached;
+    let mut next = turn;
     while 0 < left {
-        let start = aligned(end);
+        let start = offset_at(plan, next);
         past = component_at(out, past, &buffer[0..], &rows[row..], start);
-        end = start + rows[row + LENGTH];
+        next = stepped(plan, next, rows[row + LENGTH]);
         row += columns::COMPONENT;
         left -= 1;
     }
     Past {
         at: past,
-        reached: end,
+        turn: next,
     }
 }

@@ -8,6 +8,7 @@ use emit::magic_at;
 use emit::size_at;
 use emit::text_at;
 ghost use Prim.Native.Nat.{_*_};
+ghost use Rattle.rows.specs.Running.{begun};
 ghost use Rattle.emit.specs.Laid.{Room, Laid};
 ghost use Rattle.layout.specs.Pieces as is;
 ghost use Rattle.layout.specs.Rows.{Within, ObjectRows, WholeRows};
@@ -30,6 +31,7 @@ fn root(out: &mut [u8], buffer: &[u8], objects: u64, place: u64, size: u64) -> u
 fn manifest(
     out: &mut [u8],
     buffer: &[u8],
+    plan: &[u64],
     rows: &[u64],
     objects: u64,
     first: usize,
@@ -37,34 +39,36 @@ fn manifest(
     size: u64,
 ) -> usize
     requires { ⌜ Within (now buffer) place size ⌝ }
-    requires { ⌜ ObjectRows (now buffer) (now rows) objects 0 first 8 ⌝ }
-    requires { ⌜ Room (is.manifestFrom (now buffer) (now rows) objects first place size) 0 (now out) ⌝ }
-    ensures { λ r. ⌜ Laid (is.manifestFrom (now (buffer .entry)) (now (rows .entry)) objects first place size) 0 (now (out .entry)) (now (out .exit)) r ⌝ }
+    requires { ⌜ ObjectRows (now buffer) (now plan) (now rows) objects 0 first (begun (now plan)) ⌝ }
+    requires { ⌜ Room (is.manifestFrom (now buffer) (now plan) (now rows) objects first place size) 0 (now out) ⌝ }
+    ensures { λ r. ⌜ Laid (is.manifestFrom (now (buffer .entry)) (now (plan .entry)) (now (rows .entry)) objects first place size) 0 (now (out .entry)) (now (out .exit)) r ⌝ }
 {
     let past = root(out, &buffer[0..], objects, place, size);
-    objects_at(out, past, &buffer[0..], &rows[0..], objects, first)
+    objects_at(out, past, &buffer[0..], plan, &rows[0..], objects, first)
 }
 
 // Header, blobs, manifest, size, footer.
 pub fn whole(
     out: &mut [u8],
     buffer: &[u8],
+    plan: &[u64],
     rows: &[u64],
     objects: u64,
     components: u64,
     place: u64,
     size: u64,
 ) -> usize
-    requires { ⌜ WholeRows (now buffer) (now rows) objects components place size ⌝ }
-    requires { ⌜ Room (is.wholeOf (now buffer) (now rows) objects components place size) 0 (now out) ⌝ }
-    ensures { λ r. ⌜ Laid (is.wholeOf (now (buffer .entry)) (now (rows .entry)) objects components place size) 0 (now (out .entry)) (now (out .exit)) r ⌝ }
+    requires { ⌜ WholeRows (now buffer) (now plan) (now rows) objects components place size ⌝ }
+    requires { ⌜ Room (is.wholeOf (now buffer) (now plan) (now rows) objects components place size) 0 (now out) ⌝ }
+    ensures { λ r. ⌜ Laid (is.wholeOf (now (buffer .entry)) (now (plan .entry)) (now (rows .entry)) objects components place size) 0 (now (out .entry)) (now (out .exit)) r ⌝ }
 {
     let first = columns::OBJECT * objects as usize;
     let start = magic_at(out, 0);
-    let end = blobs_at(out, start, &buffer[0..], &rows[0..], components, first);
+    let end = blobs_at(out, start, &buffer[0..], plan, &rows[0..], components, first);
     let n = manifest(
         &mut out[end..],
         &buffer[0..],
+        plan,
         &rows[0..],
         objects,
         first,

@@ -9,12 +9,13 @@ ghost use mathlib.Core.List.{_++_};
 ghost use mathlib.Core.Bool.{true};
 ghost use Prim.Native.Nat.{_≤_};
 ghost use lib.ListN.{length, drop};
-ghost use Rattle.meaning.specs.Limit.{endLimit};
 ghost use Rattle.meaning.specs.Sound.{rowsSound};
-ghost use Rattle.layout.specs.Plain.{rootAttributes, plainFile, plainEnd};
+ghost use Rattle.rows.specs.Running.{turnLimit};
+ghost use Rattle.layout.specs.AskedFile.{rootAttributes, askedFile, lastTurn};
 
-// Laid into an output that has room for it; its length. What lies beyond stays.
+// Laid into an output that has room for it, by a plan or, where that is empty, by the rule; its length. What lies beyond stays.
 pub fn file(
+    plan: &[u64],
     rows: &[u64],
     objects: u64,
     components: u64,
@@ -24,16 +25,17 @@ pub fn file(
     out: &mut [u8],
 ) -> usize
     requires { ⌜ rowsSound (now buffer) (now rows) objects components (rootAttributes place size) ≡ true ⌝ }
-    requires { ⌜ plainEnd (now buffer) (now rows) objects components place size ≤ endLimit ⌝ }
-    requires { ⌜ length (plainFile (now buffer) (now rows) objects components place size) ≤ length (now out) ⌝ }
-    ensures whole { λ r. ⌜ r ≡ length (plainFile (now (buffer .entry)) (now (rows .entry)) objects components place size) ⌝ }
+    requires { ⌜ lastTurn (now buffer) (now plan) (now rows) objects components place size ≤ turnLimit (now plan) ⌝ }
+    requires { ⌜ length (askedFile (now buffer) (now plan) (now rows) objects components place size) ≤ length (now out) ⌝ }
+    ensures whole { λ r. ⌜ r ≡ length (askedFile (now (buffer .entry)) (now (plan .entry)) (now (rows .entry)) objects components place size) ⌝ }
     ensures written { λ r. ⌜ now (out .exit)
-        ≡ plainFile (now (buffer .entry)) (now (rows .entry)) objects components place size
-        ++ drop (length (plainFile (now (buffer .entry)) (now (rows .entry)) objects components place size)) (now (out .entry)) ⌝ }
+        ≡ askedFile (now (buffer .entry)) (now (plan .entry)) (now (rows .entry)) objects components place size
+        ++ drop (length (askedFile (now (buffer .entry)) (now (plan .entry)) (now (rows .entry)) objects components place size)) (now (out .entry)) ⌝ }
 {
     framing::whole(
         out,
         &buffer[0..],
+        plan,
         &rows[0..],
         objects,
         components,

@@ -16,6 +16,8 @@ use columns::SHAPE;
 use emit::head_at;
 use emit::list_at;
 use emit::text_at;
+use sizes::placing::first_turn;
+ghost use Rattle.rows.specs.Running.{begun};
 ghost use Rattle.emit.specs.Laid.{Room, Laid};
 ghost use Rattle.layout.specs.Pieces as is;
 ghost use Rattle.layout.specs.Rows.{ObjectRow, ObjectRows};
@@ -62,26 +64,27 @@ pub fn objects_at(
     out: &mut [u8],
     at: usize,
     buffer: &[u8],
+    plan: &[u64],
     rows: &[u64],
     n: u64,
     first: usize,
 ) -> usize
-    requires { ⌜ ObjectRows (now buffer) (now rows) n 0 first 8 ⌝ }
-    requires { ⌜ Room (is.objectsOf (now buffer) (now rows) n 0 first 8) at (now out) ⌝ }
-    ensures { λ r. ⌜ Laid (is.objectsOf (now (buffer .entry)) (now (rows .entry)) n 0 first 8) at (now (out .entry)) (now (out .exit)) r ⌝ }
+    requires { ⌜ ObjectRows (now buffer) (now plan) (now rows) n 0 first (begun (now plan)) ⌝ }
+    requires { ⌜ Room (is.objectsOf (now buffer) (now plan) (now rows) n 0 first (begun (now plan))) at (now out) ⌝ }
+    ensures { λ r. ⌜ Laid (is.objectsOf (now (buffer .entry)) (now (plan .entry)) (now (rows .entry)) n 0 first (begun (now (plan .entry)))) at (now (out .entry)) (now (out .exit)) r ⌝ }
 {
     let mut past = at;
     let mut row = 0;
     let mut from = first;
-    let mut reached: u64 = 8;
+    let mut turn = first_turn(plan);
     let mut left = n;
     while 0 < left {
         let count = rows[row + COUNT];
         let front = front_at(out, past, &buffer[0..], &rows[row..]);
         let rest = rest_at(out, front, &buffer[0..], &rows[row..]);
-        let p = components_at(out, rest, &buffer[0..], &rows[0..], count, from, reached);
+        let p = components_at(out, rest, &buffer[0..], plan, &rows[0..], count, from, turn);
         past = p.at;
-        reached = p.reached;
+        turn = p.turn;
         from += columns::COMPONENT * count as usize;
         row += columns::OBJECT;
         left -= 1;

@@ -19,3 +19,4 @@ pub mod WhichLayout
 pub mod AcceptedModel
 pub mod DropFields
 pub mod Entries
+pub mod Over

@@ -26,6 +26,7 @@ pub mod Asked
 pub mod Described
 pub mod Sound
 pub mod Placement
+pub mod Plan
 pub mod Manifest
 pub mod WrittenFile
 pub mod Write

@@ -1,5 +1,5 @@
 -- Document 01, "The writer": where blobs are placed, as a list of offsets, one for each blob in row order.
-use Prim.Native.Nat.{ℕ, _+_, _-_, _*_, _/_}
+use Prim.Native.Nat.{ℕ, _+_, _-_, _*_, _/_, max}
 use mathlib.Core.List.{List, [], _∷_}
 use lib.ListN.{length}
 use Rattle.meaning.specs.Limit.{alignment}
@@ -17,11 +17,11 @@ placedFrom n (l ∷ ls) = aligned n ∷ placedFrom (aligned n + l) ls
 unfoldable pub placement : List ℕ → List ℕ
 placement = placedFrom (length magic)
 
--- where the last of blobs with these lengths ends, n if there is none
+-- the greatest end of blobs with these lengths at any offsets, n if none is greater; where offsets rise, the last one's end
 unfoldable pub endFrom : ℕ → List ℕ → List ℕ → ℕ
 endFrom n [] ls = n
 endFrom n (o ∷ os) [] = n
-endFrom n (o ∷ os) (l ∷ ls) = endFrom (o + l) os ls
+endFrom n (o ∷ os) (l ∷ ls) = endFrom (max n (o + l)) os ls
 
 unfoldable pub lastEnd : List ℕ → List ℕ → ℕ
 lastEnd = endFrom (length magic)

@@ -78,3 +78,7 @@ ROW = 25
 
 abbrev pub INDEX : ℕ
 INDEX = 26
+
+-- document 02, Request 02
+abbrev pub PLAN : ℕ
+PLAN = 27

@@ -1,4 +1,4 @@
--- Document 01, "The writer": its checks in order, its answer, and what the lent output holds afterwards.
+-- Document 01, "The writer", and document 02, Request 02: its checks in order, its answer, and what the lent output holds afterwards.
 use Prim.Native.Nat.{ℕ}
 use mathlib.Core.List.{List, _++_, map}
 use lib.ListN.{length, drop}
@@ -13,6 +13,7 @@ use Rattle.meaning.specs.Asked.{asked}
 use Rattle.meaning.specs.Described.{Described, blobs, described}
 use Rattle.meaning.specs.Sound.{rowsSound}
 use Rattle.meaning.specs.Placement.{placement, lastEnd}
+use Rattle.meaning.specs.Plan.{planned}
 use Rattle.meaning.specs.Manifest.{manifestBytes}
 use Rattle.meaning.specs.WrittenFile.{fileOf}
 
@@ -33,11 +34,23 @@ writtenPlain d room = do
   COUNT unless leb (lastEnd offsets lengths) endLimit
   writtenAt d offsets room
 
+-- with its blobs where an accepted plan says
+unfoldable pub writtenPlanned : Described → List ℕ → ℕ → ℕ → Check (List ℕ)
+writtenPlanned d plan ceiling room = do
+  planned ceiling plan (map length (blobs d))
+  writtenAt d plan room
+
 -- rows, two counts, root attributes, the buffer, and the output's length
 unfoldable pub written : List ℕ → ℕ → ℕ → Span → List ℕ → ℕ → Check (List ℕ)
 written rows objects components attributes buffer room = do
   ROW unless rowsSound buffer rows objects components attributes
   writtenPlain (described buffer (asked rows objects components attributes)) room
+
+-- and a plan with its ceiling
+unfoldable pub writtenBy : List ℕ → ℕ → ℕ → Span → List ℕ → List ℕ → ℕ → ℕ → Check (List ℕ)
+writtenBy rows objects components attributes buffer plan ceiling room = do
+  ROW unless rowsSound buffer rows objects components attributes
+  writtenPlanned (described buffer (asked rows objects components attributes)) plan ceiling room
 
 pub record Written : Type 0 where
   pub number : ℕ

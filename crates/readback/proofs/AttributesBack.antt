@@ -18,7 +18,7 @@ use Rattle.meaning.specs.Sound.{aMap, beginsAsMap, fillsOrDeep, absentOr}
 use Rattle.readback.specs.Piece.{Piece, Ends, allWritten}
 use Rattle.readback.specs.Trees.{deepAt, copiedPiece}
 use Rattle.readback.specs.Judged.{deepOption}
-use Rattle.readback.proofs.Placed.{between}
+use Rattle.meaning.proofs.Over.{between}
 use Rattle.readback.proofs.EveryPart.{false-not, and-left}
 use Rattle.readback.proofs.PiecesAreRead.{copied-goes}
 

@@ -13,13 +13,10 @@ use Rattle.meaning.specs.Read.{spanTo, manifest}
 use Rattle.meaning.specs.Judge.{judge}
 use Rattle.meaning.specs.Layouts.{magic, current}
 use Rattle.meaning.specs.Frame.{little, Frame, frame, checked, Reading, reading}
-use Rattle.meaning.specs.Placement.{lastEnd}
-use Rattle.meaning.specs.Described.{Described, blobs}
-use Rattle.meaning.specs.Manifest.{manifestBytes}
-use Rattle.meaning.specs.WrittenFile.{littleBytes, blobsFrom, closing, fileOf}
+use Rattle.meaning.specs.WrittenFile.{littleBytes, closing}
 use Rattle.meaning.proofs.CurrentIsBase.{frame-current}
-use Rattle.readback.specs.Lies.{Rises}
-use Rattle.readback.proofs.Placed.{between, little-length, closing-length, body-length}
+use Rattle.meaning.proofs.Over.{between}
+use Rattle.readback.proofs.Placed.{little-length, closing-length}
 
 -- a number's bytes, the least significant first, are that number
 pub little-back : (k n : ℕ) → n < 256 ^ k → little (littleBytes k n) ≡ n
@@ -103,13 +100,3 @@ readingOf start m = checked (manifest (spanTo (start + length m)) m) >>= λ t. j
 pub reading-by : (F m : List ℕ) (start : ℕ) → frame current F ≡ pass (found start (length m)) → take (length m) (drop start F) ≡ m → reading current F ≡ readingOf start m
 unfolding reading
 reading-by F m start e k = rw (e, k)
-
--- a written file is read as its manifest, which begins where the last blob ends
-pub reading-written : (d : Described) (offsets : List ℕ) → Rises 8 offsets (map length (blobs d)) → 1 ≤ length (manifestBytes d offsets)
-    → length (manifestBytes d offsets) ≤ manifestLimit → reading current (fileOf d offsets) ≡ readingOf (lastEnd offsets (map length (blobs d))) (manifestBytes d offsets)
-unfolding fileOf
-reading-written d offsets rises some small =
-    let X : List ℕ = blobsFrom (length magic) offsets (blobs d) in
-    let m : List ℕ = manifestBytes d offsets in
-    reading-by (magic ++ X ++ closing m) m (length (magic ++ X)) (frame-is X m some small) (manifest-is X m some small)
-    ∙ ap (λ (k : ℕ). readingOf k m) (body-length d offsets rises)

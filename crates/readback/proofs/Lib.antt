@@ -1,4 +1,5 @@
 pub mod EveryPart
+pub mod Planned
 pub mod Placed
 pub mod Framed
 pub mod Pieces

@@ -5,8 +5,8 @@ use mathlib.Core.List.{List, [], _++_, map, append-assoc, append-nil}
 use mathlib.Core.Bool.{Bool, true, false, cond, not}
 use mathlib.Core.Path.{_≡_, refl, ap, sym, _∙_, subst}
 use lib.Dec.{leb}
-use lib.ListN.{length}
-use borrow.Author.Tests.{leb-true}
+use lib.ListN.{length, drop, take-append-drop}
+use borrow.Author.Tests.{leb-true, le-leb}
 use Rattle.meaning.specs.Refusal.{DEEP, BIG, COUNT, ROOM}
 use Rattle.meaning.specs.Limit.{manifestLimit, endLimit}
 use Rattle.meaning.specs.Check.{Check, pass, refuse, _>>=_, _>>_, _unless_, fault}
@@ -16,22 +16,23 @@ use Rattle.meaning.specs.Judge.{judge}
 use Rattle.meaning.specs.Layouts.{magic, current}
 use Rattle.meaning.specs.Frame.{checked, Reading, reading}
 use Rattle.meaning.specs.Placement.{placement, lastEnd}
+use Rattle.meaning.specs.Plan.{planned}
 use Rattle.meaning.specs.Described.{Described, blobs, describedBy}
 use Rattle.meaning.specs.Manifest.{manifestBytes}
-use Rattle.meaning.specs.WrittenFile.{littleBytes, blobsFrom, closing, fileOf}
-use Rattle.meaning.specs.Write.{writtenAt, writtenPlain}
-use Rattle.readback.specs.Lies.{Rises}
+use Rattle.meaning.specs.WrittenFile.{littleBytes, blobsOver, closing, fileOf}
+use Rattle.meaning.specs.Write.{writtenAt, writtenPlain, writtenPlanned}
 use Rattle.readback.specs.Trees.{manifestPiece}
 use Rattle.readback.specs.Judged.{tooDeep, judgedObjects, judged}
 use Rattle.readback.specs.Fine.{Fine}
 use Rattle.readback.specs.Agrees.{Agrees, refuses}
 use Rattle.readback.specs.Back.{AllAt, ReadsBack}
-use Rattle.readback.proofs.Placed.{body-length, blobs-lie, placement-rises}
+use Rattle.readback.proofs.Planned.{Accepted, accepted, ends-in-time, front-stays, all-stand, placement-accepted}
+use Rattle.readback.proofs.Placed.{body-length}
 use Rattle.readback.proofs.Framed.{frame-is, manifest-is, reading-by}
 use Rattle.readback.proofs.Agreeing.{agrees-map, passed-has, agrees-then}
 use Rattle.readback.proofs.PiecesWritten.{manifest-written}
 use Rattle.readback.proofs.ManifestRead.{manifest-read, manifest-some}
-use Rattle.readback.proofs.Standing.{all-at, offsets-fit, stand-all}
+use Rattle.readback.proofs.Standing.{offsets-fit, stand-all}
 use Rattle.readback.proofs.AttributesBack.{Suffix}
 use Rattle.readback.proofs.ManifestBack.{manifest-agrees}
 
@@ -82,7 +83,7 @@ module _ (d : Described) (offsets X : List ℕ) (fine : Fine d) where
         (sym (reading-by file M (length before) (frame-is X M (manifest-some d offsets) small) (manifest-is X M (manifest-some d offsets) small) ∙ ap (λ (c : Check (Node Span)). c >>= finish) checked-is))
         (finish-agrees (tooDeep d) refl)
 
--- ---- with blobs at rising offsets
+-- ---- by any accepted plan
 
 pub refused-is-not : {A : Type 0} {n o c : ℕ} {a : A} → refuse n o c ≡ pass a → ⊥
 refused-is-not e = let z : _≡_ {A = ℕ} 0 1 = cc in omega arith
@@ -91,23 +92,30 @@ nothing-passes : {A B : Type 0} (n : ℕ) (m : Check A) {b : B} → (m >> refuse
 nothing-passes n (pass a) e = refused-is-not e
 nothing-passes n (refuse n′ o c) e = refused-is-not e
 
-module _ (d : Described) (offsets : List ℕ) (fine : Fine d) (rises : Rises 8 offsets (map length (blobs d))) (ends : lastEnd offsets (map length (blobs d)) ≤ endLimit) where
+module _ (d : Described) (offsets : List ℕ) (fine : Fine d) {ceiling : ℕ} (plan : Accepted ceiling offsets (map length (blobs d))) where
   abbrev laid : List ℕ
   laid = fileOf d offsets
 
   abbrev size : ℕ
   size = length (manifestBytes d offsets)
 
-  at-offsets : (start : ℕ) → start ≡ lastEnd offsets (map length (blobs d)) → AllAt laid start offsets (blobs d)
-  unfolding lastEnd magic
-  at-offsets start e = all-at laid start 8 offsets (blobs d) rises (blobs-lie d offsets rises) (omega arith) (omega arith)
+  abbrev body : List ℕ
+  body = blobsOver magic offsets (blobs d)
+
+  -- the header, and what follows it up to the manifest
+  headed : body ≡ magic ++ drop 8 body
+  unfolding magic
+  headed = sym (take-append-drop 8 body) ∙ ap (λ (h : List ℕ). h ++ drop 8 body) (front-stays magic offsets (blobs d) (plan .follows) (omega arith))
 
   pub written-agrees : size ≤ manifestLimit → Agrees (λ r. describedBy laid (r .model) ≡ d) (reading current laid) (judged d)
   unfolding fileOf
   written-agrees small =
-      let X : List ℕ = blobsFrom (length magic) offsets (blobs d) in
-      let e : length (magic ++ X) ≡ lastEnd offsets (map length (blobs d)) = body-length d offsets rises in
-      reading-agrees d offsets X fine (at-offsets (length (magic ++ X)) e) (omega arith) small
+      let M : List ℕ = manifestBytes d offsets in
+      let same : magic ++ drop 8 body ++ closing M ≡ body ++ closing M = ap (λ (b : List ℕ). b ++ closing M) (sym headed) in
+      let stand = all-stand magic offsets (blobs d) (closing M) (plan .follows) (magic ++ drop 8 body) (sym headed) in
+      let l : length (magic ++ drop 8 body) ≡ lastEnd offsets (map length (blobs d)) = ap length (sym headed) ∙ body-length d offsets in
+      subst (λ (f : List ℕ). Agrees (λ r. describedBy f (r .model) ≡ d) (reading current f) (judged d)) same
+      (reading-agrees d offsets (drop 8 body) fine stand (omega (arith, l, ends-in-time plan)) small)
 
   -- what the writer answers, without a reading
   pub written-at-is : (room : ℕ) → writtenAt d offsets room ≡ ((BIG unless leb size manifestLimit) >> (judged d >> ((ROOM unless leb (length laid) room) >> pass laid)))
@@ -144,6 +152,9 @@ module _ (d : Described) (room : ℕ) (fine : Fine d) where
   abbrev placed : List ℕ
   placed = placement lengths
 
+  by-rule : lastEnd placed lengths ≤ endLimit → Accepted endLimit placed lengths
+  by-rule h = accepted endLimit placed lengths (placement-accepted lengths h)
+
   abbrev rest : Check (List ℕ)
   rest = (BIG unless leb (length (manifestBytes d placed)) manifestLimit) >> (judged d >> ((ROOM unless leb (length (fileOf d placed)) room) >> pass (fileOf d placed)))
 
@@ -152,7 +163,7 @@ module _ (d : Described) (room : ℕ) (fine : Fine d) where
   written-plain-is = go (leb (lastEnd placed lengths) endLimit) refl
     where
       go : (b : Bool) → leb (lastEnd placed lengths) endLimit ≡ b → ((COUNT unless b) >> writtenAt d placed room) ≡ ((COUNT unless b) >> rest)
-      go true e = written-at-is d placed fine (placement-rises lengths) (leb-true (lastEnd placed lengths) endLimit e) room
+      go true e = written-at-is d placed fine (by-rule (leb-true (lastEnd placed lengths) endLimit e)) room
       go false e = refl
 
   pub written-plain-reads-back : (f : List ℕ) → writtenPlain d room ≡ pass f → ReadsBack f d
@@ -160,5 +171,35 @@ module _ (d : Described) (room : ℕ) (fine : Fine d) where
   written-plain-reads-back f = go (leb (lastEnd placed lengths) endLimit) refl
     where
       go : (b : Bool) → leb (lastEnd placed lengths) endLimit ≡ b → ((COUNT unless b) >> writtenAt d placed room) ≡ pass f → ReadsBack f d
-      go true e h = written-at-reads-back d placed fine (placement-rises lengths) (leb-true (lastEnd placed lengths) endLimit e) room f h
+      go true e h = written-at-reads-back d placed fine (by-rule (leb-true (lastEnd placed lengths) endLimit e)) room f h
       go false e h = absurd (refused-is-not h)
+
+  -- the file without a plan is the file of the rule's own plan
+  pub plain-is-planned : lastEnd placed lengths ≤ endLimit → writtenPlain d room ≡ writtenPlanned d placed endLimit room
+  unfolding writtenPlain writtenPlanned
+  plain-is-planned h = rw (le-leb (lastEnd placed lengths) endLimit h, placement-accepted lengths h) refl
+
+-- ---- by a plan that is lent
+
+module _ (d : Described) (plan : List ℕ) (ceiling room : ℕ) (fine : Fine d) where
+  abbrev verdict : Check (Unit {0})
+  verdict = planned ceiling plan (map length (blobs d))
+
+  abbrev file-by : Check (List ℕ)
+  file-by = (BIG unless leb (length (manifestBytes d plan)) manifestLimit) >> (judged d >> ((ROOM unless leb (length (fileOf d plan)) room) >> pass (fileOf d plan)))
+
+  pub written-planned-is : writtenPlanned d plan ceiling room ≡ (verdict >> file-by)
+  unfolding writtenPlanned
+  written-planned-is = go verdict refl
+    where
+      go : (v : Check (Unit {0})) → verdict ≡ v → (v >> writtenAt d plan room) ≡ (v >> file-by)
+      go (pass tt) e = written-at-is d plan fine (accepted ceiling plan (map length (blobs d)) e) room
+      go (refuse n o c) e = refl
+
+  pub written-planned-reads-back : (f : List ℕ) → writtenPlanned d plan ceiling room ≡ pass f → ReadsBack f d
+  unfolding writtenPlanned
+  written-planned-reads-back f = go verdict refl
+    where
+      go : (v : Check (Unit {0})) → verdict ≡ v → (v >> writtenAt d plan room) ≡ pass f → ReadsBack f d
+      go (pass tt) e h = written-at-reads-back d plan fine (accepted ceiling plan (map length (blobs d)) e) room f h
+      go (refuse n o c) e h = absurd (refused-is-not h)

@@ -19,15 +19,16 @@ use Rattle.meaning.specs.Placement.{placement, lastEnd}
 use Rattle.meaning.specs.Described.{Described, blobsIn, blobs, describedComponent, describedObject, describedObjects, described}
 use Rattle.meaning.specs.Manifest.{manifestBytes}
 use Rattle.meaning.specs.WrittenFile.{fileOf}
-use Rattle.meaning.specs.Write.{writtenPlain, written}
+use Rattle.meaning.specs.Plan.{planned}
+use Rattle.meaning.specs.Write.{writtenPlain, writtenPlanned, written, writtenBy}
 use Rattle.readback.specs.Every.{Every}
-use Rattle.readback.specs.Lies.{sum}
+use Rattle.readback.specs.Follows.{sum}
 use Rattle.readback.specs.Judged.{judged}
 use Rattle.readback.specs.Fine.{Fits, Brief}
 use Rattle.readback.specs.Back.{ReadsBack}
 use Rattle.readback.proofs.EveryPart.{every-all, false-not, and-right}
 use Rattle.readback.proofs.Placed.{length-bound}
-use Rattle.readback.proofs.ReadBack.{refused-is-not, written-plain-is, written-plain-reads-back}
+use Rattle.readback.proofs.ReadBack.{refused-is-not, written-plain-is, written-plain-reads-back, written-planned-is, written-planned-reads-back}
 use Rattle.readback.proofs.SoundIsFine.{each-row-length, component-tests, tests, sound-is-fine}
 
 -- ---- the blobs are those of the component rows, in row order
@@ -151,6 +152,29 @@ module _ (rows : List ℕ) (fit : Every Fits rows) (few : Brief rows) (buffer : 
     where
       go : (b : Bool) → rowsSound buffer rows objects components attributes ≡ b → ((ROW unless b) >> writtenPlain of-rows room) ≡ pass file → ReadsBack file of-rows
       go true e h = written-plain-reads-back of-rows room (sound-is-fine buffer small rows fit few objects components attributes e) file h
+      go false e h = absurd (refused-is-not h)
+
+  -- ROW, PLAN, BIG, the reader's refusal, ROOM
+  abbrev answer-by : List ℕ → ℕ → ℕ → Check (List ℕ)
+  answer-by plan ceiling room =
+      planned ceiling plan (map length (blobs of-rows)) >> ((BIG unless leb (length (manifestBytes of-rows plan)) manifestLimit)
+      >> (judged of-rows >> ((ROOM unless leb (length (fileOf of-rows plan)) room) >> pass (fileOf of-rows plan))))
+
+  pub written-by-is : (plan : List ℕ) (ceiling room : ℕ)
+      → writtenBy rows objects components attributes buffer plan ceiling room ≡ ((ROW unless rowsSound buffer rows objects components attributes) >> answer-by plan ceiling room)
+  unfolding writtenBy
+  written-by-is plan ceiling room = go (rowsSound buffer rows objects components attributes) refl
+    where
+      go : (b : Bool) → rowsSound buffer rows objects components attributes ≡ b → ((ROW unless b) >> writtenPlanned of-rows plan ceiling room) ≡ ((ROW unless b) >> answer-by plan ceiling room)
+      go true e = written-planned-is of-rows plan ceiling room (sound-is-fine buffer small rows fit few objects components attributes e)
+      go false e = refl
+
+  pub written-by-reads-back : (plan : List ℕ) (ceiling room : ℕ) (file : List ℕ) → writtenBy rows objects components attributes buffer plan ceiling room ≡ pass file → ReadsBack file of-rows
+  unfolding writtenBy
+  written-by-reads-back plan ceiling room file = go (rowsSound buffer rows objects components attributes) refl
+    where
+      go : (b : Bool) → rowsSound buffer rows objects components attributes ≡ b → ((ROW unless b) >> writtenPlanned of-rows plan ceiling room) ≡ pass file → ReadsBack file of-rows
+      go true e h = written-planned-reads-back of-rows plan ceiling room (sound-is-fine buffer small rows fit few objects components attributes e) file h
       go false e h = absurd (refused-is-not h)
 
   pub written-file : (room : ℕ) (file : List ℕ) → written rows objects components attributes buffer room ≡ pass file

@@ -1,26 +1,14 @@
--- Blobs that lie in the file at rising offsets stand where each component's entry says.
-use Prim.Native.Nat.{ℕ, _+_, _≤_, _<_, _^_}
+-- Blobs that stand at their offsets stand where each component's entry says.
+use Prim.Native.Nat.{ℕ, _<_, _^_}
 use native.Mathlib.Omega.{arith}
 use mathlib.Core.List.{List, [], _∷_, _++_, map}
 use lib.ListN.{length, take, drop}
-use Rattle.meaning.specs.Placement.{endFrom}
 use Rattle.meaning.specs.Described.{DescribedComponent, DescribedObject, blobsIn}
 use Rattle.readback.specs.Every.{Every}
-use Rattle.readback.specs.Lies.{Rises, Lies}
-use Rattle.readback.specs.Lies as lies
 use Rattle.readback.specs.Fine.{Fits}
 use Rattle.readback.specs.Back.{AllAt, Stand, StandAll}
-use Rattle.readback.proofs.Placed.{rises-end, first-offset}
 
 module _ (file : List ℕ) (start : ℕ) where
-  pub all-at : (n : ℕ) (os : List ℕ) (bs : List (List ℕ)) → Rises n os (map length bs) → Lies file n os bs → 8 ≤ n → endFrom n os (map length bs) ≤ start → AllAt file start os bs
-  unfolding endFrom
-  all-at n [] [] r l h e = tt
-  all-at n (o ∷ os) (b ∷ bs) (lies.next up m r) (lies.next z k l) h e = (
-    record { multiple = m; low = first-offset n o h up m; inside = omega (arith, rises-end r); stands = k },
-    all-at (o + length b) os bs r l (omega arith) e,
-  )
-
   pub offsets-fit : (os : List ℕ) (bs : List (List ℕ)) → AllAt file start os bs → start < 256 ^ 8 → Every Fits os
   offsets-fit [] [] h l = tt
   offsets-fit (o ∷ os) (b ∷ bs) (h, hs) l = (omega (arith, h .inside), offsets-fit os bs hs l)

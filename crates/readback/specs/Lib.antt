@@ -1,4 +1,4 @@
-pub mod Lies
+pub mod Follows
 pub mod Every
 pub mod Piece
 pub mod Trees

@@ -10,43 +10,42 @@ use Rattle.meaning.specs.Text.{all}
 use Rattle.meaning.specs.Read.{bytesAt}
 use Rattle.meaning.specs.Asked.{AskedComponent, askedObject, askedComponent}
 use Rattle.meaning.specs.Sound.{componentSound}
-use Rattle.meaning.specs.Placement.{aligned}
 use Rattle.meaning.specs.Described.{describedComponent, describedObject, describedObjects}
 use Rattle.meaning.specs.Manifest.{Keyed, under, componentBytes}
 use Rattle.rows.specs.Placed.{objectsAt, componentsAt}
-use Rattle.rows.specs.Running.{reached, blobSizes, entriesFrom, objectFrom, objectsFrom}
+use Rattle.rows.specs.Running.{offsetAt, stepped, reached, blobSizes, entriesFrom, objectFrom, objectsFrom}
 use Rattle.rows.proofs.EachRow.{no-row, next-row-at, all-taken, first-rows}
 use Rattle.rows.proofs.SoundRow.{as-long, component-blob-inside}
 use Rattle.rows.proofs.Describes.{described-none, described-next, blobs-as-long}
 
--- ---- components: n of them from the place `at` on in rows, where blobs have reached the place p
+-- ---- components: n of them from the place `at` on in rows, where the turn p is reached
 
-module _ (buffer rows : List ℕ) (n at p : ℕ) where
+module _ (plan buffer rows : List ℕ) (n at p : ℕ) where
   abbrev entries-at : ℕ → ℕ → ℕ → List (Keyed (List ℕ))
-  entries-at n at p = entriesFrom p (map (describedComponent buffer) (componentsAt n at rows))
+  entries-at n at p = entriesFrom plan p (map (describedComponent buffer) (componentsAt n at rows))
 
   pub no-entry : n ≤ 0 → entries-at n at p ≡ []
   unfolding entriesFrom
-  no-entry h = ap (λ (l : List AskedComponent). entriesFrom p (map (describedComponent buffer) l)) (no-row askedComponent componentWidth n (drop at rows) h)
+  no-entry h = ap (λ (l : List AskedComponent). entriesFrom plan p (map (describedComponent buffer) l)) (no-row askedComponent componentWidth n (drop at rows) h)
 
   abbrev here : AskedComponent
   here = askedComponent (drop at rows)
 
   pub next-entry : 0 < n → componentSound buffer here ≡ true
       → entries-at n at p
-      ≡ under (bytesAt buffer (here .name)) (componentBytes (aligned p) (describedComponent buffer here))
-      ∷ entries-at (n - 1) (at + componentWidth) (aligned p + getD rows (at + lengthColumn) 0)
+      ≡ under (bytesAt buffer (here .name)) (componentBytes (offsetAt plan p) (describedComponent buffer here))
+      ∷ entries-at (n - 1) (at + componentWidth) (stepped plan p (getD rows (at + lengthColumn) 0))
   unfolding entriesFrom describedComponent askedComponent
   next-entry h e =
-      ap (λ (l : List AskedComponent). entriesFrom p (map (describedComponent buffer) l)) (next-row-at askedComponent componentWidth n at rows h)
-      ∙ ap (λ (k : ℕ). under (bytesAt buffer (here .name)) (componentBytes (aligned p) (describedComponent buffer here)) ∷ entries-at (n - 1) (at + componentWidth) (aligned p + k))
+      ap (λ (l : List AskedComponent). entriesFrom plan p (map (describedComponent buffer) l)) (next-row-at askedComponent componentWidth n at rows h)
+      ∙ ap (λ (k : ℕ). under (bytesAt buffer (here .name)) (componentBytes (offsetAt plan p) (describedComponent buffer here)) ∷ entries-at (n - 1) (at + componentWidth) (stepped plan p k))
       (as-long buffer (here .blob) (component-blob-inside buffer here e) ∙ getD-drop at rows lengthColumn 0)
 
--- ---- objects: `left` of them from the place `row` on in os, `due` components from the place `from` on in cs, where blobs have reached the place p
+-- ---- objects: `left` of them from the place `row` on in os, `due` components from the place `from` on in cs, where the turn p is reached
 
-module _ (buffer os cs : List ℕ) (left due row from p : ℕ) where
+module _ (plan buffer os cs : List ℕ) (left due row from p : ℕ) where
   abbrev objects-at : ℕ → ℕ → ℕ → ℕ → ℕ → List (Keyed (List ℕ))
-  objects-at left due row from p = objectsFrom p (describedObjects buffer (objectsAt left row os) (componentsAt due from cs))
+  objects-at left due row from p = objectsFrom plan p (describedObjects buffer (objectsAt left row os) (componentsAt due from cs))
 
   abbrev count : ℕ
   count = getD os (row + countColumn) 0
@@ -56,17 +55,17 @@ module _ (buffer os cs : List ℕ) (left due row from p : ℕ) where
 
   pub no-object : left ≤ 0 → objects-at left due row from p ≡ []
   unfolding objectsFrom
-  no-object h = ap (objectsFrom p) (described-none buffer os cs left due row from h)
+  no-object h = ap (objectsFrom plan p) (described-none buffer os cs left due row from h)
 
   pub next-object : 0 < left → count ≤ due → all (componentSound buffer) own ≡ true
       → objects-at left due row from p
-      ≡ under (bytesAt buffer (askedObject (drop row os) .name)) (objectFrom p (describedObject buffer (askedObject (drop row os)) own))
-      ∷ objects-at (left - 1) (due - count) (row + objectWidth) (from + componentWidth * count) (reached p (blobSizes own))
+      ≡ under (bytesAt buffer (askedObject (drop row os) .name)) (objectFrom plan p (describedObject buffer (askedObject (drop row os)) own))
+      ∷ objects-at (left - 1) (due - count) (row + objectWidth) (from + componentWidth * count) (reached plan p (blobSizes own))
   unfolding objectsFrom describedObject
   next-object h k e =
-      ap (objectsFrom p) (described-next buffer os cs left due row from h k)
-      ∙ ap (λ (ls : List ℕ). under (bytesAt buffer (askedObject (drop row os) .name)) (objectFrom p (describedObject buffer (askedObject (drop row os)) own))
-      ∷ objects-at (left - 1) (due - count) (row + objectWidth) (from + componentWidth * count) (reached p ls))
+      ap (objectsFrom plan p) (described-next buffer os cs left due row from h k)
+      ∙ ap (λ (ls : List ℕ). under (bytesAt buffer (askedObject (drop row os) .name)) (objectFrom plan p (describedObject buffer (askedObject (drop row os)) own))
+      ∷ objects-at (left - 1) (due - count) (row + objectWidth) (from + componentWidth * count) (reached plan p ls))
       (blobs-as-long buffer own e)
 
   -- of all that are due, an object's own are sound

@@ -11,14 +11,12 @@ use borrow.Author.Tests.{ltb-true, le-leb, lt-ltb}
 use Rattle.meaning.specs.Columns.{objectWidth, componentWidth, rankColumn, shapeColumn}
 use Rattle.meaning.specs.Text.{all}
 use Rattle.meaning.specs.Read.{Span, bytesAt}
-use Rattle.meaning.specs.Limit.{endLimit}
 use Rattle.meaning.specs.Asked.{AskedObject, AskedComponent, Asked, eachRow, askedObject, askedComponent, asked}
 use Rattle.meaning.specs.Sound.{objectSound, componentSound, rowsSound}
-use Rattle.meaning.specs.Placement.{aligned}
 use Rattle.meaning.specs.Described.{DescribedComponent, Described, describedComponent, describedObject, describedObjects, described}
 use Rattle.meaning.specs.Manifest.{mapBytes, componentBytes}
 use Rattle.rows.specs.Placed.{objectsAt, componentsAt}
-use Rattle.rows.specs.Running.{reached, entriesFrom, objectFrom, objectsFrom, blobSizes, counted}
+use Rattle.rows.specs.Running.{begun, offsetAt, stepped, turnLimit, reached, entriesFrom, objectFrom, objectsFrom, blobSizes, counted}
 use Rattle.rows.proofs.Both.{both-left, both-right}
 use Rattle.rows.proofs.EachRow.{all-taken, all-dropped, how-many}
 use Rattle.rows.proofs.Running.{last-is-reached}
@@ -32,7 +30,7 @@ use Rattle.sizes.proofs.Lengths.{text-length, number-length, list-lengt
 
 -- ---- components
 
-module _ (buffer : List ℕ) where
+module _ (plan buffer : List ℕ) where
   component-length : (offset : ℕ) (c : AskedComponent) → componentSound buffer c ≡ true
       → textSize (length (bytesAt buffer (c .name))) + length (componentBytes offset (describedComponent buffer c)) ≡ componentSize offset c
   unfolding describedComponent componentSize fixedSize
@@ -50,28 +48,28 @@ module _ (buffer : List ℕ) where
       )
 
   components-length : (n : ℕ) (cs : List AskedComponent) → all (componentSound buffer) cs ≡ true
-      → entriesSize (entriesFrom n (map (describedComponent buffer) cs)) ≡ componentsSize n cs
+      → entriesSize (entriesFrom plan n (map (describedComponent buffer) cs)) ≡ componentsSize plan n cs
   unfolding entriesSize entriesFrom componentsSize describedComponent
   components-length n [] e = refl
   components-length n (c ∷ cs) e =
       let first = both-left _ (all (componentSound buffer) cs) e in
-      let one = component-length (aligned n) c first in
-      let others = components-length (aligned n + c .blob .size) cs (both-right (componentSound buffer c) _ e) in
-      let blob = ap (λ (k : ℕ). entriesSize (entriesFrom (aligned n + k) (map (describedComponent buffer) cs)))
+      let one = component-length (offsetAt plan n) c first in
+      let others = components-length (stepped plan n (c .blob .size)) cs (both-right (componentSound buffer c) _ e) in
+      let blob = ap (λ (k : ℕ). entriesSize (entriesFrom plan (stepped plan n k) (map (describedComponent buffer) cs)))
       (as-long buffer (c .blob) (component-blob-inside buffer c first)) in
       omega (arith, one, others, blob)
 
-  entries-many : (n : ℕ) (ds : List DescribedComponent) → length (entriesFrom n ds) ≡ length ds
+  entries-many : (n : ℕ) (ds : List DescribedComponent) → length (entriesFrom plan n ds) ≡ length ds
   unfolding entriesFrom
   entries-many n [] = refl
-  entries-many n (d ∷ ds) = ap suc (entries-many (aligned n + length (d .blob)) ds)
+  entries-many n (d ∷ ds) = ap suc (entries-many (stepped plan n (length (d .blob))) ds)
 
   parts-length : (n : ℕ) (cs : List AskedComponent) → all (componentSound buffer) cs ≡ true
-      → length (mapBytes (entriesFrom n (map (describedComponent buffer) cs))) ≡ headSize (length cs) + componentsSize n cs
+      → length (mapBytes (entriesFrom plan n (map (describedComponent buffer) cs))) ≡ headSize (length cs) + componentsSize plan n cs
   parts-length n cs e =
       omega (
         arith,
-        map-length (entriesFrom n (map (describedComponent buffer) cs)),
+        map-length (entriesFrom plan n (map (describedComponent buffer) cs)),
         ap headSize (entries-many n (map (describedComponent buffer) cs) ∙ length-map cs (describedComponent buffer)),
         components-length n cs e,
       )
@@ -95,12 +93,12 @@ module _ (buffer : List ℕ) where
       (short-rows n (drop objectWidth rows) (both-right (objectSound buffer (askedObject rows)) _ e))
 
   object-length : (n : ℕ) (o : AskedObject) (cs : List AskedComponent) → objectSound buffer o ≡ true → short o ≡ true → all (componentSound buffer) cs ≡ true
-      → textSize (length (bytesAt buffer (o .name))) + length (objectFrom n (describedObject buffer o cs)) ≡ objectSize o + headSize (length cs) + componentsSize n cs
+      → textSize (length (bytesAt buffer (o .name))) + length (objectFrom plan n (describedObject buffer o cs)) ≡ objectSize o + headSize (length cs) + componentsSize plan n cs
   unfolding describedObject objectSize
   object-length n o cs e s f =
       omega (
         arith,
-        object-bytes n (describedObject buffer o cs),
+        object-bytes plan n (describedObject buffer o cs),
         text-there buffer (o .name) (object-name-inside buffer o e),
         list-length (o .shape),
         head-one (length (o .shape)) (ltb-true (length (o .shape)) 24 s),
@@ -111,27 +109,34 @@ module _ (buffer : List ℕ) where
       )
 
   objects-length : (n : ℕ) (os : List AskedObject) (cs : List AskedComponent) → counted os ≡ length cs → all (objectSound buffer) os ≡ true → all short os ≡ true
-      → all (componentSound buffer) cs ≡ true → entriesSize (objectsFrom n (describedObjects buffer os cs)) ≡ objectsSize n os cs
+      → all (componentSound buffer) cs ≡ true → entriesSize (objectsFrom plan n (describedObjects buffer os cs)) ≡ objectsSize plan n os cs
   unfolding entriesSize objectsFrom objectsSize describedObjects describedObject counted
   objects-length n [] cs k e s f = refl
   objects-length n (o ∷ os) cs k e s f =
       let taken = all-taken (componentSound buffer) (o .count) cs f in
       let one = object-length n o (take (o .count) cs) (both-left _ (all (objectSound buffer) os) e) (both-left _ (all short os) s) taken in
       let many = ap headSize (length-take-le (o .count) cs (omega (arith, k))) in
-      let others = objects-length (reached n (blobSizes (take (o .count) cs))) os (drop (o .count) cs) (omega (arith, k, length-drop (o .count) cs))
+      let others = objects-length (reached plan n (blobSizes (take (o .count) cs))) os (drop (o .count) cs) (omega (arith, k, length-drop (o .count) cs))
       (both-right (objectSound buffer o) _ e) (both-right (short o) _ s) (all-dropped (componentSound buffer) (o .count) cs f) in
-      let on = ap (λ (ls : List ℕ). entriesSize (objectsFrom (reached n ls) (describedObjects buffer os (drop (o .count) cs))))
+      let on = ap (λ (ls : List ℕ). entriesSize (objectsFrom plan (reached plan n ls) (describedObjects buffer os (drop (o .count) cs))))
       (blobs-as-long buffer (take (o .count) cs) taken) in
       omega (arith, one, many, others, on)
 
-  objects-many : (n : ℕ) (os : List AskedObject) (cs : List AskedComponent) → length (objectsFrom n (describedObjects buffer os cs)) ≡ length os
+  objects-many : (n : ℕ) (os : List AskedObject) (cs : List AskedComponent) → length (objectsFrom plan n (describedObjects buffer os cs)) ≡ length os
   unfolding objectsFrom describedObjects
   objects-many n [] cs = refl
   objects-many n (o ∷ os) cs = ap suc (objects-many _ os (drop (o .count) cs))
 
 -- ---- all of it
 
+-- the last blob's end without a plan
 module _ (buffer rows : List ℕ) (objects components : ℕ) (attributes : Span) (sound : rowsSound buffer rows objects components attributes ≡ true) where
+  pub end-is : endOf (described buffer (asked rows objects components attributes)) ≡ reached [] 8 (blobSizes (componentsAt components (objectWidth * objects) rows))
+  end-is =
+      last-is-reached (lengthsOf (described buffer (asked rows objects components attributes)))
+      ∙ ap (reached [] 8) (blob-lengths buffer rows objects components attributes sound)
+
+module _ (plan buffer rows : List ℕ) (objects components : ℕ) (attributes : Span) (sound : rowsSound buffer rows objects components attributes ≡ true) where
   abbrev a : Asked
   a = asked rows objects components attributes
 
@@ -144,21 +149,18 @@ module _ (buffer rows : List ℕ) (objects components : ℕ) (attributes : Span)
   abbrev Cs : List AskedComponent
   Cs = componentsAt components (objectWidth * objects) rows
 
-  pub end-is : endOf d ≡ reached 8 (blobSizes Cs)
-  end-is = last-is-reached (lengthsOf d) ∙ ap (reached 8) (blob-lengths buffer rows objects components attributes sound)
-
-  pub manifest-is : manifestLength d ≡ manifestSize a
+  pub manifest-is : manifestLength plan d ≡ manifestSize plan a
   unfolding described asked manifestSize
   manifest-is =
       let all-objects = sound-objects buffer rows objects components attributes sound in
       omega (
         arith,
-        manifest-bytes d,
+        manifest-bytes plan d,
         copied-field buffer 11 attributes (attributes-inside buffer 31 attributes (sound-attributes buffer rows objects components attributes sound)),
-        map-length (objectsFrom 8 (describedObjects buffer Os Cs)),
-        ap headSize (objects-many buffer 8 Os Cs),
-        objects-length buffer 8 Os Cs (rows-counted buffer rows objects components attributes sound ∙ sym (how-many askedComponent componentWidth components (drop (objectWidth * objects) rows)))
-            all-objects (short-rows buffer objects rows all-objects) (sound-components buffer rows objects components attributes sound),
+        map-length (objectsFrom plan (begun plan) (describedObjects buffer Os Cs)),
+        ap headSize (objects-many plan buffer (begun plan) Os Cs),
+        objects-length plan buffer (begun plan) Os Cs (rows-counted buffer rows objects components attributes sound ∙ sym (how-many askedComponent componentWidth components (drop (objectWidth * objects) rows)))
+            all-objects (short-rows plan buffer objects rows all-objects) (sound-components buffer rows objects components attributes sound),
       )
 
   ranked : (os : List AskedObject) → all (objectSound buffer) os ≡ true → all shaped os ≡ true
@@ -167,19 +169,19 @@ module _ (buffer rows : List ℕ) (objects components : ℕ) (attributes : Span)
   ranked (o ∷ os) e =
       rw (le-leb (o .rank) 8 (object-rank-small buffer o (both-left _ (all (objectSound buffer) os) e))) (ranked os (both-right (objectSound buffer o) _ e))
 
-  -- sound rows whose last blob ends in time can be measured
-  pub measurable : endOf d ≤ endLimit → Measurable rows objects components
+  -- sound rows whose last turn is in time can be measured
+  pub measurable : reached plan (begun plan) (blobSizes Cs) ≤ turnLimit plan → Measurable plan rows objects components
   measurable h = record {
     lie = sound-lies buffer rows objects components attributes sound;
     counts = rows-counted buffer rows objects components attributes sound;
     ranks = ranked Os (sound-objects buffer rows objects components attributes sound);
-    ends = omega (arith, h, end-is);
+    ends = h;
   }
 
 -- ---- what is measured
 
-module _ (rows : List ℕ) (objects components : ℕ) (m : Measurable rows objects components) where
-  pub all-fit : Fits rows (drop (objectWidth * objects) rows) objects 0 0 8
+module _ (plan rows : List ℕ) (objects components : ℕ) (m : Measurable plan rows objects components) where
+  pub all-fit : Fits plan rows (drop (objectWidth * objects) rows) objects 0 0 (begun plan)
   all-fit = record {
     objects = omega (arith, m .lie);
     components = omega (arith, m .lie, m .counts, length-drop (objectWidth * objects) rows);
@@ -188,8 +190,8 @@ module _ (rows : List ℕ) (objects components : ℕ) (m : Measurable rows objec
   }
 
   pub manifest-sum : (attributes : Span) (t h p : ℕ) → t ≡ capped (optionalCopy 11 attributes) → h ≡ headSize objects
-      → p ≡ capped (objectsSizeIn rows (drop (objectWidth * objects) rows) objects)
-      → capped (23 + t + h + p) ≡ capped (manifestSize (asked rows objects components attributes))
+      → p ≡ capped (objectsSizeIn plan rows (drop (objectWidth * objects) rows) objects)
+      → capped (23 + t + h + p) ≡ capped (manifestSize plan (asked rows objects components attributes))
   unfolding manifestSize asked
   manifest-sum attributes t h p e f g =
       omega (
@@ -198,5 +200,5 @@ module _ (rows : List ℕ) (objects components : ℕ) (m : Measurable rows objec
         f,
         g,
         ap headSize (how-many askedObject objectWidth objects rows),
-        ap (λ (k : ℕ). objectsSize 8 (eachRow askedObject objectWidth objects rows) (componentsAt k (objectWidth * objects) rows)) (m .counts),
+        ap (λ (k : ℕ). objectsSize plan (begun plan) (eachRow askedObject objectWidth objects rows) (componentsAt k (objectWidth * objects) rows)) (m .counts),
       )

@@ -18,7 +18,7 @@ use Rattle.meaning.specs.Asked.{presentAt}
 use Rattle.meaning.specs.Sound.{inside}
 use Rattle.meaning.specs.Described.{DescribedComponent, DescribedObject, Described}
 use Rattle.meaning.specs.Manifest.{headOf, shortestHead, numberBytes, textBytes, listBytes, Keyed, given, entryBytes, mapBytes, componentBytes}
-use Rattle.rows.specs.Running.{entriesFrom, objectFrom, objectsFrom}
+use Rattle.rows.specs.Running.{begun, entriesFrom, objectFrom, objectsFrom}
 use Rattle.rows.proofs.Both.{both-left, both-right}
 use Rattle.rows.proofs.Running.{manifest-placed}
 use Rattle.rows.proofs.SoundRow.{as-long}
@@ -160,17 +160,17 @@ component-bytes offset d =
     ∷ none ∷ none ∷ mapOption textBytes (d .digest) ∷ []) (omega arith)
     ∙ omega arith
 
-pub object-bytes : (n : ℕ) (d : DescribedObject) → length (objectFrom n d)
-    ≡ 25 + length (listBytes (d .shape)) + length (textBytes (d .format)) + fieldSize 11 (d .attributes) + length (mapBytes (entriesFrom n (d .components)))
+pub object-bytes : (plan : List ℕ) (n : ℕ) (d : DescribedObject) → length (objectFrom plan n d)
+    ≡ 25 + length (listBytes (d .shape)) + length (textBytes (d .format)) + fieldSize 11 (d .attributes) + length (mapBytes (entriesFrom plan n (d .components)))
 unfolding objectFrom textSize headSize
-object-bytes n d =
+object-bytes plan n d =
     fields-length objectNames
-    (some (listBytes (d .shape)) ∷ some (textBytes (d .format)) ∷ d .attributes ∷ some (mapBytes (entriesFrom n (d .components))) ∷ []) (omega arith)
+    (some (listBytes (d .shape)) ∷ some (textBytes (d .format)) ∷ d .attributes ∷ some (mapBytes (entriesFrom plan n (d .components))) ∷ []) (omega arith)
     ∙ omega arith
 
-pub manifest-bytes : (d : Described) → manifestLength d ≡ 23 + fieldSize 11 (d .attributes) + length (mapBytes (objectsFrom 8 (d .objects)))
+pub manifest-bytes : (plan : List ℕ) (d : Described) → manifestLength plan d ≡ 23 + fieldSize 11 (d .attributes) + length (mapBytes (objectsFrom plan (begun plan) (d .objects)))
 unfolding textSize headSize
-manifest-bytes d =
-    ap length (manifest-placed d)
-    ∙ fields-length rootNames (some (textBytes (ascii "1.2.0")) ∷ d .attributes ∷ some (mapBytes (objectsFrom 8 (d .objects))) ∷ []) (omega arith)
+manifest-bytes plan d =
+    ap length (manifest-placed plan d)
+    ∙ fields-length rootNames (some (textBytes (ascii "1.2.0")) ∷ d .attributes ∷ some (mapBytes (objectsFrom plan (begun plan) (d .objects))) ∷ []) (omega arith)
     ∙ omega (arith, text-length (ascii "1.2.0"))

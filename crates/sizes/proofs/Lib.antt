@@ -3,3 +3,5 @@ pub mod Heads
 pub mod Sums
 pub mod Lengths
 pub mod Exact
+pub mod Turns
+pub mod PlanOrNone

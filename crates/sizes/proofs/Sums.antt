@@ -15,11 +15,11 @@ use Rattle.meaning.specs.Types.{Storage, storages, storageOf}
 use Rattle.meaning.specs.Asked.{AskedObject, askedObject, askedComponent}
 use Rattle.meaning.specs.Placement.{aligned}
 use Rattle.rows.specs.Placed.{objectsAt, componentsAt}
-use Rattle.rows.specs.Running.{reached, blobSizes, counted}
+use Rattle.rows.specs.Running.{offsetAt, stepped, turnLimit, reached, blobSizes, counted}
 use Rattle.rows.proofs.EachRow.{no-row, next-row-at, first-rows, later-rows, first-so, others-so}
 use Rattle.rows.proofs.Running.{reached-above, reached-split}
 use Rattle.rows.proofs.Describes.{counted-next}
-use Rattle.sizes.specs.Size.{capped, cappedEnd, headSize, textSize, whenPresent, optionalText, optionalCopy, fixedSize, componentSize, componentsSize, dimensionsSize, objectSize, objectsSize}
+use Rattle.sizes.specs.Size.{capped, headSize, textSize, whenPresent, optionalText, optionalCopy, fixedSize, componentSize, componentsSize, dimensionsSize, objectSize, objectsSize}
 use Rattle.sizes.specs.Measured.{shaped, Fits}
 
 -- ---- one part after the other
@@ -124,18 +124,18 @@ pub component-sum : (row : List ℕ) (offset t a b f : ℕ) → t ≡ capped (te
 unfolding componentSize askedComponent
 component-sum row offset t a b f e g h k = omega (arith, e, g, h, k)
 
-module _ (n at place : ℕ) (rows : List ℕ) where
-  pub components-none : n ≤ 0 → componentsSize place (componentsAt n at rows) ≡ 0
+module _ (plan : List ℕ) (n at place : ℕ) (rows : List ℕ) where
+  pub components-none : n ≤ 0 → componentsSize plan place (componentsAt n at rows) ≡ 0
   unfolding componentsSize
-  components-none h = ap (componentsSize place) (no-row askedComponent componentWidth n (drop at rows) h)
+  components-none h = ap (componentsSize plan place) (no-row askedComponent componentWidth n (drop at rows) h)
 
   pub components-next : 0 < n
-      → componentsSize place (componentsAt n at rows)
-      ≡ componentSize (aligned place) (askedComponent (drop at rows)) + componentsSize (aligned place + getD rows (at + lengthColumn) 0) (componentsAt (n - 1) (at + componentWidth) rows)
+      → componentsSize plan place (componentsAt n at rows)
+      ≡ componentSize (offsetAt plan place) (askedComponent (drop at rows)) + componentsSize plan (stepped plan place (getD rows (at + lengthColumn) 0)) (componentsAt (n - 1) (at + componentWidth) rows)
   unfolding componentsSize askedComponent
   components-next h =
-      ap (componentsSize place) (next-row-at askedComponent componentWidth n at rows h)
-      ∙ ap (λ (k : ℕ). componentSize (aligned place) (askedComponent (drop at rows)) + componentsSize (aligned place + k) (componentsAt (n - 1) (at + componentWidth) rows))
+      ap (componentsSize plan place) (next-row-at askedComponent componentWidth n at rows h)
+      ∙ ap (λ (k : ℕ). componentSize (offsetAt plan place) (askedComponent (drop at rows)) + componentsSize plan (stepped plan place k) (componentsAt (n - 1) (at + componentWidth) rows))
       (getD-drop at rows lengthColumn 0)
 
 pub object-sum : (row : List ℕ) (t u d a : ℕ) → t ≡ capped (textSize (getD row 1 0)) → u ≡ capped (textSize (getD row formatLengthColumn 0))
@@ -146,16 +146,16 @@ object-sum row t u d a e f g h = omega (arith, e, f, g, h)
 
 -- ---- objects with their components
 
-module _ (os cs : List ℕ) (left row from end : ℕ) where
+module _ (plan os cs : List ℕ) (left row from end : ℕ) where
   abbrev due : ℕ → ℕ → ℕ
   due left row = counted (objectsAt left row os)
 
   abbrev count : ℕ
   count = getD os (row + countColumn) 0
 
-  pub objects-none : left ≤ 0 → objectsSize end (objectsAt left row os) (componentsAt (due left row) from cs) ≡ 0
+  pub objects-none : left ≤ 0 → objectsSize plan end (objectsAt left row os) (componentsAt (due left row) from cs) ≡ 0
   unfolding objectsSize
-  objects-none h = ap (λ (l : List AskedObject). objectsSize end l (componentsAt (due left row) from cs)) (no-row askedObject objectWidth left (drop row os) h)
+  objects-none h = ap (λ (l : List AskedObject). objectsSize plan end l (componentsAt (due left row) from cs)) (no-row askedObject objectWidth left (drop row os) h)
 
   module _ (some : 0 < left) where
     due-next : due left row ≡ count + due (left - 1) (row + objectWidth)
@@ -168,17 +168,17 @@ module _ (os cs : List ℕ) (left row from end : ℕ) where
     later : due left row - count ≡ due (left - 1) (row + objectWidth)
     later = omega (arith, due-next)
 
-    pub objects-next : objectsSize end (objectsAt left row os) (componentsAt (due left row) from cs)
-        ≡ objectSize (askedObject (drop row os)) + headSize count + componentsSize end (componentsAt count from cs)
-        + objectsSize (reached end (blobSizes (componentsAt count from cs))) (objectsAt (left - 1) (row + objectWidth) os)
+    pub objects-next : objectsSize plan end (objectsAt left row os) (componentsAt (due left row) from cs)
+        ≡ objectSize (askedObject (drop row os)) + headSize count + componentsSize plan end (componentsAt count from cs)
+        + objectsSize plan (reached plan end (blobSizes (componentsAt count from cs))) (objectsAt (left - 1) (row + objectWidth) os)
         (componentsAt (due (left - 1) (row + objectWidth)) (from + componentWidth * count) cs)
     unfolding objectsSize
     objects-next =
         let in-all : count ≤ due left row = omega (arith, due-next) in
-        ap (λ (l : List AskedObject). objectsSize end l (componentsAt (due left row) from cs)) (next-row-at askedObject objectWidth left row os some)
+        ap (λ (l : List AskedObject). objectsSize plan end l (componentsAt (due left row) from cs)) (next-row-at askedObject objectWidth left row os some)
         ∙ rw (counts, first-rows askedComponent componentWidth (due left row) count from cs in-all, later-rows askedComponent componentWidth (due left row) count from cs in-all, later) refl
 
-    module _ (fits : Fits os cs left row from end) where
+    module _ (fits : Fits plan os cs left row from end) where
       pub rank-small : getD (drop row os) rankColumn 0 ≤ 8
       unfolding shaped askedObject
       rank-small = leb-true (getD (drop row os) rankColumn 0) 8 (first-so shaped askedObject objectWidth left row os some (fits .ranks))
@@ -186,27 +186,24 @@ module _ (os cs : List ℕ) (left row from end : ℕ) where
       pub components-there : from + componentWidth * count ≤ length cs
       components-there = omega (arith, due-next, fits .components)
 
-      split : reached (reached end (blobSizes (componentsAt count from cs))) (blobSizes (componentsAt (due (left - 1) (row + objectWidth)) (from + componentWidth * count) cs)) ≤ endLimit
+      split : reached plan (reached plan end (blobSizes (componentsAt count from cs))) (blobSizes (componentsAt (due (left - 1) (row + objectWidth)) (from + componentWidth * count) cs)) ≤ turnLimit plan
       split =
           let in-all : count ≤ due left row = omega (arith, due-next) in
-          let e = reached-split (due left row) from end cs count in-all in
-          let f = ap (λ (k : ℕ). reached (reached end (blobSizes (componentsAt count from cs))) (blobSizes (componentsAt k (from + componentWidth * count) cs))) later in
+          let e = reached-split plan (due left row) from end cs count in-all in
+          let f = ap (λ (k : ℕ). reached plan (reached plan end (blobSizes (componentsAt count from cs))) (blobSizes (componentsAt k (from + componentWidth * count) cs))) later in
           omega (arith, e, f, fits .ends)
 
-      pub ends-in-time : reached end (blobSizes (componentsAt count from cs)) ≤ endLimit
+      pub ends-in-time : reached plan end (blobSizes (componentsAt count from cs)) ≤ turnLimit plan
       ends-in-time =
-          omega (arith, split, reached-above (reached end (blobSizes (componentsAt count from cs))) (blobSizes (componentsAt (due (left - 1) (row + objectWidth)) (from + componentWidth * count) cs)))
+          omega (arith, split, reached-above plan (reached plan end (blobSizes (componentsAt count from cs))) (blobSizes (componentsAt (due (left - 1) (row + objectWidth)) (from + componentWidth * count) cs)))
 
-      pub begins-in-time : end ≤ endLimit
-      begins-in-time = omega (arith, ends-in-time, reached-above end (blobSizes (componentsAt count from cs)))
+      pub begins-in-time : end ≤ turnLimit plan
+      begins-in-time = omega (arith, ends-in-time, reached-above plan end (blobSizes (componentsAt count from cs)))
 
-      pub exact : (r : ℕ) → r ≡ cappedEnd (reached end (blobSizes (componentsAt count from cs))) → r ≡ reached end (blobSizes (componentsAt count from cs))
-      exact r e = omega (arith, e, ends-in-time)
-
-      pub fits-next : (r : ℕ) → r ≡ cappedEnd (reached end (blobSizes (componentsAt count from cs))) → Fits os cs (left - 1) (row + objectWidth) (from + componentWidth * count) r
+      pub fits-next : (r : ℕ) → r ≡ reached plan end (blobSizes (componentsAt count from cs)) → Fits plan os cs (left - 1) (row + objectWidth) (from + componentWidth * count) r
       fits-next r e = record {
         objects = omega (arith, some, fits .objects);
         components = omega (arith, due-next, fits .components);
         ranks = others-so shaped askedObject objectWidth left row os some (fits .ranks);
-        ends = rw (exact r e) split;
+        ends = rw e split;
       }

@@ -9,8 +9,7 @@ use Rattle.meaning.specs.Limit.{manifestLimit, endLimit}
 use Rattle.meaning.specs.Read.{Span}
 use Rattle.meaning.specs.Types.{storageOf}
 use Rattle.meaning.specs.Asked.{AskedObject, AskedComponent, Asked, eachRow, askedObject, askedComponent}
-use Rattle.meaning.specs.Placement.{aligned}
-use Rattle.rows.specs.Running.{reached, blobSizes, counted}
+use Rattle.rows.specs.Running.{begun, offsetAt, stepped, reached, blobSizes, counted}
 
 -- a size, or one more than the limit where it is over it; so too the last blob's end
 abbrev pub capped : ℕ → ℕ
@@ -46,10 +45,10 @@ unfoldable pub componentSize : ℕ → AskedComponent → ℕ
 componentSize offset c =
     textSize (c .name .size) + fixedSize (c .dtype) offset (c .blob .size) + optionalText 5 (c .type) + optionalText 7 (c .digest)
 
--- components one after the other, from the place n on
-unfoldable pub componentsSize : ℕ → List AskedComponent → ℕ
-componentsSize n [] = 0
-componentsSize n (c ∷ cs) = componentSize (aligned n) c + componentsSize (aligned n + c .blob .size) cs
+-- components one after the other, where the turn n is reached
+unfoldable pub componentsSize : List ℕ → ℕ → List AskedComponent → ℕ
+componentsSize plan n [] = 0
+componentsSize plan n (c ∷ cs) = componentSize (offsetAt plan n) c + componentsSize plan (stepped plan n (c .blob .size)) cs
 
 unfoldable pub dimensionsSize : List ℕ → ℕ
 dimensionsSize [] = 0
@@ -60,15 +59,17 @@ unfoldable pub objectSize : AskedObject → ℕ
 objectSize o = textSize (o .name .size) + 26 + dimensionsSize (o .shape) + textSize (o .format .size) + optionalCopy 11 (o .attributes)
 
 -- objects one after the other, each with as many components as it counts
-unfoldable pub objectsSize : ℕ → List AskedObject → List AskedComponent → ℕ
-objectsSize n [] cs = 0
-objectsSize n (o ∷ os) cs =
-    objectSize o + headSize (o .count) + componentsSize n (take (o .count) cs) + objectsSize (reached n (blobSizes (take (o .count) cs))) os (drop (o .count) cs)
+unfoldable pub objectsSize : List ℕ → ℕ → List AskedObject → List AskedComponent → ℕ
+objectsSize plan n [] cs = 0
+objectsSize plan n (o ∷ os) cs =
+    objectSize o + headSize (o .count) + componentsSize plan n (take (o .count) cs)
+    + objectsSize plan (reached plan n (blobSizes (take (o .count) cs))) os (drop (o .count) cs)
 
 -- n objects' rows, and the rows of as many components as they count
-abbrev pub objectsSizeIn : List ℕ → List ℕ → ℕ → ℕ
-objectsSizeIn os cs n = objectsSize 8 (eachRow askedObject objectWidth n os) (eachRow askedComponent componentWidth (counted (eachRow askedObject objectWidth n os)) cs)
+abbrev pub objectsSizeIn : List ℕ → List ℕ → List ℕ → ℕ → ℕ
+objectsSizeIn plan os cs n =
+    objectsSize plan (begun plan) (eachRow askedObject objectWidth n os) (eachRow askedComponent componentWidth (counted (eachRow askedObject objectWidth n os)) cs)
 
 -- version takes 14 bytes with its key, the key of objects 8
-unfoldable pub manifestSize : Asked → ℕ
-manifestSize a = 23 + optionalCopy 11 (a .attributes) + headSize (length (a .objects)) + objectsSize 8 (a .objects) (a .components)
+unfoldable pub manifestSize : List ℕ → Asked → ℕ
+manifestSize plan a = 23 + optionalCopy 11 (a .attributes) + headSize (length (a .objects)) + objectsSize plan (begun plan) (a .objects) (a .components)

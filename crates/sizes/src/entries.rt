@@ -6,6 +6,10 @@ use crate::piece::dimensions;
 use crate::piece::head;
 use crate::piece::optional_text;
 use crate::piece::text;
+use crate::placing::first_turn;
+use crate::placing::offset_at;
+use crate::placing::stepped;
+use crate::placing::turn_past;
 use columns::ATTRIBUTES;
 use columns::ATTRIBUTES_LENGTH;
 use columns::COUNT;
@@ -21,44 +25,10 @@ ghost use mathlib.Core.Path.{_≡_};
 ghost use Prim.Native.Nat.{_+_, _*_, _≤_, _<_};
 ghost use lib.ListN.{length, getD};
 ghost use Rattle.meaning.specs.Columns.{objectWidth, componentWidth, rankColumn};
-ghost use Rattle.meaning.specs.Limit.{endLimit};
-ghost use Rattle.meaning.specs.Placement as placement;
 ghost use Rattle.meaning.specs.Asked.{eachRow, askedObject, askedComponent};
-ghost use Rattle.rows.specs.Running.{reached, blobSizes};
+ghost use Rattle.rows.specs.Running.{begun, turnLimit, reached, blobSizes};
 ghost use Rattle.sizes.specs.Size as is;
 ghost use Rattle.sizes.specs.Measured.{Fits};
-
-const LAST: u64 = 1_099_511_627_776;
-
-// The least multiple of 64 not below a place.
-pub fn aligned(n: u64) -> u64
-    requires { ⌜ n ≤ endLimit ⌝ }
-    ensures { λ r. ⌜ r ≡ placement.aligned n ⌝ }
-{
-    (n + 63) / 64 * 64
-}
-
-// Where the last of n components' blobs ends, from the place `start` on, or 2^40 + 1. Ends only grow, so the first above stops the count.
-pub fn end(rows: &[u64], n: u64, start: u64) -> u64
-    requires { ⌜ componentWidth * n ≤ length (now rows) ⌝ }
-    requires { ⌜ start ≤ endLimit ⌝ }
-    ensures { λ r. ⌜ r ≡ is.cappedEnd (reached start (blobSizes (eachRow askedComponent componentWidth n (now (rows .entry))))) ⌝ }
-{
-    let mut at = 0;
-    let mut left = n;
-    let mut place = start;
-    while 0 < left {
-        let offset = aligned(place);
-        let size = rows[at + LENGTH];
-        if LAST - offset < size {
-            return LAST + 1;
-        }
-        place = offset + size;
-        at += columns::COMPONENT;
-        left -= 1;
-    }
-    place
-}
 
 // What takes the same bytes whatever a component's texts are.
 fn fixed(dtype: u64, offset: u64, size: u64) -> u64
@@ -78,21 +48,21 @@ fn component(row: &[u64], offset: u64) -> u64
     capped(texts + fixed(row[DTYPE], offset, row[LENGTH]))
 }
 
-// n components, from the place `start` on.
-fn components(rows: &[u64], n: u64, start: u64) -> u64
+// n components, where the turn `first` is reached.
+fn components(plan: &[u64], rows: &[u64], n: u64, first: u64) -> u64
     requires { ⌜ componentWidth * n ≤ length (now rows) ⌝ }
-    requires { ⌜ reached start (blobSizes (eachRow askedComponent componentWidth n (now rows))) ≤ endLimit ⌝ }
-    ensures { λ r. ⌜ r ≡ is.capped (is.componentsSize start (eachRow askedComponent componentWidth n (now (rows .entry)))) ⌝ }
+    requires { ⌜ reached (now plan) first (blobSizes (eachRow askedComponent componentWidth n (now rows))) ≤ turnLimit (now plan) ⌝ }
+    ensures { λ r. ⌜ r ≡ is.capped (is.componentsSize (now (plan .entry)) first (eachRow askedComponent componentWidth n (now (rows .entry)))) ⌝ }
 {
     let mut at = 0;
     let mut left = n;
-    let mut place = start;
+    let mut turn = first;
     let mut total = 0;
     while 0 < left {
-        let offset = aligned(place);
+        let offset = offset_at(plan, turn);
         let size = component(&rows[at..], offset);
         total = capped(total + size);
-        place = offset + rows[at + LENGTH];
+        turn = stepped(plan, turn, rows[at + LENGTH]);
         at += columns::COMPONENT;
         left -= 1;
     }
@@ -110,20 +80,20 @@ fn object(row: &[u64]) -> u64
 }
 
 // n objects, their components in order.
-pub fn objects(rows: &[u64], parts: &[u64], n: u64) -> u64
-    requires { ⌜ Fits (now rows) (now parts) n 0 0 8 ⌝ }
-    ensures { λ r. ⌜ r ≡ is.capped (is.objectsSizeIn (now (rows .entry)) (now (parts .entry)) n) ⌝ }
+pub fn objects(plan: &[u64], rows: &[u64], parts: &[u64], n: u64) -> u64
+    requires { ⌜ Fits (now plan) (now rows) (now parts) n 0 0 (begun (now plan)) ⌝ }
+    ensures { λ r. ⌜ r ≡ is.capped (is.objectsSizeIn (now (plan .entry)) (now (rows .entry)) (now (parts .entry)) n) ⌝ }
 {
     let mut row = 0;
     let mut from = 0;
     let mut left = n;
-    let mut place = 8;
+    let mut turn = first_turn(plan);
     let mut total = 0;
     while 0 < left {
         let count = rows[row + COUNT];
         let own = object(&rows[row..]) + head(count);
-        total = capped(total + own + components(&parts[from..], count, place));
-        place = end(&parts[from..], count, place);
+        total = capped(total + own + components(plan, &parts[from..], count, turn));
+        turn = turn_past(plan, &parts[from..], count, turn);
         row += columns::OBJECT;
         from += (columns::COMPONENT_64 * count) as usize;
         left -= 1;

@@ -1,29 +1,46 @@
 -- What the writer answers, check by check.
-use Prim.Native.Nat.{ℕ, suc, _+_, _≤_, _<_, _^_, min}
+use Prim.Native.Nat.{ℕ, suc, _+_, _-_, _*_, _≤_, _<_, _^_, min}
 use native.Mathlib.Omega.{arith}
-use mathlib.Core.List.{List, map, _++_}
+use mathlib.Core.List.{List, [], _∷_, map, _++_}
 use mathlib.Core.Bool.{Bool, true, false}
 use mathlib.Core.Logic.{⊎-elim}
 use mathlib.Core.Path.{_≡_, refl, sym, ap, _∙_, subst}
-use lib.ListN.{length, drop, getD}
+use lib.ListN.{length, take, drop, getD, length-drop, length-map}
 use lib.Dec.{leb}
 use borrow.Author.Tests.{le-leb, lt-leb}
+use borrow.Rule.Slice.PartAt.{part-to-end}
 use Rattle.endian.proofs.Which.{lt-or}
-use Rattle.meaning.specs.Refusal.{ROW, COUNT, BIG, ROOM}
+use Rattle.meaning.specs.Refusal.{BIG, ROOM, PLAN}
 use Rattle.meaning.specs.Check.{Check, pass, refuse, _>>_, _unless_}
 use Rattle.meaning.specs.Limit.{manifestLimit, endLimit}
+use Rattle.meaning.specs.Columns.{objectWidth, componentWidth}
+use Rattle.meaning.specs.Layouts.{magic}
 use Rattle.meaning.specs.Read.{Span}
+use Rattle.meaning.specs.Asked.{AskedComponent, eachRow, askedComponent}
 use Rattle.meaning.specs.Described.{Described, blobs}
 use Rattle.meaning.specs.Sound.{rowsSound}
-use Rattle.meaning.specs.Placement.{lastEnd}
+use Rattle.meaning.specs.Placement.{placement, lastEnd}
+use Rattle.meaning.specs.Plan.{planned}
 use Rattle.meaning.specs.Manifest.{manifestBytes}
 use Rattle.meaning.specs.WrittenFile.{fileOf}
-use Rattle.meaning.specs.Write.{writeAnswer, outputAfter, written}
+use Rattle.meaning.specs.Write.{writeAnswer, outputAfter, writtenAt, writtenPlain, writtenPlanned, written, writtenBy}
+use Rattle.rows.specs.Running.{begun, turnLimit, reached, blobSizes}
+use Rattle.rows.proofs.EachRow.{how-many}
+use Rattle.rows.proofs.Running.{last-is-reached, reached-counts, offsets-by-rule, offsets-as-planned}
+use Rattle.rows.proofs.Whole.{sound-lies}
+use Rattle.rows.proofs.Describes.{blob-lengths}
+use Rattle.sizes.specs.Measured.{Measurable}
+use Rattle.sizes.proofs.Exact.{measurable}
+use Rattle.plan.specs.Earlier.{sizes, Judges}
+use Rattle.plan.specs.declared.Judged.{Judged}
+use Rattle.plan.specs.declared.Judged.the-variants as judged-as
 use Rattle.readback.specs.Judged.{judged}
 use Rattle.readback.specs.Lent.{Lent}
 use Rattle.readback.proofs.EveryPart.{every-by-index}
-use Rattle.readback.proofs.Placed.{placement-rises, file-length}
-use Rattle.readback.proofs.RowsWritten.{written-is}
+use Rattle.readback.proofs.Planned.{Accepted, accepted, as-many, ends-in-time, placement-accepted}
+use Rattle.readback.proofs.Placed.{file-length}
+use Rattle.readback.proofs.ReadBack.{written-at-is}
+use Rattle.readback.proofs.SoundIsFine.{sound-is-fine}
 use Rattle.writer.specs.declared.Written.{Written}
 use Rattle.foresee.specs.declared.Foreseen.{Foreseen}
 use Rattle.foresee.specs.declared.Foreseen.the-variants.{Fine, Fault}
@@ -31,7 +48,7 @@ use Rattle.foresee.specs.Told.{foretold}
 use Rattle.writer.specs.declared.Sized.{Sized}
 use Rattle.writer.specs.declared.Sized.the-variants.{No, Yes}
 use Rattle.writer.specs.Told.{refused, told, Answered, Numbers}
-use Rattle.writer.specs.Sized.{ofRows, offsetsOf, Fit, Measures}
+use Rattle.writer.specs.Sized.{ofRows, lengthsOf, offsetsOf, fileAt, Fit, Measures}
 
 -- ---- numbers below 2^64
 
@@ -62,114 +79,242 @@ written-answer file e n l out after h =
     answer-of (pass file) e out after (record { number = 0; object = 0; component = 0; length = n })
     (ap (λ (m : ℕ). record { number = 0; object = 0; component = 0; length = m }) l, h)
 
--- ---- the checks
+-- ---- rows that are sound, with offsets that an accepted plan gives
 
-module _ (rows : List ℕ) (objects components place size : ℕ) (buffer : List ℕ) where
+module _ (plan rows : List ℕ) (objects components place size : ℕ) (buffer : List ℕ) where
   abbrev attributes : Span
   attributes = record { place = place; size = size }
 
   abbrev d : Described
-  d = ofRows rows objects components attributes buffer
+  d = ofRows plan rows objects components attributes buffer
+
+  abbrev lengths : List ℕ
+  lengths = lengthsOf plan rows objects components attributes buffer
 
   abbrev offsets : List ℕ
-  offsets = offsetsOf rows objects components attributes buffer
+  offsets = offsetsOf plan rows objects components attributes buffer
 
-  abbrev end : ℕ
-  end = lastEnd offsets (map length (blobs d))
-
-  abbrev manifest : ℕ
-  manifest = length (manifestBytes d offsets)
+  abbrev answer-at : ℕ → Check (List ℕ)
+  answer-at = fileAt plan rows objects components attributes buffer
 
   abbrev is-sound : Bool
   is-sound = rowsSound buffer rows objects components attributes
 
-  pub row : is-sound ≡ false → Measures rows objects components attributes buffer (No 25)
+  abbrev manifest : ℕ
+  manifest = length (manifestBytes d offsets)
+
+  module _ (sound : is-sound ≡ true) (numbers : Numbers rows) (few : length rows < 256 ^ 8) (small : length buffer < 256 ^ 8)
+      {ceiling : ℕ} (plan-is : Accepted ceiling offsets lengths) (turns : reached plan (begun plan) lengths ≤ turnLimit plan)
+      (m : ℕ) (long : m ≡ min manifest (suc manifestLimit)) where
+    steps : (room : ℕ) → answer-at room
+        ≡ ((BIG unless leb manifest manifestLimit) >> (judged d >> ((ROOM unless leb (length (fileOf d offsets)) room) >> pass (fileOf d offsets))))
+    steps room = written-at-is d offsets (sound-is-fine buffer small rows (every-by-index _ 0 rows numbers) few objects components attributes sound) plan-is room
+
+    pub big-at : manifestLimit < m → (room : ℕ) → answer-at room ≡ refuse BIG 0 0
+    big-at h room = steps room ∙ rw (lt-leb manifest manifestLimit (omega (arith, long, h))) refl
+
+    pub fit-at : m ≤ manifestLimit → (e : ℕ) → e ≡ lastEnd offsets lengths → Fit plan rows objects components attributes buffer e m
+    fit-at h e ends = record {
+      sound = sound;
+      turns = turns;
+      end-low = omega (arith, ends, ends-in-time plan-is);
+      manifest-low = h;
+      long = omega (arith, file-length d offsets, ends, long, h);
+      is = λ room. steps room ∙ rw (le-leb manifest manifestLimit (omega (arith, long, h))) refl;
+    }
+
+-- ---- without a plan
+
+module _ (rows : List ℕ) (objects components place size : ℕ) (buffer : List ℕ) where
+  abbrev plain-answer : ℕ → Check (List ℕ)
+  plain-answer = written rows objects components (record { place = place; size = size }) buffer
+
+  abbrev Plain : Sized → Type 0
+  Plain = Measures [] rows objects components (record { place = place; size = size }) buffer plain-answer
+
+  abbrev rule-lengths : List ℕ
+  rule-lengths = lengths [] rows objects components place size buffer
+
+  abbrev end : ℕ
+  end = lastEnd (placement rule-lengths) rule-lengths
+
+  pub row : is-sound [] rows objects components place size buffer ≡ false → Plain (No 25 0)
   unfolding written
   row e room = rw e refl
 
-  module _ (sound : is-sound ≡ true) (numbers : Numbers rows) (few : length rows < 256 ^ 8) (small : length buffer < 256 ^ 8) where
-    steps : (room : ℕ) → written rows objects components attributes buffer room
-        ≡ ((ROW unless is-sound) >> ((COUNT unless leb end endLimit)
-        >> ((BIG unless leb manifest manifestLimit) >> (judged d >> ((ROOM unless leb (length (fileOf d offsets)) room) >> pass (fileOf d offsets))))))
-    steps room = written-is rows (every-by-index _ 0 rows numbers) few buffer small objects components attributes room
+  module _ (sound : is-sound [] rows objects components place size buffer ≡ true) (numbers : Numbers rows) (few : length rows < 256 ^ 8) (small : length buffer < 256 ^ 8)
+      (e : ℕ) (ends : e ≡ min end (suc endLimit)) where
+    pub count : endLimit < e → Plain (No 15 0)
+    unfolding written writtenPlain
+    count h room = rw (sound, lt-leb end endLimit (omega (arith, ends, h))) refl
 
-    module _ (e : ℕ) (ends : e ≡ min end (suc endLimit)) where
-      pub count : endLimit < e → Measures rows objects components attributes buffer (No 15)
-      count h room = steps room ∙ rw (sound, lt-leb end endLimit (omega (arith, ends, h))) refl
+    module _ (in-time : e ≤ endLimit) where
+      end-low : end ≤ endLimit
+      end-low = omega (arith, ends, in-time)
 
-      module _ (in-time : e ≤ endLimit) where
-        pub exact-end : e ≡ end
-        exact-end = omega (arith, ends, in-time)
+      same : placement rule-lengths ≡ offsets [] rows objects components place size buffer
+      same = sym (offsets-by-rule rule-lengths)
 
-        pub ends-low : end ≤ endLimit
-        ends-low = omega (arith, ends, in-time)
+      by-rule : Accepted endLimit (offsets [] rows objects components place size buffer) rule-lengths
+      by-rule = subst (λ (os : List ℕ). Accepted endLimit os rule-lengths) same (accepted endLimit (placement rule-lengths) rule-lengths (placement-accepted rule-lengths end-low))
 
-        module _ (m : ℕ) (long : m ≡ min manifest (suc manifestLimit)) where
-          pub big : manifestLimit < m → Measures rows objects components attributes buffer (No 4)
-          big h room = steps room ∙ rw (sound, le-leb end endLimit ends-low, lt-leb manifest manifestLimit (omega (arith, long, h))) refl
+      pub turns-low : reached [] (begun []) rule-lengths ≤ turnLimit []
+      unfolding begun turnLimit magic
+      turns-low = omega (arith, end-low, last-is-reached rule-lengths)
 
-          pub fit : m ≤ manifestLimit → Measures rows objects components attributes buffer (Yes e m)
-          fit h = record { sound = sound; numbers = numbers; ends = exact-end; ends-in-time = in-time; long = omega (arith, long, h); long-enough = h }
+      settled : (room : ℕ) → plain-answer room ≡ answer-at [] rows objects components place size buffer room
+      unfolding written writtenPlain
+      settled room =
+          rw (sound, le-leb end endLimit end-low) (ap (λ (os : List ℕ). writtenAt (d [] rows objects components place size buffer) os room) same)
 
-  -- rows that fit
-  module _ (e m : ℕ) (fit : Fit rows objects components attributes buffer e m) (few : length rows < 256 ^ 8) (small : length buffer < 256 ^ 8) (room : ℕ) where
-    then-judged : written rows objects components attributes buffer room ≡ (judged d >> ((ROOM unless leb (length (fileOf d offsets)) room) >> pass (fileOf d offsets)))
-    then-judged =
-        let x = fit .ends in let y = fit .ends-in-time in let z = fit .long in let w = fit .long-enough in
-        steps (fit .sound) (fit .numbers) few small room
-        ∙ rw (fit .sound, le-leb end endLimit (omega (arith, x, y)), le-leb manifest manifestLimit (omega (arith, z, w))) refl
+      module _ (m : ℕ) (long : m ≡ min (manifest [] rows objects components place size buffer) (suc manifestLimit)) where
+        pub big : manifestLimit < m → Plain (No 4 0)
+        big h room = settled room ∙ big-at [] rows objects components place size buffer sound numbers few small by-rule turns-low m long h room
 
-    pub as-read : (n o c : ℕ) → judged d ≡ refuse n o c → written rows objects components attributes buffer room ≡ refuse n o c
-    as-read n o c h = then-judged ∙ rw h refl
+        pub fit : m ≤ manifestLimit → Plain (Yes e m)
+        fit h = (
+          fit-at [] rows objects components place size buffer sound numbers few small by-rule turns-low m long h e
+          (let x : e ≡ end = omega (arith, ends, in-time) in x ∙ ap (λ (os : List ℕ). lastEnd os rule-lengths) same),
+          settled,
+        )
 
-    pub whole-length : length (fileOf d offsets) ≡ e + m + 16
-    whole-length =
-        let x = fit .ends in let z = fit .long in let l = file-length d offsets (placement-rises (map length (blobs d))) in omega (arith, x, z, l)
+-- ---- by a plan
 
-    module _ (accepted : judged d ≡ pass tt) where
-      pub no-room : room < e + m + 16 → written rows objects components attributes buffer room ≡ refuse 24 0 0
-      no-room h = then-judged ∙ rw (accepted, lt-leb (length (fileOf d offsets)) room (omega (arith, h, whole-length))) refl
+-- one turn for each row
+turns-counted : (plan ls : List ℕ) → length plan ≡ length ls → length ls ≤ 2_305_843_009_213_693_952 → reached plan (begun plan) ls ≤ turnLimit plan
+unfolding reached begun turnLimit magic
+turns-counted [] [] e h = omega arith
+turns-counted [] (l ∷ ls) e h = absurd (omega (arith, e))
+turns-counted (o ∷ os) ls e h = omega (arith, h, reached-counts o os 0 ls)
 
-      pub whole : e + m + 16 ≤ room → written rows objects components attributes buffer room ≡ pass (fileOf d offsets)
-      whole h = then-judged ∙ rw (accepted, le-leb (length (fileOf d offsets)) room (omega (arith, h, whole-length))) refl
+module _ (plan : List ℕ) (ceiling : ℕ) (rows : List ℕ) (objects components place size : ℕ) (buffer : List ℕ) where
+  abbrev planned-answer : ℕ → Check (List ℕ)
+  planned-answer = writtenBy rows objects components (record { place = place; size = size }) buffer plan ceiling
+
+  abbrev Planned : Sized → Type 0
+  Planned = Measures plan rows objects components (record { place = place; size = size }) buffer planned-answer
+
+  abbrev plan-lengths : List ℕ
+  plan-lengths = lengths plan rows objects components place size buffer
+
+  -- the components' rows, lent
+  abbrev lent-rows : List ℕ
+  lent-rows = take (length rows - objectWidth * objects) (drop (objectWidth * objects) rows)
+
+  pub row-by : is-sound plan rows objects components place size buffer ≡ false → Planned (No 25 0)
+  unfolding writtenBy
+  row-by e room = rw e refl
+
+  module _ (sound : is-sound plan rows objects components place size buffer ≡ true) where
+    same-lengths : sizes plan lent-rows components ≡ plan-lengths
+    same-lengths =
+        ap (λ (r : List ℕ). blobSizes (eachRow askedComponent componentWidth components r)) (part-to-end rows (objectWidth * objects))
+        ∙ sym (blob-lengths buffer rows objects components (record { place = place; size = size }) sound)
+
+    pub rows-lent : componentWidth * components ≤ length lent-rows
+    rows-lent =
+        rw (part-to-end rows (objectWidth * objects))
+        (omega (arith, sound-lies buffer rows objects components (record { place = place; size = size }) sound, length-drop (objectWidth * objects) rows))
+
+    verdict-is : {k : Check (Unit {0})} → planned ceiling plan (sizes plan lent-rows components) ≡ k → planned ceiling plan plan-lengths ≡ k
+    verdict-is e = ap (planned ceiling plan) (sym same-lengths) ∙ e
+
+    pub refused-by : (i : ℕ) (x : Judged) → Judges plan lent-rows components ceiling x → x ≡ judged-as.No i → Planned (No 27 i)
+    unfolding writtenBy writtenPlanned
+    refused-by i x j q room =
+        let e : planned ceiling plan (sizes plan lent-rows components) ≡ refuse PLAN i 0 = subst (Judges plan lent-rows components ceiling) q j in
+        rw (sound, verdict-is e) refl
+
+    module _ (numbers : Numbers rows) (few : length rows < 256 ^ 8) (small : length buffer < 256 ^ 8) (e : ℕ) (x : Judged)
+        (j : Judges plan lent-rows components ceiling x) (q : x ≡ judged-as.Yes e) where
+      both : (planned ceiling plan (sizes plan lent-rows components) ≡ pass tt) × (e ≡ lastEnd plan (sizes plan lent-rows components))
+      both = subst (Judges plan lent-rows components ceiling) q j
+
+      passed : planned ceiling plan plan-lengths ≡ pass tt
+      passed = verdict-is (both .0)
+
+      as-it-is : Accepted ceiling plan plan-lengths
+      as-it-is = accepted ceiling plan plan-lengths passed
+
+      same-offsets : plan ≡ offsets plan rows objects components place size buffer
+      same-offsets = sym (offsets-as-planned plan plan-lengths (as-many (as-it-is .follows)))
+
+      by-plan : Accepted ceiling (offsets plan rows objects components place size buffer) plan-lengths
+      by-plan = subst (λ (os : List ℕ). Accepted ceiling os plan-lengths) same-offsets as-it-is
+
+      pub turns-in-time : reached plan (begun plan) plan-lengths ≤ turnLimit plan
+      turns-in-time =
+          turns-counted plan plan-lengths (as-many (as-it-is .follows))
+          (omega (arith, few, sound-lies buffer rows objects components (record { place = place; size = size }) sound, ap length (sym same-lengths),
+          length-map (eachRow askedComponent componentWidth components lent-rows) (λ (c : AskedComponent). c .blob .size), how-many askedComponent componentWidth components lent-rows))
+
+      pub can-be-measured : Measurable plan rows objects components
+      can-be-measured =
+          measurable plan buffer rows objects components (record { place = place; size = size }) sound
+          (subst (λ (ls : List ℕ). reached plan (begun plan) ls ≤ turnLimit plan) (blob-lengths buffer rows objects components (record { place = place; size = size }) sound) turns-in-time)
+
+      settled-by : (room : ℕ) → planned-answer room ≡ answer-at plan rows objects components place size buffer room
+      unfolding writtenBy writtenPlanned
+      settled-by room = rw (sound, passed) (ap (λ (os : List ℕ). writtenAt (d plan rows objects components place size buffer) os room) same-offsets)
+
+      module _ (m : ℕ) (long : m ≡ min (manifest plan rows objects components place size buffer) (suc manifestLimit)) where
+        pub big-by : manifestLimit < m → Planned (No 4 0)
+        big-by h room = settled-by room ∙ big-at plan rows objects components place size buffer sound numbers few small by-plan turns-in-time m long h room
+
+        pub fit-by : m ≤ manifestLimit → Planned (Yes e m)
+        fit-by h = (
+          fit-at plan rows objects components place size buffer sound numbers few small by-plan turns-in-time m long h e
+          (both .1 ∙ ap (lastEnd plan) same-lengths ∙ ap (λ (os : List ℕ). lastEnd os plan-lengths) same-offsets),
+          settled-by,
+        )
 
 -- ---- by the code's answers
 
-module _ (rows : List ℕ) (objects components place size : ℕ) (buffer : List ℕ) where
-  abbrev writing : ℕ → Check (List ℕ)
-  writing room = written rows objects components (attributes rows objects components place size buffer) buffer room
+module _ (plan rows : List ℕ) (objects components place size : ℕ) (buffer : List ℕ) (answer : ℕ → Check (List ℕ)) where
+  abbrev Told : Sized → Type 0
+  Told = Measures plan rows objects components (record { place = place; size = size }) buffer answer
 
-  -- what is measured
-  module _ (x : Sized) (h : Measures rows objects components (record { place = place; size = size }) buffer x) where
-    pub measured-no : (n : ℕ) → x ≡ No n → (r : Written) → r ≡ refused n 0 0 → (out : List ℕ) → Answered (writing (length out)) r out out
-    measured-no n e r is out =
-        let so : Measures rows objects components (record { place = place; size = size }) buffer (No n) = subst (Measures rows objects components (record { place = place; size = size }) buffer) e h in
-        subst (λ (a : Written). Answered (writing (length out)) a out out) (sym is) (refused-answer n 0 0 (so (length out)) out)
+  module _ (x : Sized) (h : Told x) where
+    pub measured-no : (n o : ℕ) → x ≡ No n o → (r : Written) → r ≡ refused n o 0 → (out : List ℕ) → Answered (answer (length out)) r out out
+    measured-no n o e r is out =
+        let so : Told (No n o) = subst Told e h in
+        subst (λ (a : Written). Answered (answer (length out)) a out out) (sym is) (refused-answer n o 0 (so (length out)) out)
 
-    pub measured-yes : (e m : ℕ) → x ≡ Yes e m → Fit rows objects components (record { place = place; size = size }) buffer e m
-    measured-yes e m q = subst (Measures rows objects components (record { place = place; size = size }) buffer) q h
+    module _ (e m : ℕ) (q : x ≡ Yes e m) where
+      so : Told (Yes e m)
+      so = subst Told q h
 
-  -- what is foreseen of rows that fit
-  module _ (e m : ℕ) (fit : Fit rows objects components (record { place = place; size = size }) buffer e m) (few : length rows < 256 ^ 8) (small : length buffer < 256 ^ 8)
-      (x : Foreseen) (foreseen : judged (d rows objects components place size buffer) ≡ foretold x) (out : List ℕ) where
-    abbrev whole-file : List ℕ
-    whole-file = fileOf (d rows objects components place size buffer) (offsets rows objects components place size buffer)
+      pub measured-yes : Fit plan rows objects components (record { place = place; size = size }) buffer e m
+      measured-yes = so .0
 
-    pub fill-refused : (n o c : ℕ) → x ≡ Fault n o c → (r : Written) → r ≡ refused n o c → Answered (writing (length out)) r out out
-    fill-refused n o c q r is =
-        subst (λ (a : Written). Answered (writing (length out)) a out out) (sym is)
-        (refused-answer n o c (as-read rows objects components place size buffer e m fit few small (length out) n o c (foreseen ∙ ap foretold q)) out)
+      pub filled : (r : Written) (out after : List ℕ) → Answered (answer-at plan rows objects components place size buffer (length out)) r out after → Answered (answer (length out)) r out after
+      filled r out after a = answer-of (answer-at plan rows objects components place size buffer (length out)) (so .1 (length out)) out after r a
 
-    module _ (q : x ≡ Fine) where
-      pub fill-no-room : length out < e + m + 16 → (r : Written) → r ≡ refused 24 0 0 → Answered (writing (length out)) r out out
-      fill-no-room h r is =
-          subst (λ (a : Written). Answered (writing (length out)) a out out) (sym is)
-          (refused-answer 24 0 0 (no-room rows objects components place size buffer e m fit few small (length out) (foreseen ∙ ap foretold q) h) out)
+-- what is foreseen of rows that fit
+module _ (plan rows : List ℕ) (objects components place size : ℕ) (buffer : List ℕ) (e m : ℕ)
+    (fit : Fit plan rows objects components (record { place = place; size = size }) buffer e m)
+    (x : Foreseen) (foreseen : judged (d plan rows objects components place size buffer) ≡ foretold x) (out : List ℕ) where
+  abbrev filling : Check (List ℕ)
+  filling = answer-at plan rows objects components place size buffer (length out)
 
-      pub there-is-room : e + m + 16 ≤ length out → length whole-file ≤ length out
-      there-is-room h = let l = whole-length rows objects components place size buffer e m fit few small (length out) in omega (arith, h, l)
+  abbrev whole-file : List ℕ
+  whole-file = fileOf (d plan rows objects components place size buffer) (offsets plan rows objects components place size buffer)
 
-      pub fill-whole : e + m + 16 ≤ length out → (n : ℕ) → n ≡ length whole-file → (after : List ℕ) → after ≡ whole-file ++ drop (length whole-file) out
-          → Answered (writing (length out)) (record { number = 0; object = 0; component = 0; length = n }) out after
-      fill-whole h n l after is =
-          written-answer whole-file (whole rows objects components place size buffer e m fit few small (length out) (foreseen ∙ ap foretold q) h) n l out after is
+  pub fill-refused : (n o c : ℕ) → x ≡ Fault n o c → (r : Written) → r ≡ refused n o c → Answered filling r out out
+  fill-refused n o c q r is =
+      subst (λ (a : Written). Answered filling a out out) (sym is) (refused-answer n o c (fit .is (length out) ∙ rw (foreseen ∙ ap foretold q) refl) out)
+
+  module _ (q : x ≡ Fine) where
+    pub fill-no-room : length out < e + m + 16 → (r : Written) → r ≡ refused 24 0 0 → Answered filling r out out
+    fill-no-room h r is =
+        subst (λ (a : Written). Answered filling a out out) (sym is)
+        (refused-answer 24 0 0 (fit .is (length out) ∙ rw (foreseen ∙ ap foretold q, lt-leb (length whole-file) (length out) (omega (arith, h, fit .long))) refl) out)
+
+    pub there-is-room : e + m + 16 ≤ length out → length whole-file ≤ length out
+    there-is-room h = omega (arith, h, fit .long)
+
+    pub fill-whole : e + m + 16 ≤ length out → (n : ℕ) → n ≡ length whole-file → (after : List ℕ) → after ≡ whole-file ++ drop (length whole-file) out
+        → Answered filling (record { number = 0; object = 0; component = 0; length = n }) out after
+    fill-whole h n l after is =
+        written-answer whole-file
+        (fit .is (length out) ∙ rw (foreseen ∙ ap foretold q, le-leb (length whole-file) (length out) (omega (arith, h, fit .long))) refl) n l out after is

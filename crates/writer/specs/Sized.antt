@@ -1,38 +1,52 @@
--- What is known of rows once ROW, COUNT and BIG are judged.
-use Prim.Native.Nat.{ℕ, _≤_}
+-- What is known of rows once all is judged that comes before the reader's refusal.
+use Prim.Native.Nat.{ℕ, _+_, _≤_}
 use mathlib.Core.List.{List, map}
 use mathlib.Core.Bool.{true}
 use mathlib.Core.Path.{_≡_}
 use lib.ListN.{length}
-use Rattle.meaning.specs.Check.{refuse}
+use lib.Dec.{leb}
+use Rattle.meaning.specs.Refusal.{ROOM}
+use Rattle.meaning.specs.Check.{Check, pass, refuse, _>>_, _unless_}
 use Rattle.meaning.specs.Limit.{manifestLimit, endLimit}
 use Rattle.meaning.specs.Read.{Span}
 use Rattle.meaning.specs.Asked.{asked}
 use Rattle.meaning.specs.Described.{Described, blobs, described}
 use Rattle.meaning.specs.Sound.{rowsSound}
-use Rattle.meaning.specs.Placement.{placement, lastEnd}
-use Rattle.meaning.specs.Manifest.{manifestBytes}
-use Rattle.meaning.specs.Write.{written}
-use Rattle.writer.specs.Told.{Numbers}
+use Rattle.meaning.specs.WrittenFile.{fileOf}
+use Rattle.meaning.specs.Write.{writtenAt}
+use Rattle.rows.specs.Running.{begun, turnLimit, reached, offsetsFrom}
+use Rattle.readback.specs.Judged.{judged}
 use Rattle.writer.specs.declared.Sized.{Sized}
 use Rattle.writer.specs.declared.Sized.the-variants.{No, Yes}
 
-module _ (rows : List ℕ) (objects components : ℕ) (attributes : Span) (buffer : List ℕ) where
+-- by a plan, or by the rule where it is empty
+module _ (plan rows : List ℕ) (objects components : ℕ) (attributes : Span) (buffer : List ℕ) where
   abbrev pub ofRows : Described
   ofRows = described buffer (asked rows objects components attributes)
 
+  abbrev pub lengthsOf : List ℕ
+  lengthsOf = map length (blobs ofRows)
+
   abbrev pub offsetsOf : List ℕ
-  offsetsOf = placement (map length (blobs ofRows))
+  offsetsOf = offsetsFrom plan (begun plan) lengthsOf
+
+  -- what is answered for an output of so many bytes, once the offsets are settled
+  abbrev pub fileAt : ℕ → Check (List ℕ)
+  fileAt room = writtenAt ofRows offsetsOf room
+
+  abbrev pub file : List ℕ
+  file = fileOf ofRows offsetsOf
 
   -- where the last blob ends, and how long the manifest is, both within their limits
   pub record Fit (end manifest : ℕ) : Type 0 where
     pub sound : rowsSound buffer rows objects components attributes ≡ true
-    pub numbers : Numbers rows
-    pub ends : end ≡ lastEnd offsetsOf (map length (blobs ofRows))
-    pub ends-in-time : end ≤ endLimit
-    pub long : manifest ≡ length (manifestBytes ofRows offsetsOf)
-    pub long-enough : manifest ≤ manifestLimit
+    pub turns : reached plan (begun plan) lengthsOf ≤ turnLimit plan
+    pub end-low : end ≤ endLimit
+    pub manifest-low : manifest ≤ manifestLimit
+    pub long : length file ≡ end + manifest + 16
+    pub is : (room : ℕ) → fileAt room ≡ (judged ofRows >> ((ROOM unless leb (length file) room) >> pass file))
 
-  abbrev pub Measures : Sized → Type 0
-  Measures (No n) = (room : ℕ) → written rows objects components attributes buffer room ≡ refuse n 0 0
-  Measures (Yes end manifest) = Fit end manifest
+  -- of the whole answer, by the output's length
+  abbrev pub Measures : (ℕ → Check (List ℕ)) → Sized → Type 0
+  Measures answer (No n o) = (room : ℕ) → answer room ≡ refuse n o 0
+  Measures answer (Yes end manifest) = Fit end manifest × ((room : ℕ) → answer room ≡ fileAt room)

@@ -1,13 +1,16 @@
-// The writer (document 01): rows and a lent buffer to a whole file in a lent output. Every check is made before a byte is written.
+// The writer (document 01, and document 02's Request 02): rows and a lent buffer to a whole file in a lent output, with blobs where the rule or a plan places them. Every check is made
+// before a byte is written.
 use foresee::Foreseen;
+use plan::Judged;
 use rows::sound;
 ghost use mathlib.Core.Path.{_≡_};
+ghost use mathlib.Core.List.{[]};
 ghost use Prim.Native.Nat.{_<_, _^_};
 ghost use lib.ListN.{length};
 ghost use Rattle.readback.specs.Lent.{Lent};
 ghost use Rattle.writer.specs.Told as is;
-ghost use Rattle.meaning.specs.Write.{written};
-ghost use Rattle.writer.specs.Sized.{Fit, Measures};
+ghost use Rattle.meaning.specs.Write.{written, writtenBy};
+ghost use Rattle.writer.specs.Sized.{fileAt, Fit, Measures};
 
 // The refusal with its object and component, or 0, 0 and 0; and the file's length, 0 on refusal.
 #[repr(C)]
@@ -46,9 +49,9 @@ fn all_below(rows: &[u64])
     }
 }
 
-// The number of a refusal of the rows alone; or where the last blob ends, and how long the manifest is.
+// A refusal's number and row; or where the last blob ends, and how long the manifest is.
 enum Sized {
-    No(u64),
+    No(u64, u64),
     Yes(u64, u64),
 }
 
@@ -61,26 +64,60 @@ fn measured(
     size: u64,
     buffer: &[u8],
 ) -> Sized
-    ensures sizes { λ r. ⌜ Measures (now (rows .entry)) objects components (record { place = place; size = size }) (now (buffer .entry)) r ⌝ }
+    ensures sizes { λ r. ⌜ Measures [] (now (rows .entry)) objects components (record { place = place; size = size }) (now (buffer .entry))
+        (written (now (rows .entry)) objects components (record { place = place; size = size }) (now (buffer .entry))) r ⌝ }
     ensures lent { λ r. ⌜ Lent (now (rows .entry)) (now (buffer .entry)) ⌝ }
 {
     all_below(rows);
     if !sound(rows, objects, components, place, size, buffer) {
-        return Sized::No(25);
+        return Sized::No(25, 0);
     }
     let end = sizes::last_end(rows, objects, components);
     if 1099511627776 < end {
-        return Sized::No(15);
+        return Sized::No(15, 0);
     }
-    let manifest = sizes::manifest(rows, objects, components, place, size);
+    let manifest = sizes::manifest(&rows[0..0], rows, objects, components, place, size);
     if 16777216 < manifest {
-        return Sized::No(4);
+        return Sized::No(4, 0);
     }
     Sized::Yes(end, manifest)
 }
 
+// ROW, PLAN and BIG, by a plan under a ceiling.
+fn measured_by(
+    plan: &[u64],
+    ceiling: u64,
+    rows: &[u64],
+    objects: u64,
+    components: u64,
+    place: u64,
+    size: u64,
+    buffer: &[u8],
+) -> Sized
+    ensures sizes { λ r. ⌜ Measures (now (plan .entry)) (now (rows .entry)) objects components (record { place = place; size = size }) (now (buffer .entry))
+        (writtenBy (now (rows .entry)) objects components (record { place = place; size = size }) (now (buffer .entry)) (now (plan .entry)) ceiling) r ⌝ }
+    ensures lent { λ r. ⌜ Lent (now (rows .entry)) (now (buffer .entry)) ⌝ }
+{
+    all_below(rows);
+    if !sound(rows, objects, components, place, size, buffer) {
+        return Sized::No(25, 0);
+    }
+    let first = (columns::OBJECT_64 * objects) as usize;
+    match plan::verdict(plan, &rows[first..], components as usize, ceiling) {
+        Judged::No(row) => Sized::No(27, row),
+        Judged::Yes(end) => {
+            let manifest = sizes::manifest(plan, rows, objects, components, place, size);
+            if 16777216 < manifest {
+                return Sized::No(4, 0);
+            }
+            Sized::Yes(end, manifest)
+        }
+    }
+}
+
 // Rows that fit: the refusal that the reader would give the file, ROOM, or the file.
 fn fill(
+    plan: &[u64],
     rows: &[u64],
     objects: u64,
     components: u64,
@@ -91,8 +128,8 @@ fn fill(
     manifest: u64,
     out: &mut [u8],
 ) -> Written
-    requires { ⌜ Fit (now rows) objects components (record { place = place; size = size }) (now buffer) end manifest ⌝ }
-    ensures { λ r. ⌜ is.Answered (written (now (rows .entry)) objects components (record { place = place; size = size }) (now (buffer .entry)) (length (now (out .entry)))) r (now (out .entry)) (now (out .exit)) ⌝ }
+    requires { ⌜ Fit (now plan) (now rows) objects components (record { place = place; size = size }) (now buffer) end manifest ⌝ }
+    ensures { λ r. ⌜ is.Answered (fileAt (now (plan .entry)) (now (rows .entry)) objects components (record { place = place; size = size }) (now (buffer .entry)) (length (now (out .entry)))) r (now (out .entry)) (now (out .exit)) ⌝ }
 {
     match foresee::verdict(rows, objects, components, place, size, buffer) {
         Foreseen::Fault(n, o, c) => refused(n, o as u64, c as u64),
@@ -100,7 +137,7 @@ fn fill(
             if (out.len() as u64) < end + manifest + 16 {
                 return refused(24, 0, 0);
             }
-            let n = layout::file(rows, objects, components, place, size, buffer, out);
+            let n = layout::file(plan, rows, objects, components, place, size, buffer, out);
             Written {
                 number: 0,
                 object: 0,
@@ -125,8 +162,41 @@ pub fn write(
     ensures lent { λ r. ⌜ Lent (now (rows .entry)) (now (buffer .entry)) ⌝ }
 {
     match measured(rows, objects, components, place, size, buffer) {
-        Sized::No(n) => refused(n, 0, 0),
+        Sized::No(n, o) => refused(n, o, 0),
         Sized::Yes(end, manifest) => fill(
+            &rows[0..0],
+            rows,
+            objects,
+            components,
+            place,
+            size,
+            buffer,
+            end,
+            manifest,
+            out,
+        ),
+    }
+}
+
+// The same with each blob at its offset in a plan, whose ends are at most at a ceiling.
+pub fn write_planned(
+    plan: &[u64],
+    ceiling: u64,
+    rows: &[u64],
+    objects: u64,
+    components: u64,
+    place: u64,
+    size: u64,
+    buffer: &[u8],
+    out: &mut [u8],
+) -> Written
+    ensures answer { λ r. ⌜ is.Answered (writtenBy (now (rows .entry)) objects components (record { place = place; size = size }) (now (buffer .entry)) (now (plan .entry)) ceiling (length (now (out .entry)))) r (now (out .entry)) (now (out .exit)) ⌝ }
+    ensures lent { λ r. ⌜ Lent (now (rows .entry)) (now (buffer .entry)) ⌝ }
+{
+    match measured_by(plan, ceiling, rows, objects, components, place, size, buffer) {
+        Sized::No(n, o) => refused(n, o, 0),
+        Sized::Yes(end, manifest) => fill(
+            plan,
             rows,
             objects,
             components,

@@ -10,7 +10,7 @@ ghost use lib.ListN.{length, replicate};
 ghost use Rattle.meaning.specs.Frame.{reading};
 ghost use Rattle.meaning.specs.Rows.{readInto, tableAfter};
 ghost use Rattle.meaning.specs.View.{viewed};
-ghost use Rattle.meaning.specs.Write.{written};
+ghost use Rattle.meaning.specs.Write.{written, writtenBy};
 ghost use Rattle.meaning.specs.Layouts.{current, layoutOf};
 ghost use Rattle.reader.specs.Verdict.{verdict};
 ghost use Rattle.reader.specs.Answer.{answered};
@@ -123,4 +123,25 @@ pub extern "C" fn zt_write(
     ensures lent { λ r. ⌜ Lent (now (rows .entry)) (now (buffer .entry)) ⌝ }
 {
     writer::write(rows, objects, components, place, size, buffer, out)
+}
+
+// The same with each blob at its offset in a plan, whose ends are at most at a ceiling.
+#[no_mangle]
+pub extern "C" fn zt_write_planned(
+    rows: &[u64],
+    objects: u64,
+    components: u64,
+    place: u64,
+    size: u64,
+    buffer: &[u8],
+    plan: &[u64],
+    ceiling: u64,
+    out: &mut [u8],
+) -> Written
+    ensures answer { λ r. ⌜ Answered (writtenBy (now (rows .entry)) objects components (record { place = place; size = size }) (now (buffer .entry)) (now (plan .entry)) ceiling (length (now (out .entry)))) r (now (out .entry)) (now (out .exit)) ⌝ }
+    ensures lent { λ r. ⌜ Lent (now (rows .entry)) (now (buffer .entry)) ⌝ }
+{
+    writer::write_planned(
+        plan, ceiling, rows, objects, components, place, size, buffer, out,
+    )
 }

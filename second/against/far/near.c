@@ -210,3 +210,8 @@ zt_written zt_write(const uint64_t *rows, size_t numbers, uint64_t objects, uint
     STRUCT(zt_written, zt_write, LENT(rows, numbers), NUMBER(objects), NUMBER(components), NUMBER(attributes_place), NUMBER(attributes_length),
            LENT(buffer, buffer_length), WRITTEN(out, out_room))
 }
+zt_written zt_write_planned(const uint64_t *rows, size_t numbers, uint64_t objects, uint64_t components, uint64_t attributes_place, uint64_t attributes_length,
+                            const uint8_t *buffer, size_t buffer_length, const uint64_t *plan, size_t planned, uint64_t ceiling, uint8_t *out, size_t out_room) {
+    STRUCT(zt_written, zt_write_planned, LENT(rows, numbers), NUMBER(objects), NUMBER(components), NUMBER(attributes_place), NUMBER(attributes_length),
+           LENT(buffer, buffer_length), LENT(plan, planned), NUMBER(ceiling), WRITTEN(out, out_room))
+}

@@ -34,9 +34,9 @@ int main(int count, char **words) {
         for (int i = 0; i < ARGUMENTS; i++) a[i] = m->argument[i] + (m->lent >> i & 1 ? (uint64_t)m->data : 0);
         pair (*f)() = calls[m->call].function;
         if (calls[m->call].words > 2) {
-            f(m->word, a[0], a[1], a[2], a[3], a[4], a[5], a[6], a[7], a[8], a[9]);
+            f(m->word, a[0], a[1], a[2], a[3], a[4], a[5], a[6], a[7], a[8], a[9], a[10], a[11], a[12]);
         } else {
-            pair p = f(a[0], a[1], a[2], a[3], a[4], a[5], a[6], a[7], a[8], a[9]);
+            pair p = f(a[0], a[1], a[2], a[3], a[4], a[5], a[6], a[7], a[8], a[9], a[10], a[11], a[12]);
             m->word[0] = p.first;
             m->word[1] = p.second;
         }

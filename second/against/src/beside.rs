@@ -1,7 +1,7 @@
 //! What the second program answers, in the shapes of the calls for C.
 
 use crate::{Answer, Listed, Written};
-use second::generate::RowSet;
+use second::generate::{PlannedSet, RowSet};
 use second::refusal::{INDEX, ROOM};
 use second::rows;
 
@@ -39,7 +39,15 @@ pub fn list(text: Option<&[u8]>, held: &mut [u8]) -> Listed {
     }
 }
 
-pub fn write(set: &RowSet, out: &mut [u8]) -> Written {
-    let w = set.write(out);
+/// The second program's answer for a writing.
+fn written(w: second::writer::Written) -> Written {
     Written { number: w.number.into(), object: w.object, component: w.component, length: w.length }
+}
+
+pub fn write(set: &RowSet, out: &mut [u8]) -> Written {
+    written(set.write(out))
+}
+
+pub fn write_planned(asked: &PlannedSet, out: &mut [u8]) -> Written {
+    written(asked.write(out))
 }

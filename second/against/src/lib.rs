@@ -1,6 +1,6 @@
 //! The proved leaves of `crates/exported` and the acceptance check of `crates/zt`, as safe functions.
 
-use second::generate::RowSet;
+use second::generate::{PlannedSet, RowSet};
 
 pub mod beside;
 pub mod tally;
@@ -290,6 +290,21 @@ mod zt {
             out: *mut u8,
             out_room: usize,
         ) -> super::Written;
+        pub fn zt_write_planned(
+            rows: *const u64,
+            numbers: usize,
+            objects: u64,
+            components: u64,
+            attributes_place: u64,
+            attributes_length: u64,
+            buffer: *const u8,
+            buffer_length: usize,
+            plan: *const u64,
+            planned: usize,
+            ceiling: u64,
+            out: *mut u8,
+            out_room: usize,
+        ) -> super::Written;
     }
 }
 
@@ -366,6 +381,28 @@ pub fn write(set: &RowSet, out: &mut [u8]) -> Written {
             set.attributes_length,
             set.buffer.as_ptr(),
             set.buffer.len(),
+            out.as_mut_ptr(),
+            out.len(),
+        )
+    }
+}
+
+pub fn write_planned(asked: &PlannedSet, out: &mut [u8]) -> Written {
+    let set = &asked.set;
+    // SAFETY: each pointer and length are a slice's, and the lent output overlaps neither rows nor buffer nor plan.
+    unsafe {
+        zt::zt_write_planned(
+            set.rows.as_ptr(),
+            set.rows.len(),
+            set.objects,
+            set.components,
+            set.attributes_place,
+            set.attributes_length,
+            set.buffer.as_ptr(),
+            set.buffer.len(),
+            asked.plan.as_ptr(),
+            asked.plan.len(),
+            asked.ceiling,
             out.as_mut_ptr(),
             out.len(),
         )

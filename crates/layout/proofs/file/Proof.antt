@@ -1,28 +1,68 @@
--- `layout::file` meets its contract: sound rows can be laid, and what is laid is the meaning's file. Assumes nothing.
-use mathlib.Core.Path.{sym, _∙_}
-use Rattle.rows.proofs.Lent as rows
-use Rattle.layout.proofs.Fit as fit
-use Rattle.layout.proofs.Meant as meant
-use Rattle.layout.proofs.Frames as frames
 use Rattle.layout.proofs.Walking as walking
-use Rattle.layout.specs.Rows.{WholeRows}
-use Rattle.layout.specs.Plain.{rootAttributes}
+use Rattle.layout.proofs.Frames as frames
+use Rattle.layout.proofs.Meant as meant
+use Rattle.layout.proofs.Fit as fit
 use Rattle.layout.specs.Pieces.{wholeOf}
+use Rattle.layout.specs.AskedFile.{rootAttributes}
+use Rattle.layout.specs.Rows.{WholeRows}
 use Rattle.emit.proofs.Laying as laying
+use Rattle.rows.proofs.Lent as rows
+use mathlib.Core.Path.{sym, _∙_}
 use borrow.Author.Needs.{needs}
 use Rattle.layout.proofs.file.Statement.{statement}
 use Rattle.layout.proofs.file.Tie as tie
+use Rattle.layout.proofs.file.Reads as reads
+use Rattle.layout.proofs.file.Lts as lts
+use Rattle.layout.proofs.framing.whole.Reads as whole-reads
+
+-- src/lib.rt:37:9
+sub-whole : tie.Need-sub-whole
+sub-whole c = search needs
+
+-- src/lib.rt:37:9
+part-whole-start : tie.Need-part-whole-start
+part-whole-start c = search needs
+
+-- src/lib.rt:37:9
+part-whole-end : tie.Need-part-whole-end
+part-whole-end c = search needs
+
+-- src/lib.rt:39:9
+sub-whole-2 : tie.Need-sub-whole-2
+sub-whole-2 c = search needs
+
+-- src/lib.rt:39:9
+part-whole-start-2 : tie.Need-part-whole-start-2
+part-whole-start-2 c = search needs
+
+-- src/lib.rt:39:9
+part-whole-end-2 : tie.Need-part-whole-end-2
+part-whole-end-2 c = search needs
+
+-- src/lib.rt:35:5
+whole-requires : tie.Need-whole-requires
+whole-requires c κs = let a = (c .before .before .before .before .before .before .before .args) in let fits = fit.rows-fit (a .buffer .now) (a .plan .now) (a .rows .now) (a .objects) (a .components) (rootAttributes (a .place) (a .size)) ((c .before .before .before .before .before .before .before .pre .0)) ((c .before .before .before .before .before .before .before .pre .1 .0)) in
+    (walking.as-lent (a .buffer .now) (a .rows .now) 0 (λ b r. WholeRows b (a .plan .now) r (a .objects) (a .components) (a .place) (a .size)) fits, laying.room-as (sym (meant.whole-meant (a .buffer .now) (a .plan .now) (a .rows .now) (a .objects) (a .components) (a .place) (a .size) ((c .before .before .before .before .before .before .before .pre .0)) fits) ∙ sym (rows.lent-both (a .buffer .now) (a .rows .now) 0 (λ b r. wholeOf b (a .plan .now) r (a .objects) (a .components) (a .place) (a .size)))) (frames.room-at-start _ _ ((c .before .before .before .before .before .before .before .pre .1 .1))))
+
+-- src/lib.rt:17:1
+same-length : tie.Need-same-length
+same-length c = search needs
+
+-- src/lib.rt:17:1
+returns : tie.Need-returns
+returns c = let a = (c .before .before .before .before .before .before .before .before .before .before .args) in let fits = fit.rows-fit (a .buffer .now) (a .plan .now) (a .rows .now) (a .objects) (a .components) (rootAttributes (a .place) (a .size)) ((c .before .before .before .before .before .before .before .before .before .before .pre .0)) ((c .before .before .before .before .before .before .before .before .before .before .pre .1 .0)) in
+    frames.from-start (laying.as-bytes ((rows.lent-both (a .buffer .now) (a .rows .now) 0 (λ b r. wholeOf b (a .plan .now) r (a .objects) (a .components) (a .place) (a .size))) ∙ (meant.whole-meant (a .buffer .now) (a .plan .now) (a .rows .now) (a .objects) (a .components) (a .place) (a .size) ((c .before .before .before .before .before .before .before .before .before .before .pre .0)) fits)) ((c .before .before .whole .ensures)))
 
 pub file-spec : {M : Type 1} → statement M
 file-spec =
     tie.close
     (tie.spec
-    (λ c. search needs)
-    (λ c. search needs)
-    (λ c. search needs)
-    (λ c. search needs)
-    (λ c. search needs)
-    (λ c. search needs)
-    (λ c κs. (walking.as-lent (c .before .before .before .before .before .before .args .buffer .now) (c .before .before .before .before .before .before .args .rows .now) 0 (λ b r. WholeRows b r (c .before .before .before .before .before .before .args .objects) (c .before .before .before .before .before .before .args .components) (c .before .before .before .before .before .before .args .place) (c .before .before .before .before .before .before .args .size)) (fit.rows-fit (c .before .before .before .before .before .before .args .buffer .now) (c .before .before .before .before .before .before .args .rows .now) (c .before .before .before .before .before .before .args .objects) (c .before .before .before .before .before .before .args .components) (rootAttributes (c .before .before .before .before .before .before .args .place) (c .before .before .before .before .before .before .args .size)) (c .before .before .before .before .before .before .pre .0) (c .before .before .before .before .before .before .pre .1 .0)), laying.room-as (sym (meant.whole-meant (c .before .before .before .before .before .before .args .buffer .now) (c .before .before .before .before .before .before .args .rows .now) (c .before .before .before .before .before .before .args .objects) (c .before .before .before .before .before .before .args .components) (c .before .before .before .before .before .before .args .place) (c .before .before .before .before .before .before .args .size) (c .before .before .before .before .before .before .pre .0) (fit.rows-fit (c .before .before .before .before .before .before .args .buffer .now) (c .before .before .before .before .before .before .args .rows .now) (c .before .before .before .before .before .before .args .objects) (c .before .before .before .before .before .before .args .components) (rootAttributes (c .before .before .before .before .before .before .args .place) (c .before .before .before .before .before .before .args .size)) (c .before .before .before .before .before .before .pre .0) (c .before .before .before .before .before .before .pre .1 .0))) ∙ sym (rows.lent-both (c .before .before .before .before .before .before .args .buffer .now) (c .before .before .before .before .before .before .args .rows .now) 0 (λ b r. wholeOf b r (c .before .before .before .before .before .before .args .objects) (c .before .before .before .before .before .before .args .components) (c .before .before .before .before .before .before .args .place) (c .before .before .before .before .before .before .args .size)))) (frames.room-at-start _ _ (c .before .before .before .before .before .before .pre .1 .1))))
-    (λ c. search needs)
-    (λ c. frames.from-start (laying.as-bytes ((rows.lent-both (c .before .before .before .before .before .before .before .before .before .args .buffer .now) (c .before .before .before .before .before .before .before .before .before .args .rows .now) 0 (λ b r. wholeOf b r (c .before .before .before .before .before .before .before .before .before .args .objects) (c .before .before .before .before .before .before .before .before .before .args .components) (c .before .before .before .before .before .before .before .before .before .args .place) (c .before .before .before .before .before .before .before .before .before .args .size))) ∙ (meant.whole-meant (c .before .before .before .before .before .before .before .before .before .args .buffer .now) (c .before .before .before .before .before .before .before .before .before .args .rows .now) (c .before .before .before .before .before .before .before .before .before .args .objects) (c .before .before .before .before .before .before .before .before .before .args .components) (c .before .before .before .before .before .before .before .before .before .args .place) (c .before .before .before .before .before .before .before .before .before .args .size) (c .before .before .before .before .before .before .before .before .before .pre .0) (fit.rows-fit (c .before .before .before .before .before .before .before .before .before .args .buffer .now) (c .before .before .before .before .before .before .before .before .before .args .rows .now) (c .before .before .before .before .before .before .before .before .before .args .objects) (c .before .before .before .before .before .before .before .before .before .args .components) (rootAttributes (c .before .before .before .before .before .before .before .before .before .args .place) (c .before .before .before .before .before .before .before .before .before .args .size)) (c .before .before .before .before .before .before .before .before .before .pre .0) (c .before .before .before .before .before .before .before .before .before .pre .1 .0)))) (c .before .before .whole .ensures))))
+    sub-whole
+    part-whole-start
+    part-whole-end
+    sub-whole-2
+    part-whole-start-2
+    part-whole-end-2
+    whole-requires
+    same-length
+    returns)

@@ -1,7 +1,7 @@
 -- `sizes::last_end` meets its contract: a law for each branch.
 use borrow.Rule.Slice.PartAt.{part-to-end}
 use mathlib.Core.Path.{ap, sym, _∙_}
-use mathlib.Core.List.{List}
+use mathlib.Core.List.{List, []}
 use Prim.Native.Nat.{ℕ, _*_}
 use Rattle.meaning.specs.Columns.{objectWidth, componentWidth}
 use Rattle.meaning.specs.Asked.{eachRow, askedComponent}
@@ -14,4 +14,4 @@ use Rattle.sizes.proofs.last_end.Tie as tie
 
 pub last-end-spec : {M : Type 1} → statement M
 last-end-spec =
-    tie.close (tie.spec (λ c. search needs) (λ c. search needs) (λ c. search needs) (λ c. search needs) (λ c. search needs) (λ c κs. search needs) (λ c. λ buffer attributes sound. (c .end .ensures) ∙ ap (λ (s : List ℕ). cappedEnd (reached 8 (blobSizes (eachRow askedComponent componentWidth ((c .before .before .before .args .components)) s)))) (part-to-end ((c .before .before .before .args .rows .now)) (objectWidth * ((c .before .before .before .args .objects)))) ∙ ap cappedEnd (sym (law.end-is buffer ((c .before .before .before .args .rows .now)) ((c .before .before .before .args .objects)) ((c .before .before .before .args .components)) attributes sound))))
+    tie.close (tie.spec (λ c. search needs) (λ c. search needs) (λ c. search needs) (λ c. search needs) (λ c. search needs) (λ c κs. search needs) (λ c. λ buffer attributes sound. (c .end .ensures) ∙ ap (λ (s : List ℕ). cappedEnd (reached [] 8 (blobSizes (eachRow askedComponent componentWidth ((c .before .before .before .args .components)) s)))) (part-to-end ((c .before .before .before .args .rows .now)) (objectWidth * ((c .before .before .before .args .objects)))) ∙ ap cappedEnd (sym (law.end-is buffer ((c .before .before .before .args .rows .now)) ((c .before .before .before .args .objects)) ((c .before .before .before .args .components)) attributes sound))))

@@ -1,24 +1,93 @@
--- `layout::components::blobs_at` meets its contract: the invariant says what is laid and what is still to be. Assumes nothing.
-use borrow.Author.Needs.{needs}
-use Prim.Native.Nat.{_+_}
-use lib.ListN.{getD, take, drop}
-use native.Mathlib.Omega.{arith}
-use mathlib.Core.Path.{sym}
-use Rattle.meaning.specs.Columns.{offsetColumn, lengthColumn}
-use Rattle.emit.proofs.Laying as laying
-use Rattle.layout.specs.Rows.{Within}
-use Rattle.layout.proofs.Walking as walking
-use Rattle.rows.proofs.Running as rows
 use Rattle.layout.proofs.Turns as turns
+use Rattle.layout.proofs.Walking as walking
 use Rattle.layout.specs.Pieces.{blobsOf}
+use Rattle.rows.specs.Running.{begun}
+use Rattle.emit.proofs.Laying as laying
+use lib.ListN.{take}
+use native.Mathlib.Omega.{arith}
+use borrow.Author.Needs.{needs}
 use Rattle.layout.proofs.components.blobs_at.Statement.{statement}
 use Rattle.layout.proofs.components.blobs_at.Tie as tie
+use Rattle.layout.proofs.components.blobs_at.Reads as reads
+use Rattle.layout.proofs.components.blobs_at.Lts as lts
+use Rattle.layout.proofs.components.blob_at.Reads as blob-at-reads
+use Rattle.sizes.proofs.placing.first_turn.Reads as first-turn-reads
+use Rattle.sizes.proofs.placing.offset_at.Reads as offset-at-reads
+use Rattle.sizes.proofs.placing.stepped.Reads as stepped-reads
 
 abbrev Inv-loop : tie.InvT-loop
-Inv-loop out₀ at buffer rows n first past₀ row₀ left₀ out past row left = turns.BlobsLeft buffer rows (blobsOf buffer rows n first at) at out₀ left row past out
+Inv-loop out₀ at buffer plan rows n first past₀ row₀ left₀ turn₀ out past row left turn = turns.BlobsLeft buffer plan rows (blobsOf buffer plan rows (take at out₀) n first (begun plan)) out₀ left row turn past out
 
 abbrev μ-loop : tie.MeasureT-loop
-μ-loop out₀ at buffer rows n first past₀ row₀ left₀ out past row left = left
+μ-loop out₀ at buffer plan rows n first past₀ row₀ left₀ turn₀ out past row left turn = left
+
+-- src/components.rt:84:9
+first-turn-requires : tie.Need-first-turn-requires Inv-loop μ-loop
+first-turn-requires c κs = search needs
+
+-- src/components.rt:85:5
+loop-holds : tie.Need-loop-holds Inv-loop μ-loop
+loop-holds c = turns.blobs-begin ((c .before .before .before .before .before .pre .0)) ((c .before .before .before .before .before .pre .1)) ((c .first-turn .ensures))
+
+-- src/components.rt:86:21
+offset-at-requires : tie.Need-offset-at-requires Inv-loop μ-loop
+offset-at-requires c κs = walking.reached-low ((c .before .loop .inv .rest))
+
+-- src/components.rt:87:25
+add-size : tie.Need-add-size Inv-loop μ-loop
+add-size c = let l = walking.first-long ((c .before .before .loop .inv .rest)) ((c .before .loop-test .taken)) in let g = (c .before .before .before .before .before .before .before .before .good) in omega arith
+
+-- src/components.rt:87:20
+mul-size : tie.Need-mul-size Inv-loop μ-loop
+mul-size c = let l = walking.first-long ((c .before .before .loop .inv .rest)) ((c .before .loop-test .taken)) in let g = (c .before .before .before .before .before .before .before .before .good) in omega arith
+
+-- src/components.rt:87:20
+shared-slice-read-size : tie.Need-shared-slice-read-size Inv-loop μ-loop
+shared-slice-read-size c = omega (arith, walking.first-long ((c .before .before .before .loop .inv .rest)) ((c .before .before .loop-test .taken)))
+
+-- src/components.rt:88:55
+add-blob-at : tie.Need-add-blob-at Inv-loop μ-loop
+add-blob-at c = let l = walking.first-long ((c .before .before .before .before .loop .inv .rest)) ((c .before .before .before .loop-test .taken)) in let g = (c .before .before .before .before .before .before .before .before .before .before .good) in omega arith
+
+-- src/components.rt:88:50
+mul-blob-at : tie.Need-mul-blob-at Inv-loop μ-loop
+mul-blob-at c = let l = walking.first-long ((c .before .before .before .before .loop .inv .rest)) ((c .before .before .before .loop-test .taken)) in let g = (c .before .before .before .before .before .before .before .before .before .before .good) in omega arith
+
+-- src/components.rt:88:50
+shared-slice-read-blob-at : tie.Need-shared-slice-read-blob-at Inv-loop μ-loop
+shared-slice-read-blob-at c = omega (arith, walking.first-long ((c .before .before .before .before .before .loop .inv .rest)) ((c .before .before .before .before .loop-test .taken)))
+
+-- src/components.rt:88:9
+blob-at-requires : tie.Need-blob-at-requires Inv-loop μ-loop
+blob-at-requires c κs = (walking.first-blob ((c .before .before .before .before .before .loop .inv .rest)) ((c .before .before .before .before .loop-test .taken)), turns.room-for-blob ((c .before .before .before .before .before .loop .inv)) ((c .before .before .before .before .loop-test .taken)) ((c .before .before .before .offset-at .ensures)))
+
+-- src/components.rt:89:9
+stepped-requires : tie.Need-stepped-requires Inv-loop μ-loop
+stepped-requires c κs = walking.next-low ((c .before .before .before .before .before .before .before .before .loop .inv .rest)) ((c .before .before .before .before .before .before .before .loop-test .taken))
+
+-- src/components.rt:90:9
+add-row : tie.Need-add-row Inv-loop μ-loop
+add-row c = let l = walking.first-long ((c .before .before .before .before .before .before .before .before .before .loop .inv .rest)) ((c .before .before .before .before .before .before .before .before .loop-test .taken)) in let g = (c .before .before .before .before .before .before .before .before .before .before .before .before .before .before .before .good) in omega arith
+
+-- src/components.rt:91:9
+sub-left : tie.Need-sub-left Inv-loop μ-loop
+sub-left c = search needs
+
+-- src/components.rt:85:5
+loop-less : tie.Need-loop-less Inv-loop μ-loop
+loop-less c = search needs
+
+-- src/components.rt:85:5
+loop-again : tie.Need-loop-again Inv-loop μ-loop
+loop-again c = turns.blob-turn ((c .before .before .before .before .before .before .before .before .before .loop .inv)) ((c .before .before .before .before .before .before .before .before .loop-test .taken)) ((c .before .before .before .before .before .before .before .offset-at .ensures)) ((c .before .before .before .blob-at .ensures)) ((c .stepped .ensures))
+
+-- src/components.rt:68:1
+same-length : tie.Need-same-length Inv-loop μ-loop
+same-length c = laying.same-length ((c .before .loop .inv .laid))
+
+-- src/components.rt:68:1
+returns : tie.Need-returns Inv-loop μ-loop
+returns c = turns.all-blobs ((c .before .loop .inv)) ((c .loop-test .left))
 
 pub blobs-at-spec : {M : Type 1} → statement M
 blobs-at-spec =
@@ -26,23 +95,20 @@ blobs-at-spec =
     (tie.spec
     Inv-loop
     μ-loop
-    (λ c. record { rest = (c .before .before .before .pre .0); going = laying.going _ _ _ (c .before .before .before .pre .1) })
-    (λ c κs. walking.reached-low (c .before .loop .inv .rest))
-    (λ c. omega (arith, (c .aligned .ensures), rows.aligned-above (c .before .before .loop .past)))
-    (λ c κs. laying.room-as (sym (turns.gap _ (c .before .aligned .ensures))) (turns.room-for-gap (c .before .before .before .loop .inv) (c .before .before .loop-test .taken)))
-    (λ c. omega arith)
-    (λ c. omega arith)
-    (λ c. search needs)
-    (λ c. let l = walking.first-long (c .before .before .before .before .before .before .before .before .loop .inv .rest) (c .before .before .before .before .before .before .before .loop-test .taken) in let g = (c .before .before .before .before .before .before .before .before .before .before .before .before .good) in omega arith)
-    (λ c. let l = walking.first-long (c .before .before .before .before .before .before .before .before .loop .inv .rest) (c .before .before .before .before .before .before .before .loop-test .taken) in let g = (c .before .before .before .before .before .before .before .before .before .before .before .before .good) in omega arith)
-    (λ c. omega (arith, walking.first-long (c .before .before .before .before .before .before .before .before .before .loop .inv .rest) (c .before .before .before .before .before .before .before .before .loop-test .taken)))
-    (λ c. let l = walking.first-long (c .before .before .before .before .before .before .before .before .before .loop .inv .rest) (c .before .before .before .before .before .before .before .before .loop-test .taken) in let g = (c .before .before .before .before .before .before .before .before .before .before .before .before .before .good) in omega arith)
-    (λ c. let l = walking.first-long (c .before .before .before .before .before .before .before .before .before .loop .inv .rest) (c .before .before .before .before .before .before .before .before .loop-test .taken) in let g = (c .before .before .before .before .before .before .before .before .before .before .before .before .before .good) in omega arith)
-    (λ c. omega (arith, walking.first-long (c .before .before .before .before .before .before .before .before .before .before .loop .inv .rest) (c .before .before .before .before .before .before .before .before .before .loop-test .taken)))
-    (λ c κs. (turns.as-whole (c .before .before .before .before .before .before .before .before .before .before .before .before .before .before .args .buffer .now) (λ b. Within b (getD (c .before .before .before .before .before .before .before .before .before .before .before .before .before .before .args .rows .now) ((c .before .before .before .before .before .before .before .before .before .before .loop .row) + offsetColumn) 0) (getD (c .before .before .before .before .before .before .before .before .before .before .before .before .before .before .args .rows .now) ((c .before .before .before .before .before .before .before .before .before .before .loop .row) + lengthColumn) 0)) (walking.first-blob (c .before .before .before .before .before .before .before .before .before .before .loop .inv .rest) (c .before .before .before .before .before .before .before .before .before .loop-test .taken)), laying.room-as (sym (turns.whole (c .before .before .before .before .before .before .before .before .before .before .before .before .before .before .args .buffer .now) (λ b. take (getD (c .before .before .before .before .before .before .before .before .before .before .before .before .before .before .args .rows .now) ((c .before .before .before .before .before .before .before .before .before .before .loop .row) + lengthColumn) 0) (drop (getD (c .before .before .before .before .before .before .before .before .before .before .before .before .before .before .args .rows .now) ((c .before .before .before .before .before .before .before .before .before .before .loop .row) + offsetColumn) 0) b)))) (turns.room-for-blob (c .before .before .before .before .before .before .before .before .before .before .loop .inv) (c .before .before .before .before .before .before .before .before .before .loop-test .taken) (laying.as-bytes (turns.gap _ (c .before .before .before .before .before .before .before .before .aligned .ensures)) (c .before .before .before .before .before .before .zeros-at .ensures)))))
-    (λ c. omega (arith, walking.first-long (c .before .before .before .before .before .before .before .before .before .before .before .before .before .loop .inv .rest) (c .before .before .before .before .before .before .before .before .before .before .before .before .loop-test .taken), (c .before .before .before .before .before .before .before .before .before .before .before .before .before .before .before .before .before .good)))
-    (λ c. search needs)
-    (λ c. search needs)
-    (λ c. turns.blob-turn (c .before .before .before .before .before .before .before .before .before .before .before .before .before .loop .inv) (c .before .before .before .before .before .before .before .before .before .before .before .before .loop-test .taken) (laying.as-bytes (turns.gap _ (c .before .before .before .before .before .before .before .before .before .before .before .aligned .ensures)) (c .before .before .before .before .before .before .before .before .before .zeros-at .ensures)) (laying.as-bytes (turns.whole (c .before .before .before .before .before .before .before .before .before .before .before .before .before .before .before .before .before .args .buffer .now) (λ b. take (getD (c .before .before .before .before .before .before .before .before .before .before .before .before .before .before .before .before .before .args .rows .now) ((c .before .before .before .before .before .before .before .before .before .before .before .before .before .loop .row) + lengthColumn) 0) (drop (getD (c .before .before .before .before .before .before .before .before .before .before .before .before .before .before .before .before .before .args .rows .now) ((c .before .before .before .before .before .before .before .before .before .before .before .before .before .loop .row) + offsetColumn) 0) b))) (c .before .before .range-at .ensures)))
-    (λ c. laying.same-so-far (c .before .loop .inv .going))
-    (λ c. laying.all-laid (c .before .loop .inv .going) (walking.blobs-none _ _ _ _ _ (c .loop-test .left))))
+    first-turn-requires
+    loop-holds
+    offset-at-requires
+    add-size
+    mul-size
+    shared-slice-read-size
+    add-blob-at
+    mul-blob-at
+    shared-slice-read-blob-at
+    blob-at-requires
+    stepped-requires
+    add-row
+    sub-left
+    loop-less
+    loop-again
+    same-length
+    returns)

@@ -1,24 +1,177 @@
--- `layout::objects::objects_at` meets its contract: the invariant says what is laid and what is still to be. Assumes nothing.
-use Rattle.meaning.specs.Columns.{countColumn}
-use Rattle.rows.proofs.Lent as rows
-use Prim.Native.Nat.{_+_}
-use lib.ListN.{getD}
-use native.Mathlib.Omega.{arith}
-use mathlib.Core.Path.{sym, _∙_}
-use Rattle.emit.proofs.Laying as laying
-use Rattle.layout.specs.Rows.{ObjectRow, ComponentRows}
-use Rattle.layout.proofs.Walking as walking
 use Rattle.layout.proofs.Turns as turns
+use Rattle.layout.proofs.Walking as walking
 use Rattle.layout.specs.Pieces.{objectsOf, componentsOf, objectFront, objectRest, reachedPast}
+use Rattle.layout.specs.Rows.{ObjectRow, ComponentRows}
+use Rattle.emit.proofs.Laying as laying
+use Rattle.rows.proofs.Lent as rows
+use Rattle.rows.specs.Running.{begun}
+use Rattle.meaning.specs.Columns.{countColumn}
+use lib.ListN.{getD}
+use mathlib.Core.Path.{sym, _∙_}
+use native.Mathlib.Omega.{arith}
+use Prim.Native.Nat.{_+_}
 use borrow.Author.Needs.{needs}
 use Rattle.layout.proofs.objects.objects_at.Statement.{statement}
 use Rattle.layout.proofs.objects.objects_at.Tie as tie
+use Rattle.layout.proofs.objects.objects_at.Reads as reads
+use Rattle.layout.proofs.objects.objects_at.Lts as lts
+use Rattle.layout.proofs.components.components_at.Reads as components-at-reads
+use Rattle.layout.proofs.objects.front_at.Reads as front-at-reads
+use Rattle.layout.proofs.objects.rest_at.Reads as rest-at-reads
+use Rattle.sizes.proofs.placing.first_turn.Reads as first-turn-reads
 
 abbrev Inv-loop : tie.InvT-loop
-Inv-loop out₀ at buffer rows n first past₀ row₀ from₀ reached₀ left₀ out past row from reached left = turns.ObjectsLeft buffer rows (objectsOf buffer rows n 0 first 8) at out₀ left row from reached past out
+Inv-loop out₀ at buffer plan rows n first past₀ row₀ from₀ turn₀ left₀ out past row from turn left =
+    turns.ObjectsLeft buffer plan rows (objectsOf buffer plan rows n 0 first (begun plan)) at out₀ left row from turn past out
 
 abbrev μ-loop : tie.MeasureT-loop
-μ-loop out₀ at buffer rows n first past₀ row₀ from₀ reached₀ left₀ out past row from reached left = left
+μ-loop out₀ at buffer plan rows n first past₀ row₀ from₀ turn₀ left₀ out past row from turn left = left
+
+-- src/objects.rt:79:9
+first-turn-requires : tie.Need-first-turn-requires Inv-loop μ-loop
+first-turn-requires c κs = search needs
+
+-- src/objects.rt:81:5
+loop-holds : tie.Need-loop-holds Inv-loop μ-loop
+loop-holds c = turns.objects-begin ((c .before .before .before .before .before .pre .0)) ((c .before .before .before .before .before .pre .1)) ((c .first-turn .ensures))
+
+-- src/objects.rt:82:26
+add-count : tie.Need-add-count Inv-loop μ-loop
+add-count c = let l = walking.object-long ((c .before .loop .inv .rest)) ((c .loop-test .taken)) in let g = (c .before .before .before .before .before .before .before .good) in omega arith
+
+-- src/objects.rt:82:21
+mul-count : tie.Need-mul-count Inv-loop μ-loop
+mul-count c = let l = walking.object-long ((c .before .loop .inv .rest)) ((c .loop-test .taken)) in let g = (c .before .before .before .before .before .before .before .good) in omega arith
+
+-- src/objects.rt:82:21
+shared-slice-read-count : tie.Need-shared-slice-read-count Inv-loop μ-loop
+shared-slice-read-count c = omega (arith, walking.object-long ((c .before .before .loop .inv .rest)) ((c .before .loop-test .taken)))
+
+-- src/objects.rt:83:41
+sub-front-at : tie.Need-sub-front-at Inv-loop μ-loop
+sub-front-at c = search needs
+
+-- src/objects.rt:83:41
+part-front-at-start : tie.Need-part-front-at-start Inv-loop μ-loop
+part-front-at-start c = search needs
+
+-- src/objects.rt:83:41
+part-front-at-end : tie.Need-part-front-at-end Inv-loop μ-loop
+part-front-at-end c = search needs
+
+-- src/objects.rt:83:55
+mul-front-at : tie.Need-mul-front-at Inv-loop μ-loop
+mul-front-at c = let l = walking.object-long ((c .before .before .before .before .loop .inv .rest)) ((c .before .before .before .loop-test .taken)) in let g = (c .before .before .before .before .before .before .before .before .before .before .good) in omega arith
+
+-- src/objects.rt:83:55
+sub-front-at-2 : tie.Need-sub-front-at-2 Inv-loop μ-loop
+sub-front-at-2 c = omega (arith, walking.object-long ((c .before .before .before .before .loop .inv .rest)) ((c .before .before .before .loop-test .taken)))
+
+-- src/objects.rt:83:55
+part-front-at-start-2 : tie.Need-part-front-at-start-2 Inv-loop μ-loop
+part-front-at-start-2 c = omega (arith, walking.object-long ((c .before .before .before .before .loop .inv .rest)) ((c .before .before .before .loop-test .taken)))
+
+-- src/objects.rt:83:55
+part-front-at-end-2 : tie.Need-part-front-at-end-2 Inv-loop μ-loop
+part-front-at-end-2 c = search needs
+
+-- src/objects.rt:83:13
+front-at-requires : tie.Need-front-at-requires Inv-loop μ-loop
+front-at-requires c κs = (walking.as-lent ((c .before .before .before .before .before .before .before .before .before .before .before .args .buffer .now)) ((c .before .before .before .before .before .before .before .before .before .before .before .args .rows .now)) ((c .before .before .before .before .before .loop .row)) ObjectRow (walking.first-object ((c .before .before .before .before .before .loop .inv .rest)) ((c .before .before .before .before .loop-test .taken))), laying.room-as (sym (rows.lent-both ((c .before .before .before .before .before .before .before .before .before .before .before .args .buffer .now)) ((c .before .before .before .before .before .before .before .before .before .before .before .args .rows .now)) ((c .before .before .before .before .before .loop .row)) objectFront)) (turns.room-for-front ((c .before .before .before .before .before .loop .inv)) ((c .before .before .before .before .loop-test .taken))))
+
+-- src/objects.rt:84:40
+sub-rest-at : tie.Need-sub-rest-at Inv-loop μ-loop
+sub-rest-at c = search needs
+
+-- src/objects.rt:84:40
+part-rest-at-start : tie.Need-part-rest-at-start Inv-loop μ-loop
+part-rest-at-start c = search needs
+
+-- src/objects.rt:84:40
+part-rest-at-end : tie.Need-part-rest-at-end Inv-loop μ-loop
+part-rest-at-end c = search needs
+
+-- src/objects.rt:84:54
+mul-rest-at : tie.Need-mul-rest-at Inv-loop μ-loop
+mul-rest-at c = let l = walking.object-long ((c .before .before .before .before .before .before .before .before .before .before .loop .inv .rest)) ((c .before .before .before .before .before .before .before .before .before .loop-test .taken)) in let g = (c .before .before .before .before .before .before .before .before .before .before .before .before .before .before .before .before .good) in omega arith
+
+-- src/objects.rt:84:54
+sub-rest-at-2 : tie.Need-sub-rest-at-2 Inv-loop μ-loop
+sub-rest-at-2 c = omega (arith, walking.object-long ((c .before .before .before .before .before .before .before .before .before .before .loop .inv .rest)) ((c .before .before .before .before .before .before .before .before .before .loop-test .taken)))
+
+-- src/objects.rt:84:54
+part-rest-at-start-2 : tie.Need-part-rest-at-start-2 Inv-loop μ-loop
+part-rest-at-start-2 c = omega (arith, walking.object-long ((c .before .before .before .before .before .before .before .before .before .before .loop .inv .rest)) ((c .before .before .before .before .before .before .before .before .before .loop-test .taken)))
+
+-- src/objects.rt:84:54
+part-rest-at-end-2 : tie.Need-part-rest-at-end-2 Inv-loop μ-loop
+part-rest-at-end-2 c = search needs
+
+-- src/objects.rt:84:13
+rest-at-requires : tie.Need-rest-at-requires Inv-loop μ-loop
+rest-at-requires c κs = (walking.as-lent ((c .before .before .before .before .before .before .before .before .before .before .before .before .before .before .before .before .before .args .buffer .now)) ((c .before .before .before .before .before .before .before .before .before .before .before .before .before .before .before .before .before .args .rows .now)) ((c .before .before .before .before .before .before .before .before .before .before .before .loop .row)) ObjectRow (walking.first-object ((c .before .before .before .before .before .before .before .before .before .before .before .loop .inv .rest)) ((c .before .before .before .before .before .before .before .before .before .before .loop-test .taken))), laying.room-as (sym (rows.lent-both ((c .before .before .before .before .before .before .before .before .before .before .before .before .before .before .before .before .before .args .buffer .now)) ((c .before .before .before .before .before .before .before .before .before .before .before .before .before .before .before .before .before .args .rows .now)) ((c .before .before .before .before .before .before .before .before .before .before .before .loop .row)) objectRest)) (turns.room-for-rest ((c .before .before .before .before .before .before .before .before .before .before .before .loop .inv)) ((c .before .before .before .before .before .before .before .before .before .before .loop-test .taken)) (laying.as-bytes (rows.lent-both ((c .before .before .before .before .before .before .before .before .before .before .before .before .before .before .before .before .before .args .buffer .now)) ((c .before .before .before .before .before .before .before .before .before .before .before .before .before .before .before .before .before .args .rows .now)) ((c .before .before .before .before .before .before .before .before .before .before .before .loop .row)) objectFront) ((c .before .before .before .before .before .front-at .ensures)))))
+
+-- src/objects.rt:85:42
+sub-components-at : tie.Need-sub-components-at Inv-loop μ-loop
+sub-components-at c = search needs
+
+-- src/objects.rt:85:42
+part-components-at-start : tie.Need-part-components-at-start Inv-loop μ-loop
+part-components-at-start c = search needs
+
+-- src/objects.rt:85:42
+part-components-at-end : tie.Need-part-components-at-end Inv-loop μ-loop
+part-components-at-end c = search needs
+
+-- src/objects.rt:85:62
+sub-components-at-2 : tie.Need-sub-components-at-2 Inv-loop μ-loop
+sub-components-at-2 c = search needs
+
+-- src/objects.rt:85:62
+part-components-at-start-2 : tie.Need-part-components-at-start-2 Inv-loop μ-loop
+part-components-at-start-2 c = search needs
+
+-- src/objects.rt:85:62
+part-components-at-end-2 : tie.Need-part-components-at-end-2 Inv-loop μ-loop
+part-components-at-end-2 c = search needs
+
+-- src/objects.rt:85:13
+components-at-requires : tie.Need-components-at-requires Inv-loop μ-loop
+components-at-requires c κs = (walking.as-lent ((c .before .before .before .before .before .before .before .before .before .before .before .before .before .before .before .before .before .before .before .before .before .before .before .args .buffer .now)) ((c .before .before .before .before .before .before .before .before .before .before .before .before .before .before .before .before .before .before .before .before .before .before .before .args .rows .now)) 0 (λ b r. ComponentRows b ((c .before .before .before .before .before .before .before .before .before .before .before .before .before .before .before .before .before .before .before .before .before .before .before .args .plan .now)) r (getD ((c .before .before .before .before .before .before .before .before .before .before .before .before .before .before .before .before .before .before .before .before .before .before .before .args .rows .now)) ((c .before .before .before .before .before .before .before .before .before .before .before .before .before .before .before .before .before .loop .row) + countColumn) 0) ((c .before .before .before .before .before .before .before .before .before .before .before .before .before .before .before .before .before .loop .from)) ((c .before .before .before .before .before .before .before .before .before .before .before .before .before .before .before .before .before .loop .turn))) (walking.its-components ((c .before .before .before .before .before .before .before .before .before .before .before .before .before .before .before .before .before .loop .inv .rest)) ((c .before .before .before .before .before .before .before .before .before .before .before .before .before .before .before .before .loop-test .taken))),
+    laying.room-as (sym (rows.lent-both ((c .before .before .before .before .before .before .before .before .before .before .before .before .before .before .before .before .before .before .before .before .before .before .before .args .buffer .now)) ((c .before .before .before .before .before .before .before .before .before .before .before .before .before .before .before .before .before .before .before .before .before .before .before .args .rows .now)) 0 (λ b r. componentsOf b ((c .before .before .before .before .before .before .before .before .before .before .before .before .before .before .before .before .before .before .before .before .before .before .before .args .plan .now)) r (getD ((c .before .before .before .before .before .before .before .before .before .before .before .before .before .before .before .before .before .before .before .before .before .before .before .args .rows .now)) ((c .before .before .before .before .before .before .before .before .before .before .before .before .before .before .before .before .before .loop .row) + countColumn) 0) ((c .before .before .before .before .before .before .before .before .before .before .before .before .before .before .before .before .before .loop .from)) ((c .before .before .before .before .before .before .before .before .before .before .before .before .before .before .before .before .before .loop .turn))))) (turns.room-for-components ((c .before .before .before .before .before .before .before .before .before .before .before .before .before .before .before .before .before .loop .inv)) ((c .before .before .before .before .before .before .before .before .before .before .before .before .before .before .before .before .loop-test .taken)) (laying.as-bytes (rows.lent-both ((c .before .before .before .before .before .before .before .before .before .before .before .before .before .before .before .before .before .before .before .before .before .before .before .args .buffer .now)) ((c .before .before .before .before .before .before .before .before .before .before .before .before .before .before .before .before .before .before .before .before .before .before .before .args .rows .now)) ((c .before .before .before .before .before .before .before .before .before .before .before .before .before .before .before .before .before .loop .row)) objectFront) ((c .before .before .before .before .before .before .before .before .before .before .before .front-at .ensures))) (laying.as-bytes (rows.lent-both ((c .before .before .before .before .before .before .before .before .before .before .before .before .before .before .before .before .before .before .before .before .before .before .before .args .buffer .now)) ((c .before .before .before .before .before .before .before .before .before .before .before .before .before .before .before .before .before .before .before .before .before .before .before .args .rows .now)) ((c .before .before .before .before .before .before .before .before .before .before .before .before .before .before .before .before .before .loop .row)) objectRest) ((c .before .before .before .before .before .rest-at .ensures)))))
+
+-- src/objects.rt:88:17
+mul-from : tie.Need-mul-from Inv-loop μ-loop
+mul-from c = let l = (walking.its-components ((c .before .before .before .before .before .before .before .before .before .before .before .before .before .before .before .before .before .before .before .before .loop .inv .rest)) ((c .before .before .before .before .before .before .before .before .before .before .before .before .before .before .before .before .before .before .before .loop-test .taken))) .lie in let g = (c .before .before .before .before .before .before .before .before .before .before .before .before .before .before .before .before .before .before .before .before .before .before .before .before .before .before .good) in omega arith
+
+-- src/objects.rt:88:9
+add-from : tie.Need-add-from Inv-loop μ-loop
+add-from c = let l = (walking.its-components ((c .before .before .before .before .before .before .before .before .before .before .before .before .before .before .before .before .before .before .before .before .loop .inv .rest)) ((c .before .before .before .before .before .before .before .before .before .before .before .before .before .before .before .before .before .before .before .loop-test .taken))) .lie in let g = (c .before .before .before .before .before .before .before .before .before .before .before .before .before .before .before .before .before .before .before .before .before .before .before .before .before .before .good) in omega arith
+
+-- src/objects.rt:89:9
+add-row : tie.Need-add-row Inv-loop μ-loop
+add-row c = let l = walking.object-long ((c .before .before .before .before .before .before .before .before .before .before .before .before .before .before .before .before .before .before .before .before .loop .inv .rest)) ((c .before .before .before .before .before .before .before .before .before .before .before .before .before .before .before .before .before .before .before .loop-test .taken)) in let g = (c .before .before .before .before .before .before .before .before .before .before .before .before .before .before .before .before .before .before .before .before .before .before .before .before .before .before .good) in omega arith
+
+-- src/objects.rt:90:9
+sub-left : tie.Need-sub-left Inv-loop μ-loop
+sub-left c = search needs
+
+-- src/objects.rt:81:5
+loop-less : tie.Need-loop-less Inv-loop μ-loop
+loop-less c = omega (arith, (c .before .before .before .before .before .before .before .before .before .before .before .before .before .before .before .before .before .before .before .loop-test .taken))
+
+-- src/objects.rt:81:5
+loop-again : tie.Need-loop-again Inv-loop μ-loop
+loop-again c = turns.object-turn ((c .before .before .before .before .before .before .before .before .before .before .before .before .before .before .before .before .before .before .before .before .loop .inv)) ((c .before .before .before .before .before .before .before .before .before .before .before .before .before .before .before .before .before .before .before .loop-test .taken)) (laying.as-bytes (rows.lent-both ((c .before .before .before .before .before .before .before .before .before .before .before .before .before .before .before .before .before .before .before .before .before .before .before .before .before .before .args .buffer .now)) ((c .before .before .before .before .before .before .before .before .before .before .before .before .before .before .before .before .before .before .before .before .before .before .before .before .before .before .args .rows .now)) ((c .before .before .before .before .before .before .before .before .before .before .before .before .before .before .before .before .before .before .before .before .loop .row)) objectFront) ((c .before .before .before .before .before .before .before .before .before .before .before .before .before .before .front-at .ensures))) (laying.as-bytes (rows.lent-both ((c .before .before .before .before .before .before .before .before .before .before .before .before .before .before .before .before .before .before .before .before .before .before .before .before .before .before .args .buffer .now)) ((c .before .before .before .before .before .before .before .before .before .before .before .before .before .before .before .before .before .before .before .before .before .before .before .before .before .before .args .rows .now)) ((c .before .before .before .before .before .before .before .before .before .before .before .before .before .before .before .before .before .before .before .before .loop .row)) objectRest) ((c .before .before .before .before .before .before .before .before .rest-at .ensures)))
+    (laying.as-bytes (rows.lent-both ((c .before .before .before .before .before .before .before .before .before .before .before .before .before .before .before .before .before .before .before .before .before .before .before .before .before .before .args .buffer .now)) ((c .before .before .before .before .before .before .before .before .before .before .before .before .before .before .before .before .before .before .before .before .before .before .before .before .before .before .args .rows .now)) 0 (λ b r. componentsOf b ((c .before .before .before .before .before .before .before .before .before .before .before .before .before .before .before .before .before .before .before .before .before .before .before .before .before .before .args .plan .now)) r (getD ((c .before .before .before .before .before .before .before .before .before .before .before .before .before .before .before .before .before .before .before .before .before .before .before .before .before .before .args .rows .now)) ((c .before .before .before .before .before .before .before .before .before .before .before .before .before .before .before .before .before .before .before .before .loop .row) + countColumn) 0) ((c .before .before .before .before .before .before .before .before .before .before .before .before .before .before .before .before .before .before .before .before .loop .from)) ((c .before .before .before .before .before .before .before .before .before .before .before .before .before .before .before .before .before .before .before .before .loop .turn)))) ((c .before .before .components-at .ensures .0))) (((c .before .before .components-at .ensures .1)) ∙ rows.lent-both ((c .before .before .before .before .before .before .before .before .before .before .before .before .before .before .before .before .before .before .before .before .before .before .before .before .before .before .args .buffer .now)) ((c .before .before .before .before .before .before .before .before .before .before .before .before .before .before .before .before .before .before .before .before .before .before .before .before .before .before .args .rows .now)) 0 (λ b r. reachedPast ((c .before .before .before .before .before .before .before .before .before .before .before .before .before .before .before .before .before .before .before .before .before .before .before .before .before .before .args .plan .now)) r (getD ((c .before .before .before .before .before .before .before .before .before .before .before .before .before .before .before .before .before .before .before .before .before .before .before .before .before .before .args .rows .now)) ((c .before .before .before .before .before .before .before .before .before .before .before .before .before .before .before .before .before .before .before .before .loop .row) + countColumn) 0) ((c .before .before .before .before .before .before .before .before .before .before .before .before .before .before .before .before .before .before .before .before .loop .from)) ((c .before .before .before .before .before .before .before .before .before .before .before .before .before .before .before .before .before .before .before .before .loop .turn))))
+
+-- src/objects.rt:63:1
+same-length : tie.Need-same-length Inv-loop μ-loop
+same-length c = laying.same-so-far ((c .before .loop .inv .going))
+
+-- src/objects.rt:63:1
+returns : tie.Need-returns Inv-loop μ-loop
+returns c = laying.all-laid ((c .before .loop .inv .going)) (walking.objects-none _ _ _ _ _ _ _ ((c .loop-test .left)))
 
 pub objects-at-spec : {M : Type 1} → statement M
 objects-at-spec =
@@ -26,38 +179,39 @@ objects-at-spec =
     (tie.spec
     Inv-loop
     μ-loop
-    (λ c. record { rest = (c .before .before .before .pre .0); going = laying.going _ _ _ (c .before .before .before .pre .1) })
-    (λ c. let l = walking.object-long (c .before .loop .inv .rest) (c .loop-test .taken) in let g = (c .before .before .before .before .before .good) in omega arith)
-    (λ c. let l = walking.object-long (c .before .loop .inv .rest) (c .loop-test .taken) in let g = (c .before .before .before .before .before .good) in omega arith)
-    (λ c. omega (arith, walking.object-long (c .before .before .loop .inv .rest) (c .before .loop-test .taken)))
-    (λ c. omega arith)
-    (λ c. omega arith)
-    (λ c. search needs)
-    (λ c. let l = walking.object-long (c .before .before .before .before .loop .inv .rest) (c .before .before .before .loop-test .taken) in let g = (c .before .before .before .before .before .before .before .before .good) in omega arith)
-    (λ c. omega (arith, walking.object-long (c .before .before .before .before .loop .inv .rest) (c .before .before .before .loop-test .taken)))
-    (λ c. omega (arith, walking.object-long (c .before .before .before .before .loop .inv .rest) (c .before .before .before .loop-test .taken)))
-    (λ c. search needs)
-    (λ c κs. (walking.as-lent (c .before .before .before .before .before .before .before .before .before .args .buffer .now) (c .before .before .before .before .before .before .before .before .before .args .rows .now) (c .before .before .before .before .before .loop .row) ObjectRow (walking.first-object (c .before .before .before .before .before .loop .inv .rest) (c .before .before .before .before .loop-test .taken)), laying.room-as (sym (rows.lent-both (c .before .before .before .before .before .before .before .before .before .args .buffer .now) (c .before .before .before .before .before .before .before .before .before .args .rows .now) (c .before .before .before .before .before .loop .row) objectFront)) (turns.room-for-front (c .before .before .before .before .before .loop .inv) (c .before .before .before .before .loop-test .taken))))
-    (λ c. omega arith)
-    (λ c. omega arith)
-    (λ c. search needs)
-    (λ c. let l = walking.object-long (c .before .before .before .before .before .before .before .before .before .before .loop .inv .rest) (c .before .before .before .before .before .before .before .before .before .loop-test .taken) in let g = (c .before .before .before .before .before .before .before .before .before .before .before .before .before .before .good) in omega arith)
-    (λ c. omega (arith, walking.object-long (c .before .before .before .before .before .before .before .before .before .before .loop .inv .rest) (c .before .before .before .before .before .before .before .before .before .loop-test .taken)))
-    (λ c. omega (arith, walking.object-long (c .before .before .before .before .before .before .before .before .before .before .loop .inv .rest) (c .before .before .before .before .before .before .before .before .before .loop-test .taken)))
-    (λ c. search needs)
-    (λ c κs. (walking.as-lent (c .before .before .before .before .before .before .before .before .before .before .before .before .before .before .before .args .buffer .now) (c .before .before .before .before .before .before .before .before .before .before .before .before .before .before .before .args .rows .now) (c .before .before .before .before .before .before .before .before .before .before .before .loop .row) ObjectRow (walking.first-object (c .before .before .before .before .before .before .before .before .before .before .before .loop .inv .rest) (c .before .before .before .before .before .before .before .before .before .before .loop-test .taken)), laying.room-as (sym (rows.lent-both (c .before .before .before .before .before .before .before .before .before .before .before .before .before .before .before .args .buffer .now) (c .before .before .before .before .before .before .before .before .before .before .before .before .before .before .before .args .rows .now) (c .before .before .before .before .before .before .before .before .before .before .before .loop .row) objectRest)) (turns.room-for-rest (c .before .before .before .before .before .before .before .before .before .before .before .loop .inv) (c .before .before .before .before .before .before .before .before .before .before .loop-test .taken) (laying.as-bytes (rows.lent-both (c .before .before .before .before .before .before .before .before .before .before .before .before .before .before .before .args .buffer .now) (c .before .before .before .before .before .before .before .before .before .before .before .before .before .before .before .args .rows .now) (c .before .before .before .before .before .before .before .before .before .before .before .loop .row) objectFront) (c .before .before .before .before .before .front-at .ensures)))))
-    (λ c. omega arith)
-    (λ c. omega arith)
-    (λ c. search needs)
-    (λ c. omega arith)
-    (λ c. omega arith)
-    (λ c. search needs)
-    (λ c κs. (walking.as-lent (c .before .before .before .before .before .before .before .before .before .before .before .before .before .before .before .before .before .before .before .before .before .args .buffer .now) (c .before .before .before .before .before .before .before .before .before .before .before .before .before .before .before .before .before .before .before .before .before .args .rows .now) 0 (λ b r. ComponentRows b r (getD (c .before .before .before .before .before .before .before .before .before .before .before .before .before .before .before .before .before .before .before .before .before .args .rows .now) ((c .before .before .before .before .before .before .before .before .before .before .before .before .before .before .before .before .before .loop .row) + countColumn) 0) (c .before .before .before .before .before .before .before .before .before .before .before .before .before .before .before .before .before .loop .from) (c .before .before .before .before .before .before .before .before .before .before .before .before .before .before .before .before .before .loop .reached)) (walking.its-components (c .before .before .before .before .before .before .before .before .before .before .before .before .before .before .before .before .before .loop .inv .rest) (c .before .before .before .before .before .before .before .before .before .before .before .before .before .before .before .before .loop-test .taken)), laying.room-as (sym (rows.lent-both (c .before .before .before .before .before .before .before .before .before .before .before .before .before .before .before .before .before .before .before .before .before .args .buffer .now) (c .before .before .before .before .before .before .before .before .before .before .before .before .before .before .before .before .before .before .before .before .before .args .rows .now) 0 (λ b r. componentsOf b r (getD (c .before .before .before .before .before .before .before .before .before .before .before .before .before .before .before .before .before .before .before .before .before .args .rows .now) ((c .before .before .before .before .before .before .before .before .before .before .before .before .before .before .before .before .before .loop .row) + countColumn) 0) (c .before .before .before .before .before .before .before .before .before .before .before .before .before .before .before .before .before .loop .from) (c .before .before .before .before .before .before .before .before .before .before .before .before .before .before .before .before .before .loop .reached)))) (turns.room-for-components (c .before .before .before .before .before .before .before .before .before .before .before .before .before .before .before .before .before .loop .inv) (c .before .before .before .before .before .before .before .before .before .before .before .before .before .before .before .before .loop-test .taken) (laying.as-bytes (rows.lent-both (c .before .before .before .before .before .before .before .before .before .before .before .before .before .before .before .before .before .before .before .before .before .args .buffer .now) (c .before .before .before .before .before .before .before .before .before .before .before .before .before .before .before .before .before .before .before .before .before .args .rows .now) (c .before .before .before .before .before .before .before .before .before .before .before .before .before .before .before .before .before .loop .row) objectFront) (c .before .before .before .before .before .before .before .before .before .before .before .front-at .ensures)) (laying.as-bytes (rows.lent-both (c .before .before .before .before .before .before .before .before .before .before .before .before .before .before .before .before .before .before .before .before .before .args .buffer .now) (c .before .before .before .before .before .before .before .before .before .before .before .before .before .before .before .before .before .before .before .before .before .args .rows .now) (c .before .before .before .before .before .before .before .before .before .before .before .before .before .before .before .before .before .loop .row) objectRest) (c .before .before .before .before .before .rest-at .ensures)))))
-    (λ c. let l = (walking.its-components (c .before .before .before .before .before .before .before .before .before .before .before .before .before .before .before .before .before .before .before .before .loop .inv .rest) (c .before .before .before .before .before .before .before .before .before .before .before .before .before .before .before .before .before .before .before .loop-test .taken)) .lie in let g = (c .before .before .before .before .before .before .before .before .before .before .before .before .before .before .before .before .before .before .before .before .before .before .before .before .good) in omega arith)
-    (λ c. let l = (walking.its-components (c .before .before .before .before .before .before .before .before .before .before .before .before .before .before .before .before .before .before .before .before .loop .inv .rest) (c .before .before .before .before .before .before .before .before .before .before .before .before .before .before .before .before .before .before .before .loop-test .taken)) .lie in let g = (c .before .before .before .before .before .before .before .before .before .before .before .before .before .before .before .before .before .before .before .before .before .before .before .before .good) in omega arith)
-    (λ c. let l = walking.object-long (c .before .before .before .before .before .before .before .before .before .before .before .before .before .before .before .before .before .before .before .before .loop .inv .rest) (c .before .before .before .before .before .before .before .before .before .before .before .before .before .before .before .before .before .before .before .loop-test .taken) in let g = (c .before .before .before .before .before .before .before .before .before .before .before .before .before .before .before .before .before .before .before .before .before .before .before .before .good) in omega arith)
-    (λ c. search needs)
-    (λ c. search needs)
-    (λ c. turns.object-turn (c .before .before .before .before .before .before .before .before .before .before .before .before .before .before .before .before .before .before .before .before .loop .inv) (c .before .before .before .before .before .before .before .before .before .before .before .before .before .before .before .before .before .before .before .loop-test .taken) (laying.as-bytes (rows.lent-both (c .before .before .before .before .before .before .before .before .before .before .before .before .before .before .before .before .before .before .before .before .before .before .before .before .args .buffer .now) (c .before .before .before .before .before .before .before .before .before .before .before .before .before .before .before .before .before .before .before .before .before .before .before .before .args .rows .now) (c .before .before .before .before .before .before .before .before .before .before .before .before .before .before .before .before .before .before .before .before .loop .row) objectFront) (c .before .before .before .before .before .before .before .before .before .before .before .before .before .before .front-at .ensures)) (laying.as-bytes (rows.lent-both (c .before .before .before .before .before .before .before .before .before .before .before .before .before .before .before .before .before .before .before .before .before .before .before .before .args .buffer .now) (c .before .before .before .before .before .before .before .before .before .before .before .before .before .before .before .before .before .before .before .before .before .before .before .before .args .rows .now) (c .before .before .before .before .before .before .before .before .before .before .before .before .before .before .before .before .before .before .before .before .loop .row) objectRest) (c .before .before .before .before .before .before .before .before .rest-at .ensures)) (laying.as-bytes (rows.lent-both (c .before .before .before .before .before .before .before .before .before .before .before .before .before .before .before .before .before .before .before .before .before .before .before .before .args .buffer .now) (c .before .before .before .before .before .before .before .before .before .before .before .before .before .before .before .before .before .before .before .before .before .before .before .before .args .rows .now) 0 (λ b r. componentsOf b r (getD (c .before .before .before .before .before .before .before .before .before .before .before .before .before .before .before .before .before .before .before .before .before .before .before .before .args .rows .now) ((c .before .before .before .before .before .before .before .before .before .before .before .before .before .before .before .before .before .before .before .before .loop .row) + countColumn) 0) (c .before .before .before .before .before .before .before .before .before .before .before .before .before .before .before .before .before .before .before .before .loop .from) (c .before .before .before .before .before .before .before .before .before .before .before .before .before .before .before .before .before .before .before .before .loop .reached))) (c .before .before .components-at .ensures .0)) ((c .before .before .components-at .ensures .1) ∙ rows.lent-both (c .before .before .before .before .before .before .before .before .before .before .before .before .before .before .before .before .before .before .before .before .before .before .before .before .args .buffer .now) (c .before .before .before .before .before .before .before .before .before .before .before .before .before .before .before .before .before .before .before .before .before .before .before .before .args .rows .now) 0 (λ b r. reachedPast r (getD (c .before .before .before .before .before .before .before .before .before .before .before .before .before .before .before .before .before .before .before .before .before .before .before .before .args .rows .now) ((c .before .before .before .before .before .before .before .before .before .before .before .before .before .before .before .before .before .before .before .before .loop .row) + countColumn) 0) (c .before .before .before .before .before .before .before .before .before .before .before .before .before .before .before .before .before .before .before .before .loop .from) (c .before .before .before .before .before .before .before .before .before .before .before .before .before .before .before .before .before .before .before .before .loop .reached))))
-    (λ c. laying.same-so-far (c .before .loop .inv .going))
-    (λ c. laying.all-laid (c .before .loop .inv .going) (walking.objects-none _ _ _ _ _ _ (c .loop-test .left))))
+    first-turn-requires
+    loop-holds
+    add-count
+    mul-count
+    shared-slice-read-count
+    sub-front-at
+    part-front-at-start
+    part-front-at-end
+    mul-front-at
+    sub-front-at-2
+    part-front-at-start-2
+    part-front-at-end-2
+    front-at-requires
+    sub-rest-at
+    part-rest-at-start
+    part-rest-at-end
+    mul-rest-at
+    sub-rest-at-2
+    part-rest-at-start-2
+    part-rest-at-end-2
+    rest-at-requires
+    sub-components-at
+    part-components-at-start
+    part-components-at-end
+    sub-components-at-2
+    part-components-at-start-2
+    part-components-at-end-2
+    components-at-requires
+    mul-from
+    add-from
+    add-row
+    sub-left
+    loop-less
+    loop-again
+    same-length
+    returns)

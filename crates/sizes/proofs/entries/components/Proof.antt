@@ -1,27 +1,95 @@
--- `sizes::entries::components` meets its contract: the invariant says what the rows that are left give.
-use borrow.Rule.Slice.PartAt.{part-to-end}
-use mathlib.Core.Path.{_≡_, ap, sym, _∙_, subst}
-use native.Mathlib.Omega.{arith}
-use lib.ListN.{length, drop, getD}
-use mathlib.Core.List.{List}
-use Prim.Native.Nat.{ℕ, _+_, _-_, _*_, _≤_}
-use Rattle.meaning.specs.Columns.{componentWidth, lengthColumn}
-use Rattle.meaning.specs.Placement as placement
-use Rattle.meaning.specs.Limit.{endLimit}
+use Rattle.sizes.specs.Size.{componentsSize}
 use Rattle.meaning.specs.Asked.{eachRow, askedComponent}
-use Rattle.rows.specs.Running.{reached, blobSizes}
-use Rattle.rows.proofs.Running as running
-use Rattle.sizes.specs.Size.{capped, componentsSize, componentSize}
-use Rattle.sizes.proofs.Sums as law
+use native.Mathlib.Omega.{arith}
+use Rattle.sizes.proofs.Turns as turns
+use Rattle.meaning.specs.Columns.{componentWidth}
 use borrow.Author.Needs.{needs}
 use Rattle.sizes.proofs.entries.components.Statement.{statement}
 use Rattle.sizes.proofs.entries.components.Tie as tie
+use Rattle.sizes.proofs.entries.components.Reads as reads
+use Rattle.sizes.proofs.entries.components.Lts as lts
+use Rattle.sizes.proofs.entries.component.Reads as component-reads
+use Rattle.sizes.proofs.piece.capped.Reads as capped-reads
+use Rattle.sizes.proofs.placing.offset_at.Reads as offset-at-reads
+use Rattle.sizes.proofs.placing.stepped.Reads as stepped-reads
 
 abbrev Inv-loop : tie.InvT-loop
-Inv-loop rows n start at₀ left₀ place₀ total₀ at left place total = (at + componentWidth * left ≤ length rows) × (reached place (blobSizes (eachRow askedComponent componentWidth left (drop at rows))) ≤ endLimit) × (total ≤ 16_777_217) × (capped (componentsSize start (eachRow askedComponent componentWidth n rows)) ≡ capped (total + componentsSize place (eachRow askedComponent componentWidth left (drop at rows))))
+Inv-loop plan rows n first at₀ left₀ turn₀ total₀ at left turn total = turns.PartsLeft plan rows (componentsSize plan first (eachRow askedComponent componentWidth n rows)) at left turn total
 
 abbrev μ-loop : tie.MeasureT-loop
-μ-loop rows n start at₀ left₀ place₀ total₀ at left place total = left
+μ-loop plan rows n first at₀ left₀ turn₀ total₀ at left turn total = left
+
+-- src/entries.rt:61:5
+loop-holds : tie.Need-loop-holds Inv-loop μ-loop
+loop-holds c = turns.parts-begin ((c .before .before .pre .0)) ((c .before .before .pre .1))
+
+-- src/entries.rt:62:13
+offset-at-requires : tie.Need-offset-at-requires Inv-loop μ-loop
+offset-at-requires c κs = turns.turn-in-time ((c .before .loop .inv))
+
+-- src/entries.rt:63:30
+mul-component : tie.Need-mul-component Inv-loop μ-loop
+mul-component c = search needs
+
+-- src/entries.rt:63:30
+sub-component : tie.Need-sub-component Inv-loop μ-loop
+sub-component c = search needs
+
+-- src/entries.rt:63:30
+part-component-start : tie.Need-part-component-start Inv-loop μ-loop
+part-component-start c = let l = (c .before .before .loop .inv .lie) in omega (arith, l, (c .before .loop-test .taken))
+
+-- src/entries.rt:63:30
+part-component-end : tie.Need-part-component-end Inv-loop μ-loop
+part-component-end c = search needs
+
+-- src/entries.rt:63:13
+component-requires : tie.Need-component-requires Inv-loop μ-loop
+component-requires c κs = turns.row-there ((c .before .before .before .loop .inv)) ((c .before .before .loop-test .taken))
+
+-- src/entries.rt:64:24
+add-capped : tie.Need-add-capped Inv-loop μ-loop
+add-capped c = let l = (c .before .before .before .before .loop .inv .small) in omega (arith, l, (c .component .ensures))
+
+-- src/entries.rt:64:9
+capped-requires : tie.Need-capped-requires Inv-loop μ-loop
+capped-requires c κs = search needs
+
+-- src/entries.rt:65:41
+add-stepped : tie.Need-add-stepped Inv-loop μ-loop
+add-stepped c = let l = (c .before .before .before .before .before .loop .inv .lie) in let g = (c .before .before .before .before .before .before .before .before .good) in omega (arith, l, (c .before .before .before .before .loop-test .taken))
+
+-- src/entries.rt:65:36
+mul-stepped : tie.Need-mul-stepped Inv-loop μ-loop
+mul-stepped c = search needs
+
+-- src/entries.rt:65:36
+shared-slice-read-stepped : tie.Need-shared-slice-read-stepped Inv-loop μ-loop
+shared-slice-read-stepped c = let l = (c .before .before .before .before .before .before .loop .inv .lie) in omega (arith, l, (c .before .before .before .before .before .loop-test .taken))
+
+-- src/entries.rt:65:9
+stepped-requires : tie.Need-stepped-requires Inv-loop μ-loop
+stepped-requires c κs = turns.step-in-time ((c .before .before .before .before .before .before .loop .inv)) ((c .before .before .before .before .before .loop-test .taken))
+
+-- src/entries.rt:66:9
+add-at : tie.Need-add-at Inv-loop μ-loop
+add-at c = let l = (c .before .before .before .before .before .before .before .loop .inv .lie) in let g = (c .before .before .before .before .before .before .before .before .before .before .good) in omega (arith, l, (c .before .before .before .before .before .before .loop-test .taken))
+
+-- src/entries.rt:67:9
+sub-left : tie.Need-sub-left Inv-loop μ-loop
+sub-left c = search needs
+
+-- src/entries.rt:61:5
+loop-less : tie.Need-loop-less Inv-loop μ-loop
+loop-less c = search needs
+
+-- src/entries.rt:61:5
+loop-again : tie.Need-loop-again Inv-loop μ-loop
+loop-again c = turns.parts-turn ((c .before .before .before .before .before .before .before .loop .inv)) ((c .before .before .before .before .before .before .loop-test .taken)) ((c .before .before .before .before .before .offset-at .ensures)) ((c .before .before .before .component .ensures)) ((c .before .before .capped .ensures)) ((c .stepped .ensures))
+
+-- src/entries.rt:52:1
+returns : tie.Need-returns Inv-loop μ-loop
+returns c = turns.all-parts ((c .before .loop .inv)) ((c .loop-test .left))
 
 pub components-spec : {M : Type 1} → statement M
 components-spec =
@@ -29,21 +97,21 @@ components-spec =
     (tie.spec
     Inv-loop
     μ-loop
-    (λ c. (search needs, (c .before .pre .1), omega arith, law.from-nothing (componentsSize ((c .before .args .start)) (eachRow askedComponent componentWidth ((c .before .args .n)) ((c .before .args .rows .now))))))
-    (λ c κs. omega (arith, (c .before .loop .inv .1), running.reached-above ((c .before .loop .place)) (blobSizes (eachRow askedComponent componentWidth ((c .before .loop .left)) (drop ((c .before .loop .at)) ((c .before .before .before .args .rows .now)))))))
-    (λ c. search needs)
-    (λ c. search needs)
-    (λ c. search needs)
-    (λ c. search needs)
-    (λ c κs. search needs)
-    (λ c. omega (arith, (c .before .before .before .before .loop .inv .2), (c .component .ensures)))
-    (λ c κs. search needs)
-    (λ c. search needs)
-    (λ c. search needs)
-    (λ c. search needs)
-    (λ c. omega (arith, (c .before .before .before .before .before .before .loop .inv .1), (c .before .before .before .before .aligned .ensures), running.reached-next ((c .before .before .before .before .before .before .loop .left)) ((c .before .before .before .before .before .before .loop .at)) ((c .before .before .before .before .before .before .loop .place)) ((c .before .before .before .before .before .before .before .before .args .rows .now)) ((c .before .before .before .before .before .loop-test .taken)), running.reached-above (placement.aligned ((c .before .before .before .before .before .before .loop .place)) + getD ((c .before .before .before .before .before .before .before .before .args .rows .now)) ((c .before .before .before .before .before .before .loop .at) + lengthColumn) 0) (blobSizes (eachRow askedComponent componentWidth ((c .before .before .before .before .before .before .loop .left) - 1) (drop ((c .before .before .before .before .before .before .loop .at) + componentWidth) ((c .before .before .before .before .before .before .before .before .args .rows .now)))))))
-    (λ c. search needs)
-    (λ c. search needs)
-    (λ c. search needs)
-    (λ c. (search needs, subst (λ (k : ℕ). reached (k + getD ((c .before .before .before .before .before .before .before .before .args .rows .now)) ((c .before .before .before .before .before .before .loop .at) + lengthColumn) 0) (blobSizes (eachRow askedComponent componentWidth ((c .before .before .before .before .before .before .loop .left) - 1) (drop ((c .before .before .before .before .before .before .loop .at) + componentWidth) ((c .before .before .before .before .before .before .before .before .args .rows .now))))) ≤ endLimit) (sym ((c .before .before .before .before .aligned .ensures))) (subst (λ (k : ℕ). k ≤ endLimit) (running.reached-next ((c .before .before .before .before .before .before .loop .left)) ((c .before .before .before .before .before .before .loop .at)) ((c .before .before .before .before .before .before .loop .place)) ((c .before .before .before .before .before .before .before .before .args .rows .now)) ((c .before .before .before .before .before .loop-test .taken))) ((c .before .before .before .before .before .before .loop .inv .1))), omega (arith, (c .before .capped .ensures)), (c .before .before .before .before .before .before .loop .inv .3) ∙ law.one-more ((c .before .before .before .before .before .before .loop .total)) (componentsSize ((c .before .before .before .before .before .before .loop .place)) (eachRow askedComponent componentWidth ((c .before .before .before .before .before .before .loop .left)) (drop ((c .before .before .before .before .before .before .loop .at)) ((c .before .before .before .before .before .before .before .before .args .rows .now))))) (componentSize (placement.aligned ((c .before .before .before .before .before .before .loop .place))) (askedComponent (drop ((c .before .before .before .before .before .before .loop .at)) ((c .before .before .before .before .before .before .before .before .args .rows .now))))) (componentsSize (placement.aligned ((c .before .before .before .before .before .before .loop .place)) + getD ((c .before .before .before .before .before .before .before .before .args .rows .now)) ((c .before .before .before .before .before .before .loop .at) + lengthColumn) 0) (eachRow askedComponent componentWidth ((c .before .before .before .before .before .before .loop .left) - 1) (drop ((c .before .before .before .before .before .before .loop .at) + componentWidth) ((c .before .before .before .before .before .before .before .before .args .rows .now))))) ((c .before .before .component .result)) ((c .before .capped .result)) (law.components-next ((c .before .before .before .before .before .before .loop .left)) ((c .before .before .before .before .before .before .loop .at)) ((c .before .before .before .before .before .before .loop .place)) ((c .before .before .before .before .before .before .before .before .args .rows .now)) ((c .before .before .before .before .before .loop-test .taken))) ((c .before .before .component .ensures) ∙ ap (λ (s : List ℕ). capped (componentSize ((c .before .before .before .before .aligned .result)) (askedComponent s))) (part-to-end ((c .before .before .before .before .before .before .before .before .args .rows .now)) ((c .before .before .before .before .before .before .loop .at))) ∙ ap (λ (k : ℕ). capped (componentSize k (askedComponent (drop ((c .before .before .before .before .before .before .loop .at)) ((c .before .before .before .before .before .before .before .before .args .rows .now)))))) ((c .before .before .before .before .aligned .ensures))) ((c .before .capped .ensures)) ∙ ap (λ (k : ℕ). capped ((c .before .capped .result) + componentsSize (k + getD ((c .before .before .before .before .before .before .before .before .args .rows .now)) ((c .before .before .before .before .before .before .loop .at) + lengthColumn) 0) (eachRow askedComponent componentWidth ((c .before .before .before .before .before .before .loop .left) - 1) (drop ((c .before .before .before .before .before .before .loop .at) + componentWidth) ((c .before .before .before .before .before .before .before .before .args .rows .now)))))) (sym ((c .before .before .before .before .aligned .ensures)))))
-    (λ c. omega (arith, (c .before .loop .inv .2), (c .before .loop .inv .3), law.components-none ((c .before .loop .left)) ((c .before .loop .at)) ((c .before .loop .place)) ((c .before .before .before .args .rows .now)) ((c .loop-test .left)))))
+    loop-holds
+    offset-at-requires
+    mul-component
+    sub-component
+    part-component-start
+    part-component-end
+    component-requires
+    add-capped
+    capped-requires
+    add-stepped
+    mul-stepped
+    shared-slice-read-stepped
+    stepped-requires
+    add-at
+    sub-left
+    loop-less
+    loop-again
+    returns)

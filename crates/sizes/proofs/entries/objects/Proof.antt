@@ -1,27 +1,155 @@
--- `sizes::entries::objects` meets its contract: the invariant says what the rows that are left give.
-use borrow.Rule.Slice.PartAt.{part-to-end}
-use mathlib.Core.Path.{_≡_, ap, sym, _∙_, subst}
-use native.Mathlib.Omega.{arith}
-use lib.ListN.{length, drop, getD, length-drop}
-use mathlib.Core.List.{List}
-use Prim.Native.Nat.{ℕ, _+_, _-_, _*_, _≤_}
-use Rattle.meaning.specs.Columns.{objectWidth, componentWidth, rankColumn, countColumn}
-use Rattle.meaning.specs.Limit.{endLimit}
-use Rattle.meaning.specs.Asked.{eachRow, askedObject, askedComponent}
-use Rattle.rows.specs.Running.{reached, blobSizes, counted}
-use Rattle.sizes.specs.Measured.{Fits}
-use Rattle.sizes.specs.Size.{capped, cappedEnd, headSize, objectSize, objectsSize, componentsSize}
+use Rattle.sizes.proofs.Turns as turns
 use Rattle.sizes.proofs.Heads as heads
-use Rattle.sizes.proofs.Sums as law
+use Rattle.sizes.specs.Size.{objectsSizeIn}
+use Rattle.meaning.specs.Columns.{countColumn}
+use lib.ListN.{getD}
+use native.Mathlib.Omega.{arith}
+use Prim.Native.Nat.{_+_}
 use borrow.Author.Needs.{needs}
 use Rattle.sizes.proofs.entries.objects.Statement.{statement}
 use Rattle.sizes.proofs.entries.objects.Tie as tie
+use Rattle.sizes.proofs.entries.objects.Reads as reads
+use Rattle.sizes.proofs.entries.objects.Lts as lts
+use Rattle.sizes.proofs.entries.components.Reads as components-reads
+use Rattle.sizes.proofs.entries.object.Reads as object-reads
+use Rattle.sizes.proofs.piece.capped.Reads as capped-reads
+use Rattle.sizes.proofs.piece.head.Reads as head-reads
+use Rattle.sizes.proofs.placing.first_turn.Reads as first-turn-reads
+use Rattle.sizes.proofs.placing.turn_past.Reads as turn-past-reads
 
 abbrev Inv-loop : tie.InvT-loop
-Inv-loop rows parts n row₀ from₀ left₀ place₀ total₀ row from left place total = Fits rows parts left row from place × (total ≤ 16_777_217) × (capped (objectsSize 8 (eachRow askedObject objectWidth n rows) (eachRow askedComponent componentWidth (counted (eachRow askedObject objectWidth n rows)) parts)) ≡ capped (total + objectsSize place (eachRow askedObject objectWidth left (drop row rows)) (eachRow askedComponent componentWidth (counted (eachRow askedObject objectWidth left (drop row rows))) (drop from parts))))
+Inv-loop plan rows parts n row₀ from₀ left₀ turn₀ total₀ row from left turn total = turns.ObjectsLeft plan rows parts (objectsSizeIn plan rows parts n) row from left turn total
 
 abbrev μ-loop : tie.MeasureT-loop
-μ-loop rows parts n row₀ from₀ left₀ place₀ total₀ row from left place total = left
+μ-loop plan rows parts n row₀ from₀ left₀ turn₀ total₀ row from left turn total = left
+
+-- src/entries.rt:90:9
+first-turn-requires : tie.Need-first-turn-requires Inv-loop μ-loop
+first-turn-requires c κs = search needs
+
+-- src/entries.rt:92:5
+loop-holds : tie.Need-loop-holds Inv-loop μ-loop
+loop-holds c = turns.objects-begin ((c .before .before .before .before .pre)) ((c .first-turn .ensures))
+
+-- src/entries.rt:93:26
+add-count : tie.Need-add-count Inv-loop μ-loop
+add-count c = let g = (c .before .before .before .before .before .before .good) in omega (arith, turns.object-long ((c .before .loop .inv)) ((c .loop-test .taken)))
+
+-- src/entries.rt:93:21
+mul-count : tie.Need-mul-count Inv-loop μ-loop
+mul-count c = search needs
+
+-- src/entries.rt:93:21
+shared-slice-read-count : tie.Need-shared-slice-read-count Inv-loop μ-loop
+shared-slice-read-count c = omega (arith, turns.object-long ((c .before .before .loop .inv)) ((c .before .loop-test .taken)))
+
+-- src/entries.rt:94:26
+mul-object : tie.Need-mul-object Inv-loop μ-loop
+mul-object c = let g = (c .before .before .before .before .before .before .before .good) in omega (arith, turns.object-long ((c .before .before .loop .inv)) ((c .before .loop-test .taken)))
+
+-- src/entries.rt:94:26
+sub-object : tie.Need-sub-object Inv-loop μ-loop
+sub-object c = let g = (c .before .before .before .before .before .before .before .good) in omega (arith, turns.object-long ((c .before .before .loop .inv)) ((c .before .loop-test .taken)))
+
+-- src/entries.rt:94:26
+part-object-start : tie.Need-part-object-start Inv-loop μ-loop
+part-object-start c = omega (arith, turns.object-long ((c .before .before .loop .inv)) ((c .before .loop-test .taken)))
+
+-- src/entries.rt:94:26
+part-object-end : tie.Need-part-object-end Inv-loop μ-loop
+part-object-end c = let g = (c .before .before .before .before .before .before .before .good) in omega (arith, turns.object-long ((c .before .before .loop .inv)) ((c .before .loop-test .taken)))
+
+-- src/entries.rt:94:19
+object-requires : tie.Need-object-requires Inv-loop μ-loop
+object-requires c κs = turns.object-there ((c .before .before .before .loop .inv)) ((c .before .before .loop-test .taken))
+
+-- src/entries.rt:94:42
+head-requires : tie.Need-head-requires Inv-loop μ-loop
+head-requires c κs = search needs
+
+-- src/entries.rt:94:19
+add-own : tie.Need-add-own Inv-loop μ-loop
+add-own c = omega (arith, (c .before .object .ensures), (c .head .ensures), heads.head-small (getD ((c .before .before .before .before .before .before .before .before .before .before .args .rows .now)) ((c .before .before .before .before .before .loop .row) + countColumn) 0))
+
+-- src/entries.rt:95:24
+add-capped : tie.Need-add-capped Inv-loop μ-loop
+add-capped c = let l = (c .before .before .before .before .before .loop .inv .small) in omega (arith, l, (c .before .object .ensures), (c .head .ensures), heads.head-small (getD ((c .before .before .before .before .before .before .before .before .before .before .args .rows .now)) ((c .before .before .before .before .before .loop .row) + countColumn) 0))
+
+-- src/entries.rt:95:55
+mul-components : tie.Need-mul-components Inv-loop μ-loop
+mul-components c = let g = (c .before .before .before .before .before .before .before .before .before .before .good) in omega (arith, turns.parts-long ((c .before .before .before .before .before .loop .inv)) ((c .before .before .before .before .loop-test .taken)))
+
+-- src/entries.rt:95:55
+sub-components : tie.Need-sub-components Inv-loop μ-loop
+sub-components c = let g = (c .before .before .before .before .before .before .before .before .before .before .good) in omega (arith, turns.parts-long ((c .before .before .before .before .before .loop .inv)) ((c .before .before .before .before .loop-test .taken)))
+
+-- src/entries.rt:95:55
+part-components-start : tie.Need-part-components-start Inv-loop μ-loop
+part-components-start c = let g = (c .before .before .before .before .before .before .before .before .before .before .good) in omega (arith, turns.parts-long ((c .before .before .before .before .before .loop .inv)) ((c .before .before .before .before .loop-test .taken)))
+
+-- src/entries.rt:95:55
+part-components-end : tie.Need-part-components-end Inv-loop μ-loop
+part-components-end c = let g = (c .before .before .before .before .before .before .before .before .before .before .good) in omega (arith, turns.parts-long ((c .before .before .before .before .before .loop .inv)) ((c .before .before .before .before .loop-test .taken)))
+
+-- src/entries.rt:95:38
+components-requires : tie.Need-components-requires Inv-loop μ-loop
+components-requires c κs = turns.parts-there ((c .before .before .before .before .before .before .loop .inv)) ((c .before .before .before .before .before .loop-test .taken))
+
+-- src/entries.rt:95:24
+add-capped-2 : tie.Need-add-capped-2 Inv-loop μ-loop
+add-capped-2 c = let l = (c .before .before .before .before .before .before .before .loop .inv .small) in omega (arith, l, (c .before .before .before .object .ensures), (c .before .before .head .ensures), (c .components .ensures), heads.head-small (getD ((c .before .before .before .before .before .before .before .before .before .before .before .before .args .rows .now)) ((c .before .before .before .before .before .before .before .loop .row) + countColumn) 0))
+
+-- src/entries.rt:95:9
+capped-requires : tie.Need-capped-requires Inv-loop μ-loop
+capped-requires c κs = search needs
+
+-- src/entries.rt:96:32
+mul-turn-past : tie.Need-mul-turn-past Inv-loop μ-loop
+mul-turn-past c = let g = (c .before .before .before .before .before .before .before .before .before .before .before .before .before .good) in omega (arith, turns.parts-long ((c .before .before .before .before .before .before .before .before .loop .inv)) ((c .before .before .before .before .before .before .before .loop-test .taken)))
+
+-- src/entries.rt:96:32
+sub-turn-past : tie.Need-sub-turn-past Inv-loop μ-loop
+sub-turn-past c = let g = (c .before .before .before .before .before .before .before .before .before .before .before .before .before .good) in omega (arith, turns.parts-long ((c .before .before .before .before .before .before .before .before .loop .inv)) ((c .before .before .before .before .before .before .before .loop-test .taken)))
+
+-- src/entries.rt:96:32
+part-turn-past-start : tie.Need-part-turn-past-start Inv-loop μ-loop
+part-turn-past-start c = let g = (c .before .before .before .before .before .before .before .before .before .before .before .before .before .good) in omega (arith, turns.parts-long ((c .before .before .before .before .before .before .before .before .loop .inv)) ((c .before .before .before .before .before .before .before .loop-test .taken)))
+
+-- src/entries.rt:96:32
+part-turn-past-end : tie.Need-part-turn-past-end Inv-loop μ-loop
+part-turn-past-end c = let g = (c .before .before .before .before .before .before .before .before .before .before .before .before .before .good) in omega (arith, turns.parts-long ((c .before .before .before .before .before .before .before .before .loop .inv)) ((c .before .before .before .before .before .before .before .loop-test .taken)))
+
+-- src/entries.rt:96:9
+turn-past-requires : tie.Need-turn-past-requires Inv-loop μ-loop
+turn-past-requires c κs = turns.parts-there ((c .before .before .before .before .before .before .before .before .before .loop .inv)) ((c .before .before .before .before .before .before .before .before .loop-test .taken))
+
+-- src/entries.rt:97:9
+add-row : tie.Need-add-row Inv-loop μ-loop
+add-row c = let g = (c .before .before .before .before .before .before .before .before .before .before .before .before .before .before .before .good) in omega (arith, turns.object-long ((c .before .before .before .before .before .before .before .before .before .before .loop .inv)) ((c .before .before .before .before .before .before .before .before .before .loop-test .taken)))
+
+-- src/entries.rt:98:18
+mul-from : tie.Need-mul-from Inv-loop μ-loop
+mul-from c = let g = (c .before .before .before .before .before .before .before .before .before .before .before .before .before .before .before .good) in omega (arith, turns.parts-long ((c .before .before .before .before .before .before .before .before .before .before .loop .inv)) ((c .before .before .before .before .before .before .before .before .before .loop-test .taken)))
+
+-- src/entries.rt:98:9
+add-from : tie.Need-add-from Inv-loop μ-loop
+add-from c = let g = (c .before .before .before .before .before .before .before .before .before .before .before .before .before .before .before .good) in omega (arith, turns.parts-long ((c .before .before .before .before .before .before .before .before .before .before .loop .inv)) ((c .before .before .before .before .before .before .before .before .before .loop-test .taken)))
+
+-- src/entries.rt:99:9
+sub-left : tie.Need-sub-left Inv-loop μ-loop
+sub-left c = search needs
+
+-- src/entries.rt:92:5
+loop-less : tie.Need-loop-less Inv-loop μ-loop
+loop-less c = search needs
+
+-- src/entries.rt:92:5
+loop-again : tie.Need-loop-again Inv-loop μ-loop
+loop-again c = turns.objects-turn ((c .before .before .before .before .before .before .before .before .before .before .loop .inv)) ((c .before .before .before .before .before .before .before .before .before .loop-test .taken)) ((c .before .before .before .before .before .before .object .ensures)) ((c .before .before .before .before .before .head .ensures)) ((c .before .before .before .components .ensures)) ((c .before .before .capped .ensures)) ((c .turn-past .ensures))
+
+-- src/entries.rt:83:1
+returns : tie.Need-returns Inv-loop μ-loop
+returns c = turns.all-objects ((c .before .loop .inv)) ((c .loop-test .left))
 
 pub objects-spec : {M : Type 1} → statement M
 objects-spec =
@@ -29,34 +157,35 @@ objects-spec =
     (tie.spec
     Inv-loop
     μ-loop
-    (λ c. ((c .before .before .pre), omega arith, law.from-nothing (objectsSize 8 (eachRow askedObject objectWidth ((c .before .before .args .n)) ((c .before .before .args .rows .now))) (eachRow askedComponent componentWidth (counted (eachRow askedObject objectWidth ((c .before .before .args .n)) ((c .before .before .args .rows .now)))) ((c .before .before .args .parts .now))))))
-    (λ c. let o = ((c .before .loop .inv .0 .objects)) in let g = ((c .before .before .before .before .good)) in omega (arith, (c .loop-test .taken)))
-    (λ c. let o = ((c .before .loop .inv .0 .objects)) in let g = ((c .before .before .before .before .good)) in omega (arith, (c .loop-test .taken)))
-    (λ c. let o = ((c .before .before .loop .inv .0 .objects)) in let g = ((c .before .before .before .before .before .good)) in omega (arith, (c .before .loop-test .taken)))
-    (λ c. let o = ((c .before .before .loop .inv .0 .objects)) in let g = ((c .before .before .before .before .before .good)) in omega (arith, (c .before .loop-test .taken)))
-    (λ c. let o = ((c .before .before .loop .inv .0 .objects)) in let g = ((c .before .before .before .before .before .good)) in omega (arith, (c .before .loop-test .taken)))
-    (λ c. let o = ((c .before .before .loop .inv .0 .objects)) in let g = ((c .before .before .before .before .before .good)) in omega (arith, (c .before .loop-test .taken)))
-    (λ c. let o = ((c .before .before .loop .inv .0 .objects)) in let g = ((c .before .before .before .before .before .good)) in omega (arith, (c .before .loop-test .taken)))
-    (λ c κs. subst (λ (s : List ℕ). (objectWidth ≤ length s) × (getD s rankColumn 0 ≤ 8)) (sym (part-to-end ((c .before .before .before .before .before .before .args .rows .now)) ((c .before .before .before .loop .row)))) ((let o = ((c .before .before .before .loop .inv .0 .objects)) in omega (arith, (c .before .before .loop-test .taken), length-drop ((c .before .before .before .loop .row)) ((c .before .before .before .before .before .before .args .rows .now)))), law.rank-small ((c .before .before .before .before .before .before .args .rows .now)) ((c .before .before .before .before .before .before .args .parts .now)) ((c .before .before .before .loop .left)) ((c .before .before .before .loop .row)) ((c .before .before .before .loop .from)) ((c .before .before .before .loop .place)) ((c .before .before .loop-test .taken)) ((c .before .before .before .loop .inv .0))))
-    (λ c κs. search needs)
-    (λ c. omega (arith, (c .before .object .ensures), (c .head .ensures), heads.head-small (getD ((c .before .before .before .before .before .before .before .before .args .rows .now)) ((c .before .before .before .before .before .loop .row) + countColumn) 0)))
-    (λ c. omega (arith, (c .before .object .ensures), (c .head .ensures), heads.head-small (getD ((c .before .before .before .before .before .before .before .before .args .rows .now)) ((c .before .before .before .before .before .loop .row) + countColumn) 0), (c .before .before .before .before .before .loop .inv .1)))
-    (λ c. let g = ((c .before .before .before .before .before .before .before .before .good)) in omega (arith, law.components-there ((c .before .before .before .before .before .before .before .before .args .rows .now)) ((c .before .before .before .before .before .before .before .before .args .parts .now)) ((c .before .before .before .before .before .loop .left)) ((c .before .before .before .before .before .loop .row)) ((c .before .before .before .before .before .loop .from)) ((c .before .before .before .before .before .loop .place)) ((c .before .before .before .before .loop-test .taken)) ((c .before .before .before .before .before .loop .inv .0))))
-    (λ c. let g = ((c .before .before .before .before .before .before .before .before .good)) in omega (arith, law.components-there ((c .before .before .before .before .before .before .before .before .args .rows .now)) ((c .before .before .before .before .before .before .before .before .args .parts .now)) ((c .before .before .before .before .before .loop .left)) ((c .before .before .before .before .before .loop .row)) ((c .before .before .before .before .before .loop .from)) ((c .before .before .before .before .before .loop .place)) ((c .before .before .before .before .loop-test .taken)) ((c .before .before .before .before .before .loop .inv .0))))
-    (λ c. let g = ((c .before .before .before .before .before .before .before .before .good)) in omega (arith, law.components-there ((c .before .before .before .before .before .before .before .before .args .rows .now)) ((c .before .before .before .before .before .before .before .before .args .parts .now)) ((c .before .before .before .before .before .loop .left)) ((c .before .before .before .before .before .loop .row)) ((c .before .before .before .before .before .loop .from)) ((c .before .before .before .before .before .loop .place)) ((c .before .before .before .before .loop-test .taken)) ((c .before .before .before .before .before .loop .inv .0))))
-    (λ c. let g = ((c .before .before .before .before .before .before .before .before .good)) in omega (arith, law.components-there ((c .before .before .before .before .before .before .before .before .args .rows .now)) ((c .before .before .before .before .before .before .before .before .args .parts .now)) ((c .before .before .before .before .before .loop .left)) ((c .before .before .before .before .before .loop .row)) ((c .before .before .before .before .before .loop .from)) ((c .before .before .before .before .before .loop .place)) ((c .before .before .before .before .loop-test .taken)) ((c .before .before .before .before .before .loop .inv .0))))
-    (λ c κs. subst (λ (s : List ℕ). (componentWidth * (getD ((c .before .before .before .before .before .before .before .before .before .args .rows .now)) ((c .before .before .before .before .before .before .loop .row) + countColumn) 0) ≤ length s) × (reached ((c .before .before .before .before .before .before .loop .place)) (blobSizes (eachRow askedComponent componentWidth (getD ((c .before .before .before .before .before .before .before .before .before .args .rows .now)) ((c .before .before .before .before .before .before .loop .row) + countColumn) 0) s)) ≤ endLimit)) (sym (part-to-end ((c .before .before .before .before .before .before .before .before .before .args .parts .now)) ((c .before .before .before .before .before .before .loop .from)))) (omega (arith, law.components-there ((c .before .before .before .before .before .before .before .before .before .args .rows .now)) ((c .before .before .before .before .before .before .before .before .before .args .parts .now)) ((c .before .before .before .before .before .before .loop .left)) ((c .before .before .before .before .before .before .loop .row)) ((c .before .before .before .before .before .before .loop .from)) ((c .before .before .before .before .before .before .loop .place)) ((c .before .before .before .before .before .loop-test .taken)) ((c .before .before .before .before .before .before .loop .inv .0)), length-drop ((c .before .before .before .before .before .before .loop .from)) ((c .before .before .before .before .before .before .before .before .before .args .parts .now))), law.ends-in-time ((c .before .before .before .before .before .before .before .before .before .args .rows .now)) ((c .before .before .before .before .before .before .before .before .before .args .parts .now)) ((c .before .before .before .before .before .before .loop .left)) ((c .before .before .before .before .before .before .loop .row)) ((c .before .before .before .before .before .before .loop .from)) ((c .before .before .before .before .before .before .loop .place)) ((c .before .before .before .before .before .loop-test .taken)) ((c .before .before .before .before .before .before .loop .inv .0))))
-    (λ c. omega (arith, (c .before .before .before .object .ensures), (c .before .before .head .ensures), heads.head-small (getD ((c .before .before .before .before .before .before .before .before .before .before .args .rows .now)) ((c .before .before .before .before .before .before .before .loop .row) + countColumn) 0), (c .before .before .before .before .before .before .before .loop .inv .1), (c .components .ensures)))
-    (λ c κs. search needs)
-    (λ c. let g = ((c .before .before .before .before .before .before .before .before .before .before .before .good)) in omega (arith, law.components-there ((c .before .before .before .before .before .before .before .before .before .before .before .args .rows .now)) ((c .before .before .before .before .before .before .before .before .before .before .before .args .parts .now)) ((c .before .before .before .before .before .before .before .before .loop .left)) ((c .before .before .before .before .before .before .before .before .loop .row)) ((c .before .before .before .before .before .before .before .before .loop .from)) ((c .before .before .before .before .before .before .before .before .loop .place)) ((c .before .before .before .before .before .before .before .loop-test .taken)) ((c .before .before .before .before .before .before .before .before .loop .inv .0))))
-    (λ c. let g = ((c .before .before .before .before .before .before .before .before .before .before .before .good)) in omega (arith, law.components-there ((c .before .before .before .before .before .before .before .before .before .before .before .args .rows .now)) ((c .before .before .before .before .before .before .before .before .before .before .before .args .parts .now)) ((c .before .before .before .before .before .before .before .before .loop .left)) ((c .before .before .before .before .before .before .before .before .loop .row)) ((c .before .before .before .before .before .before .before .before .loop .from)) ((c .before .before .before .before .before .before .before .before .loop .place)) ((c .before .before .before .before .before .before .before .loop-test .taken)) ((c .before .before .before .before .before .before .before .before .loop .inv .0))))
-    (λ c. let g = ((c .before .before .before .before .before .before .before .before .before .before .before .good)) in omega (arith, law.components-there ((c .before .before .before .before .before .before .before .before .before .before .before .args .rows .now)) ((c .before .before .before .before .before .before .before .before .before .before .before .args .parts .now)) ((c .before .before .before .before .before .before .before .before .loop .left)) ((c .before .before .before .before .before .before .before .before .loop .row)) ((c .before .before .before .before .before .before .before .before .loop .from)) ((c .before .before .before .before .before .before .before .before .loop .place)) ((c .before .before .before .before .before .before .before .loop-test .taken)) ((c .before .before .before .before .before .before .before .before .loop .inv .0))))
-    (λ c. let g = ((c .before .before .before .before .before .before .before .before .before .before .before .good)) in omega (arith, law.components-there ((c .before .before .before .before .before .before .before .before .before .before .before .args .rows .now)) ((c .before .before .before .before .before .before .before .before .before .before .before .args .parts .now)) ((c .before .before .before .before .before .before .before .before .loop .left)) ((c .before .before .before .before .before .before .before .before .loop .row)) ((c .before .before .before .before .before .before .before .before .loop .from)) ((c .before .before .before .before .before .before .before .before .loop .place)) ((c .before .before .before .before .before .before .before .loop-test .taken)) ((c .before .before .before .before .before .before .before .before .loop .inv .0))))
-    (λ c κs. subst (λ (s : List ℕ). (componentWidth * (getD ((c .before .before .before .before .before .before .before .before .before .before .before .before .args .rows .now)) ((c .before .before .before .before .before .before .before .before .before .loop .row) + countColumn) 0) ≤ length s) × (((c .before .before .before .before .before .before .before .before .before .loop .place)) ≤ endLimit)) (sym (part-to-end ((c .before .before .before .before .before .before .before .before .before .before .before .before .args .parts .now)) ((c .before .before .before .before .before .before .before .before .before .loop .from)))) (omega (arith, law.components-there ((c .before .before .before .before .before .before .before .before .before .before .before .before .args .rows .now)) ((c .before .before .before .before .before .before .before .before .before .before .before .before .args .parts .now)) ((c .before .before .before .before .before .before .before .before .before .loop .left)) ((c .before .before .before .before .before .before .before .before .before .loop .row)) ((c .before .before .before .before .before .before .before .before .before .loop .from)) ((c .before .before .before .before .before .before .before .before .before .loop .place)) ((c .before .before .before .before .before .before .before .before .loop-test .taken)) ((c .before .before .before .before .before .before .before .before .before .loop .inv .0)), length-drop ((c .before .before .before .before .before .before .before .before .before .loop .from)) ((c .before .before .before .before .before .before .before .before .before .before .before .before .args .parts .now))), law.begins-in-time ((c .before .before .before .before .before .before .before .before .before .before .before .before .args .rows .now)) ((c .before .before .before .before .before .before .before .before .before .before .before .before .args .parts .now)) ((c .before .before .before .before .before .before .before .before .before .loop .left)) ((c .before .before .before .before .before .before .before .before .before .loop .row)) ((c .before .before .before .before .before .before .before .before .before .loop .from)) ((c .before .before .before .before .before .before .before .before .before .loop .place)) ((c .before .before .before .before .before .before .before .before .loop-test .taken)) ((c .before .before .before .before .before .before .before .before .before .loop .inv .0))))
-    (λ c. let o = ((c .before .before .before .before .before .before .before .before .before .before .loop .inv .0 .objects)) in let g = ((c .before .before .before .before .before .before .before .before .before .before .before .before .before .good)) in omega (arith, (c .before .before .before .before .before .before .before .before .before .loop-test .taken)))
-    (λ c. let g = ((c .before .before .before .before .before .before .before .before .before .before .before .before .before .good)) in omega (arith, law.components-there ((c .before .before .before .before .before .before .before .before .before .before .before .before .before .args .rows .now)) ((c .before .before .before .before .before .before .before .before .before .before .before .before .before .args .parts .now)) ((c .before .before .before .before .before .before .before .before .before .before .loop .left)) ((c .before .before .before .before .before .before .before .before .before .before .loop .row)) ((c .before .before .before .before .before .before .before .before .before .before .loop .from)) ((c .before .before .before .before .before .before .before .before .before .before .loop .place)) ((c .before .before .before .before .before .before .before .before .before .loop-test .taken)) ((c .before .before .before .before .before .before .before .before .before .before .loop .inv .0))))
-    (λ c. let g = ((c .before .before .before .before .before .before .before .before .before .before .before .before .before .good)) in omega (arith, law.components-there ((c .before .before .before .before .before .before .before .before .before .before .before .before .before .args .rows .now)) ((c .before .before .before .before .before .before .before .before .before .before .before .before .before .args .parts .now)) ((c .before .before .before .before .before .before .before .before .before .before .loop .left)) ((c .before .before .before .before .before .before .before .before .before .before .loop .row)) ((c .before .before .before .before .before .before .before .before .before .before .loop .from)) ((c .before .before .before .before .before .before .before .before .before .before .loop .place)) ((c .before .before .before .before .before .before .before .before .before .loop-test .taken)) ((c .before .before .before .before .before .before .before .before .before .before .loop .inv .0))))
-    (λ c. search needs)
-    (λ c. search needs)
-    (λ c. (law.fits-next ((c .before .before .before .before .before .before .before .before .before .before .before .before .before .args .rows .now)) ((c .before .before .before .before .before .before .before .before .before .before .before .before .before .args .parts .now)) ((c .before .before .before .before .before .before .before .before .before .before .loop .left)) ((c .before .before .before .before .before .before .before .before .before .before .loop .row)) ((c .before .before .before .before .before .before .before .before .before .before .loop .from)) ((c .before .before .before .before .before .before .before .before .before .before .loop .place)) ((c .before .before .before .before .before .before .before .before .before .loop-test .taken)) ((c .before .before .before .before .before .before .before .before .before .before .loop .inv .0)) ((c .end .result)) ((c .end .ensures) ∙ ap (λ (s : List ℕ). cappedEnd (reached ((c .before .before .before .before .before .before .before .before .before .before .loop .place)) (blobSizes (eachRow askedComponent componentWidth (getD ((c .before .before .before .before .before .before .before .before .before .before .before .before .before .args .rows .now)) ((c .before .before .before .before .before .before .before .before .before .before .loop .row) + countColumn) 0) s)))) (part-to-end ((c .before .before .before .before .before .before .before .before .before .before .before .before .before .args .parts .now)) ((c .before .before .before .before .before .before .before .before .before .before .loop .from)))), omega (arith, (c .before .before .capped .ensures)), (c .before .before .before .before .before .before .before .before .before .before .loop .inv .2) ∙ law.one-object ((c .before .before .before .before .before .before .before .before .before .before .loop .total)) (objectsSize ((c .before .before .before .before .before .before .before .before .before .before .loop .place)) (eachRow askedObject objectWidth ((c .before .before .before .before .before .before .before .before .before .before .loop .left)) (drop ((c .before .before .before .before .before .before .before .before .before .before .loop .row)) ((c .before .before .before .before .before .before .before .before .before .before .before .before .before .args .rows .now)))) (eachRow askedComponent componentWidth (counted (eachRow askedObject objectWidth ((c .before .before .before .before .before .before .before .before .before .before .loop .left)) (drop ((c .before .before .before .before .before .before .before .before .before .before .loop .row)) ((c .before .before .before .before .before .before .before .before .before .before .before .before .before .args .rows .now))))) (drop ((c .before .before .before .before .before .before .before .before .before .before .loop .from)) ((c .before .before .before .before .before .before .before .before .before .before .before .before .before .args .parts .now))))) (objectSize (askedObject (drop ((c .before .before .before .before .before .before .before .before .before .before .loop .row)) ((c .before .before .before .before .before .before .before .before .before .before .before .before .before .args .rows .now))))) (headSize (getD ((c .before .before .before .before .before .before .before .before .before .before .before .before .before .args .rows .now)) ((c .before .before .before .before .before .before .before .before .before .before .loop .row) + countColumn) 0)) (componentsSize ((c .before .before .before .before .before .before .before .before .before .before .loop .place)) (eachRow askedComponent componentWidth (getD ((c .before .before .before .before .before .before .before .before .before .before .before .before .before .args .rows .now)) ((c .before .before .before .before .before .before .before .before .before .before .loop .row) + countColumn) 0) (drop ((c .before .before .before .before .before .before .before .before .before .before .loop .from)) ((c .before .before .before .before .before .before .before .before .before .before .before .before .before .args .parts .now))))) (objectsSize (reached ((c .before .before .before .before .before .before .before .before .before .before .loop .place)) (blobSizes (eachRow askedComponent componentWidth (getD ((c .before .before .before .before .before .before .before .before .before .before .before .before .before .args .rows .now)) ((c .before .before .before .before .before .before .before .before .before .before .loop .row) + countColumn) 0) (drop ((c .before .before .before .before .before .before .before .before .before .before .loop .from)) ((c .before .before .before .before .before .before .before .before .before .before .before .before .before .args .parts .now)))))) (eachRow askedObject objectWidth (((c .before .before .before .before .before .before .before .before .before .before .loop .left)) - 1) (drop (((c .before .before .before .before .before .before .before .before .before .before .loop .row)) + objectWidth) ((c .before .before .before .before .before .before .before .before .before .before .before .before .before .args .rows .now)))) (eachRow askedComponent componentWidth (counted (eachRow askedObject objectWidth (((c .before .before .before .before .before .before .before .before .before .before .loop .left)) - 1) (drop (((c .before .before .before .before .before .before .before .before .before .before .loop .row)) + objectWidth) ((c .before .before .before .before .before .before .before .before .before .before .before .before .before .args .rows .now))))) (drop (((c .before .before .before .before .before .before .before .before .before .before .loop .from)) + componentWidth * (getD ((c .before .before .before .before .before .before .before .before .before .before .before .before .before .args .rows .now)) ((c .before .before .before .before .before .before .before .before .before .before .loop .row) + countColumn) 0)) ((c .before .before .before .before .before .before .before .before .before .before .before .before .before .args .parts .now))))) ((c .before .before .before .before .before .before .object .result)) ((c .before .before .before .before .before .head .result)) ((c .before .before .before .components .result)) ((c .before .before .capped .result)) (law.objects-next ((c .before .before .before .before .before .before .before .before .before .before .before .before .before .args .rows .now)) ((c .before .before .before .before .before .before .before .before .before .before .before .before .before .args .parts .now)) ((c .before .before .before .before .before .before .before .before .before .before .loop .left)) ((c .before .before .before .before .before .before .before .before .before .before .loop .row)) ((c .before .before .before .before .before .before .before .before .before .before .loop .from)) ((c .before .before .before .before .before .before .before .before .before .before .loop .place)) ((c .before .before .before .before .before .before .before .before .before .loop-test .taken))) ((c .before .before .before .before .before .before .object .ensures) ∙ ap (λ (s : List ℕ). capped (objectSize (askedObject s))) (part-to-end ((c .before .before .before .before .before .before .before .before .before .before .before .before .before .args .rows .now)) ((c .before .before .before .before .before .before .before .before .before .before .loop .row)))) ((c .before .before .before .before .before .head .ensures)) ((c .before .before .before .components .ensures) ∙ ap (λ (s : List ℕ). capped (componentsSize ((c .before .before .before .before .before .before .before .before .before .before .loop .place)) (eachRow askedComponent componentWidth (getD ((c .before .before .before .before .before .before .before .before .before .before .before .before .before .args .rows .now)) ((c .before .before .before .before .before .before .before .before .before .before .loop .row) + countColumn) 0) s))) (part-to-end ((c .before .before .before .before .before .before .before .before .before .before .before .before .before .args .parts .now)) ((c .before .before .before .before .before .before .before .before .before .before .loop .from)))) ((c .before .before .capped .ensures)) ∙ ap (λ (k : ℕ). capped ((c .before .before .capped .result) + objectsSize k (eachRow askedObject objectWidth (((c .before .before .before .before .before .before .before .before .before .before .loop .left)) - 1) (drop (((c .before .before .before .before .before .before .before .before .before .before .loop .row)) + objectWidth) ((c .before .before .before .before .before .before .before .before .before .before .before .before .before .args .rows .now)))) (eachRow askedComponent componentWidth (counted (eachRow askedObject objectWidth (((c .before .before .before .before .before .before .before .before .before .before .loop .left)) - 1) (drop (((c .before .before .before .before .before .before .before .before .before .before .loop .row)) + objectWidth) ((c .before .before .before .before .before .before .before .before .before .before .before .before .before .args .rows .now))))) (drop (((c .before .before .before .before .before .before .before .before .before .before .loop .from)) + componentWidth * (getD ((c .before .before .before .before .before .before .before .before .before .before .before .before .before .args .rows .now)) ((c .before .before .before .before .before .before .before .before .before .before .loop .row) + countColumn) 0)) ((c .before .before .before .before .before .before .before .before .before .before .before .before .before .args .parts .now)))))) (sym (law.exact ((c .before .before .before .before .before .before .before .before .before .before .before .before .before .args .rows .now)) ((c .before .before .before .before .before .before .before .before .before .before .before .before .before .args .parts .now)) ((c .before .before .before .before .before .before .before .before .before .before .loop .left)) ((c .before .before .before .before .before .before .before .before .before .before .loop .row)) ((c .before .before .before .before .before .before .before .before .before .before .loop .from)) ((c .before .before .before .before .before .before .before .before .before .before .loop .place)) ((c .before .before .before .before .before .before .before .before .before .loop-test .taken)) ((c .before .before .before .before .before .before .before .before .before .before .loop .inv .0)) ((c .end .result)) ((c .end .ensures) ∙ ap (λ (s : List ℕ). cappedEnd (reached ((c .before .before .before .before .before .before .before .before .before .before .loop .place)) (blobSizes (eachRow askedComponent componentWidth (getD ((c .before .before .before .before .before .before .before .before .before .before .before .before .before .args .rows .now)) ((c .before .before .before .before .before .before .before .before .before .before .loop .row) + countColumn) 0) s)))) (part-to-end ((c .before .before .before .before .before .before .before .before .before .before .before .before .before .args .parts .now)) ((c .before .before .before .before .before .before .before .before .before .before .loop .from))))))))
-    (λ c. omega (arith, (c .before .loop .inv .1), (c .before .loop .inv .2), law.objects-none ((c .before .before .before .before .args .rows .now)) ((c .before .before .before .before .args .parts .now)) ((c .before .loop .left)) ((c .before .loop .row)) ((c .before .loop .from)) ((c .before .loop .place)) ((c .loop-test .left)))))
+    first-turn-requires
+    loop-holds
+    add-count
+    mul-count
+    shared-slice-read-count
+    mul-object
+    sub-object
+    part-object-start
+    part-object-end
+    object-requires
+    head-requires
+    add-own
+    add-capped
+    mul-components
+    sub-components
+    part-components-start
+    part-components-end
+    components-requires
+    add-capped-2
+    capped-requires
+    mul-turn-past
+    sub-turn-past
+    part-turn-past-start
+    part-turn-past-end
+    turn-past-requires
+    add-row
+    mul-from
+    add-from
+    sub-left
+    loop-less
+    loop-again
+    returns)

@@ -1,0 +1,3 @@
+-- Laws behind the proofs of plan.
+pub mod Tests
+pub mod Turns

@@ -1,0 +1,2 @@
+-- The definitions that the contracts of plan cite.
+pub mod Earlier
