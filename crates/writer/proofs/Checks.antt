@@ -42,9 +42,6 @@ use Rattle.readback.proofs.Placed.{file-length}
 use Rattle.readback.proofs.ReadBack.{written-at-is}
 use Rattle.readback.proofs.SoundIsFine.{sound-is-fine}
 use Rattle.writer.specs.declared.Written.{Written}
-use Rattle.foresee.specs.declared.Foreseen.{Foreseen}
-use Rattle.foresee.specs.declared.Foreseen.the-variants.{Fine, Fault}
-use Rattle.foresee.specs.Told.{foretold}
 use Rattle.writer.specs.declared.Sized.{Sized}
 use Rattle.writer.specs.declared.Sized.the-variants.{No, Yes}
 use Rattle.writer.specs.Told.{refused, told, Answered, Numbers}
@@ -85,16 +82,16 @@ module _ (plan rows : List ℕ) (objects components place size : ℕ) (buffer : 
   abbrev attributes : Span
   attributes = record { place = place; size = size }
 
-  abbrev d : Described
+  abbrev pub d : Described
   d = ofRows plan rows objects components attributes buffer
 
-  abbrev lengths : List ℕ
+  abbrev pub lengths : List ℕ
   lengths = lengthsOf plan rows objects components attributes buffer
 
-  abbrev offsets : List ℕ
+  abbrev pub offsets : List ℕ
   offsets = offsetsOf plan rows objects components attributes buffer
 
-  abbrev answer-at : ℕ → Check (List ℕ)
+  abbrev pub answer-at : ℕ → Check (List ℕ)
   answer-at = fileAt plan rows objects components attributes buffer
 
   abbrev is-sound : Bool
@@ -289,32 +286,3 @@ module _ (plan rows : List ℕ) (objects components place size : ℕ) (buffer : 
 
       pub filled : (r : Written) (out after : List ℕ) → Answered (answer-at plan rows objects components place size buffer (length out)) r out after → Answered (answer (length out)) r out after
       filled r out after a = answer-of (answer-at plan rows objects components place size buffer (length out)) (so .1 (length out)) out after r a
-
--- what is foreseen of rows that fit
-module _ (plan rows : List ℕ) (objects components place size : ℕ) (buffer : List ℕ) (e m : ℕ)
-    (fit : Fit plan rows objects components (record { place = place; size = size }) buffer e m)
-    (x : Foreseen) (foreseen : judged (d plan rows objects components place size buffer) ≡ foretold x) (out : List ℕ) where
-  abbrev filling : Check (List ℕ)
-  filling = answer-at plan rows objects components place size buffer (length out)
-
-  abbrev whole-file : List ℕ
-  whole-file = fileOf (d plan rows objects components place size buffer) (offsets plan rows objects components place size buffer)
-
-  pub fill-refused : (n o c : ℕ) → x ≡ Fault n o c → (r : Written) → r ≡ refused n o c → Answered filling r out out
-  fill-refused n o c q r is =
-      subst (λ (a : Written). Answered filling a out out) (sym is) (refused-answer n o c (fit .is (length out) ∙ rw (foreseen ∙ ap foretold q) refl) out)
-
-  module _ (q : x ≡ Fine) where
-    pub fill-no-room : length out < e + m + 16 → (r : Written) → r ≡ refused 24 0 0 → Answered filling r out out
-    fill-no-room h r is =
-        subst (λ (a : Written). Answered filling a out out) (sym is)
-        (refused-answer 24 0 0 (fit .is (length out) ∙ rw (foreseen ∙ ap foretold q, lt-leb (length whole-file) (length out) (omega (arith, h, fit .long))) refl) out)
-
-    pub there-is-room : e + m + 16 ≤ length out → length whole-file ≤ length out
-    there-is-room h = omega (arith, h, fit .long)
-
-    pub fill-whole : e + m + 16 ≤ length out → (n : ℕ) → n ≡ length whole-file → (after : List ℕ) → after ≡ whole-file ++ drop (length whole-file) out
-        → Answered filling (record { number = 0; object = 0; component = 0; length = n }) out after
-    fill-whole h n l after is =
-        written-answer whole-file
-        (fit .is (length out) ∙ rw (foreseen ∙ ap foretold q, le-leb (length whole-file) (length out) (omega (arith, h, fit .long))) refl) n l out after is
