@@ -61,8 +61,16 @@ module _ {buffer plan rows whole xs ys : List ℕ} {left row turn past : ℕ} (b
     room-for-blob {start} e = record {
       front = omega (arith, b .laid .past, b .laid .fits, same-length (b .laid));
       blob =
-          omega (arith, e, b .room, ap length grown, blobs-grow buffer plan rows others (left - 1) (row + componentWidth) (stepped plan turn size),
-          over-length (b .front) (offsetAt plan turn) blob, within-length (first-blob (b .rest) some), same-length (b .laid));
+          omega (
+            arith,
+            e,
+            b .room,
+            ap length grown,
+            blobs-grow buffer plan rows others (left - 1) (row + componentWidth) (stepped plan turn size),
+            over-length (b .front) (offsetAt plan turn) blob,
+            within-length (first-blob (b .rest) some),
+            same-length (b .laid),
+          );
     }
 
     pub blob-turn : {zs : List ℕ} {start end u : ℕ} → start ≡ offsetAt plan turn → Laid (over (take past ys) start blob) 0 ys zs end → u ≡ stepped plan turn size

@@ -94,8 +94,11 @@ module _ (buffer plan rows : List ℕ) where
   unfolding blobsOf
   blobs-grow file zero row turn = omega arith
   blobs-grow file (suc n) row turn =
-      omega (arith, blobs-grow (one-over file row turn) n (row + componentWidth) (stepped plan turn (getD rows (row + lengthColumn) 0)),
-      over-length file (offsetAt plan turn) (range buffer (getD rows (row + offsetColumn) 0) (getD rows (row + lengthColumn) 0)))
+      omega (
+        arith,
+        blobs-grow (one-over file row turn) n (row + componentWidth) (stepped plan turn (getD rows (row + lengthColumn) 0)),
+        over-length file (offsetAt plan turn) (range buffer (getD rows (row + offsetColumn) 0) (getD rows (row + lengthColumn) 0)),
+      )
 
   pub components-next : (n row reached : ℕ) → 0 < n → componentsOf buffer plan rows n row reached
       ≡ componentAt buffer (drop row rows) (offsetAt plan reached) ++ componentsOf buffer plan rows (n - 1) (row + componentWidth) (stepped plan reached (getD rows (row + lengthColumn) 0))

@@ -44,14 +44,7 @@ fn farther(a: usize, b: usize) -> usize
 }
 
 // A range of the buffer as a blob over the front of the output, which is laid up to `past`; zeros up to it where that isn't so far. Answers where the front then ends.
-fn blob_at(
-    out: &mut [u8],
-    past: usize,
-    start: usize,
-    buffer: &[u8],
-    place: u64,
-    size: u64,
-) -> usize
+fn blob_at(out: &mut [u8], past: usize, start: usize, buffer: &[u8], place: u64, size: u64) -> usize
     requires { ⌜ Within (now buffer) place size ⌝ }
     requires { ⌜ BlobRoom (now out) past start size ⌝ }
     ensures { λ r. ⌜ Laid (over (take past (now (out .entry))) start (is.range (now (buffer .entry)) place size)) 0 (now (out .entry)) (now (out .exit)) r ⌝ }

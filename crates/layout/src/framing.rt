@@ -64,7 +64,15 @@ pub fn whole(
 {
     let first = columns::OBJECT * objects as usize;
     let start = magic_at(out, 0);
-    let end = blobs_at(out, start, &buffer[0..], plan, &rows[0..], components, first);
+    let end = blobs_at(
+        out,
+        start,
+        &buffer[0..],
+        plan,
+        &rows[0..],
+        components,
+        first,
+    );
     let n = manifest(
         &mut out[end..],
         &buffer[0..],

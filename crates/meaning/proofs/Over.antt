@@ -104,6 +104,7 @@ over-keeps file o (x ∷ b) p l h k = go (eqb l 0) refl (leb (o + length (x ∷ 
   where
     nonempty : (eqb l 0 || leb (o + length (x ∷ b)) p || leb (p + l) o) ≡ (eqb (length (x ∷ b)) 0 || eqb l 0 || leb (o + length (x ∷ b)) p || leb (p + l) o)
     nonempty = let e : eqb (length (x ∷ b)) 0 ≡ false = ne-eqb (length (x ∷ b)) 0 (λ z. omega (arith, z)) in rw e refl
+
     go : (t : Bool) → eqb l 0 ≡ t → (u : Bool) → leb (o + length (x ∷ b)) p ≡ u → (v : Bool) → leb (p + l) o ≡ v → (t || u || v) ≡ true
         → take l (drop p (over file o (x ∷ b))) ≡ take l (drop p file)
     go true e u f v g k = let z = eqb-true l 0 e in rw z refl

@@ -109,8 +109,7 @@ unfolding blobsOver
 all-stand file [] [] rest none final same = tt
 all-stand file (o ∷ os) (b ∷ bs) rest (next a e f) final same =
     let l : o + length b ≤ length final =
-        omega (arith, ap length same, blobs-length (over file o b) os bs, end-above (length (over file o b)) os (map length bs), over-length file o b) in
-    (
+    omega (arith, ap length same, blobs-length (over file o b) os bs, end-above (length (over file o b)) os (map length bs), over-length file o b) in (
       record {
         multiple = a .multiple;
         low = a .low;

@@ -119,8 +119,12 @@ module _ (plan : List ℕ) (some : length plan ≡ 0 → ⊥) where
 
   pub turns-are : (n k : ℕ) (rows : List ℕ) → n + k ≡ reached plan n (blobSizes (eachRow askedComponent componentWidth k rows))
   turns-are n k rows =
-      omega (arith, counts n (blobSizes (eachRow askedComponent componentWidth k rows)),
-      length-map (eachRow askedComponent componentWidth k rows) (λ (c : AskedComponent). c .blob .size), how-many askedComponent componentWidth k rows)
+      omega (
+        arith,
+        counts n (blobSizes (eachRow askedComponent componentWidth k rows)),
+        length-map (eachRow askedComponent componentWidth k rows) (λ (c : AskedComponent). c .blob .size),
+        how-many askedComponent componentWidth k rows,
+      )
 
   pub turns-fit : (n k : ℕ) (rows : List ℕ) → reached plan n (blobSizes (eachRow askedComponent componentWidth k rows)) ≤ turnLimit plan → n + k < 256 ^ 8
   turns-fit n k rows h = omega (arith, h, turns-are n k rows, limit-is)

@@ -171,7 +171,7 @@ module _ (rows : List ℕ) (objects components place size : ℕ) (buffer : List 
         pub fit : m ≤ manifestLimit → Plain (Yes e m)
         fit h = (
           fit-at [] rows objects components place size buffer sound numbers few small by-rule turns-low m long h e
-          (let x : e ≡ end = omega (arith, ends, in-time) in x ∙ ap (λ (os : List ℕ). lastEnd os rule-lengths) same),
+              (let x : e ≡ end = omega (arith, ends, in-time) in x ∙ ap (λ (os : List ℕ). lastEnd os rule-lengths) same),
           settled,
         )
 
@@ -242,8 +242,14 @@ module _ (plan : List ℕ) (ceiling : ℕ) (rows : List ℕ) (objects components
       pub turns-in-time : reached plan (begun plan) plan-lengths ≤ turnLimit plan
       turns-in-time =
           turns-counted plan plan-lengths (as-many (as-it-is .follows))
-          (omega (arith, few, sound-lies buffer rows objects components (record { place = place; size = size }) sound, ap length (sym same-lengths),
-          length-map (eachRow askedComponent componentWidth components lent-rows) (λ (c : AskedComponent). c .blob .size), how-many askedComponent componentWidth components lent-rows))
+          (omega (
+            arith,
+            few,
+            sound-lies buffer rows objects components (record { place = place; size = size }) sound,
+            ap length (sym same-lengths),
+            length-map (eachRow askedComponent componentWidth components lent-rows) (λ (c : AskedComponent). c .blob .size),
+            how-many askedComponent componentWidth components lent-rows,
+          ))
 
       pub can-be-measured : Measurable plan rows objects components
       can-be-measured =
@@ -261,7 +267,7 @@ module _ (plan : List ℕ) (ceiling : ℕ) (rows : List ℕ) (objects components
         pub fit-by : m ≤ manifestLimit → Planned (Yes e m)
         fit-by h = (
           fit-at plan rows objects components place size buffer sound numbers few small by-plan turns-in-time m long h e
-          (both .1 ∙ ap (lastEnd plan) same-lengths ∙ ap (λ (os : List ℕ). lastEnd os plan-lengths) same-offsets),
+              (both .1 ∙ ap (lastEnd plan) same-lengths ∙ ap (λ (os : List ℕ). lastEnd os plan-lengths) same-offsets),
           settled-by,
         )
 

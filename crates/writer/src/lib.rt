@@ -193,7 +193,16 @@ pub fn write_planned(
     ensures answer { λ r. ⌜ is.Answered (writtenBy (now (rows .entry)) objects components (record { place = place; size = size }) (now (buffer .entry)) (now (plan .entry)) ceiling (length (now (out .entry)))) r (now (out .entry)) (now (out .exit)) ⌝ }
     ensures lent { λ r. ⌜ Lent (now (rows .entry)) (now (buffer .entry)) ⌝ }
 {
-    match measured_by(plan, ceiling, rows, objects, components, place, size, buffer) {
+    match measured_by(
+        plan,
+        ceiling,
+        rows,
+        objects,
+        components,
+        place,
+        size,
+        buffer,
+    ) {
         Sized::No(n, o) => refused(n, o, 0),
         Sized::Yes(end, manifest) => fill(
             plan,

@@ -142,6 +142,14 @@ pub extern "C" fn zt_write_planned(
     ensures lent { λ r. ⌜ Lent (now (rows .entry)) (now (buffer .entry)) ⌝ }
 {
     writer::write_planned(
-        plan, ceiling, rows, objects, components, place, size, buffer, out,
+        plan,
+        ceiling,
+        rows,
+        objects,
+        components,
+        place,
+        size,
+        buffer,
+        out,
     )
 }
