@@ -10,7 +10,8 @@ use lib.Seq.{sets, sets-eq}
 use borrow.Author.Tests.{le-leb, lt-leb}
 use Rattle.meaning.specs.Check.{Check, pass, refuse}
 use Rattle.put.specs.Wrote.{most, capped, Wrote}
-use Rattle.panel.specs.Lines.{text, sound, listed}
+use Rattle.panel.specs.Lines.{plain, text, sound, listed}
+use Rattle.panel.specs.Summary.{summaryText, summarised}
 use Rattle.panel.specs.Told.{told, textAfter}
 use Rattle.panel.specs.declared.Listed.{Listed}
 use Rattle.put.proofs.Writing.{by-place, capped-low, capped-high}
@@ -20,9 +21,18 @@ module _ (file table : List ℕ) (objects components : ℕ) where
   unfolding listed
   not-listed e = rw (← e) refl
 
-  pub all-listed : true ≡ sound file table objects components → listed file table objects components ≡ pass (text file table objects components)
+  pub all-listed : true ≡ sound file table objects components → listed file table objects components ≡ pass (text file table plain objects components)
   unfolding listed
   all-listed e = rw (← e) refl
+
+  module _ (last : List ℕ) where
+    pub not-summarised : false ≡ sound file table objects components → summarised file table objects components last ≡ refuse 26 0 0
+    unfolding summarised
+    not-summarised e = rw (← e) refl
+
+    pub all-summarised : true ≡ sound file table objects components → summarised file table objects components last ≡ pass (summaryText file table objects components last)
+    unfolding summarised
+    all-summarised e = rw (← e) refl
 
 -- what is said, and what is then held
 abbrev pub Answered : Check (List ℕ) → Listed → List ℕ → List ℕ → Type 0

@@ -13,7 +13,7 @@ use Rattle.meaning.specs.Model.{Word, Component, Object}
 use Rattle.meaning.specs.Rows.{wordSpan, objectRow, componentRow}
 use Rattle.meaning.specs.Listing as meaning
 use Rattle.view.proofs.Columns.{column, first, onward, shape, ending, nine, name-place, name-size, code-is, offset-is, length-is}
-use Rattle.panel.specs.Lines.{countAt, textAt, rangeInside, componentSound, objectSound, blobLine, objectLine}
+use Rattle.panel.specs.Lines.{plain, countAt, textAt, rangeInside, componentSound, objectSound, blobLine, objectLine}
 use Rattle.panel.specs.Stands.{Stands, ComponentStands, ObjectStands}
 
 module _ (file T : List ℕ) where
@@ -41,7 +41,7 @@ module _ (file T : List ℕ) where
         )
         refl
 
-    pub blob-line : blobLine file T q ≡ meaning.blobLine c
+    pub blob-line : blobLine file T plain q ≡ meaning.blobLine c
     unfolding blobLine meaning.blobLine
     blob-line = rw (text-is q (c .name) (name-place T q i c Y e) (name-size T q i c Y e) (s .name), (code-is T q i c Y e), (offset-is T q i c Y e), (length-is T q i c Y e)) refl
 

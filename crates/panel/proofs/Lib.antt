@@ -1,6 +1,7 @@
 -- Laws behind panel's proofs.
 pub mod Sound
 pub mod Following
+pub mod LineEnds
 pub mod Answers
 pub mod Columns
 pub mod OfRows

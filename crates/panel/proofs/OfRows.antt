@@ -14,7 +14,7 @@ use Rattle.meaning.specs.Read.{Span}
 use Rattle.meaning.specs.Model.{Component, Object, Model}
 use Rattle.meaning.specs.Rows.{objectRow, componentRow, objectRows, rowsOf, componentRows, rows, componentCount}
 use Rattle.meaning.specs.Listing as meaning
-use Rattle.panel.specs.Lines.{countAt, counted, every, componentSound, objectSound, blobLine, blobLines, objectLine, objectLines, text, sound, listed}
+use Rattle.panel.specs.Lines.{plain, countAt, counted, every, componentSound, objectSound, blobLine, blobLines, objectLine, objectLines, text, sound, listed}
 use Rattle.panel.specs.Stands.{ComponentStands, ObjectStands, Each}
 use Rattle.panel.proofs.Answers.{all-listed}
 use Rattle.view.proofs.Columns.{component-past, objects-at, components-at, rows-lie}
@@ -24,12 +24,12 @@ module _ (file T : List ℕ) where
   -- ---- the components of one object
 
   blobs-of : (i : ℕ) (cs : List (Component Span)) (q : ℕ) (Y : List ℕ) → drop q T ≡ rowsOf i cs ++ Y → Each (ComponentStands file) cs
-      → blobLines file T (length cs) q ≡ meaning.blobLines cs
+      → blobLines file T plain (length cs) q ≡ meaning.blobLines cs
   unfolding blobLines meaning.blobLines rowsOf Each
   blobs-of i [] q Y e s = refl
   blobs-of i (c ∷ cs) q Y e s =
       let f = e ∙ append-assoc (componentRow i c) (rowsOf i cs) Y in
-      ap (λ (l : List ℕ). l ++ blobLines file T (length cs) (q + componentWidth)) (blob-line file T q i c (rowsOf i cs ++ Y) f (s .0))
+      ap (λ (l : List ℕ). l ++ blobLines file T plain (length cs) (q + componentWidth)) (blob-line file T q i c (rowsOf i cs ++ Y) f (s .0))
       ∙ ap (λ (l : List ℕ). meaning.blobLine c ++ l) (blobs-of i cs (q + componentWidth) Y (component-past T q i c (rowsOf i cs ++ Y) f) (s .1))
 
   blobs-past : (i : ℕ) (cs : List (Component Span)) (q : ℕ) (Y : List ℕ) → drop q T ≡ rowsOf i cs ++ Y → Each (ComponentStands file) cs
@@ -84,17 +84,17 @@ module _ (file T : List ℕ) where
       (blobs-past i (o .components) q (componentRows (suc i) os ++ Y) f (s .0 .components)) (s .1)
 
   lines-of : (i : ℕ) (os : List (Object Span)) (p q : ℕ) (X Y : List ℕ) → drop p T ≡ objectRows os ++ X → drop q T ≡ componentRows i os ++ Y
-      → Each (ObjectStands file) os → objectLines file T (length os) p q ≡ meaning.objectLines os
+      → Each (ObjectStands file) os → objectLines file T plain (length os) p q ≡ meaning.objectLines os
   unfolding objectRows componentRows Each objectLines meaning.objectLines
   lines-of i [] p q X Y e g s = refl
   lines-of i (o ∷ os) p q X Y e g s =
       let f = e ∙ append-assoc (objectRow o) (objectRows os) X in
       let h = g ∙ append-assoc (rowsOf i (o .components)) (componentRows (suc i) os) Y in
-      ap (λ (l : List ℕ). l ++ blobLines file T (countAt T p) q ++ objectLines file T (length os) (p + objectWidth) (q + componentWidth * countAt T p))
+      ap (λ (l : List ℕ). l ++ blobLines file T plain (countAt T p) q ++ objectLines file T plain (length os) (p + objectWidth) (q + componentWidth * countAt T p))
       (object-line file T p o (objectRows os ++ X) f (s .0))
-      ∙ ap (λ (n : ℕ). meaning.objectLine o ++ blobLines file T n q ++ objectLines file T (length os) (p + objectWidth) (q + componentWidth * n))
+      ∙ ap (λ (n : ℕ). meaning.objectLine o ++ blobLines file T plain n q ++ objectLines file T plain (length os) (p + objectWidth) (q + componentWidth * n))
       (count-is file T p o (objectRows os ++ X) f)
-      ∙ ap (λ (l : List ℕ). meaning.objectLine o ++ l ++ objectLines file T (length os) (p + objectWidth) (q + componentWidth * length (o .components)))
+      ∙ ap (λ (l : List ℕ). meaning.objectLine o ++ l ++ objectLines file T plain (length os) (p + objectWidth) (q + componentWidth * length (o .components)))
       (blobs-of i (o .components) q (componentRows (suc i) os ++ Y) h (s .0 .components))
       ∙ ap (λ (l : List ℕ). meaning.objectLine o ++ meaning.blobLines (o .components) ++ l)
       (lines-of (suc i) os (p + objectWidth) (q + componentWidth * length (o .components)) X Y (object-past file T p o (objectRows os ++ X) f)

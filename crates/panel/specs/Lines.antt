@@ -32,16 +32,6 @@ module _ (file table : List ℕ) where
   unfoldable pub componentSound : ℕ → Bool
   componentSound row = rangeInside row && ltb (getD table (row + dtypeColumn) 0) 13 && rangeInside (row + offsetColumn)
 
-  unfoldable pub blobLine : ℕ → List ℕ
-  blobLine row =
-      line (ascii "blob")
-      (shownText (textAt row) ∷ storageOf (getD table (row + dtypeColumn) 0) .called ∷ decimal (getD table (row + offsetColumn) 0) ∷ decimal (getD table (row + lengthColumn) 0) ∷ [])
-
-  -- n components, the first at this row
-  unfoldable pub blobLines : ℕ → ℕ → List ℕ
-  blobLines zero row = []
-  blobLines (suc n) row = blobLine row ++ blobLines n (row + componentWidth)
-
   -- an object's row: name and format
   unfoldable pub objectSound : ℕ → Bool
   objectSound row = rangeInside row && rangeInside (row + formatColumn)
@@ -49,11 +39,28 @@ module _ (file table : List ℕ) where
   unfoldable pub objectLine : ℕ → List ℕ
   objectLine row = line (ascii "object") (shownText (textAt row) ∷ shownText (textAt (row + formatColumn)) ∷ [])
 
+-- the words of a component's line, a blank before each but the first
+unfoldable pub blobWords : List ℕ → List ℕ → List ℕ → List ℕ → List ℕ
+blobWords name storage offset size = ascii "blob" ++ ((32 ∷ name) ++ ((32 ∷ storage) ++ ((32 ∷ offset) ++ (32 ∷ size))))
+
+-- with more words at the end of a component's line
+module _ (file table : List ℕ) (more : ℕ → List (List ℕ)) where
+  unfoldable pub blobLine : ℕ → List ℕ
+  blobLine row =
+      line (ascii "blob")
+      (shownText (textAt file table row) ∷ storageOf (getD table (row + dtypeColumn) 0) .called ∷ decimal (getD table (row + offsetColumn) 0) ∷ decimal (getD table (row + lengthColumn) 0)
+      ∷ more row)
+
+  -- n components, the first at this row
+  unfoldable pub blobLines : ℕ → ℕ → List ℕ
+  blobLines zero row = []
+  blobLines (suc n) row = blobLine row ++ blobLines n (row + componentWidth)
+
   -- n objects, the first at this row, and its components from the row `from` on: blobs follow their object
   unfoldable pub objectLines : ℕ → ℕ → ℕ → List ℕ
   objectLines zero row from = []
   objectLines (suc n) row from =
-      objectLine row ++ blobLines (countAt table row) from ++ objectLines n (row + objectWidth) (from + componentWidth * countAt table row)
+      objectLine file table row ++ blobLines (countAt table row) from ++ objectLines n (row + objectWidth) (from + componentWidth * countAt table row)
 
 -- each of n rows of this width, the first at `row`
 unfoldable pub every : (ℕ → Bool) → ℕ → ℕ → ℕ → Bool
@@ -68,12 +75,16 @@ sound file table objects components =
     && every (componentSound file table) componentWidth components (objectWidth * objects)
     && eqb (counted table objects 0) components
 
-unfoldable pub text : List ℕ → List ℕ → ℕ → ℕ → List ℕ
-text file table objects components =
+unfoldable pub text : List ℕ → List ℕ → (ℕ → List (List ℕ)) → ℕ → ℕ → List ℕ
+text file table more objects components =
     line (ascii "objects") (decimal objects ∷ ascii "components" ∷ decimal components ∷ [])
-    ++ objectLines file table objects 0 (objectWidth * objects)
+    ++ objectLines file table more objects 0 (objectWidth * objects)
+
+-- a listing has none
+abbrev pub plain : ℕ → List (List ℕ)
+plain row = []
 
 unfoldable pub listed : List ℕ → List ℕ → ℕ → ℕ → Check (List ℕ)
 listed file table objects components = do
   INDEX unless sound file table objects components
-  pass (text file table objects components)
+  pass (text file table plain objects components)

@@ -1,14 +1,18 @@
 // The listing's exact bytes, from a file and a table, into a lent text.
+mod ends;
 mod lines;
 mod rows;
 
 ghost use mathlib.Core.Path.{_≡_};
 ghost use mathlib.Core.List.{[], _∷_};
+ghost use mathlib.Core.Bool.{true};
 ghost use lib.ListN.{length};
 ghost use Rattle.meaning.specs.Check.{pass};
 ghost use Rattle.meaning.specs.Text.{ascii};
 ghost use Rattle.meaning.specs.Listing.{line, decimal};
+ghost use Rattle.put.specs.Wrote.{Wrote};
 ghost use Rattle.panel.specs.Lines as is;
+ghost use Rattle.panel.specs.Summary as summaries;
 ghost use Rattle.panel.specs.Told.{told, textAfter};
 
 // 0, and how many bytes the listing has; or INDEX or ROOM, and 0.
@@ -25,14 +29,96 @@ pub fn list(file: &[u8], table: &[u64], objects: u64, components: u64, text: &mu
 {
     if rows::sound(&file[0..], &table[0..], objects, components) {
         let mut scrap = [0u8; 1];
-        let n = lines::whole(&file[0..], &table[0..], objects, components, &mut scrap);
+        let n = lines::whole(
+            &file[0..],
+            &table[0..],
+            objects,
+            components,
+            false,
+            &mut scrap,
+        );
         if text.len() < n {
             return Listed {
                 number: 24,
                 length: 0,
             };
         }
-        lines::whole(&file[0..], &table[0..], objects, components, text);
+        lines::whole(&file[0..], &table[0..], objects, components, false, text);
+        return Listed {
+            number: 0,
+            length: n as u64,
+        };
+    }
+    Listed {
+        number: 26,
+        length: 0,
+    }
+}
+
+// A summary's lines and its last.
+fn summed(
+    file: &[u8],
+    table: &[u64],
+    objects: u64,
+    components: u64,
+    frame: u64,
+    manifest: u64,
+    inside: u64,
+    between: u64,
+    out: &mut [u8],
+) -> usize
+    requires { ⌜ is.sound (now file) (now table) objects components ≡ true ⌝ }
+    ensures { λ r. ⌜ Wrote (summaries.summaryText (now (file .entry)) (now (table .entry)) objects components (summaries.bytesLine frame manifest inside between)) 0 (now (out .entry)) (now (out .exit)) r ⌝ }
+{
+    let at = lines::whole(&file[0..], &table[0..], objects, components, true, out);
+    ends::bytes_line(frame, manifest, inside, between, out, at)
+}
+
+// The listing with what is found in each component, and a last line for the file's bytes; likewise.
+pub fn summary(
+    file: &[u8],
+    table: &[u64],
+    objects: u64,
+    components: u64,
+    frame: u64,
+    manifest: u64,
+    inside: u64,
+    between: u64,
+    text: &mut [u8],
+) -> Listed
+    ensures answer { λ r. ⌜ r ≡ told (summaries.summarised (now (file .entry)) (now (table .entry)) objects components (summaries.bytesLine frame manifest inside between)) (length (now (text .entry))) ⌝ }
+    ensures written { λ r. ⌜ now (text .exit) ≡ textAfter (summaries.summarised (now (file .entry)) (now (table .entry)) objects components (summaries.bytesLine frame manifest inside between)) (now (text .entry)) ⌝ }
+{
+    if rows::sound(&file[0..], &table[0..], objects, components) {
+        let mut scrap = [0u8; 1];
+        let n = summed(
+            &file[0..],
+            &table[0..],
+            objects,
+            components,
+            frame,
+            manifest,
+            inside,
+            between,
+            &mut scrap,
+        );
+        if text.len() < n {
+            return Listed {
+                number: 24,
+                length: 0,
+            };
+        }
+        summed(
+            &file[0..],
+            &table[0..],
+            objects,
+            components,
+            frame,
+            manifest,
+            inside,
+            between,
+            text,
+        );
         return Listed {
             number: 0,
             length: n as u64,

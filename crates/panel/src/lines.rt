@@ -1,4 +1,5 @@
 // The lines of a listing, into `out` from `at` on as far as they fit; each answers the place past its lines.
+use crate::ends::ending;
 use columns::COUNT;
 use columns::DTYPE;
 use columns::FORMAT;
@@ -23,6 +24,7 @@ ghost use Rattle.meaning.specs.Text.{ascii};
 ghost use Rattle.meaning.specs.Types.{storageOf};
 ghost use Rattle.meaning.specs.Listing.{line, shownText, decimal};
 ghost use Rattle.panel.specs.Lines as is;
+ghost use Rattle.panel.specs.Summary.{more};
 ghost use Rattle.put.specs.Wrote.{Wrote};
 
 fn heading(objects: u64, components: u64, out: &mut [u8]) -> usize
@@ -45,43 +47,52 @@ pub fn refused(number: u64, object: u64, component: u64, out: &mut [u8]) -> usiz
     byte(out, d, 10)
 }
 
+// All but what follows the size.
 fn blob_words(name: &[u8], code: u64, offset: u64, size: u64, out: &mut [u8], at: usize) -> usize
-    ensures { λ r. ⌜ Wrote (line (ascii "blob") (shownText (now (name .entry)) ∷ storageOf code .called ∷ decimal offset ∷ decimal size ∷ [])) at (now (out .entry)) (now (out .exit)) r ⌝ }
+    ensures { λ r. ⌜ Wrote (is.blobWords (shownText (now (name .entry))) (storageOf code .called) (decimal offset) (decimal size)) at (now (out .entry)) (now (out .exit)) r ⌝ }
 {
     let a = word(out, at, b"blob");
     let b = blank_text(out, a, &name[0..]);
     let c = blank_storage(out, b, code);
     let d = blank_number(out, c, offset);
-    let e = blank_number(out, d, size);
-    byte(out, e, 10)
+    blank_number(out, d, size)
 }
 
-// The component whose row begins at `row`.
-fn blob(file: &[u8], table: &[u64], row: usize, out: &mut [u8], at: usize) -> usize
+// The component whose row begins at `row`; in a summary with what is found in it.
+fn blob(file: &[u8], table: &[u64], row: usize, summary: bool, out: &mut [u8], at: usize) -> usize
     requires { ⌜ row + componentWidth ≤ length (now table) ⌝ }
-    ensures { λ r. ⌜ Wrote (is.blobLine (now (file .entry)) (now (table .entry)) row) at (now (out .entry)) (now (out .exit)) r ⌝ }
+    ensures { λ r. ⌜ Wrote (is.blobLine (now (file .entry)) (now (table .entry)) (more summary (now (file .entry)) (now (table .entry))) row) at (now (out .entry)) (now (out .exit)) r ⌝ }
 {
     let name = part(&file[0..], table[row], table[row + NAME_LENGTH]);
-    blob_words(
+    let past = blob_words(
         name,
         table[row + DTYPE],
         table[row + OFFSET],
         table[row + LENGTH],
         out,
         at,
-    )
+    );
+    ending(&file[0..], &table[0..], row, summary, out, past)
 }
 
 // n components, the first at the row `from`.
-fn blobs(file: &[u8], table: &[u64], n: u64, from: usize, out: &mut [u8], at: usize) -> usize
+fn blobs(
+    file: &[u8],
+    table: &[u64],
+    n: u64,
+    from: usize,
+    summary: bool,
+    out: &mut [u8],
+    at: usize,
+) -> usize
     requires { ⌜ from + componentWidth * n ≤ length (now table) ⌝ }
-    ensures { λ r. ⌜ Wrote (is.blobLines (now (file .entry)) (now (table .entry)) n from) at (now (out .entry)) (now (out .exit)) r ⌝ }
+    ensures { λ r. ⌜ Wrote (is.blobLines (now (file .entry)) (now (table .entry)) (more summary (now (file .entry)) (now (table .entry))) n from) at (now (out .entry)) (now (out .exit)) r ⌝ }
 {
     let mut past = at;
     let mut row = from;
     let mut left = n;
     while 0 < left {
-        past = blob(&file[0..], &table[0..], row, out, past);
+        past = blob(&file[0..], &table[0..], row, summary, out, past);
         row += columns::COMPONENT;
         left -= 1;
     }
@@ -108,9 +119,17 @@ fn object(file: &[u8], table: &[u64], row: usize, out: &mut [u8], at: usize) -> 
 }
 
 // n objects, the first at the table's start, and their components from the row `first` on.
-fn objects_of(file: &[u8], table: &[u64], n: u64, first: usize, out: &mut [u8], at: usize) -> usize
+fn objects_of(
+    file: &[u8],
+    table: &[u64],
+    n: u64,
+    first: usize,
+    summary: bool,
+    out: &mut [u8],
+    at: usize,
+) -> usize
     requires { ⌜ (objectWidth * n ≤ length (now table)) × (first + componentWidth * is.counted (now table) n 0 ≤ length (now table)) ⌝ }
-    ensures { λ r. ⌜ Wrote (is.objectLines (now (file .entry)) (now (table .entry)) n 0 first) at (now (out .entry)) (now (out .exit)) r ⌝ }
+    ensures { λ r. ⌜ Wrote (is.objectLines (now (file .entry)) (now (table .entry)) (more summary (now (file .entry)) (now (table .entry))) n 0 first) at (now (out .entry)) (now (out .exit)) r ⌝ }
 {
     let mut past = at;
     let mut row = 0;
@@ -119,7 +138,7 @@ fn objects_of(file: &[u8], table: &[u64], n: u64, first: usize, out: &mut [u8], 
     while 0 < left {
         let count = table[row + COUNT];
         let next = object(&file[0..], &table[0..], row, out, past);
-        past = blobs(&file[0..], &table[0..], count, from, out, next);
+        past = blobs(&file[0..], &table[0..], count, from, summary, out, next);
         from += columns::COMPONENT * count as usize;
         row += columns::OBJECT;
         left -= 1;
@@ -127,9 +146,16 @@ fn objects_of(file: &[u8], table: &[u64], n: u64, first: usize, out: &mut [u8], 
     placed(past)
 }
 
-pub fn whole(file: &[u8], table: &[u64], objects: u64, components: u64, out: &mut [u8]) -> usize
+pub fn whole(
+    file: &[u8],
+    table: &[u64],
+    objects: u64,
+    components: u64,
+    summary: bool,
+    out: &mut [u8],
+) -> usize
     requires { ⌜ is.sound (now file) (now table) objects components ≡ true ⌝ }
-    ensures { λ r. ⌜ Wrote (is.text (now (file .entry)) (now (table .entry)) objects components) 0 (now (out .entry)) (now (out .exit)) r ⌝ }
+    ensures { λ r. ⌜ Wrote (is.text (now (file .entry)) (now (table .entry)) (more summary (now (file .entry)) (now (table .entry))) objects components) 0 (now (out .entry)) (now (out .exit)) r ⌝ }
 {
     let at = heading(objects, components, out);
     objects_of(
@@ -137,6 +163,7 @@ pub fn whole(file: &[u8], table: &[u64], objects: u64, components: u64, out: &mu
         &table[0..],
         objects,
         columns::OBJECT * objects as usize,
+        summary,
         out,
         at,
     )

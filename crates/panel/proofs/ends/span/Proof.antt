@@ -1,0 +1,30 @@
+-- `panel::ends::span` meets its contract: one piece after the other. Assumes nothing.
+use Rattle.panel.specs.Summary.{blankFloat, spanWords}
+use Rattle.put.proofs.Writing as writing
+use Rattle.meaning.specs.Listing.{blanked}
+use borrow.Author.Needs.{needs}
+use Rattle.panel.proofs.ends.span.Statement.{statement}
+use Rattle.panel.proofs.ends.span.Tie as tie
+use Rattle.panel.proofs.ends.span.Reads as reads
+use Rattle.panel.proofs.ends.span.Lts as lts
+use Rattle.panel.proofs.ends.blank_float.Reads as blank-float-reads
+use Rattle.put.proofs.blank_number.Reads as blank-number-reads
+use Rattle.put.proofs.byte.Reads as byte-reads
+use Rattle.put.proofs.word.Reads as word-reads
+
+pub span-spec : {M : Type 1} → statement M
+span-spec =
+    tie.close
+    (tie.spec
+    (λ c. search needs)
+    (λ c κs. search needs)
+    (λ c κs. search needs)
+    (λ c. search needs)
+    (λ c κs. search needs)
+    (λ c κs. search needs)
+    (λ c. search needs)
+    (λ c κs. search needs)
+    (λ c κs. search needs)
+    (λ c κs. search needs)
+    (λ c. search needs)
+    (λ c. unfold blanked blankFloat spanWords in writing.then ((c .before .before .before .before .before .before .before .before .before .before .before .before .before .before .before .before .before .before .before .before .before .before .before .before .before .before .before .before .word .ensures)) (writing.then ((c .before .before .before .before .before .before .before .before .before .before .before .before .before .before .before .before .before .before .before .before .before .before .before .before .blank-float .ensures)) (writing.then ((c .before .before .before .before .before .before .before .before .before .before .before .before .before .before .before .before .before .before .before .word2 .ensures)) (writing.then ((c .before .before .before .before .before .before .before .before .before .before .before .before .before .before .before .blank-float2 .ensures)) (writing.then ((c .before .before .before .before .before .before .before .before .before .before .word3 .ensures)) (writing.then ((c .before .before .before .before .before .before .blank-number .ensures)) ((c .before .before .byte .ensures)))))))))

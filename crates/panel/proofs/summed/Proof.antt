@@ -1,0 +1,29 @@
+-- `panel::summed` meets its contract: the lines, and the last. Assumes nothing.
+use Rattle.panel.proofs.Sound as rows
+use Rattle.panel.specs.Summary.{more, summaryText}
+use Rattle.panel.specs.Lines.{sound, text}
+use Rattle.put.proofs.Writing as writing
+use mathlib.Core.Path.{_∙_}
+use mathlib.Core.Bool.{true}
+use borrow.Author.Needs.{needs}
+use Rattle.panel.proofs.summed.Statement.{statement}
+use Rattle.panel.proofs.summed.Tie as tie
+use Rattle.panel.proofs.summed.Reads as reads
+use Rattle.panel.proofs.summed.Lts as lts
+use Rattle.panel.proofs.ends.bytes_line.Reads as bytes-line-reads
+use Rattle.panel.proofs.lines.whole.Reads as whole-reads
+
+pub summed-spec : {M : Type 1} → statement M
+summed-spec =
+    tie.close
+    (tie.spec
+    (λ c. search needs)
+    (λ c. search needs)
+    (λ c. search needs)
+    (λ c. search needs)
+    (λ c. search needs)
+    (λ c. search needs)
+    (λ c κs. rows.lent ((c .before .before .before .before .before .before .args .file .now)) ((c .before .before .before .before .before .before .args .table .now)) (λ f t. sound f t ((c .before .before .before .before .before .before .args .objects)) ((c .before .before .before .before .before .before .args .components))) ∙ (c .before .before .before .before .before .before .pre))
+    (λ c κs. search needs)
+    (λ c. search needs)
+    (λ c. unfold summaryText in writing.then (writing.as-bytes (rows.lent ((c .before .before .before .before .before .before .before .before .before .before .before .before .before .args .file .now)) ((c .before .before .before .before .before .before .before .before .before .before .before .before .before .args .table .now)) (λ f t. text f t (more true f t) ((c .before .before .before .before .before .before .before .before .before .before .before .before .before .args .objects)) ((c .before .before .before .before .before .before .before .before .before .before .before .before .before .args .components)))) ((c .before .before .before .before .before .before .whole .ensures))) ((c .before .before .bytes-line .ensures))))
