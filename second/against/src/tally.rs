@@ -53,6 +53,11 @@ impl Tally {
             let (what, seed, shown) = (self.what, seed(), shown());
             panic!("{what}, seed {seed}: {proved:?}, the second program: {second:?}, for {shown}");
         }
+        self.count(label);
+    }
+
+    /// Counts one answer.
+    pub fn count(&mut self, label: impl Display) {
         *self.answers.entry(label.to_string()).or_default() += 1;
     }
 
