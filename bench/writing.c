@@ -1,4 +1,4 @@
-/* The writer beside memcpy of the same blobs. */
+/* The writer beside memcpy of the same blobs, and with plans beside the writer without one. */
 #include "bench.h"
 #include "timing.h"
 #include "zt.h"
@@ -9,7 +9,7 @@
 enum { OBJECTS = 1000, BLOB = 67136, ROWS = ZT_NUMBERS(OBJECTS, OBJECTS), BLOBS = OBJECTS * BLOB, OUT = BLOBS + (1 << 20) };
 
 typedef struct {
-    uint64_t rows[ROWS];
+    uint64_t rows[ROWS], rising[OBJECTS], falling[OBJECTS]; /* and offsets for them */
     uint8_t *buffer, *out; /* names of eight bytes, format, component's name; then the blobs */
     size_t filled;
 } job_of_writing;
@@ -20,6 +20,12 @@ static bool written(const void *x) {
     const job_of_writing *w = x;
     return zt_write(w->rows, ROWS, OBJECTS, OBJECTS, 0, 0, w->buffer, w->filled, w->out, OUT).number == ZT_ACCEPTED;
 }
+
+static bool planned(const job_of_writing *w, const uint64_t *plan) {
+    return zt_write_planned(w->rows, ROWS, OBJECTS, OBJECTS, 0, 0, w->buffer, w->filled, plan, OBJECTS, (uint64_t)1 << 40, w->out, OUT).number == ZT_ACCEPTED;
+}
+static bool planned_rising(const void *x) { return planned(x, ((const job_of_writing *)x)->rising); }
+static bool planned_falling(const void *x) { return planned(x, ((const job_of_writing *)x)->falling); }
 
 static bool copied(const void *x) {
     const job_of_writing *w = x;
@@ -44,6 +50,7 @@ static void fill(void) {
         component[ZT_COMPONENT_DTYPE] = ZT_U8;
         component[ZT_COMPONENT_OFFSET] = 9 + 8 * OBJECTS + i * BLOB, component[ZT_COMPONENT_LENGTH] = BLOB;
         component[ZT_COMPONENT_OWNER] = i;
+        work.rising[i] = 64 + i * BLOB, work.falling[OBJECTS - 1 - i] = 64 + i * BLOB;
     }
     for (size_t i = 0; i < BLOBS; i++) at[9 + 8 * OBJECTS + i] = (uint8_t)(i * 31);
     work.filled = 9 + 8 * OBJECTS + BLOBS;
@@ -56,6 +63,8 @@ void writing(void) {
     fill();
     heading("writing 1000 objects with 64 MiB of blobs", "per byte");
     compare("a model", (program){"zt_write", written}, (program){"memcpy", copied}, &work, BLOBS, BLOBS, 2);
+    compare("a plan that rises", (program){"zt_write_planned", planned_rising}, (program){"zt_write", written}, &work, BLOBS, BLOBS, 1.2);
+    compare("a plan that falls", (program){"zt_write_planned", planned_falling}, (program){"zt_write", written}, &work, BLOBS, BLOBS, 2);
     free(work.buffer);
     free(work.out);
 }
