@@ -11,6 +11,7 @@ mod placement;
 mod plan;
 pub mod rng;
 mod rowset;
+mod shuffle;
 
 use crate::engines::History;
 use crate::layout::Layout;
@@ -143,6 +144,17 @@ impl Generator {
     /// Two files, mostly accepted: the second is the first with small changes, or another one.
     pub fn next_pair(&mut self) -> FilePair {
         pair::pair(&mut self.rng)
+    }
+
+    /// Two files that pass checks 1 to 7, sound or not, whose manifests start at the same place and are alike: the second's fields stand in another order, and
+    /// unknown ones and the minor version differ.
+    pub fn next_shuffled(&mut self, layout: Layout) -> FilePair {
+        shuffle::pair(&mut self.rng, layout)
+    }
+
+    /// Two accepted files whose manifests would be alike, had two objects (or two components of one object) of the second not changed places.
+    pub fn next_exchanged(&mut self, layout: Layout, level: usize) -> FilePair {
+        shuffle::exchanged(&mut self.rng, layout, level)
     }
 
     /// A file of several objects, of which some have faults of their own.

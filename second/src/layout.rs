@@ -21,6 +21,11 @@ pub const LONG_NAMES: [&str; DTYPES.len()] = [
     "uint32", "uint16", "uint8", "bool",
 ];
 
+/// The levels of the maps that have fields; those between hold names.
+pub const ROOT: usize = 0;
+pub const OBJECT: usize = 2;
+pub const COMPONENT: usize = 4;
+
 /// The known fields of the maps at each level; those that hold names have none.
 pub type Fields = [&'static [&'static str]; 5];
 

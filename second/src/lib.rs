@@ -4,6 +4,7 @@
 
 #![forbid(unsafe_code)]
 
+pub mod alike;
 pub mod antt;
 pub mod appendix;
 pub mod cases;

@@ -1,8 +1,8 @@
 //! What the seeded generator reaches, and properties that hold of whatever it gives.
 
-use second::cbor::{self, Kind, Node, DEPTH};
+use second::alike::item_of;
+use second::cbor::{self, Kind, DEPTH};
 use second::columns::numbers;
-use second::encode::Item;
 use second::frame::manifest_range;
 use second::generate::{Generator, RowSet};
 use second::judge::{judge, judge_file, Manifest};
@@ -219,7 +219,7 @@ fn only_the_manifests_meaning_decides() {
         let Ok(root) = cbor::decode(manifest) else {
             continue;
         };
-        let shortest = item(manifest, &root).shortest();
+        let shortest = item_of(manifest, &root).shortest();
         changed += usize::from(shortest != manifest);
         match (judge(manifest, start), judge(&shortest, start)) {
             (Ok(one), Ok(other)) => {
@@ -231,28 +231,6 @@ fn only_the_manifests_meaning_decides() {
     }
     println!("encoded otherwise {changed}, accepted {accepted}");
     assert!(changed > 20_000 && accepted > 20_000);
-}
-
-/// The item that a node means; chunked strings come out in one chunk.
-fn item(bytes: &[u8], node: &Node) -> Item {
-    match &node.kind {
-        Kind::Unsigned(n) => Item::Unsigned(*n),
-        Kind::Negative(n) => Item::Negative(*n),
-        Kind::Bytes(content) => Item::Bytes(bytes[content.clone()].to_vec()),
-        Kind::ChunkedBytes(content) => Item::ChunkedBytes(vec![content.clone()]),
-        Kind::Text(content) => Item::Text(bytes[content.clone()].to_vec()),
-        Kind::ChunkedText(content) => Item::ChunkedText(vec![content.clone()]),
-        Kind::Array(nodes) => Item::Array(nodes.iter().map(|node| item(bytes, node)).collect()),
-        Kind::Map(pairs) => {
-            let pair = |(key, value): &(Node, Node)| (item(bytes, key), item(bytes, value));
-            Item::Map(pairs.iter().map(pair).collect())
-        }
-        Kind::Tag(number, content) => item(bytes, content).tagged(*number),
-        Kind::Simple(number) => Item::Simple(*number),
-        Kind::Float { width: 2, bits } => Item::Half(*bits as u16),
-        Kind::Float { width: 4, bits } => Item::Single(*bits as u32),
-        Kind::Float { bits, .. } => Item::Double(*bits),
-    }
 }
 
 /// All that an accepted manifest tells, places aside.

@@ -11,6 +11,22 @@ use crate::layout::Layout;
 use crate::refusal::{LENGTH, RANK, ROLE, TYPE};
 
 pub fn file(rng: &mut Rng, layout: Layout) -> Vec<u8> {
+    let (root, manifest_start) = changed_tree(rng, layout);
+    let mut manifest = items::encoded(rng, &root);
+    if rng.one_in(6) {
+        bytes(rng, &mut manifest);
+    }
+    let mut file = layout.assemble(&vec![0; manifest_start as usize - 8], &manifest);
+    match rng.index(16) {
+        0 => bytes(rng, &mut file),
+        1 => layout.set_size(&mut file, manifest.len() as u64 + 2 * rng.below(2) - 1),
+        _ => {}
+    }
+    file
+}
+
+/// A manifest that was sound before some of its nodes were changed, and its start.
+pub fn changed_tree(rng: &mut Rng, layout: Layout) -> (Item, u64) {
     let mut plan = match rng.one_in(1_000) {
         true => Plan::alike_names(rng),
         false => Plan::sound(rng),
@@ -30,17 +46,7 @@ pub fn file(rng: &mut Rng, layout: Layout) -> Vec<u8> {
         let (node, depth) = any_node(rng, &mut root, 1);
         change(rng, node, depth);
     }
-    let mut manifest = items::encoded(rng, &root);
-    if rng.one_in(6) {
-        bytes(rng, &mut manifest);
-    }
-    let mut file = layout.assemble(&vec![0; manifest_start as usize - 8], &manifest);
-    match rng.index(16) {
-        0 => bytes(rng, &mut file),
-        1 => layout.set_size(&mut file, manifest.len() as u64 + 2 * rng.below(2) - 1),
-        _ => {}
-    }
-    file
+    (root, manifest_start)
 }
 
 /// Goes down from a node at `depth` by chance: the node where that ends, and its depth.

@@ -8,17 +8,12 @@ use crate::cbor::DEPTH;
 use crate::compose::{field, is_text, pairs, set, Pairs};
 use crate::encode::{Head, Item};
 use crate::frame::SIZE_LIMIT;
-use crate::layout::Layout;
+use crate::layout::{Layout, COMPONENT, OBJECT, ROOT};
 use crate::refusal::{
     ALIGN, BIG, BOUNDS, CBOR, DEEP, DTYPE, ENCODING, FIT, FOOTER, HEADER, KEY, KIND, LENGTH, MAJOR,
     MISSING, SHORT, TWICE, VERSION,
 };
 use crate::types::DTYPES;
-
-/// The levels of the maps that have fields; those between hold names.
-const ROOT: usize = 0;
-const OBJECT: usize = 2;
-const COMPONENT: usize = 4;
 
 /// Blobs that would end further out leave the manifest start where it is.
 const FURTHEST_END: u64 = 2048;
@@ -32,10 +27,16 @@ pub fn file(rng: &mut Rng, layout: Layout) -> Vec<u8> {
         let plan = Plan::many_objects(rng);
         return framed(rng, layout, &plan, &[]);
     }
+    let (plan, faults) = planned(rng, layout, SHORT);
+    framed(rng, layout, &plan, &faults)
+}
+
+/// A plan, sound or spoiled for one or two refusals from `least` on, and these.
+pub fn planned(rng: &mut Rng, layout: Layout, least: u8) -> (Plan, Vec<u8>) {
     let faults = match rng.index(20) {
         0..=6 => vec![],
-        7..=14 => vec![fault(rng)],
-        _ => two_faults(rng),
+        7..=14 => vec![fault(rng, least)],
+        _ => two_faults(rng, least),
     };
     let mut plan = Plan::sound(rng);
     if layout == Layout::First {
@@ -48,19 +49,22 @@ pub fn file(rng: &mut Rng, layout: Layout) -> Vec<u8> {
     for &number in &faults {
         plan.spoil(rng, number);
     }
-    framed(rng, layout, &plan, &faults)
+    (plan, faults)
 }
 
-/// One of the refusals that a file can get.
-fn fault(rng: &mut Rng) -> u8 {
-    SHORT + rng.below(LENGTH.into()) as u8
+/// One of the refusals that a file can get, from `least` on.
+fn fault(rng: &mut Rng, least: u8) -> u8 {
+    least + rng.below(u64::from(LENGTH - least) + 1) as u8
 }
 
 /// Two of them, often near each other in the order of checks.
-fn two_faults(rng: &mut Rng) -> Vec<u8> {
-    let one = fault(rng);
+fn two_faults(rng: &mut Rng, least: u8) -> Vec<u8> {
+    let one = fault(rng, least);
     let near = (one + rng.below(5) as u8).min(LENGTH);
-    let other = if rng.one_in(2) { near } else { fault(rng) };
+    let other = match rng.one_in(2) {
+        true => near,
+        false => fault(rng, least),
+    };
     vec![one, other]
 }
 
@@ -85,14 +89,7 @@ fn at_size_limit(rng: &mut Rng, layout: Layout) -> Vec<u8> {
 
 /// The plan's file, spoiled for these refusals, now and then damaged.
 pub fn framed(rng: &mut Rng, layout: Layout, plan: &Plan, faults: &[u8]) -> Vec<u8> {
-    let (mut root, manifest_start) = tree(rng, layout, plan);
-    for &number in faults {
-        // A fault may find its place gone, taken by the one before.
-        let _ = spoil(rng, layout, &mut root, number, manifest_start);
-    }
-    if rng.one_in(16) {
-        let _ = odd_fields(rng, layout, &mut root);
-    }
+    let (root, manifest_start) = spoiled_tree(rng, layout, plan, faults);
     let mut manifest = items::encoded(rng, &root);
     if rng.one_in(8) {
         items::damage(rng, &mut manifest);
@@ -109,6 +106,19 @@ pub fn framed(rng: &mut Rng, layout: Layout, plan: &Plan, faults: &[u8]) -> Vec<
         items::damage(rng, &mut file);
     }
     file
+}
+
+/// The plan's manifest, spoiled for these refusals, and its start.
+pub fn spoiled_tree(rng: &mut Rng, layout: Layout, plan: &Plan, faults: &[u8]) -> (Item, u64) {
+    let (mut root, manifest_start) = tree(rng, layout, plan);
+    for &number in faults {
+        // A fault may find its place gone, taken by the one before.
+        let _ = spoil(rng, layout, &mut root, number, manifest_start);
+    }
+    if rng.one_in(16) {
+        let _ = odd_fields(rng, layout, &mut root);
+    }
+    (root, manifest_start)
 }
 
 /// The plan's manifest and its start, which is at or shortly after the last end of a blob.
@@ -208,7 +218,7 @@ fn add_unknown(rng: &mut Rng, layout: Layout, pairs: &mut Pairs, level: usize) {
 }
 
 /// A field of another map, a text that almost is a field, any text, or no UTF-8 at all.
-fn unknown_key(rng: &mut Rng, layout: Layout, level: usize) -> Item {
+pub fn unknown_key(rng: &mut Rng, layout: Layout, level: usize) -> Item {
     let of = match layout {
         Layout::Current => layout,
         Layout::First => *rng.pick(&Layout::ALL),
@@ -237,7 +247,7 @@ fn unknown_value(rng: &mut Rng, level: usize) -> Item {
 
 /// Goes down to the map (or what stands in its place) of a level: 0 root, 1 objects, 2 an object,
 /// 3 its components, 4 a component.
-fn descend<'t>(
+pub fn descend<'t>(
     rng: &mut Rng,
     layout: Layout,
     root: &'t mut Item,

@@ -60,7 +60,7 @@ pub fn pair(rng: &mut Rng) -> FilePair {
 }
 
 /// A few sound plans' objects together.
-fn several_objects(rng: &mut Rng) -> Plan {
+pub fn several_objects(rng: &mut Rng) -> Plan {
     let mut plan = Plan::sound(rng);
     while rng.one_in(2) {
         plan.objects.extend(Plan::sound(rng).objects);
