@@ -1,3 +1,4 @@
+-- `layout::file` meets its contract: a law for each need.
 use Rattle.layout.proofs.Walking as walking
 use Rattle.layout.proofs.Frames as frames
 use Rattle.layout.proofs.Meant as meant
@@ -15,40 +16,31 @@ use Rattle.layout.proofs.file.Reads as reads
 use Rattle.layout.proofs.file.Lts as lts
 use Rattle.layout.proofs.framing.whole.Reads as whole-reads
 
--- src/lib.rt:37:9
 sub-whole : tie.Need-sub-whole
 sub-whole c = search needs
 
--- src/lib.rt:37:9
 part-whole-start : tie.Need-part-whole-start
 part-whole-start c = search needs
 
--- src/lib.rt:37:9
 part-whole-end : tie.Need-part-whole-end
 part-whole-end c = search needs
 
--- src/lib.rt:39:9
 sub-whole-2 : tie.Need-sub-whole-2
 sub-whole-2 c = search needs
 
--- src/lib.rt:39:9
 part-whole-start-2 : tie.Need-part-whole-start-2
 part-whole-start-2 c = search needs
 
--- src/lib.rt:39:9
 part-whole-end-2 : tie.Need-part-whole-end-2
 part-whole-end-2 c = search needs
 
--- src/lib.rt:35:5
 whole-requires : tie.Need-whole-requires
 whole-requires c κs = let a = (c .before .before .before .before .before .before .before .args) in let fits = fit.rows-fit (a .buffer .now) (a .plan .now) (a .rows .now) (a .objects) (a .components) (rootAttributes (a .place) (a .size)) ((c .before .before .before .before .before .before .before .pre .0)) ((c .before .before .before .before .before .before .before .pre .1 .0)) in
     (walking.as-lent (a .buffer .now) (a .rows .now) 0 (λ b r. WholeRows b (a .plan .now) r (a .objects) (a .components) (a .place) (a .size)) fits, laying.room-as (sym (meant.whole-meant (a .buffer .now) (a .plan .now) (a .rows .now) (a .objects) (a .components) (a .place) (a .size) ((c .before .before .before .before .before .before .before .pre .0)) fits) ∙ sym (rows.lent-both (a .buffer .now) (a .rows .now) 0 (λ b r. wholeOf b (a .plan .now) r (a .objects) (a .components) (a .place) (a .size)))) (frames.room-at-start _ _ ((c .before .before .before .before .before .before .before .pre .1 .1))))
 
--- src/lib.rt:17:1
 same-length : tie.Need-same-length
 same-length c = search needs
 
--- src/lib.rt:17:1
 returns : tie.Need-returns
 returns c = let a = (c .before .before .before .before .before .before .before .before .before .before .args) in let fits = fit.rows-fit (a .buffer .now) (a .plan .now) (a .rows .now) (a .objects) (a .components) (rootAttributes (a .place) (a .size)) ((c .before .before .before .before .before .before .before .before .before .before .pre .0)) ((c .before .before .before .before .before .before .before .before .before .before .pre .1 .0)) in
     frames.from-start (laying.as-bytes ((rows.lent-both (a .buffer .now) (a .rows .now) 0 (λ b r. wholeOf b (a .plan .now) r (a .objects) (a .components) (a .place) (a .size))) ∙ (meant.whole-meant (a .buffer .now) (a .plan .now) (a .rows .now) (a .objects) (a .components) (a .place) (a .size) ((c .before .before .before .before .before .before .before .before .before .before .pre .0)) fits)) ((c .before .before .whole .ensures)))

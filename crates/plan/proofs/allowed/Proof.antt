@@ -1,3 +1,4 @@
+-- `plan::allowed` meets its contract: a law for each need.
 use native.Mathlib.Omega.{arith}
 use Rattle.plan.proofs.Tests as tests
 use borrow.Author.Needs.{needs}
@@ -6,19 +7,15 @@ use Rattle.plan.proofs.allowed.Tie as tie
 use Rattle.plan.proofs.allowed.Reads as reads
 use Rattle.plan.proofs.allowed.Lts as lts
 
--- src/lib.rt:37:9
 returns : tie.Need-returns
 returns c = tests.not-a-multiple ((c .before .args .offset)) ((c .before .args .size)) ((c .before .args .ceiling)) ((c .if1 .taken))
 
--- src/lib.rt:40:9
 returns-2 : tie.Need-returns-2
 returns-2 c = tests.too-low ((c .before .before .args .offset)) ((c .before .before .args .size)) ((c .before .before .args .ceiling)) ((c .before .if1 .left)) ((c .if2 .taken))
 
--- src/lib.rt:43:9
 returns-3 : tie.Need-returns-3
 returns-3 c = tests.above-already ((c .before .before .before .args .offset)) ((c .before .before .before .args .size)) ((c .before .before .before .args .ceiling)) ((c .before .before .if1 .left)) ((c .before .if2 .left)) ((c .if3 .taken))
 
--- src/lib.rt:33:1
 returns-4 : tie.Need-returns-4
 returns-4 c = tests.ends-by-then ((c .before .before .before .args .offset)) ((c .before .before .before .args .size)) ((c .before .before .before .args .ceiling)) ((c .before .before .if1 .left)) ((c .before .if2 .left)) ((c .if3 .left))
 

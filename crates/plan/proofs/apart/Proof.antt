@@ -1,3 +1,4 @@
+-- `plan::apart` meets its contract: a law for each need.
 use native.Mathlib.Omega.{arith}
 use Rattle.plan.proofs.Tests as tests
 use borrow.Author.Needs.{needs}
@@ -6,27 +7,21 @@ use Rattle.plan.proofs.apart.Tie as tie
 use Rattle.plan.proofs.apart.Reads as reads
 use Rattle.plan.proofs.apart.Lts as lts
 
--- src/lib.rt:54:9
 returns : tie.Need-returns
 returns c = tests.nothing-here ((c .before .args .offset)) ((c .before .args .size)) ((c .before .args .other)) ((c .before .args .long)) ((c .if1 .taken))
 
--- src/lib.rt:57:9
 returns-2 : tie.Need-returns-2
 returns-2 c = tests.nothing-there ((c .before .before .args .offset)) ((c .before .before .args .size)) ((c .before .before .args .other)) ((c .before .before .args .long)) ((c .before .if1 .left)) ((c .if2 .taken))
 
--- src/lib.rt:59:8
 add-if3 : tie.Need-add-if3
 add-if3 c = omega (arith, (c .before .before .pre .0))
 
--- src/lib.rt:60:9
 returns-3 : tie.Need-returns-3
 returns-3 c = tests.ends-before ((c .before .before .before .args .offset)) ((c .before .before .before .args .size)) ((c .before .before .before .args .other)) ((c .before .before .before .args .long)) ((c .before .before .if1 .left)) ((c .before .if2 .left)) ((c .if3 .taken))
 
--- src/lib.rt:62:5
 add-result : tie.Need-add-result
 add-result c = omega (arith, (c .before .before .before .pre .1))
 
--- src/lib.rt:49:1
 returns-4 : tie.Need-returns-4
 returns-4 c = tests.begins-after ((c .before .before .before .args .offset)) ((c .before .before .before .args .size)) ((c .before .before .before .args .other)) ((c .before .before .before .args .long)) ((c .before .before .if1 .left)) ((c .before .if2 .left)) ((c .if3 .left))
 

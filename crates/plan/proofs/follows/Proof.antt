@@ -1,3 +1,4 @@
+-- `plan::follows` meets its contract: a law for each need.
 use borrow.Author.Tests.{not-true, not-false}
 use mathlib.Core.Path.{sym, _∙_}
 use native.Mathlib.Omega.{arith}
@@ -10,47 +11,36 @@ use Rattle.plan.proofs.follows.Lts as lts
 use Rattle.plan.proofs.allowed.Reads as allowed-reads
 use Rattle.plan.proofs.apart_from.Reads as apart-from-reads
 
--- src/lib.rt:89:18
 mul-offset : tie.Need-mul-offset
 mul-offset c = let g = (c .before .before .good) in omega (arith, (c .before .before .pre .offset))
 
--- src/lib.rt:89:18
 shared-slice-read-offset : tie.Need-shared-slice-read-offset
 shared-slice-read-offset c = omega (arith, (c .before .before .before .pre .offset))
 
--- src/lib.rt:90:14
 mul-at : tie.Need-mul-at
 mul-at c = let g = (c .before .before .before .good) in omega (arith, (c .before .before .before .pre .row-there))
 
--- src/lib.rt:91:21
 add-size : tie.Need-add-size
 add-size c = let g = (c .before .before .before .good) in omega (arith, (c .before .before .before .pre .row-there))
 
--- src/lib.rt:91:16
 mul-size : tie.Need-mul-size
 mul-size c = let g = (c .before .before .before .good) in omega (arith, (c .before .before .before .pre .row-there))
 
--- src/lib.rt:91:16
 shared-slice-read-size : tie.Need-shared-slice-read-size
 shared-slice-read-size c = omega (arith, (c .before .before .before .before .pre .row-there))
 
--- src/lib.rt:92:9
 allowed-requires : tie.Need-allowed-requires
 allowed-requires c κs = search needs
 
--- src/lib.rt:93:9
 returns : tie.Need-returns
 returns c = tests.not-allowed ((c .before .before .before .before .before .before .pre)) (sym (not-true _ ((c .if1 .taken))) ∙ (c .before .allowed .ensures))
 
--- src/lib.rt:96:9
 returns-2 : tie.Need-returns-2
 returns-2 c = tests.past-all ((c .before .before .before .before .before .before .before .pre)) (sym (not-false _ ((c .before .if1 .left))) ∙ (c .before .before .allowed .ensures)) ((c .if2 .taken))
 
--- src/lib.rt:98:5
 apart-from-requires : tie.Need-apart-from-requires
 apart-from-requires c κs = (tests.end-low ((c .before .before .before .before .before .before .before .pre)) (sym (not-false _ ((c .before .if1 .left))) ∙ (c .before .before .allowed .ensures)), (c .before .before .before .before .before .before .before .pre .before))
 
--- src/lib.rt:84:1
 returns-3 : tie.Need-returns-3
 returns-3 c = tests.as-looked ((c .before .before .before .before .before .before .before .before .pre)) (sym (not-false _ ((c .before .before .if1 .left))) ∙ (c .before .before .before .allowed .ensures)) ((c .apart-from .ensures))
 

@@ -1,3 +1,4 @@
+-- `plan::verdict` meets its contract: the invariant says what is done and what is still to be.
 use mathlib.Core.Path.{sym, _∙_}
 use Prim.Native.Nat.{_-_}
 use native.Mathlib.Omega.{arith}
@@ -16,75 +17,57 @@ Inv-loop plan rows n ceiling i₀ end₀ i end = turns.Going plan rows n ceiling
 abbrev μ-loop : tie.MeasureT-loop
 μ-loop plan rows n ceiling i₀ end₀ i end = n - i
 
--- src/lib.rt:107:9
 returns : tie.Need-returns Inv-loop μ-loop
 returns c = turns.too-high ((c .before .before .before .args .plan .now)) ((c .before .before .before .args .rows .now)) ((c .before .before .before .args .n)) ((c .before .before .before .args .ceiling)) ((c .if1 .taken))
 
--- src/lib.rt:111:5
 loop-holds : tie.Need-loop-holds Inv-loop μ-loop
 loop-holds c = turns.begin ((c .if1 .left)) ((c .before .before .before .pre))
 
--- src/lib.rt:113:13
 returns-2 : tie.Need-returns-2 Inv-loop μ-loop
 returns-2 c = turns.too-short ((c .before .before .loop .inv)) ((c .before .loop-test .taken)) ((c .if2 .taken))
 
--- src/lib.rt:115:12
 follows-requires : tie.Need-follows-requires Inv-loop μ-loop
 follows-requires c κs = turns.next ((c .before .before .loop .inv)) ((c .before .loop-test .taken)) ((c .if2 .left))
 
--- src/lib.rt:116:22
 mul-at : tie.Need-mul-at Inv-loop μ-loop
 mul-at c = let g = (c .before .before .before .before .before .before .before .before .good) in omega (arith, turns.row-long ((c .before .before .before .before .loop .inv)) ((c .before .before .before .loop-test .taken)))
 
--- src/lib.rt:117:32
 mul-farther : tie.Need-mul-farther Inv-loop μ-loop
 mul-farther c = let g = (c .before .before .before .before .before .before .before .before .good) in omega (arith, (c .before .before .if2 .left))
 
--- src/lib.rt:117:32
 shared-slice-read-farther : tie.Need-shared-slice-read-farther Inv-loop μ-loop
 shared-slice-read-farther c = omega (arith, (c .before .before .before .if2 .left))
 
--- src/lib.rt:117:47
 add-farther : tie.Need-add-farther Inv-loop μ-loop
 add-farther c = let g = (c .before .before .before .before .before .before .before .before .before .good) in omega (arith, turns.row-long ((c .before .before .before .before .before .loop .inv)) ((c .before .before .before .before .loop-test .taken)))
 
--- src/lib.rt:117:42
 mul-farther-2 : tie.Need-mul-farther-2 Inv-loop μ-loop
 mul-farther-2 c = let g = (c .before .before .before .before .before .before .before .before .before .good) in omega (arith, turns.row-long ((c .before .before .before .before .before .loop .inv)) ((c .before .before .before .before .loop-test .taken)))
 
--- src/lib.rt:117:42
 shared-slice-read-farther-2 : tie.Need-shared-slice-read-farther-2 Inv-loop μ-loop
 shared-slice-read-farther-2 c = omega (arith, turns.row-long ((c .before .before .before .before .before .before .loop .inv)) ((c .before .before .before .before .before .loop-test .taken)))
 
--- src/lib.rt:117:32
 add-farther-2 : tie.Need-add-farther-2 Inv-loop μ-loop
 add-farther-2 c = omega (arith, turns.sum-low ((c .before .before .before .before .before .before .loop .inv)) ((c .before .before .before .before .before .loop-test .taken)) ((c .before .before .before .before .if2 .left)) (sym ((c .before .before .if3 .taken)) ∙ (c .before .before .before .follows .ensures)))
 
--- src/lib.rt:117:13
 farther-requires : tie.Need-farther-requires Inv-loop μ-loop
 farther-requires c κs = search needs
 
--- src/lib.rt:118:13
 add-i : tie.Need-add-i Inv-loop μ-loop
 add-i c = let g = (c .before .before .before .before .before .before .before .before .before .before .before .good) in omega (arith, (c .before .before .before .before .before .if2 .left))
 
--- src/lib.rt:111:5
 loop-less : tie.Need-loop-less Inv-loop μ-loop
 loop-less c = omega (arith, (c .before .before .before .before .before .before .loop-test .taken))
 
--- src/lib.rt:111:5
 loop-again : tie.Need-loop-again Inv-loop μ-loop
 loop-again c = turns.turn ((c .before .before .before .before .before .before .before .loop .inv)) ((c .before .before .before .before .before .before .loop-test .taken)) ((c .before .before .before .before .before .if2 .left)) (sym ((c .before .before .before .if3 .taken)) ∙ (c .before .before .before .before .follows .ensures)) ((c .farther .ensures))
 
--- src/lib.rt:121:9
 returns-3 : tie.Need-returns-3 Inv-loop μ-loop
 returns-3 c = turns.breaks ((c .before .before .before .before .loop .inv)) ((c .before .before .before .loop-test .taken)) ((c .before .before .if2 .left)) (sym ((c .if3 .left)) ∙ (c .before .follows .ensures))
 
--- src/lib.rt:124:9
 returns-4 : tie.Need-returns-4 Inv-loop μ-loop
 returns-4 c = turns.left-over ((c .before .before .loop .inv)) ((c .before .loop-test .left)) ((c .if4 .taken))
 
--- src/lib.rt:102:1
 returns-5 : tie.Need-returns-5 Inv-loop μ-loop
 returns-5 c = turns.accepted ((c .before .before .loop .inv)) ((c .before .loop-test .left)) ((c .if4 .left))
 

@@ -1,3 +1,4 @@
+-- `sizes::manifest` meets its contract: a law for each need.
 use Rattle.sizes.proofs.Exact as law
 use Rattle.sizes.proofs.Heads as heads
 use Rattle.sizes.specs.Size.{capped, objectsSizeIn}
@@ -18,67 +19,51 @@ use Rattle.sizes.proofs.piece.attributes.Reads as attributes-reads
 use Rattle.sizes.proofs.piece.capped.Reads as capped-reads
 use Rattle.sizes.proofs.piece.head.Reads as head-reads
 
--- src/lib.rt:32:18
 mul-first : tie.Need-mul-first
 mul-first c = search needs
 
--- src/lib.rt:33:39
 sub-objects : tie.Need-sub-objects
 sub-objects c = search needs
 
--- src/lib.rt:33:39
 part-objects-start : tie.Need-part-objects-start
 part-objects-start c = search needs
 
--- src/lib.rt:33:39
 part-objects-end : tie.Need-part-objects-end
 part-objects-end c = search needs
 
--- src/lib.rt:33:51
 mul-objects : tie.Need-mul-objects
 mul-objects c = search needs
 
--- src/lib.rt:33:51
 sub-objects-2 : tie.Need-sub-objects-2
 sub-objects-2 c = search needs
 
--- src/lib.rt:33:51
 part-objects-start-2 : tie.Need-part-objects-start-2
 part-objects-start-2 c = search needs
 
--- src/lib.rt:33:51
 part-objects-end-2 : tie.Need-part-objects-end-2
 part-objects-end-2 c = search needs
 
--- src/lib.rt:33:9
 objects-requires : tie.Need-objects-requires
 objects-requires c κs = let a = (c .before .before .before .before .args) in subst (λ (X : Type 0). X) (sym (lent-both (a .rows .now) (a .rows .now) (objectWidth * a .objects) (λ os cs. Fits (a .plan .now) os cs (a .objects) 0 0 (begun (a .plan .now))))) (law.all-fit (a .plan .now) (a .rows .now) (a .objects) (a .components) ((c .before .before .before .before .pre)))
 
--- src/lib.rt:34:24
 attributes-requires : tie.Need-attributes-requires
 attributes-requires c κs = search needs
 
--- src/lib.rt:34:19
 add-capped : tie.Need-add-capped
 add-capped c = search needs
 
--- src/lib.rt:34:57
 head-requires : tie.Need-head-requires
 head-requires c κs = search needs
 
--- src/lib.rt:34:19
 add-capped-2 : tie.Need-add-capped-2
 add-capped-2 c = omega (arith, (c .before .attributes .ensures), (c .head .ensures), heads.head-small ((c .before .before .before .before .before .before .before .args .objects)))
 
--- src/lib.rt:34:19
 add-capped-3 : tie.Need-add-capped-3
 add-capped-3 c = omega (arith, (c .before .attributes .ensures), (c .head .ensures), heads.head-small ((c .before .before .before .before .before .before .before .args .objects)), (c .before .before .objects .ensures))
 
--- src/lib.rt:34:5
 capped-requires : tie.Need-capped-requires
 capped-requires c κs = search needs
 
--- src/lib.rt:21:1
 returns : tie.Need-returns
 returns c = let a = (c .before .before .before .before .before .before .before .before .args) in λ buffer sound. (c .capped .ensures) ∙ law.manifest-sum (a .plan .now) (a .rows .now) (a .objects) (a .components) ((c .before .before .before .before .before .before .before .before .pre)) (record { place = a .place; size = a .size }) _ _ _ ((c .before .before .attributes .ensures)) ((c .before .head .ensures))
     ((c .before .before .before .objects .ensures) ∙ lent-both (a .rows .now) (a .rows .now) (objectWidth * a .objects) (λ os cs. capped (objectsSizeIn (a .plan .now) os cs (a .objects)))) ∙ ap capped (sym (law.manifest-is (a .plan .now) buffer (a .rows .now) (a .objects) (a .components) (record { place = a .place; size = a .size }) sound))

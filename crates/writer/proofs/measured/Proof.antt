@@ -1,3 +1,4 @@
+-- `writer::measured` meets its contract: a law for each need.
 use native.Mathlib.Omega.{arith}
 use Prim.Native.Nat.{ℕ, _≤_}
 use mathlib.Core.Path.{sym, _∙_, subst}
@@ -18,47 +19,36 @@ use Rattle.sizes.proofs.last_end.Reads as last-end-reads
 use Rattle.sizes.proofs.manifest.Reads as manifest-reads
 use Rattle.writer.proofs.all_below.Reads as all-below-reads
 
--- src/lib.rt:70:5
 all-below-requires : tie.Need-all-below-requires
 all-below-requires c κs = search needs
 
--- src/lib.rt:71:9
 sound-requires : tie.Need-sound-requires
 sound-requires c κs = search needs
 
--- src/lib.rt:72:9
 returns : tie.Need-returns
 returns c = let a = (c .before .before .before .before .before .args) in let g = (c .before .before .before .before .before .good) in (checks.row (a .rows .now) (a .objects) (a .components) (a .place) (a .size) (a .buffer .now) (sym ((c .before .sound .ensures)) ∙ not-true _ ((c .if1 .taken))), checks.lent (a .rows .now) (a .buffer .now) ((c .before .before .all-below .ensures)) (omega arith) (omega arith))
 
--- src/lib.rt:74:9
 last-end-requires : tie.Need-last-end-requires
 last-end-requires c κs = let a = (c .before .before .before .before .before .args) in rows-laws.sound-lies (a .buffer .now) (a .rows .now) (a .objects) (a .components) _ (sym ((c .before .sound .ensures)) ∙ not-false _ ((c .if1 .left)))
 
--- src/lib.rt:76:9
 returns-2 : tie.Need-returns-2
 returns-2 c = let a = (c .before .before .before .before .before .before .before .args) in let g = (c .before .before .before .before .before .before .before .good) in let sound = (sym ((c .before .before .before .sound .ensures)) ∙ not-false _ ((c .before .before .if1 .left))) in (checks.count (a .rows .now) (a .objects) (a .components) (a .place) (a .size) (a .buffer .now) sound ((c .before .before .before .before .all-below .ensures)) (omega arith) (omega arith) ((c .before .last-end .result)) ((c .before .last-end .ensures) (a .buffer .now) _ sound) ((c .if2 .taken)), checks.lent (a .rows .now) (a .buffer .now) ((c .before .before .before .before .all-below .ensures)) (omega arith) (omega arith))
 
--- src/lib.rt:78:36
 sub-manifest : tie.Need-sub-manifest
 sub-manifest c = search needs
 
--- src/lib.rt:78:36
 part-manifest-start : tie.Need-part-manifest-start
 part-manifest-start c = search needs
 
--- src/lib.rt:78:36
 part-manifest-end : tie.Need-part-manifest-end
 part-manifest-end c = search needs
 
--- src/lib.rt:78:9
 manifest-requires : tie.Need-manifest-requires
 manifest-requires c κs = let a = (c .before .before .before .before .before .before .before .before .args) in let g = (c .before .before .before .before .before .before .before .before .good) in let sound = (sym ((c .before .before .before .before .sound .ensures)) ∙ not-false _ ((c .before .before .before .if1 .left))) in exact.measurable [] (a .buffer .now) (a .rows .now) (a .objects) (a .components) _ sound (subst (λ (ls : List ℕ). reached [] (begun []) ls ≤ turnLimit []) (blob-lengths (a .buffer .now) (a .rows .now) (a .objects) (a .components) _ sound) (checks.turns-low (a .rows .now) (a .objects) (a .components) (a .place) (a .size) (a .buffer .now) sound ((c .before .before .before .before .before .all-below .ensures)) (omega arith) (omega arith) ((c .before .before .last-end .result)) ((c .before .before .last-end .ensures) (a .buffer .now) _ sound) ((c .before .if2 .left))))
 
--- src/lib.rt:80:9
 returns-3 : tie.Need-returns-3
 returns-3 c = let a = (c .before .before .before .before .before .before .before .before .before .before .args) in let g = (c .before .before .before .before .before .before .before .before .before .before .good) in let sound = (sym ((c .before .before .before .before .before .before .sound .ensures)) ∙ not-false _ ((c .before .before .before .before .before .if1 .left))) in (checks.big (a .rows .now) (a .objects) (a .components) (a .place) (a .size) (a .buffer .now) sound ((c .before .before .before .before .before .before .before .all-below .ensures)) (omega arith) (omega arith) ((c .before .before .before .before .last-end .result)) ((c .before .before .before .before .last-end .ensures) (a .buffer .now) _ sound) ((c .before .before .before .if2 .left)) ((c .before .manifest .result)) ((c .before .manifest .ensures) (a .buffer .now) sound) ((c .if3 .taken)), checks.lent (a .rows .now) (a .buffer .now) ((c .before .before .before .before .before .before .before .all-below .ensures)) (omega arith) (omega arith))
 
--- src/lib.rt:58:1
 returns-4 : tie.Need-returns-4
 returns-4 c = let a = (c .before .before .before .before .before .before .before .before .before .before .args) in let g = (c .before .before .before .before .before .before .before .before .before .before .good) in let sound = (sym ((c .before .before .before .before .before .before .sound .ensures)) ∙ not-false _ ((c .before .before .before .before .before .if1 .left))) in (checks.fit (a .rows .now) (a .objects) (a .components) (a .place) (a .size) (a .buffer .now) sound ((c .before .before .before .before .before .before .before .all-below .ensures)) (omega arith) (omega arith) ((c .before .before .before .before .last-end .result)) ((c .before .before .before .before .last-end .ensures) (a .buffer .now) _ sound) ((c .before .before .before .if2 .left)) ((c .before .manifest .result)) ((c .before .manifest .ensures) (a .buffer .now) sound) ((c .if3 .left)), checks.lent (a .rows .now) (a .buffer .now) ((c .before .before .before .before .before .before .before .all-below .ensures)) (omega arith) (omega arith))
 

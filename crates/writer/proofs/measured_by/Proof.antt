@@ -1,3 +1,4 @@
+-- `writer::measured_by` meets its contract: a law for each need.
 use native.Mathlib.Omega.{arith}
 use Prim.Native.Nat.{ℕ, _≤_}
 use mathlib.Core.Path.{sym, _∙_, subst}
@@ -18,63 +19,48 @@ use Rattle.rows.proofs.sound.Reads as sound-reads
 use Rattle.sizes.proofs.manifest.Reads as manifest-reads
 use Rattle.writer.proofs.all_below.Reads as all-below-reads
 
--- src/lib.rt:100:5
 all-below-requires : tie.Need-all-below-requires
 all-below-requires c κs = search needs
 
--- src/lib.rt:101:9
 sound-requires : tie.Need-sound-requires
 sound-requires c κs = search needs
 
--- src/lib.rt:102:9
 returns : tie.Need-returns
 returns c = let a = (c .before .before .before .before .before .before .args) in let g = (c .before .before .before .before .before .before .good) in (checks.row-by (a .plan .now) (a .ceiling) (a .rows .now) (a .objects) (a .components) (a .place) (a .size) (a .buffer .now) (sym ((c .before .sound .ensures)) ∙ not-true _ ((c .if1 .taken))), checks.lent (a .rows .now) (a .buffer .now) ((c .before .before .all-below .ensures)) (omega arith) (omega arith))
 
--- src/lib.rt:104:18
 mul-first : tie.Need-mul-first
 mul-first c = let a = (c .before .before .before .before .before .before .args) in let g = (c .before .before .before .before .before .before .good) in let sound = (sym ((c .before .sound .ensures)) ∙ not-false _ ((c .if1 .left))) in let l = rows-laws.sound-lies (a .buffer .now) (a .rows .now) (a .objects) (a .components) _ sound in omega arith
 
--- src/lib.rt:105:31
 mul-verdict : tie.Need-mul-verdict
 mul-verdict c = let a = (c .before .before .before .before .before .before .args) in let g = (c .before .before .before .before .before .before .good) in let sound = (sym ((c .before .sound .ensures)) ∙ not-false _ ((c .if1 .left))) in let l = rows-laws.sound-lies (a .buffer .now) (a .rows .now) (a .objects) (a .components) _ sound in omega arith
 
--- src/lib.rt:105:31
 sub-verdict : tie.Need-sub-verdict
 sub-verdict c = let a = (c .before .before .before .before .before .before .args) in let g = (c .before .before .before .before .before .before .good) in let sound = (sym ((c .before .sound .ensures)) ∙ not-false _ ((c .if1 .left))) in let l = rows-laws.sound-lies (a .buffer .now) (a .rows .now) (a .objects) (a .components) _ sound in omega arith
 
--- src/lib.rt:105:31
 part-verdict-start : tie.Need-part-verdict-start
 part-verdict-start c = let a = (c .before .before .before .before .before .before .args) in let g = (c .before .before .before .before .before .before .good) in let sound = (sym ((c .before .sound .ensures)) ∙ not-false _ ((c .if1 .left))) in let l = rows-laws.sound-lies (a .buffer .now) (a .rows .now) (a .objects) (a .components) _ sound in omega arith
 
--- src/lib.rt:105:31
 part-verdict-end : tie.Need-part-verdict-end
 part-verdict-end c = search needs
 
--- src/lib.rt:105:11
 verdict-requires : tie.Need-verdict-requires
 verdict-requires c κs = let a = (c .before .before .before .before .before .before .before .args) in let g = (c .before .before .before .before .before .before .before .good) in let sound = (sym ((c .before .before .sound .ensures)) ∙ not-false _ ((c .before .if1 .left))) in checks.rows-lent (a .plan .now) (a .ceiling) (a .rows .now) (a .objects) (a .components) (a .place) (a .size) (a .buffer .now) sound
 
--- src/lib.rt:106:20
 enum-known-row : tie.Need-enum-known-row
 enum-known-row c = search needs
 
--- src/lib.rt:107:21
 enum-known-end : tie.Need-enum-known-end
 enum-known-end c = search needs
 
--- src/lib.rt:108:17
 manifest-requires : tie.Need-manifest-requires
 manifest-requires c κs = let a = (c .before .before .before .before .before .before .before .before .before .before .before .args) in let g = (c .before .before .before .before .before .before .before .before .before .before .before .good) in let sound = (sym ((c .before .before .before .before .before .before .sound .ensures)) ∙ not-false _ ((c .before .before .before .before .before .if1 .left))) in checks.can-be-measured (a .plan .now) (a .ceiling) (a .rows .now) (a .objects) (a .components) (a .place) (a .size) (a .buffer .now) sound ((c .before .before .before .before .before .before .before .all-below .ensures)) (omega arith) (omega arith) _ ((c .before .before .before .verdict .result)) ((c .before .before .before .verdict .ensures)) ((c .before .end .given .1))
 
--- src/lib.rt:110:17
 returns-2 : tie.Need-returns-2
 returns-2 c = let a = (c .before .before .before .before .before .before .before .before .before .before .before .before .before .args) in let g = (c .before .before .before .before .before .before .before .before .before .before .before .before .before .good) in let sound = (sym ((c .before .before .before .before .before .before .before .before .sound .ensures)) ∙ not-false _ ((c .before .before .before .before .before .before .before .if1 .left))) in (checks.big-by (a .plan .now) (a .ceiling) (a .rows .now) (a .objects) (a .components) (a .place) (a .size) (a .buffer .now) sound ((c .before .before .before .before .before .before .before .before .before .all-below .ensures)) (omega arith) (omega arith) _ ((c .before .before .before .before .before .verdict .result)) ((c .before .before .before .before .before .verdict .ensures)) ((c .before .before .before .end .given .1)) ((c .before .manifest .result)) ((c .before .manifest .ensures) (a .buffer .now) sound) ((c .if2 .taken)), checks.lent (a .rows .now) (a .buffer .now) ((c .before .before .before .before .before .before .before .before .before .all-below .ensures)) (omega arith) (omega arith))
 
--- src/lib.rt:86:1
 returns-3 : tie.Need-returns-3
 returns-3 c = let a = (c .before .before .before .before .before .before .before .before .before .before .before .args) in let g = (c .before .before .before .before .before .before .before .before .before .before .before .good) in let sound = (sym ((c .before .before .before .before .before .before .sound .ensures)) ∙ not-false _ ((c .before .before .before .before .before .if1 .left))) in (checks.refused-by (a .plan .now) (a .ceiling) (a .rows .now) (a .objects) (a .components) (a .place) (a .size) (a .buffer .now) sound _ ((c .before .before .before .verdict .result)) ((c .before .before .before .verdict .ensures)) ((c .before .row .given .1)), checks.lent (a .rows .now) (a .buffer .now) ((c .before .before .before .before .before .before .before .all-below .ensures)) (omega arith) (omega arith))
 
--- src/lib.rt:86:1
 returns-4 : tie.Need-returns-4
 returns-4 c = let a = (c .before .before .before .before .before .before .before .before .before .before .before .before .before .args) in let g = (c .before .before .before .before .before .before .before .before .before .before .before .before .before .good) in let sound = (sym ((c .before .before .before .before .before .before .before .before .sound .ensures)) ∙ not-false _ ((c .before .before .before .before .before .before .before .if1 .left))) in (checks.fit-by (a .plan .now) (a .ceiling) (a .rows .now) (a .objects) (a .components) (a .place) (a .size) (a .buffer .now) sound ((c .before .before .before .before .before .before .before .before .before .all-below .ensures)) (omega arith) (omega arith) _ ((c .before .before .before .before .before .verdict .result)) ((c .before .before .before .before .before .verdict .ensures)) ((c .before .before .before .end .given .1)) ((c .before .manifest .result)) ((c .before .manifest .ensures) (a .buffer .now) sound) ((c .if2 .left)), checks.lent (a .rows .now) (a .buffer .now) ((c .before .before .before .before .before .before .before .before .before .all-below .ensures)) (omega arith) (omega arith))
 

@@ -1,3 +1,4 @@
+-- `writer::write_planned` meets its contract: a law for each need.
 use Rattle.meaning.specs.Write.{writtenBy}
 use Rattle.writer.proofs.Checks as checks
 use borrow.Author.Needs.{needs}
@@ -9,35 +10,27 @@ use Rattle.writer.proofs.fill.Reads as fill-reads
 use Rattle.writer.proofs.measured_by.Reads as measured-by-reads
 use Rattle.writer.proofs.refused.Reads as refused-reads
 
--- src/lib.rt:196:11
 measured-by-requires : tie.Need-measured-by-requires
 measured-by-requires c κs = search needs
 
--- src/lib.rt:197:19
 enum-known-n : tie.Need-enum-known-n
 enum-known-n c = search needs
 
--- src/lib.rt:197:28
 refused-requires : tie.Need-refused-requires
 refused-requires c κs = search needs
 
--- src/lib.rt:198:20
 enum-known-end : tie.Need-enum-known-end
 enum-known-end c = search needs
 
--- src/lib.rt:198:38
 fill-requires : tie.Need-fill-requires
 fill-requires c κs = let a = (c .before .before .before .before .before .before .before .before .before .args) in checks.measured-yes (a .plan .now) (a .rows .now) (a .objects) (a .components) (a .place) (a .size) (a .buffer .now) (writtenBy (a .rows .now) (a .objects) (a .components) (record { place = a .place; size = a .size }) (a .buffer .now) (a .plan .now) (a .ceiling)) ((c .before .before .before .before .measured-by .result)) ((c .before .before .before .before .measured-by .ensures .0)) _ _ ((c .before .before .end .given .1))
 
--- src/lib.rt:182:1
 returns : tie.Need-returns
 returns c = let a = (c .before .before .before .before .before .before .before .before .before .args) in (checks.measured-no (a .plan .now) (a .rows .now) (a .objects) (a .components) (a .place) (a .size) (a .buffer .now) (writtenBy (a .rows .now) (a .objects) (a .components) (record { place = a .place; size = a .size }) (a .buffer .now) (a .plan .now) (a .ceiling)) ((c .before .before .before .before .measured-by .result)) ((c .before .before .before .before .measured-by .ensures .0)) _ _ ((c .before .before .n .given .1)) _ ((c .refused .ensures)) (a .out .now), (c .before .before .before .before .measured-by .ensures .1))
 
--- src/lib.rt:182:1
 same-length : tie.Need-same-length
 same-length c = search needs
 
--- src/lib.rt:182:1
 returns-2 : tie.Need-returns-2
 returns-2 c = let a = (c .before .before .before .before .before .before .before .before .before .before .before .before .args) in (checks.filled (a .plan .now) (a .rows .now) (a .objects) (a .components) (a .place) (a .size) (a .buffer .now) (writtenBy (a .rows .now) (a .objects) (a .components) (record { place = a .place; size = a .size }) (a .buffer .now) (a .plan .now) (a .ceiling)) ((c .before .before .before .before .before .before .before .measured-by .result)) ((c .before .before .before .before .before .before .before .measured-by .ensures .0)) _ _ ((c .before .before .before .before .before .end .given .1)) _ (a .out .now) _ ((c .before .before .fill .ensures)), (c .before .before .before .before .before .before .before .measured-by .ensures .1))
 

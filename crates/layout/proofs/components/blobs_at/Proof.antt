@@ -1,3 +1,4 @@
+-- `layout::components::blobs_at` meets its contract: the invariant says what is done and what is still to be.
 use Rattle.layout.proofs.Turns as turns
 use Rattle.layout.proofs.Walking as walking
 use Rattle.layout.specs.Pieces.{blobsOf}
@@ -21,71 +22,54 @@ Inv-loop out₀ at buffer plan rows n first past₀ row₀ left₀ turn₀ out p
 abbrev μ-loop : tie.MeasureT-loop
 μ-loop out₀ at buffer plan rows n first past₀ row₀ left₀ turn₀ out past row left turn = left
 
--- src/components.rt:84:9
 first-turn-requires : tie.Need-first-turn-requires Inv-loop μ-loop
 first-turn-requires c κs = search needs
 
--- src/components.rt:85:5
 loop-holds : tie.Need-loop-holds Inv-loop μ-loop
 loop-holds c = turns.blobs-begin ((c .before .before .before .before .before .pre .0)) ((c .before .before .before .before .before .pre .1)) ((c .first-turn .ensures))
 
--- src/components.rt:86:21
 offset-at-requires : tie.Need-offset-at-requires Inv-loop μ-loop
 offset-at-requires c κs = walking.reached-low ((c .before .loop .inv .rest))
 
--- src/components.rt:87:25
 add-size : tie.Need-add-size Inv-loop μ-loop
 add-size c = let l = walking.first-long ((c .before .before .loop .inv .rest)) ((c .before .loop-test .taken)) in let g = (c .before .before .before .before .before .before .before .before .good) in omega arith
 
--- src/components.rt:87:20
 mul-size : tie.Need-mul-size Inv-loop μ-loop
 mul-size c = let l = walking.first-long ((c .before .before .loop .inv .rest)) ((c .before .loop-test .taken)) in let g = (c .before .before .before .before .before .before .before .before .good) in omega arith
 
--- src/components.rt:87:20
 shared-slice-read-size : tie.Need-shared-slice-read-size Inv-loop μ-loop
 shared-slice-read-size c = omega (arith, walking.first-long ((c .before .before .before .loop .inv .rest)) ((c .before .before .loop-test .taken)))
 
--- src/components.rt:88:55
 add-blob-at : tie.Need-add-blob-at Inv-loop μ-loop
 add-blob-at c = let l = walking.first-long ((c .before .before .before .before .loop .inv .rest)) ((c .before .before .before .loop-test .taken)) in let g = (c .before .before .before .before .before .before .before .before .before .before .good) in omega arith
 
--- src/components.rt:88:50
 mul-blob-at : tie.Need-mul-blob-at Inv-loop μ-loop
 mul-blob-at c = let l = walking.first-long ((c .before .before .before .before .loop .inv .rest)) ((c .before .before .before .loop-test .taken)) in let g = (c .before .before .before .before .before .before .before .before .before .before .good) in omega arith
 
--- src/components.rt:88:50
 shared-slice-read-blob-at : tie.Need-shared-slice-read-blob-at Inv-loop μ-loop
 shared-slice-read-blob-at c = omega (arith, walking.first-long ((c .before .before .before .before .before .loop .inv .rest)) ((c .before .before .before .before .loop-test .taken)))
 
--- src/components.rt:88:9
 blob-at-requires : tie.Need-blob-at-requires Inv-loop μ-loop
 blob-at-requires c κs = (walking.first-blob ((c .before .before .before .before .before .loop .inv .rest)) ((c .before .before .before .before .loop-test .taken)), turns.room-for-blob ((c .before .before .before .before .before .loop .inv)) ((c .before .before .before .before .loop-test .taken)) ((c .before .before .before .offset-at .ensures)))
 
--- src/components.rt:89:9
 stepped-requires : tie.Need-stepped-requires Inv-loop μ-loop
 stepped-requires c κs = walking.next-low ((c .before .before .before .before .before .before .before .before .loop .inv .rest)) ((c .before .before .before .before .before .before .before .loop-test .taken))
 
--- src/components.rt:90:9
 add-row : tie.Need-add-row Inv-loop μ-loop
 add-row c = let l = walking.first-long ((c .before .before .before .before .before .before .before .before .before .loop .inv .rest)) ((c .before .before .before .before .before .before .before .before .loop-test .taken)) in let g = (c .before .before .before .before .before .before .before .before .before .before .before .before .before .before .before .good) in omega arith
 
--- src/components.rt:91:9
 sub-left : tie.Need-sub-left Inv-loop μ-loop
 sub-left c = search needs
 
--- src/components.rt:85:5
 loop-less : tie.Need-loop-less Inv-loop μ-loop
 loop-less c = search needs
 
--- src/components.rt:85:5
 loop-again : tie.Need-loop-again Inv-loop μ-loop
 loop-again c = turns.blob-turn ((c .before .before .before .before .before .before .before .before .before .loop .inv)) ((c .before .before .before .before .before .before .before .before .loop-test .taken)) ((c .before .before .before .before .before .before .before .offset-at .ensures)) ((c .before .before .before .blob-at .ensures)) ((c .stepped .ensures))
 
--- src/components.rt:68:1
 same-length : tie.Need-same-length Inv-loop μ-loop
 same-length c = laying.same-length ((c .before .loop .inv .laid))
 
--- src/components.rt:68:1
 returns : tie.Need-returns Inv-loop μ-loop
 returns c = turns.all-blobs ((c .before .loop .inv)) ((c .loop-test .left))
 

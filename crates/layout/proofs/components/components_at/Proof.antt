@@ -1,3 +1,4 @@
+-- `layout::components::components_at` meets its contract: the invariant says what is done and what is still to be.
 use Rattle.layout.proofs.Turns as turns
 use Rattle.layout.proofs.Walking as walking
 use Rattle.layout.specs.Rows.{ComponentRow}
@@ -23,83 +24,63 @@ Inv-loop out₀ at buffer plan rows n first turn past₀ row₀ left₀ next₀ 
 abbrev μ-loop : tie.MeasureT-loop
 μ-loop out₀ at buffer plan rows n first turn past₀ row₀ left₀ next₀ out past row left next = left
 
--- src/components.rt:136:5
 loop-holds : tie.Need-loop-holds Inv-loop μ-loop
 loop-holds c = record { rest = (c .before .before .before .before .pre .0); going = laying.going _ _ _ ((c .before .before .before .before .pre .1)); ends = refl }
 
--- src/components.rt:137:13
 offset-at-requires : tie.Need-offset-at-requires Inv-loop μ-loop
 offset-at-requires c κs = walking.reached-low ((c .before .loop .inv .rest))
 
--- src/components.rt:138:40
 sub-component-at : tie.Need-sub-component-at Inv-loop μ-loop
 sub-component-at c = search needs
 
--- src/components.rt:138:40
 part-component-at-start : tie.Need-part-component-at-start Inv-loop μ-loop
 part-component-at-start c = search needs
 
--- src/components.rt:138:40
 part-component-at-end : tie.Need-part-component-at-end Inv-loop μ-loop
 part-component-at-end c = search needs
 
--- src/components.rt:138:54
 mul-component-at : tie.Need-mul-component-at Inv-loop μ-loop
 mul-component-at c = let l = walking.first-long ((c .before .before .before .before .loop .inv .rest)) ((c .before .before .before .loop-test .taken)) in let g = (c .before .before .before .before .before .before .before .before .before .good) in omega arith
 
--- src/components.rt:138:54
 sub-component-at-2 : tie.Need-sub-component-at-2 Inv-loop μ-loop
 sub-component-at-2 c = omega (arith, walking.first-long ((c .before .before .before .before .loop .inv .rest)) ((c .before .before .before .loop-test .taken)))
 
--- src/components.rt:138:54
 part-component-at-start-2 : tie.Need-part-component-at-start-2 Inv-loop μ-loop
 part-component-at-start-2 c = omega (arith, walking.first-long ((c .before .before .before .before .loop .inv .rest)) ((c .before .before .before .loop-test .taken)))
 
--- src/components.rt:138:54
 part-component-at-end-2 : tie.Need-part-component-at-end-2 Inv-loop μ-loop
 part-component-at-end-2 c = search needs
 
--- src/components.rt:138:9
 component-at-requires : tie.Need-component-at-requires Inv-loop μ-loop
 component-at-requires c κs = (walking.as-lent ((c .before .before .before .before .before .before .before .before .before .before .args .buffer .now)) ((c .before .before .before .before .before .before .before .before .before .before .args .rows .now)) ((c .before .before .before .before .before .loop .row)) ComponentRow (walking.first-component ((c .before .before .before .before .before .loop .inv .rest)) ((c .before .before .before .before .loop-test .taken))), laying.room-as (sym (rows.lent-both ((c .before .before .before .before .before .before .before .before .before .before .args .buffer .now)) ((c .before .before .before .before .before .before .before .before .before .before .args .rows .now)) ((c .before .before .before .before .before .loop .row)) (λ b r. componentAt b r ((c .before .before .before .offset-at .result))))) (laying.room-as (ap (componentAt ((c .before .before .before .before .before .before .before .before .before .before .args .buffer .now)) (drop ((c .before .before .before .before .before .loop .row)) ((c .before .before .before .before .before .before .before .before .before .before .args .rows .now)))) (sym ((c .before .before .before .offset-at .ensures)))) (turns.room-for-component ((c .before .before .before .before .before .loop .inv)) ((c .before .before .before .before .loop-test .taken)))))
 
--- src/components.rt:139:41
 add-stepped : tie.Need-add-stepped Inv-loop μ-loop
 add-stepped c = let l = walking.first-long ((c .before .before .before .before .before .before .before .before .loop .inv .rest)) ((c .before .before .before .before .before .before .before .loop-test .taken)) in let g = (c .before .before .before .before .before .before .before .before .before .before .before .before .before .good) in omega arith
 
--- src/components.rt:139:36
 mul-stepped : tie.Need-mul-stepped Inv-loop μ-loop
 mul-stepped c = let l = walking.first-long ((c .before .before .before .before .before .before .before .before .loop .inv .rest)) ((c .before .before .before .before .before .before .before .loop-test .taken)) in let g = (c .before .before .before .before .before .before .before .before .before .before .before .before .before .good) in omega arith
 
--- src/components.rt:139:36
 shared-slice-read-stepped : tie.Need-shared-slice-read-stepped Inv-loop μ-loop
 shared-slice-read-stepped c = omega (arith, walking.first-long ((c .before .before .before .before .before .before .before .before .before .loop .inv .rest)) ((c .before .before .before .before .before .before .before .before .loop-test .taken)))
 
--- src/components.rt:139:9
 stepped-requires : tie.Need-stepped-requires Inv-loop μ-loop
 stepped-requires c κs = walking.next-low ((c .before .before .before .before .before .before .before .before .before .loop .inv .rest)) ((c .before .before .before .before .before .before .before .before .loop-test .taken))
 
--- src/components.rt:140:9
 add-row : tie.Need-add-row Inv-loop μ-loop
 add-row c = let l = walking.first-long ((c .before .before .before .before .before .before .before .before .before .before .loop .inv .rest)) ((c .before .before .before .before .before .before .before .before .before .loop-test .taken)) in let g = (c .before .before .before .before .before .before .before .before .before .before .before .before .before .before .before .good) in omega arith
 
--- src/components.rt:141:9
 sub-left : tie.Need-sub-left Inv-loop μ-loop
 sub-left c = search needs
 
--- src/components.rt:136:5
 loop-less : tie.Need-loop-less Inv-loop μ-loop
 loop-less c = search needs
 
--- src/components.rt:136:5
 loop-again : tie.Need-loop-again Inv-loop μ-loop
 loop-again c = turns.component-turn ((c .before .before .before .before .before .before .before .before .before .before .loop .inv)) ((c .before .before .before .before .before .before .before .before .before .loop-test .taken)) ((c .before .before .before .before .before .before .before .before .offset-at .ensures)) (laying.as-bytes (rows.lent-both ((c .before .before .before .before .before .before .before .before .before .before .before .before .before .before .before .args .buffer .now)) ((c .before .before .before .before .before .before .before .before .before .before .before .before .before .before .before .args .rows .now)) ((c .before .before .before .before .before .before .before .before .before .before .loop .row)) (λ b r. componentAt b r ((c .before .before .before .before .before .before .before .before .offset-at .result)))) ((c .before .before .before .before .component-at .ensures))) ((c .stepped .ensures))
 
--- src/components.rt:117:1
 same-length : tie.Need-same-length Inv-loop μ-loop
 same-length c = laying.same-so-far ((c .before .loop .inv .going))
 
--- src/components.rt:117:1
 returns : tie.Need-returns Inv-loop μ-loop
 returns c = (laying.all-laid ((c .before .loop .inv .going)) (walking.components-none _ _ _ _ _ _ ((c .loop-test .left))), sym (running.reached-none ((c .before .before .before .before .before .before .args .plan .now)) ((c .before .loop .left)) ((c .before .loop .row)) ((c .before .loop .next)) ((c .before .before .before .before .before .before .args .rows .now)) ((c .loop-test .left))) ∙ (c .before .loop .inv .ends))
 

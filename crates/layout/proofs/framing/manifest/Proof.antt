@@ -1,3 +1,4 @@
+-- `layout::framing::manifest` meets its contract: a law for each need.
 use Rattle.layout.proofs.Turns as turns
 use Rattle.layout.proofs.Walking as walking
 use Rattle.layout.specs.Pieces.{manifestFrom, rootFront, objectsOf}
@@ -14,57 +15,44 @@ use Rattle.layout.proofs.framing.manifest.Lts as lts
 use Rattle.layout.proofs.framing.root.Reads as root-reads
 use Rattle.layout.proofs.objects.objects_at.Reads as objects-at-reads
 
--- src/framing.rt:46:26
 sub-root : tie.Need-sub-root
 sub-root c = search needs
 
--- src/framing.rt:46:26
 part-root-start : tie.Need-part-root-start
 part-root-start c = search needs
 
--- src/framing.rt:46:26
 part-root-end : tie.Need-part-root-end
 part-root-end c = search needs
 
--- src/framing.rt:46:9
 root-requires : tie.Need-root-requires
 unfolding manifestFrom
 root-requires c κs = (turns.as-whole ((c .before .before .before .before .before .before .args .buffer .now)) (λ b. Within b ((c .before .before .before .before .before .before .args .place)) ((c .before .before .before .before .before .before .args .size))) ((c .before .before .before .before .before .before .pre .0)), laying.room-as (sym (turns.whole ((c .before .before .before .before .before .before .args .buffer .now)) (λ b. rootFront b ((c .before .before .before .before .before .before .args .objects)) ((c .before .before .before .before .before .before .args .place)) ((c .before .before .before .before .before .before .args .size))))) (laying.room-first _ ((c .before .before .before .before .before .before .pre .1 .1))))
 
--- src/framing.rt:47:27
 sub-objects-at : tie.Need-sub-objects-at
 sub-objects-at c = search needs
 
--- src/framing.rt:47:27
 part-objects-at-start : tie.Need-part-objects-at-start
 part-objects-at-start c = search needs
 
--- src/framing.rt:47:27
 part-objects-at-end : tie.Need-part-objects-at-end
 part-objects-at-end c = search needs
 
--- src/framing.rt:47:47
 sub-objects-at-2 : tie.Need-sub-objects-at-2
 sub-objects-at-2 c = search needs
 
--- src/framing.rt:47:47
 part-objects-at-start-2 : tie.Need-part-objects-at-start-2
 part-objects-at-start-2 c = search needs
 
--- src/framing.rt:47:47
 part-objects-at-end-2 : tie.Need-part-objects-at-end-2
 part-objects-at-end-2 c = search needs
 
--- src/framing.rt:47:5
 objects-at-requires : tie.Need-objects-at-requires
 unfolding manifestFrom
 objects-at-requires c κs = (walking.as-lent ((c .before .before .before .before .before .before .before .before .before .before .before .before .args .buffer .now)) ((c .before .before .before .before .before .before .before .before .before .before .before .before .args .rows .now)) 0 (λ b r. ObjectRows b ((c .before .before .before .before .before .before .before .before .before .before .before .before .args .plan .now)) r ((c .before .before .before .before .before .before .before .before .before .before .before .before .args .objects)) 0 ((c .before .before .before .before .before .before .before .before .before .before .before .before .args .first)) (begun ((c .before .before .before .before .before .before .before .before .before .before .before .before .args .plan .now)))) ((c .before .before .before .before .before .before .before .before .before .before .before .before .pre .1 .0)), laying.room-as (sym (rows.lent-both ((c .before .before .before .before .before .before .before .before .before .before .before .before .args .buffer .now)) ((c .before .before .before .before .before .before .before .before .before .before .before .before .args .rows .now)) 0 (λ b r. objectsOf b ((c .before .before .before .before .before .before .before .before .before .before .before .before .args .plan .now)) r ((c .before .before .before .before .before .before .before .before .before .before .before .before .args .objects)) 0 ((c .before .before .before .before .before .before .before .before .before .before .before .before .args .first)) (begun ((c .before .before .before .before .before .before .before .before .before .before .before .before .args .plan .now)))))) (laying.room-next (laying.as-bytes (turns.whole ((c .before .before .before .before .before .before .before .before .before .before .before .before .args .buffer .now)) (λ b. rootFront b ((c .before .before .before .before .before .before .before .before .before .before .before .before .args .objects)) ((c .before .before .before .before .before .before .before .before .before .before .before .before .args .place)) ((c .before .before .before .before .before .before .before .before .before .before .before .before .args .size)))) ((c .before .before .before .before .before .root .ensures))) ((c .before .before .before .before .before .before .before .before .before .before .before .before .pre .1 .1))))
 
--- src/framing.rt:31:1
 same-length : tie.Need-same-length
 same-length c = search needs
 
--- src/framing.rt:31:1
 returns : tie.Need-returns
 unfolding manifestFrom
 returns c = laying.then (laying.as-bytes (turns.whole ((c .before .before .before .before .before .before .before .before .before .before .before .before .before .before .before .args .buffer .now)) (λ b. rootFront b ((c .before .before .before .before .before .before .before .before .before .before .before .before .before .before .before .args .objects)) ((c .before .before .before .before .before .before .before .before .before .before .before .before .before .before .before .args .place)) ((c .before .before .before .before .before .before .before .before .before .before .before .before .before .before .before .args .size)))) ((c .before .before .before .before .before .before .before .before .root .ensures))) (laying.as-bytes (rows.lent-both ((c .before .before .before .before .before .before .before .before .before .before .before .before .before .before .before .args .buffer .now)) ((c .before .before .before .before .before .before .before .before .before .before .before .before .before .before .before .args .rows .now)) 0 (λ b r. objectsOf b ((c .before .before .before .before .before .before .before .before .before .before .before .before .before .before .before .args .plan .now)) r ((c .before .before .before .before .before .before .before .before .before .before .before .before .before .before .before .args .objects)) 0 ((c .before .before .before .before .before .before .before .before .before .before .before .before .before .before .before .args .first)) (begun ((c .before .before .before .before .before .before .before .before .before .before .before .before .before .before .before .args .plan .now))))) ((c .before .before .objects-at .ensures)))

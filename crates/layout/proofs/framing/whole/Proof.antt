@@ -1,3 +1,4 @@
+-- `layout::framing::whole` meets its contract: a law for each need.
 use Rattle.layout.proofs.Turns as turns
 use Rattle.layout.proofs.Walking as walking
 use Rattle.layout.proofs.Frames as frames
@@ -20,99 +21,75 @@ use Rattle.emit.proofs.size_at.Reads as size-at-reads
 use Rattle.layout.proofs.components.blobs_at.Reads as blobs-at-reads
 use Rattle.layout.proofs.framing.manifest.Reads as manifest-reads
 
--- src/framing.rt:65:17
 mul-first : tie.Need-mul-first
 mul-first c = search needs
 
--- src/framing.rt:66:9
 magic-at-requires : tie.Need-magic-at-requires
 magic-at-requires c κs = frames.room-magic ((c .before .before .before .before .before .pre .0)) ((c .before .before .before .before .before .pre .1))
 
--- src/framing.rt:67:36
 sub-blobs-at : tie.Need-sub-blobs-at
 sub-blobs-at c = search needs
 
--- src/framing.rt:67:36
 part-blobs-at-start : tie.Need-part-blobs-at-start
 part-blobs-at-start c = search needs
 
--- src/framing.rt:67:36
 part-blobs-at-end : tie.Need-part-blobs-at-end
 part-blobs-at-end c = search needs
 
--- src/framing.rt:67:56
 sub-blobs-at-2 : tie.Need-sub-blobs-at-2
 sub-blobs-at-2 c = search needs
 
--- src/framing.rt:67:56
 part-blobs-at-start-2 : tie.Need-part-blobs-at-start-2
 part-blobs-at-start-2 c = search needs
 
--- src/framing.rt:67:56
 part-blobs-at-end-2 : tie.Need-part-blobs-at-end-2
 part-blobs-at-end-2 c = search needs
 
--- src/framing.rt:67:9
 blobs-at-requires : tie.Need-blobs-at-requires
 blobs-at-requires c κs = (walking.as-lent ((c .before .before .before .before .before .before .before .before .before .before .before .args .buffer .now)) ((c .before .before .before .before .before .before .before .before .before .before .before .args .rows .now)) 0 (λ b r. ComponentRows b ((c .before .before .before .before .before .before .before .before .before .before .before .args .plan .now)) r ((c .before .before .before .before .before .before .before .before .before .before .before .args .components)) (objectWidth * (c .before .before .before .before .before .before .before .before .before .before .before .args .objects)) (begun ((c .before .before .before .before .before .before .before .before .before .before .before .args .plan .now)))) ((c .before .before .before .before .before .before .before .before .before .before .before .pre .0 .blobs)), frames.room-blobs ((c .before .before .before .before .before .before .before .before .before .before .before .pre .0)) ((c .before .before .before .before .before .before .before .before .before .before .before .pre .1)) ((c .before .before .before .before .before .magic-at .ensures)))
 
--- src/framing.rt:69:9
 sub-manifest : tie.Need-sub-manifest
 sub-manifest c = search needs
 
--- src/framing.rt:69:9
 part-manifest-start : tie.Need-part-manifest-start
 part-manifest-start c = search needs
 
--- src/framing.rt:69:9
 part-manifest-end : tie.Need-part-manifest-end
 part-manifest-end c = search needs
 
--- src/framing.rt:70:9
 sub-manifest-2 : tie.Need-sub-manifest-2
 sub-manifest-2 c = search needs
 
--- src/framing.rt:70:9
 part-manifest-start-2 : tie.Need-part-manifest-start-2
 part-manifest-start-2 c = search needs
 
--- src/framing.rt:70:9
 part-manifest-end-2 : tie.Need-part-manifest-end-2
 part-manifest-end-2 c = search needs
 
--- src/framing.rt:72:9
 sub-manifest-3 : tie.Need-sub-manifest-3
 sub-manifest-3 c = search needs
 
--- src/framing.rt:72:9
 part-manifest-start-3 : tie.Need-part-manifest-start-3
 part-manifest-start-3 c = search needs
 
--- src/framing.rt:72:9
 part-manifest-end-3 : tie.Need-part-manifest-end-3
 part-manifest-end-3 c = search needs
 
--- src/framing.rt:68:9
 manifest-requires : tie.Need-manifest-requires
 manifest-requires c κs = (turns.as-whole ((c .before .before .before .before .before .before .before .before .before .before .before .before .before .before .before .before .before .args .buffer .now)) (λ b. Within b ((c .before .before .before .before .before .before .before .before .before .before .before .before .before .before .before .before .before .args .place)) ((c .before .before .before .before .before .before .before .before .before .before .before .before .before .before .before .before .before .args .size))) ((c .before .before .before .before .before .before .before .before .before .before .before .before .before .before .before .before .before .pre .0 .attributes)), (walking.as-lent ((c .before .before .before .before .before .before .before .before .before .before .before .before .before .before .before .before .before .args .buffer .now)) ((c .before .before .before .before .before .before .before .before .before .before .before .before .before .before .before .before .before .args .rows .now)) 0 (λ b r. ObjectRows b ((c .before .before .before .before .before .before .before .before .before .before .before .before .before .before .before .before .before .args .plan .now)) r ((c .before .before .before .before .before .before .before .before .before .before .before .before .before .before .before .before .before .args .objects)) 0 (objectWidth * (c .before .before .before .before .before .before .before .before .before .before .before .before .before .before .before .before .before .args .objects)) (begun ((c .before .before .before .before .before .before .before .before .before .before .before .before .before .before .before .before .before .args .plan .now)))) ((c .before .before .before .before .before .before .before .before .before .before .before .before .before .before .before .before .before .pre .0 .each)), laying.room-as (sym (rows.lent-both ((c .before .before .before .before .before .before .before .before .before .before .before .before .before .before .before .before .before .args .buffer .now)) ((c .before .before .before .before .before .before .before .before .before .before .before .before .before .before .before .before .before .args .rows .now)) 0 (λ b r. manifestFrom b ((c .before .before .before .before .before .before .before .before .before .before .before .before .before .before .before .before .before .args .plan .now)) r ((c .before .before .before .before .before .before .before .before .before .before .before .before .before .before .before .before .before .args .objects)) (objectWidth * (c .before .before .before .before .before .before .before .before .before .before .before .before .before .before .before .before .before .args .objects)) ((c .before .before .before .before .before .before .before .before .before .before .before .before .before .before .before .before .before .args .place)) ((c .before .before .before .before .before .before .before .before .before .before .before .before .before .before .before .before .before .args .size))))) (laying.room-lent (frames.room-manifest ((c .before .before .before .before .before .before .before .before .before .before .before .before .before .before .before .before .before .pre .0)) ((c .before .before .before .before .before .before .before .before .before .before .before .before .before .before .before .before .before .pre .1)) ((c .before .before .before .before .before .before .before .before .before .before .before .magic-at .ensures)) ((c .before .before .before .before .before .blobs-at .ensures))))))
 
--- src/framing.rt:78:29
 add-size-at : tie.Need-add-size-at
 add-size-at c = search needs
 
--- src/framing.rt:78:9
 size-at-requires : tie.Need-size-at-requires
 size-at-requires c κs = frames.room-size ((c .before .before .before .before .before .before .before .before .before .before .before .before .before .before .before .before .before .before .before .before .before .pre .0)) ((c .before .before .before .before .before .before .before .before .before .before .before .before .before .before .before .before .before .before .before .before .before .pre .1)) ((c .before .before .before .before .before .before .before .before .before .before .before .before .before .before .before .magic-at .ensures)) ((c .before .before .before .before .before .before .before .before .before .blobs-at .ensures)) (laying.as-bytes (rows.lent-both ((c .before .before .before .before .before .before .before .before .before .before .before .before .before .before .before .before .before .before .before .before .before .args .buffer .now)) ((c .before .before .before .before .before .before .before .before .before .before .before .before .before .before .before .before .before .before .before .before .before .args .rows .now)) 0 (λ b r. manifestFrom b ((c .before .before .before .before .before .before .before .before .before .before .before .before .before .before .before .before .before .before .before .before .before .args .plan .now)) r ((c .before .before .before .before .before .before .before .before .before .before .before .before .before .before .before .before .before .before .before .before .before .args .objects)) (objectWidth * (c .before .before .before .before .before .before .before .before .before .before .before .before .before .before .before .before .before .before .before .before .before .args .objects)) ((c .before .before .before .before .before .before .before .before .before .before .before .before .before .before .before .before .before .before .before .before .before .args .place)) ((c .before .before .before .before .before .before .before .before .before .before .before .before .before .before .before .before .before .before .before .before .before .args .size)))) ((c .before .before .before .manifest .ensures)))
 
--- src/framing.rt:79:5
 magic-at-requires-2 : tie.Need-magic-at-requires-2
 magic-at-requires-2 c κs = frames.room-footer ((c .before .before .before .before .before .before .before .before .before .before .before .before .before .before .before .before .before .before .before .before .before .before .before .before .before .pre .0)) ((c .before .before .before .before .before .before .before .before .before .before .before .before .before .before .before .before .before .before .before .before .before .before .before .before .before .pre .1)) ((c .before .before .before .before .before .before .before .before .before .before .before .before .before .before .before .before .before .before .before .magic-at .ensures)) ((c .before .before .before .before .before .before .before .before .before .before .before .before .before .blobs-at .ensures)) (laying.as-bytes (rows.lent-both ((c .before .before .before .before .before .before .before .before .before .before .before .before .before .before .before .before .before .before .before .before .before .before .before .before .before .args .buffer .now)) ((c .before .before .before .before .before .before .before .before .before .before .before .before .before .before .before .before .before .before .before .before .before .before .before .before .before .args .rows .now)) 0 (λ b r. manifestFrom b ((c .before .before .before .before .before .before .before .before .before .before .before .before .before .before .before .before .before .before .before .before .before .before .before .before .before .args .plan .now)) r ((c .before .before .before .before .before .before .before .before .before .before .before .before .before .before .before .before .before .before .before .before .before .before .before .before .before .args .objects)) (objectWidth * (c .before .before .before .before .before .before .before .before .before .before .before .before .before .before .before .before .before .before .before .before .before .before .before .before .before .args .objects)) ((c .before .before .before .before .before .before .before .before .before .before .before .before .before .before .before .before .before .before .before .before .before .before .before .before .before .args .place)) ((c .before .before .before .before .before .before .before .before .before .before .before .before .before .before .before .before .before .before .before .before .before .before .before .before .before .args .size)))) ((c .before .before .before .before .before .before .before .manifest .ensures))) ((c .before .before .before .size-at .ensures))
 
--- src/framing.rt:51:1
 same-length : tie.Need-same-length
 same-length c = search needs
 
--- src/framing.rt:51:1
 returns : tie.Need-returns
 returns c = frames.whole-laid ((c .before .before .before .before .before .before .before .before .before .before .before .before .before .before .before .before .before .before .before .before .before .before .before .before .before .before .before .before .pre .0)) ((c .before .before .before .before .before .before .before .before .before .before .before .before .before .before .before .before .before .before .before .before .before .before .before .before .before .before .before .before .pre .1)) ((c .before .before .before .before .before .before .before .before .before .before .before .before .before .before .before .before .before .before .before .before .before .before .magic-at .ensures)) ((c .before .before .before .before .before .before .before .before .before .before .before .before .before .before .before .before .blobs-at .ensures)) (laying.as-bytes (rows.lent-both ((c .before .before .before .before .before .before .before .before .before .before .before .before .before .before .before .before .before .before .before .before .before .before .before .before .before .before .before .before .args .buffer .now)) ((c .before .before .before .before .before .before .before .before .before .before .before .before .before .before .before .before .before .before .before .before .before .before .before .before .before .before .before .before .args .rows .now)) 0 (λ b r. manifestFrom b ((c .before .before .before .before .before .before .before .before .before .before .before .before .before .before .before .before .before .before .before .before .before .before .before .before .before .before .before .before .args .plan .now)) r ((c .before .before .before .before .before .before .before .before .before .before .before .before .before .before .before .before .before .before .before .before .before .before .before .before .before .before .before .before .args .objects)) (objectWidth * (c .before .before .before .before .before .before .before .before .before .before .before .before .before .before .before .before .before .before .before .before .before .before .before .before .before .before .before .before .args .objects)) ((c .before .before .before .before .before .before .before .before .before .before .before .before .before .before .before .before .before .before .before .before .before .before .before .before .before .before .before .before .args .place)) ((c .before .before .before .before .before .before .before .before .before .before .before .before .before .before .before .before .before .before .before .before .before .before .before .before .before .before .before .before .args .size)))) ((c .before .before .before .before .before .before .before .before .before .before .manifest .ensures))) ((c .before .before .before .before .before .before .size-at .ensures)) ((c .before .before .magic-at2 .ensures))
 

@@ -1,3 +1,4 @@
+-- `layout::objects::objects_at` meets its contract: the invariant says what is done and what is still to be.
 use Rattle.layout.proofs.Turns as turns
 use Rattle.layout.proofs.Walking as walking
 use Rattle.layout.specs.Pieces.{objectsOf, componentsOf, objectFront, objectRest, reachedPast}
@@ -27,151 +28,115 @@ Inv-loop out₀ at buffer plan rows n first past₀ row₀ from₀ turn₀ left�
 abbrev μ-loop : tie.MeasureT-loop
 μ-loop out₀ at buffer plan rows n first past₀ row₀ from₀ turn₀ left₀ out past row from turn left = left
 
--- src/objects.rt:79:9
 first-turn-requires : tie.Need-first-turn-requires Inv-loop μ-loop
 first-turn-requires c κs = search needs
 
--- src/objects.rt:81:5
 loop-holds : tie.Need-loop-holds Inv-loop μ-loop
 loop-holds c = turns.objects-begin ((c .before .before .before .before .before .pre .0)) ((c .before .before .before .before .before .pre .1)) ((c .first-turn .ensures))
 
--- src/objects.rt:82:26
 add-count : tie.Need-add-count Inv-loop μ-loop
 add-count c = let l = walking.object-long ((c .before .loop .inv .rest)) ((c .loop-test .taken)) in let g = (c .before .before .before .before .before .before .before .good) in omega arith
 
--- src/objects.rt:82:21
 mul-count : tie.Need-mul-count Inv-loop μ-loop
 mul-count c = let l = walking.object-long ((c .before .loop .inv .rest)) ((c .loop-test .taken)) in let g = (c .before .before .before .before .before .before .before .good) in omega arith
 
--- src/objects.rt:82:21
 shared-slice-read-count : tie.Need-shared-slice-read-count Inv-loop μ-loop
 shared-slice-read-count c = omega (arith, walking.object-long ((c .before .before .loop .inv .rest)) ((c .before .loop-test .taken)))
 
--- src/objects.rt:83:41
 sub-front-at : tie.Need-sub-front-at Inv-loop μ-loop
 sub-front-at c = search needs
 
--- src/objects.rt:83:41
 part-front-at-start : tie.Need-part-front-at-start Inv-loop μ-loop
 part-front-at-start c = search needs
 
--- src/objects.rt:83:41
 part-front-at-end : tie.Need-part-front-at-end Inv-loop μ-loop
 part-front-at-end c = search needs
 
--- src/objects.rt:83:55
 mul-front-at : tie.Need-mul-front-at Inv-loop μ-loop
 mul-front-at c = let l = walking.object-long ((c .before .before .before .before .loop .inv .rest)) ((c .before .before .before .loop-test .taken)) in let g = (c .before .before .before .before .before .before .before .before .before .before .good) in omega arith
 
--- src/objects.rt:83:55
 sub-front-at-2 : tie.Need-sub-front-at-2 Inv-loop μ-loop
 sub-front-at-2 c = omega (arith, walking.object-long ((c .before .before .before .before .loop .inv .rest)) ((c .before .before .before .loop-test .taken)))
 
--- src/objects.rt:83:55
 part-front-at-start-2 : tie.Need-part-front-at-start-2 Inv-loop μ-loop
 part-front-at-start-2 c = omega (arith, walking.object-long ((c .before .before .before .before .loop .inv .rest)) ((c .before .before .before .loop-test .taken)))
 
--- src/objects.rt:83:55
 part-front-at-end-2 : tie.Need-part-front-at-end-2 Inv-loop μ-loop
 part-front-at-end-2 c = search needs
 
--- src/objects.rt:83:13
 front-at-requires : tie.Need-front-at-requires Inv-loop μ-loop
 front-at-requires c κs = (walking.as-lent ((c .before .before .before .before .before .before .before .before .before .before .before .args .buffer .now)) ((c .before .before .before .before .before .before .before .before .before .before .before .args .rows .now)) ((c .before .before .before .before .before .loop .row)) ObjectRow (walking.first-object ((c .before .before .before .before .before .loop .inv .rest)) ((c .before .before .before .before .loop-test .taken))), laying.room-as (sym (rows.lent-both ((c .before .before .before .before .before .before .before .before .before .before .before .args .buffer .now)) ((c .before .before .before .before .before .before .before .before .before .before .before .args .rows .now)) ((c .before .before .before .before .before .loop .row)) objectFront)) (turns.room-for-front ((c .before .before .before .before .before .loop .inv)) ((c .before .before .before .before .loop-test .taken))))
 
--- src/objects.rt:84:40
 sub-rest-at : tie.Need-sub-rest-at Inv-loop μ-loop
 sub-rest-at c = search needs
 
--- src/objects.rt:84:40
 part-rest-at-start : tie.Need-part-rest-at-start Inv-loop μ-loop
 part-rest-at-start c = search needs
 
--- src/objects.rt:84:40
 part-rest-at-end : tie.Need-part-rest-at-end Inv-loop μ-loop
 part-rest-at-end c = search needs
 
--- src/objects.rt:84:54
 mul-rest-at : tie.Need-mul-rest-at Inv-loop μ-loop
 mul-rest-at c = let l = walking.object-long ((c .before .before .before .before .before .before .before .before .before .before .loop .inv .rest)) ((c .before .before .before .before .before .before .before .before .before .loop-test .taken)) in let g = (c .before .before .before .before .before .before .before .before .before .before .before .before .before .before .before .before .good) in omega arith
 
--- src/objects.rt:84:54
 sub-rest-at-2 : tie.Need-sub-rest-at-2 Inv-loop μ-loop
 sub-rest-at-2 c = omega (arith, walking.object-long ((c .before .before .before .before .before .before .before .before .before .before .loop .inv .rest)) ((c .before .before .before .before .before .before .before .before .before .loop-test .taken)))
 
--- src/objects.rt:84:54
 part-rest-at-start-2 : tie.Need-part-rest-at-start-2 Inv-loop μ-loop
 part-rest-at-start-2 c = omega (arith, walking.object-long ((c .before .before .before .before .before .before .before .before .before .before .loop .inv .rest)) ((c .before .before .before .before .before .before .before .before .before .loop-test .taken)))
 
--- src/objects.rt:84:54
 part-rest-at-end-2 : tie.Need-part-rest-at-end-2 Inv-loop μ-loop
 part-rest-at-end-2 c = search needs
 
--- src/objects.rt:84:13
 rest-at-requires : tie.Need-rest-at-requires Inv-loop μ-loop
 rest-at-requires c κs = (walking.as-lent ((c .before .before .before .before .before .before .before .before .before .before .before .before .before .before .before .before .before .args .buffer .now)) ((c .before .before .before .before .before .before .before .before .before .before .before .before .before .before .before .before .before .args .rows .now)) ((c .before .before .before .before .before .before .before .before .before .before .before .loop .row)) ObjectRow (walking.first-object ((c .before .before .before .before .before .before .before .before .before .before .before .loop .inv .rest)) ((c .before .before .before .before .before .before .before .before .before .before .loop-test .taken))), laying.room-as (sym (rows.lent-both ((c .before .before .before .before .before .before .before .before .before .before .before .before .before .before .before .before .before .args .buffer .now)) ((c .before .before .before .before .before .before .before .before .before .before .before .before .before .before .before .before .before .args .rows .now)) ((c .before .before .before .before .before .before .before .before .before .before .before .loop .row)) objectRest)) (turns.room-for-rest ((c .before .before .before .before .before .before .before .before .before .before .before .loop .inv)) ((c .before .before .before .before .before .before .before .before .before .before .loop-test .taken)) (laying.as-bytes (rows.lent-both ((c .before .before .before .before .before .before .before .before .before .before .before .before .before .before .before .before .before .args .buffer .now)) ((c .before .before .before .before .before .before .before .before .before .before .before .before .before .before .before .before .before .args .rows .now)) ((c .before .before .before .before .before .before .before .before .before .before .before .loop .row)) objectFront) ((c .before .before .before .before .before .front-at .ensures)))))
 
--- src/objects.rt:85:42
 sub-components-at : tie.Need-sub-components-at Inv-loop μ-loop
 sub-components-at c = search needs
 
--- src/objects.rt:85:42
 part-components-at-start : tie.Need-part-components-at-start Inv-loop μ-loop
 part-components-at-start c = search needs
 
--- src/objects.rt:85:42
 part-components-at-end : tie.Need-part-components-at-end Inv-loop μ-loop
 part-components-at-end c = search needs
 
--- src/objects.rt:85:62
 sub-components-at-2 : tie.Need-sub-components-at-2 Inv-loop μ-loop
 sub-components-at-2 c = search needs
 
--- src/objects.rt:85:62
 part-components-at-start-2 : tie.Need-part-components-at-start-2 Inv-loop μ-loop
 part-components-at-start-2 c = search needs
 
--- src/objects.rt:85:62
 part-components-at-end-2 : tie.Need-part-components-at-end-2 Inv-loop μ-loop
 part-components-at-end-2 c = search needs
 
--- src/objects.rt:85:13
 components-at-requires : tie.Need-components-at-requires Inv-loop μ-loop
 components-at-requires c κs = (
   walking.as-lent ((c .before .before .before .before .before .before .before .before .before .before .before .before .before .before .before .before .before .before .before .before .before .before .before .args .buffer .now)) ((c .before .before .before .before .before .before .before .before .before .before .before .before .before .before .before .before .before .before .before .before .before .before .before .args .rows .now)) 0 (λ b r. ComponentRows b ((c .before .before .before .before .before .before .before .before .before .before .before .before .before .before .before .before .before .before .before .before .before .before .before .args .plan .now)) r (getD ((c .before .before .before .before .before .before .before .before .before .before .before .before .before .before .before .before .before .before .before .before .before .before .before .args .rows .now)) ((c .before .before .before .before .before .before .before .before .before .before .before .before .before .before .before .before .before .loop .row) + countColumn) 0) ((c .before .before .before .before .before .before .before .before .before .before .before .before .before .before .before .before .before .loop .from)) ((c .before .before .before .before .before .before .before .before .before .before .before .before .before .before .before .before .before .loop .turn))) (walking.its-components ((c .before .before .before .before .before .before .before .before .before .before .before .before .before .before .before .before .before .loop .inv .rest)) ((c .before .before .before .before .before .before .before .before .before .before .before .before .before .before .before .before .loop-test .taken))),
   laying.room-as (sym (rows.lent-both ((c .before .before .before .before .before .before .before .before .before .before .before .before .before .before .before .before .before .before .before .before .before .before .before .args .buffer .now)) ((c .before .before .before .before .before .before .before .before .before .before .before .before .before .before .before .before .before .before .before .before .before .before .before .args .rows .now)) 0 (λ b r. componentsOf b ((c .before .before .before .before .before .before .before .before .before .before .before .before .before .before .before .before .before .before .before .before .before .before .before .args .plan .now)) r (getD ((c .before .before .before .before .before .before .before .before .before .before .before .before .before .before .before .before .before .before .before .before .before .before .before .args .rows .now)) ((c .before .before .before .before .before .before .before .before .before .before .before .before .before .before .before .before .before .loop .row) + countColumn) 0) ((c .before .before .before .before .before .before .before .before .before .before .before .before .before .before .before .before .before .loop .from)) ((c .before .before .before .before .before .before .before .before .before .before .before .before .before .before .before .before .before .loop .turn))))) (turns.room-for-components ((c .before .before .before .before .before .before .before .before .before .before .before .before .before .before .before .before .before .loop .inv)) ((c .before .before .before .before .before .before .before .before .before .before .before .before .before .before .before .before .loop-test .taken)) (laying.as-bytes (rows.lent-both ((c .before .before .before .before .before .before .before .before .before .before .before .before .before .before .before .before .before .before .before .before .before .before .before .args .buffer .now)) ((c .before .before .before .before .before .before .before .before .before .before .before .before .before .before .before .before .before .before .before .before .before .before .before .args .rows .now)) ((c .before .before .before .before .before .before .before .before .before .before .before .before .before .before .before .before .before .loop .row)) objectFront) ((c .before .before .before .before .before .before .before .before .before .before .before .front-at .ensures))) (laying.as-bytes (rows.lent-both ((c .before .before .before .before .before .before .before .before .before .before .before .before .before .before .before .before .before .before .before .before .before .before .before .args .buffer .now)) ((c .before .before .before .before .before .before .before .before .before .before .before .before .before .before .before .before .before .before .before .before .before .before .before .args .rows .now)) ((c .before .before .before .before .before .before .before .before .before .before .before .before .before .before .before .before .before .loop .row)) objectRest) ((c .before .before .before .before .before .rest-at .ensures)))),
 )
 
--- src/objects.rt:88:17
 mul-from : tie.Need-mul-from Inv-loop μ-loop
 mul-from c = let l = (walking.its-components ((c .before .before .before .before .before .before .before .before .before .before .before .before .before .before .before .before .before .before .before .before .loop .inv .rest)) ((c .before .before .before .before .before .before .before .before .before .before .before .before .before .before .before .before .before .before .before .loop-test .taken))) .lie in let g = (c .before .before .before .before .before .before .before .before .before .before .before .before .before .before .before .before .before .before .before .before .before .before .before .before .before .before .good) in omega arith
 
--- src/objects.rt:88:9
 add-from : tie.Need-add-from Inv-loop μ-loop
 add-from c = let l = (walking.its-components ((c .before .before .before .before .before .before .before .before .before .before .before .before .before .before .before .before .before .before .before .before .loop .inv .rest)) ((c .before .before .before .before .before .before .before .before .before .before .before .before .before .before .before .before .before .before .before .loop-test .taken))) .lie in let g = (c .before .before .before .before .before .before .before .before .before .before .before .before .before .before .before .before .before .before .before .before .before .before .before .before .before .before .good) in omega arith
 
--- src/objects.rt:89:9
 add-row : tie.Need-add-row Inv-loop μ-loop
 add-row c = let l = walking.object-long ((c .before .before .before .before .before .before .before .before .before .before .before .before .before .before .before .before .before .before .before .before .loop .inv .rest)) ((c .before .before .before .before .before .before .before .before .before .before .before .before .before .before .before .before .before .before .before .loop-test .taken)) in let g = (c .before .before .before .before .before .before .before .before .before .before .before .before .before .before .before .before .before .before .before .before .before .before .before .before .before .before .good) in omega arith
 
--- src/objects.rt:90:9
 sub-left : tie.Need-sub-left Inv-loop μ-loop
 sub-left c = search needs
 
--- src/objects.rt:81:5
 loop-less : tie.Need-loop-less Inv-loop μ-loop
 loop-less c = omega (arith, (c .before .before .before .before .before .before .before .before .before .before .before .before .before .before .before .before .before .before .before .loop-test .taken))
 
--- src/objects.rt:81:5
 loop-again : tie.Need-loop-again Inv-loop μ-loop
 loop-again c = turns.object-turn ((c .before .before .before .before .before .before .before .before .before .before .before .before .before .before .before .before .before .before .before .before .loop .inv)) ((c .before .before .before .before .before .before .before .before .before .before .before .before .before .before .before .before .before .before .before .loop-test .taken)) (laying.as-bytes (rows.lent-both ((c .before .before .before .before .before .before .before .before .before .before .before .before .before .before .before .before .before .before .before .before .before .before .before .before .before .before .args .buffer .now)) ((c .before .before .before .before .before .before .before .before .before .before .before .before .before .before .before .before .before .before .before .before .before .before .before .before .before .before .args .rows .now)) ((c .before .before .before .before .before .before .before .before .before .before .before .before .before .before .before .before .before .before .before .before .loop .row)) objectFront) ((c .before .before .before .before .before .before .before .before .before .before .before .before .before .before .front-at .ensures))) (laying.as-bytes (rows.lent-both ((c .before .before .before .before .before .before .before .before .before .before .before .before .before .before .before .before .before .before .before .before .before .before .before .before .before .before .args .buffer .now)) ((c .before .before .before .before .before .before .before .before .before .before .before .before .before .before .before .before .before .before .before .before .before .before .before .before .before .before .args .rows .now)) ((c .before .before .before .before .before .before .before .before .before .before .before .before .before .before .before .before .before .before .before .before .loop .row)) objectRest) ((c .before .before .before .before .before .before .before .before .rest-at .ensures)))
     (laying.as-bytes (rows.lent-both ((c .before .before .before .before .before .before .before .before .before .before .before .before .before .before .before .before .before .before .before .before .before .before .before .before .before .before .args .buffer .now)) ((c .before .before .before .before .before .before .before .before .before .before .before .before .before .before .before .before .before .before .before .before .before .before .before .before .before .before .args .rows .now)) 0 (λ b r. componentsOf b ((c .before .before .before .before .before .before .before .before .before .before .before .before .before .before .before .before .before .before .before .before .before .before .before .before .before .before .args .plan .now)) r (getD ((c .before .before .before .before .before .before .before .before .before .before .before .before .before .before .before .before .before .before .before .before .before .before .before .before .before .before .args .rows .now)) ((c .before .before .before .before .before .before .before .before .before .before .before .before .before .before .before .before .before .before .before .before .loop .row) + countColumn) 0) ((c .before .before .before .before .before .before .before .before .before .before .before .before .before .before .before .before .before .before .before .before .loop .from)) ((c .before .before .before .before .before .before .before .before .before .before .before .before .before .before .before .before .before .before .before .before .loop .turn)))) ((c .before .before .components-at .ensures .0))) (((c .before .before .components-at .ensures .1)) ∙ rows.lent-both ((c .before .before .before .before .before .before .before .before .before .before .before .before .before .before .before .before .before .before .before .before .before .before .before .before .before .before .args .buffer .now)) ((c .before .before .before .before .before .before .before .before .before .before .before .before .before .before .before .before .before .before .before .before .before .before .before .before .before .before .args .rows .now)) 0 (λ b r. reachedPast ((c .before .before .before .before .before .before .before .before .before .before .before .before .before .before .before .before .before .before .before .before .before .before .before .before .before .before .args .plan .now)) r (getD ((c .before .before .before .before .before .before .before .before .before .before .before .before .before .before .before .before .before .before .before .before .before .before .before .before .before .before .args .rows .now)) ((c .before .before .before .before .before .before .before .before .before .before .before .before .before .before .before .before .before .before .before .before .loop .row) + countColumn) 0) ((c .before .before .before .before .before .before .before .before .before .before .before .before .before .before .before .before .before .before .before .before .loop .from)) ((c .before .before .before .before .before .before .before .before .before .before .before .before .before .before .before .before .before .before .before .before .loop .turn))))
 
--- src/objects.rt:63:1
 same-length : tie.Need-same-length Inv-loop μ-loop
 same-length c = laying.same-so-far ((c .before .loop .inv .going))
 
--- src/objects.rt:63:1
 returns : tie.Need-returns Inv-loop μ-loop
 returns c = laying.all-laid ((c .before .loop .inv .going)) (walking.objects-none _ _ _ _ _ _ _ ((c .loop-test .left)))
 

@@ -1,3 +1,4 @@
+-- `sizes::entries::components` meets its contract: the invariant says what is done and what is still to be.
 use Rattle.sizes.specs.Size.{componentsSize}
 use Rattle.meaning.specs.Asked.{eachRow, askedComponent}
 use native.Mathlib.Omega.{arith}
@@ -19,75 +20,57 @@ Inv-loop plan rows n first at₀ left₀ turn₀ total₀ at left turn total = t
 abbrev μ-loop : tie.MeasureT-loop
 μ-loop plan rows n first at₀ left₀ turn₀ total₀ at left turn total = left
 
--- src/entries.rt:61:5
 loop-holds : tie.Need-loop-holds Inv-loop μ-loop
 loop-holds c = turns.parts-begin ((c .before .before .pre .0)) ((c .before .before .pre .1))
 
--- src/entries.rt:62:13
 offset-at-requires : tie.Need-offset-at-requires Inv-loop μ-loop
 offset-at-requires c κs = turns.turn-in-time ((c .before .loop .inv))
 
--- src/entries.rt:63:30
 mul-component : tie.Need-mul-component Inv-loop μ-loop
 mul-component c = search needs
 
--- src/entries.rt:63:30
 sub-component : tie.Need-sub-component Inv-loop μ-loop
 sub-component c = search needs
 
--- src/entries.rt:63:30
 part-component-start : tie.Need-part-component-start Inv-loop μ-loop
 part-component-start c = let l = (c .before .before .loop .inv .lie) in omega (arith, l, (c .before .loop-test .taken))
 
--- src/entries.rt:63:30
 part-component-end : tie.Need-part-component-end Inv-loop μ-loop
 part-component-end c = search needs
 
--- src/entries.rt:63:13
 component-requires : tie.Need-component-requires Inv-loop μ-loop
 component-requires c κs = turns.row-there ((c .before .before .before .loop .inv)) ((c .before .before .loop-test .taken))
 
--- src/entries.rt:64:24
 add-capped : tie.Need-add-capped Inv-loop μ-loop
 add-capped c = let l = (c .before .before .before .before .loop .inv .small) in omega (arith, l, (c .component .ensures))
 
--- src/entries.rt:64:9
 capped-requires : tie.Need-capped-requires Inv-loop μ-loop
 capped-requires c κs = search needs
 
--- src/entries.rt:65:41
 add-stepped : tie.Need-add-stepped Inv-loop μ-loop
 add-stepped c = let l = (c .before .before .before .before .before .loop .inv .lie) in let g = (c .before .before .before .before .before .before .before .before .good) in omega (arith, l, (c .before .before .before .before .loop-test .taken))
 
--- src/entries.rt:65:36
 mul-stepped : tie.Need-mul-stepped Inv-loop μ-loop
 mul-stepped c = search needs
 
--- src/entries.rt:65:36
 shared-slice-read-stepped : tie.Need-shared-slice-read-stepped Inv-loop μ-loop
 shared-slice-read-stepped c = let l = (c .before .before .before .before .before .before .loop .inv .lie) in omega (arith, l, (c .before .before .before .before .before .loop-test .taken))
 
--- src/entries.rt:65:9
 stepped-requires : tie.Need-stepped-requires Inv-loop μ-loop
 stepped-requires c κs = turns.step-in-time ((c .before .before .before .before .before .before .loop .inv)) ((c .before .before .before .before .before .loop-test .taken))
 
--- src/entries.rt:66:9
 add-at : tie.Need-add-at Inv-loop μ-loop
 add-at c = let l = (c .before .before .before .before .before .before .before .loop .inv .lie) in let g = (c .before .before .before .before .before .before .before .before .before .before .good) in omega (arith, l, (c .before .before .before .before .before .before .loop-test .taken))
 
--- src/entries.rt:67:9
 sub-left : tie.Need-sub-left Inv-loop μ-loop
 sub-left c = search needs
 
--- src/entries.rt:61:5
 loop-less : tie.Need-loop-less Inv-loop μ-loop
 loop-less c = search needs
 
--- src/entries.rt:61:5
 loop-again : tie.Need-loop-again Inv-loop μ-loop
 loop-again c = turns.parts-turn ((c .before .before .before .before .before .before .before .loop .inv)) ((c .before .before .before .before .before .before .loop-test .taken)) ((c .before .before .before .before .before .offset-at .ensures)) ((c .before .before .before .component .ensures)) ((c .before .before .capped .ensures)) ((c .stepped .ensures))
 
--- src/entries.rt:52:1
 returns : tie.Need-returns Inv-loop μ-loop
 returns c = turns.all-parts ((c .before .loop .inv)) ((c .loop-test .left))
 

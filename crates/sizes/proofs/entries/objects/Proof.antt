@@ -1,3 +1,4 @@
+-- `sizes::entries::objects` meets its contract: the invariant says what is done and what is still to be.
 use Rattle.sizes.proofs.Turns as turns
 use Rattle.sizes.proofs.Heads as heads
 use Rattle.sizes.specs.Size.{objectsSizeIn}
@@ -23,131 +24,99 @@ Inv-loop plan rows parts n row₀ from₀ left₀ turn₀ total₀ row from left
 abbrev μ-loop : tie.MeasureT-loop
 μ-loop plan rows parts n row₀ from₀ left₀ turn₀ total₀ row from left turn total = left
 
--- src/entries.rt:90:9
 first-turn-requires : tie.Need-first-turn-requires Inv-loop μ-loop
 first-turn-requires c κs = search needs
 
--- src/entries.rt:92:5
 loop-holds : tie.Need-loop-holds Inv-loop μ-loop
 loop-holds c = turns.objects-begin ((c .before .before .before .before .pre)) ((c .first-turn .ensures))
 
--- src/entries.rt:93:26
 add-count : tie.Need-add-count Inv-loop μ-loop
 add-count c = let g = (c .before .before .before .before .before .before .good) in omega (arith, turns.object-long ((c .before .loop .inv)) ((c .loop-test .taken)))
 
--- src/entries.rt:93:21
 mul-count : tie.Need-mul-count Inv-loop μ-loop
 mul-count c = search needs
 
--- src/entries.rt:93:21
 shared-slice-read-count : tie.Need-shared-slice-read-count Inv-loop μ-loop
 shared-slice-read-count c = omega (arith, turns.object-long ((c .before .before .loop .inv)) ((c .before .loop-test .taken)))
 
--- src/entries.rt:94:26
 mul-object : tie.Need-mul-object Inv-loop μ-loop
 mul-object c = let g = (c .before .before .before .before .before .before .before .good) in omega (arith, turns.object-long ((c .before .before .loop .inv)) ((c .before .loop-test .taken)))
 
--- src/entries.rt:94:26
 sub-object : tie.Need-sub-object Inv-loop μ-loop
 sub-object c = let g = (c .before .before .before .before .before .before .before .good) in omega (arith, turns.object-long ((c .before .before .loop .inv)) ((c .before .loop-test .taken)))
 
--- src/entries.rt:94:26
 part-object-start : tie.Need-part-object-start Inv-loop μ-loop
 part-object-start c = omega (arith, turns.object-long ((c .before .before .loop .inv)) ((c .before .loop-test .taken)))
 
--- src/entries.rt:94:26
 part-object-end : tie.Need-part-object-end Inv-loop μ-loop
 part-object-end c = let g = (c .before .before .before .before .before .before .before .good) in omega (arith, turns.object-long ((c .before .before .loop .inv)) ((c .before .loop-test .taken)))
 
--- src/entries.rt:94:19
 object-requires : tie.Need-object-requires Inv-loop μ-loop
 object-requires c κs = turns.object-there ((c .before .before .before .loop .inv)) ((c .before .before .loop-test .taken))
 
--- src/entries.rt:94:42
 head-requires : tie.Need-head-requires Inv-loop μ-loop
 head-requires c κs = search needs
 
--- src/entries.rt:94:19
 add-own : tie.Need-add-own Inv-loop μ-loop
 add-own c = omega (arith, (c .before .object .ensures), (c .head .ensures), heads.head-small (getD ((c .before .before .before .before .before .before .before .before .before .before .args .rows .now)) ((c .before .before .before .before .before .loop .row) + countColumn) 0))
 
--- src/entries.rt:95:24
 add-capped : tie.Need-add-capped Inv-loop μ-loop
 add-capped c = let l = (c .before .before .before .before .before .loop .inv .small) in omega (arith, l, (c .before .object .ensures), (c .head .ensures), heads.head-small (getD ((c .before .before .before .before .before .before .before .before .before .before .args .rows .now)) ((c .before .before .before .before .before .loop .row) + countColumn) 0))
 
--- src/entries.rt:95:55
 mul-components : tie.Need-mul-components Inv-loop μ-loop
 mul-components c = let g = (c .before .before .before .before .before .before .before .before .before .before .good) in omega (arith, turns.parts-long ((c .before .before .before .before .before .loop .inv)) ((c .before .before .before .before .loop-test .taken)))
 
--- src/entries.rt:95:55
 sub-components : tie.Need-sub-components Inv-loop μ-loop
 sub-components c = let g = (c .before .before .before .before .before .before .before .before .before .before .good) in omega (arith, turns.parts-long ((c .before .before .before .before .before .loop .inv)) ((c .before .before .before .before .loop-test .taken)))
 
--- src/entries.rt:95:55
 part-components-start : tie.Need-part-components-start Inv-loop μ-loop
 part-components-start c = let g = (c .before .before .before .before .before .before .before .before .before .before .good) in omega (arith, turns.parts-long ((c .before .before .before .before .before .loop .inv)) ((c .before .before .before .before .loop-test .taken)))
 
--- src/entries.rt:95:55
 part-components-end : tie.Need-part-components-end Inv-loop μ-loop
 part-components-end c = let g = (c .before .before .before .before .before .before .before .before .before .before .good) in omega (arith, turns.parts-long ((c .before .before .before .before .before .loop .inv)) ((c .before .before .before .before .loop-test .taken)))
 
--- src/entries.rt:95:38
 components-requires : tie.Need-components-requires Inv-loop μ-loop
 components-requires c κs = turns.parts-there ((c .before .before .before .before .before .before .loop .inv)) ((c .before .before .before .before .before .loop-test .taken))
 
--- src/entries.rt:95:24
 add-capped-2 : tie.Need-add-capped-2 Inv-loop μ-loop
 add-capped-2 c = let l = (c .before .before .before .before .before .before .before .loop .inv .small) in omega (arith, l, (c .before .before .before .object .ensures), (c .before .before .head .ensures), (c .components .ensures), heads.head-small (getD ((c .before .before .before .before .before .before .before .before .before .before .before .before .args .rows .now)) ((c .before .before .before .before .before .before .before .loop .row) + countColumn) 0))
 
--- src/entries.rt:95:9
 capped-requires : tie.Need-capped-requires Inv-loop μ-loop
 capped-requires c κs = search needs
 
--- src/entries.rt:96:32
 mul-turn-past : tie.Need-mul-turn-past Inv-loop μ-loop
 mul-turn-past c = let g = (c .before .before .before .before .before .before .before .before .before .before .before .before .before .good) in omega (arith, turns.parts-long ((c .before .before .before .before .before .before .before .before .loop .inv)) ((c .before .before .before .before .before .before .before .loop-test .taken)))
 
--- src/entries.rt:96:32
 sub-turn-past : tie.Need-sub-turn-past Inv-loop μ-loop
 sub-turn-past c = let g = (c .before .before .before .before .before .before .before .before .before .before .before .before .before .good) in omega (arith, turns.parts-long ((c .before .before .before .before .before .before .before .before .loop .inv)) ((c .before .before .before .before .before .before .before .loop-test .taken)))
 
--- src/entries.rt:96:32
 part-turn-past-start : tie.Need-part-turn-past-start Inv-loop μ-loop
 part-turn-past-start c = let g = (c .before .before .before .before .before .before .before .before .before .before .before .before .before .good) in omega (arith, turns.parts-long ((c .before .before .before .before .before .before .before .before .loop .inv)) ((c .before .before .before .before .before .before .before .loop-test .taken)))
 
--- src/entries.rt:96:32
 part-turn-past-end : tie.Need-part-turn-past-end Inv-loop μ-loop
 part-turn-past-end c = let g = (c .before .before .before .before .before .before .before .before .before .before .before .before .before .good) in omega (arith, turns.parts-long ((c .before .before .before .before .before .before .before .before .loop .inv)) ((c .before .before .before .before .before .before .before .loop-test .taken)))
 
--- src/entries.rt:96:9
 turn-past-requires : tie.Need-turn-past-requires Inv-loop μ-loop
 turn-past-requires c κs = turns.parts-there ((c .before .before .before .before .before .before .before .before .before .loop .inv)) ((c .before .before .before .before .before .before .before .before .loop-test .taken))
 
--- src/entries.rt:97:9
 add-row : tie.Need-add-row Inv-loop μ-loop
 add-row c = let g = (c .before .before .before .before .before .before .before .before .before .before .before .before .before .before .before .good) in omega (arith, turns.object-long ((c .before .before .before .before .before .before .before .before .before .before .loop .inv)) ((c .before .before .before .before .before .before .before .before .before .loop-test .taken)))
 
--- src/entries.rt:98:18
 mul-from : tie.Need-mul-from Inv-loop μ-loop
 mul-from c = let g = (c .before .before .before .before .before .before .before .before .before .before .before .before .before .before .before .good) in omega (arith, turns.parts-long ((c .before .before .before .before .before .before .before .before .before .before .loop .inv)) ((c .before .before .before .before .before .before .before .before .before .loop-test .taken)))
 
--- src/entries.rt:98:9
 add-from : tie.Need-add-from Inv-loop μ-loop
 add-from c = let g = (c .before .before .before .before .before .before .before .before .before .before .before .before .before .before .before .good) in omega (arith, turns.parts-long ((c .before .before .before .before .before .before .before .before .before .before .loop .inv)) ((c .before .before .before .before .before .before .before .before .before .loop-test .taken)))
 
--- src/entries.rt:99:9
 sub-left : tie.Need-sub-left Inv-loop μ-loop
 sub-left c = search needs
 
--- src/entries.rt:92:5
 loop-less : tie.Need-loop-less Inv-loop μ-loop
 loop-less c = search needs
 
--- src/entries.rt:92:5
 loop-again : tie.Need-loop-again Inv-loop μ-loop
 loop-again c = turns.objects-turn ((c .before .before .before .before .before .before .before .before .before .before .loop .inv)) ((c .before .before .before .before .before .before .before .before .before .loop-test .taken)) ((c .before .before .before .before .before .before .object .ensures)) ((c .before .before .before .before .before .head .ensures)) ((c .before .before .before .components .ensures)) ((c .before .before .capped .ensures)) ((c .turn-past .ensures))
 
--- src/entries.rt:83:1
 returns : tie.Need-returns Inv-loop μ-loop
 returns c = turns.all-objects ((c .before .loop .inv)) ((c .loop-test .left))
 

@@ -1,3 +1,4 @@
+-- `sizes::placing::first_turn` meets its contract: a law for each need.
 use Rattle.sizes.proofs.PlanOrNone as law
 use borrow.Author.Needs.{needs}
 use Rattle.sizes.proofs.placing.first_turn.Statement.{statement}
@@ -5,11 +6,9 @@ use Rattle.sizes.proofs.placing.first_turn.Tie as tie
 use Rattle.sizes.proofs.placing.first_turn.Reads as reads
 use Rattle.sizes.proofs.placing.first_turn.Lts as lts
 
--- src/placing.rt:51:9
 returns : tie.Need-returns
 returns c = law.begins-at-8 _ ((c .if1 .taken))
 
--- src/placing.rt:47:1
 returns-2 : tie.Need-returns-2
 returns-2 c = law.begins-at-0 _ ((c .if1 .left))
 

@@ -1,3 +1,4 @@
+-- `sizes::placing::offset_at` meets its contract: a law for each need.
 use native.Mathlib.Omega.{arith}
 use mathlib.Core.Path.{sym, _∙_}
 use Rattle.sizes.proofs.PlanOrNone as law
@@ -8,27 +9,21 @@ use Rattle.sizes.proofs.placing.offset_at.Reads as reads
 use Rattle.sizes.proofs.placing.offset_at.Lts as lts
 use Rattle.sizes.proofs.placing.aligned.Reads as aligned-reads
 
--- src/placing.rt:62:9
 aligned-requires : tie.Need-aligned-requires
 aligned-requires c κs = law.place-low _ ((c .if1 .taken)) ((c .before .before .pre))
 
--- src/placing.rt:62:9
 returns : tie.Need-returns
 returns c = law.by-rule _ ((c .before .if1 .taken)) (c .before .before .before .args .turn) ((c .aligned .ensures))
 
--- src/placing.rt:66:16
 mul-result : tie.Need-mul-result
 mul-result c = search needs
 
--- src/placing.rt:66:16
 shared-slice-read-result : tie.Need-shared-slice-read-result
 shared-slice-read-result c = search needs
 
--- src/placing.rt:66:9
 returns-2 : tie.Need-returns-2
 returns-2 c = law.by-plan _ ((c .before .before .if1 .left)) _
 
--- src/placing.rt:57:1
 returns-3 : tie.Need-returns-3
 returns-3 c = law.past-plan _ ((c .before .if1 .left)) (omega (arith, (c .if2 .left)))
 

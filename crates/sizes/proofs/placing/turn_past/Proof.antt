@@ -1,3 +1,4 @@
+-- `sizes::placing::turn_past` meets its contract: a law for each need.
 use native.Mathlib.Omega.{arith}
 use Rattle.sizes.proofs.PlanOrNone as law
 use Rattle.meaning.specs.Columns.{componentWidth}
@@ -10,19 +11,15 @@ use Rattle.sizes.proofs.placing.turn_past.Reads as reads
 use Rattle.sizes.proofs.placing.turn_past.Lts as lts
 use Rattle.sizes.proofs.placing.end.Reads as end-reads
 
--- src/placing.rt:89:9
 end-requires : tie.Need-end-requires
 end-requires c κs = ((c .before .before .before .pre .0), law.starts-low _ ((c .if1 .taken)) (c .before .before .before .args .turn) (blobSizes (eachRow askedComponent componentWidth (c .before .before .before .args .n) (c .before .before .before .args .rows .now))) ((c .before .before .before .pre .1)))
 
--- src/placing.rt:89:9
 returns : tie.Need-returns
 returns c = law.ends-there _ ((c .before .if1 .taken)) (c .before .before .before .before .args .turn) (blobSizes (eachRow askedComponent componentWidth (c .before .before .before .before .args .n) (c .before .before .before .before .args .rows .now))) ((c .before .before .before .before .pre .1)) ((c .end .ensures))
 
--- src/placing.rt:91:5
 add-result : tie.Need-add-result
 add-result c = omega (arith, law.turns-fit _ ((c .if1 .left)) (c .before .before .before .args .turn) (c .before .before .before .args .n) (c .before .before .before .args .rows .now) ((c .before .before .before .pre .1)))
 
--- src/placing.rt:83:1
 returns-2 : tie.Need-returns-2
 returns-2 c = law.turns-are _ ((c .if1 .left)) (c .before .before .before .args .turn) (c .before .before .before .args .n) (c .before .before .before .args .rows .now)
 
