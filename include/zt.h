@@ -251,6 +251,18 @@ typedef struct {
 zt_text zt_list(const uint8_t *file, size_t length, const uint64_t *table, size_t room, uint64_t objects, uint64_t components, uint8_t *text,
                 size_t text_room);
 
+/* The verdict's number, object and component, and the text's length; ZT_ROOM if either room is too short. The length is 0 on refusal. */
+typedef struct {
+    uint64_t number, object, component, length;
+} zt_panel_text;
+
+/*
+ * The panel's text of a file: its listing, where a finding is due (zt_find) with " empty", " nan N" or " min X max Y nan N" at the end of a component's line, and a last line
+ * "bytes frame F manifest M inside I between B" (zt_account). X and Y are decimal, nine significant digits, as "%.8e" prints them in the C locale. The lent room needs as many
+ * numbers as zt_read's table, and the whole of it ends as zeros; the text is untouched on refusal. Every byte of a component whose finding is due is read, twice.
+ */
+zt_panel_text zt_panel(uint64_t layout, const uint8_t *file, size_t length, uint64_t *work, size_t room, uint8_t *text, size_t text_room);
+
 /* What zt_write answers: ZT_ACCEPTED and the file's length; or the refusal, where it is, and 0. */
 typedef struct {
     uint64_t number, object, component, length;

@@ -48,7 +48,7 @@ fn inside(table: &mut [u64], first: usize, n: usize, most: u64) -> u64
     covering::inside(&mut table[..m], most)
 }
 
-fn clear(a: &mut [u64])
+pub fn clear(a: &mut [u64])
     ensures { λ _. ⌜ now (a .exit) ≡ replicate (length (now (a .entry))) 0 ⌝ }
 {
     let mut i = 0usize;

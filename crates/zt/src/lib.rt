@@ -3,6 +3,7 @@ use account::Bytes;
 use finding::table::Found;
 use panel::Listed;
 use reader::into::Answer;
+use summary::Panel;
 use view::Extent;
 use writer::Written;
 ghost use mathlib.Core.Path.{_≡_};
@@ -19,6 +20,7 @@ ghost use Rattle.finding.specs.Table.{found};
 ghost use Rattle.panel.specs.Lines.{listed};
 ghost use Rattle.panel.specs.Told as listing;
 ghost use Rattle.account.specs.Account.{accounted};
+ghost use Rattle.summary.specs.Panel as panelled;
 ghost use Rattle.writer.specs.Told.{Answered};
 ghost use Rattle.readback.specs.Lent.{Lent};
 
@@ -106,6 +108,16 @@ pub extern "C" fn zt_list(
     ensures written { λ r. ⌜ now (text .exit) ≡ listing.textAfter (listed (now (file .entry)) (now (table .entry)) objects components) (now (text .entry)) ⌝ }
 {
     panel::list(file, table, objects, components, text)
+}
+
+// The panel's text of a file of a layout, put into a lent text: the listing with what is found in each component, and where the file's bytes are. The lent room ends as zeros.
+#[no_mangle]
+pub extern "C" fn zt_panel(layout: u64, file: &[u8], work: &mut [u64], text: &mut [u8]) -> Panel
+    ensures answer { λ r. ⌜ r ≡ panelled.told (panelled.shown (layoutOf layout) (now (file .entry)) (length (now (work .entry)))) (length (now (text .entry))) ⌝ }
+    ensures written { λ r. ⌜ now (text .exit) ≡ listing.textAfter (panelled.shown (layoutOf layout) (now (file .entry)) (length (now (work .entry)))) (now (text .entry)) ⌝ }
+    ensures cleared { λ r. ⌜ now (work .exit) ≡ replicate (length (now (work .entry))) 0 ⌝ }
+{
+    summary::of_file(layout, file, work, text)
 }
 
 // A whole file from rows, put into a lent output: 0, 0, 0 and its length; or the refusal, where it is, and 0. What the slices are is all that read-back asks for.

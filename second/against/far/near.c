@@ -196,6 +196,9 @@ zt_answer zt_read_as(uint64_t layout, const uint8_t *file, size_t length, uint64
 zt_bytes zt_account(uint64_t layout, const uint8_t *file, size_t length, uint64_t *work, size_t room) {
     STRUCT(zt_bytes, zt_account, NUMBER(layout), LENT(file, length), WRITTEN(work, room))
 }
+zt_panel_text zt_panel(uint64_t layout, const uint8_t *file, size_t length, uint64_t *work, size_t room, uint8_t *text, size_t text_room) {
+    STRUCT(zt_panel_text, zt_panel, NUMBER(layout), LENT(file, length), WRITTEN(work, room), WRITTEN(text, text_room))
+}
 zt_range zt_view(const uint8_t *file, size_t length, const uint64_t *table, size_t room, uint64_t objects, uint64_t components, uint64_t index) {
     STRUCT(zt_range, zt_view, LENT(file, length), LENT(table, room), NUMBER(objects), NUMBER(components), NUMBER(index))
 }

@@ -226,6 +226,16 @@ pub struct Bytes {
     pub between: u64,
 }
 
+/// The verdict, or ROOM, and the panel's text's length.
+#[repr(C)]
+#[derive(Debug, PartialEq, Eq)]
+pub struct Panelled {
+    pub number: u64,
+    pub object: u64,
+    pub component: u64,
+    pub length: u64,
+}
+
 /// 0 and a listing's length; or INDEX or ROOM, and 0.
 #[repr(C)]
 #[derive(Debug, PartialEq, Eq)]
@@ -250,6 +260,15 @@ mod zt {
         pub fn zt_read(file: *const u8, length: usize, table: *mut u64, room: usize) -> super::Answer;
         pub fn zt_read_as(layout: u64, file: *const u8, length: usize, table: *mut u64, room: usize) -> super::Answer;
         pub fn zt_account(layout: u64, file: *const u8, length: usize, work: *mut u64, room: usize) -> super::Bytes;
+        pub fn zt_panel(
+            layout: u64,
+            file: *const u8,
+            length: usize,
+            work: *mut u64,
+            room: usize,
+            text: *mut u8,
+            text_room: usize,
+        ) -> super::Panelled;
         pub fn zt_view(
             file: *const u8,
             length: usize,
@@ -321,6 +340,21 @@ pub fn read_as(layout: u64, file: &[u8], table: &mut [u64]) -> Answer {
 pub fn account(layout: u64, file: &[u8], work: &mut [u64]) -> Bytes {
     // SAFETY: each pointer and length are a slice's, and the slices don't overlap.
     unsafe { zt::zt_account(layout, file.as_ptr(), file.len(), work.as_mut_ptr(), work.len()) }
+}
+
+pub fn panel(layout: u64, file: &[u8], work: &mut [u64], text: &mut [u8]) -> Panelled {
+    // SAFETY: each pointer and length are a slice's, and the slices don't overlap.
+    unsafe {
+        zt::zt_panel(
+            layout,
+            file.as_ptr(),
+            file.len(),
+            work.as_mut_ptr(),
+            work.len(),
+            text.as_mut_ptr(),
+            text.len(),
+        )
+    }
 }
 
 pub fn view(file: &[u8], table: &[u64], objects: u64, components: u64, index: u64) -> Extent {

@@ -3,7 +3,7 @@
 #![forbid(unsafe_code)]
 
 use against::tally::{rounds, seed, Tally};
-use against::{beside, Bytes, Found};
+use against::{beside, Bytes, Found, Panelled};
 use second::generate::{nth_file, nth_file_as};
 use second::layout::Layout;
 use second::{columns, decimal, findings};
@@ -135,6 +135,36 @@ fn accounts() {
                     _ => "refused",
                 };
                 tally.compare(label, proved, second, || format!("seed {}, file {index}, layout {number}, room {room}", seed()));
+            }
+        }
+    }
+    tally.report(3);
+}
+
+/// In both layouts; rooms that suffice, and each a number or a byte short. The text is untouched on refusal, and what is lent to work in ends as zeros.
+#[test]
+fn panels() {
+    let mut tally = Tally::of("panels");
+    for index in 0..rounds(FILES) {
+        for (layout, number) in [(Layout::Current, 0), (Layout::First, 1)] {
+            let file = nth_file_as(layout, seed(), index);
+            let read = against::read_as(number, &file, &mut vec![0; columns::MOST]);
+            let room = columns::numbers(read.objects as usize, read.components as usize);
+            let full = findings::panel(number, &file, &mut vec![0; room], &mut vec![0; 1 << 16]).numbers()[3] as usize;
+            for (room, long) in [(room, full), (room.saturating_sub(1), full), (room, full.saturating_sub(1))] {
+                let (mut lent, mut also) = (vec![7; room], vec![7; room]);
+                let (mut text, mut second_text) = (vec![b'?'; long], vec![b'?'; long]);
+                let [n, object, component, length] = findings::panel(number, &file, &mut also, &mut second_text).numbers();
+                let second = Panelled { number: n, object, component, length };
+                let proved = against::panel(number, &file, &mut lent, &mut text);
+                assert!(lent.iter().all(|&n| n == 0));
+                assert_eq!(String::from_utf8_lossy(&text), String::from_utf8_lossy(&second_text), "seed {}, file {index}", seed());
+                let label = match second.number {
+                    0 => "shown",
+                    24 => "ROOM",
+                    _ => "refused",
+                };
+                tally.compare(label, proved, second, || format!("seed {}, file {index}, layout {number}, room {room}, text {long}", seed()));
             }
         }
     }

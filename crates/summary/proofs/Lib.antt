@@ -1,0 +1,2 @@
+-- Laws behind summary's proof.
+pub mod Showing

@@ -1,0 +1,2 @@
+-- The definitions that the contract of summary cites.
+pub mod Panel
