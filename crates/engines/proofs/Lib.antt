@@ -5,3 +5,4 @@ pub mod Left
 pub mod Unheard
 pub mod Works
 pub mod Writes
+pub mod Rooms
