@@ -1,0 +1,12 @@
+pub mod Lists
+pub mod Flags
+pub mod Whats
+pub mod Exactly
+pub mod Itself
+pub mod Exchanged
+pub mod InOrder
+pub mod OnlyList
+pub mod Headed
+pub mod Example
+pub mod AcceptedNamed
+pub mod Files
