@@ -1,6 +1,7 @@
 /*
  * A model file as the box's firmware takes it: mapped, judged, read into the box's table; then the panel's lines, and one component's bytes through the view, by its
- * index or by name. usage: firmware PATH [INDEX | OBJECT COMPONENT]. Exit status 0: ready; 1: refused; 2: usage, no file, no room, or no such component.
+ * index or by name. The lines are the listing, or with --summary the panel's whole text, with what the f32 numbers show and where the file's bytes are.
+ * usage: firmware [--summary] PATH [INDEX | OBJECT COMPONENT]. Exit status 0: ready; 1: refused; 2: usage, no file, no room, or no such component.
  *
  *     rt staticlib zt
  *     host/cc -std=gnu99 -Wall -Wextra -Werror -Iinclude -o firmware examples/firmware/firmware.c target/staticlib/libzt.a
@@ -65,15 +66,26 @@ static int refused(zt_answer answer) {
     return 1;
 }
 
-/* The panel shows what the table says of the file that was judged: nothing is read a second way. */
-static int show_panel(model_file file, zt_answer answer) {
-    zt_text lines = zt_list(file.at, file.length, table, ROOM, answer.objects, answer.components, text, sizeof text);
-    if (lines.number != ZT_ACCEPTED) {
-        fprintf(stderr, "the panel has no room for this listing\n");
+static int show_lines(uint64_t number, uint64_t length) {
+    if (number != ZT_ACCEPTED) {
+        fprintf(stderr, "the panel has no room for this text\n");
         return 0;
     }
-    fwrite(text, 1, (size_t)lines.length, stdout);
+    fwrite(text, 1, (size_t)length, stdout);
     return 1;
+}
+
+/* The panel shows what the table says of the file that was judged: nothing is read a second way. */
+static int show_listing(model_file file, zt_answer answer) {
+    zt_text lines = zt_list(file.at, file.length, table, ROOM, answer.objects, answer.components, text, sizeof text);
+    return show_lines(lines.number, lines.length);
+}
+
+/* The same with findings and the account. The call reads the file itself: the table is lent as its working room, ends as zeros, and is filled anew for the view. */
+static int show_summary(model_file file) {
+    zt_panel_text lines = zt_panel(ZT_LAYOUT_1_2, file.at, file.length, table, ROOM, text, sizeof text);
+    zt_read(file.at, file.length, table, ROOM);
+    return show_lines(lines.number, lines.length);
 }
 
 /* An index is decimal digits and nothing else, and fits; strtoull alone takes blanks, a sign, and no digit at all. */
@@ -119,8 +131,11 @@ int main(int count, char **words) {
     model_file file;
     zt_answer answer;
     uint64_t index = 0;
+    int summary = count > 1 && strcmp(words[1], "--summary") == 0;
+    count -= summary;
+    words += summary;
     if (count < 2 || count > 4 || (count == 3 && !read_index(words[2], &index))) {
-        fprintf(stderr, "usage: firmware PATH [INDEX | OBJECT COMPONENT]\n");
+        fprintf(stderr, "usage: firmware [--summary] PATH [INDEX | OBJECT COMPONENT]\n");
         return 2;
     }
     if (!map_file(words[1], &file)) return 2;
@@ -128,7 +143,7 @@ int main(int count, char **words) {
     uint64_t verdict = zt_accept(file.at, file.length);
     answer = zt_read(file.at, file.length, table, ROOM);
     if (verdict != ZT_ACCEPTED || answer.number != ZT_ACCEPTED) return refused(answer);
-    if (!show_panel(file, answer)) return 2;
+    if (summary ? !show_summary(file) : !show_listing(file, answer)) return 2;
     if (count == 4) index = find_component(file, answer, words[2], words[3]);
     if (count > 2 && !walk_component(file, answer, index)) return 2;
     return fflush(stdout) == 0 ? 0 : 2;
