@@ -2,10 +2,12 @@
 usage: tried.py FOLDER, with cases/, made/ and, of layout 1.0, first/ of the second program."""
 import json
 import os
+import random
 import re
 import resource
 import signal
 import stat
+import struct
 import subprocess
 import sys
 import threading
@@ -111,7 +113,7 @@ def try_one_refused_file():
     put("short.zt", b"ZTEN1000")
     line = b"short.zt: refused 1 SHORT, object 0, component 0: file under 24 bytes"
     refusal = {"number": 1, "name": "SHORT", "object": 0, "component": 0, "words": "file under 24 bytes"}
-    for words in (["list"], ["show"], ["map"], ["copy", "-o", "new.zt"]):
+    for words in (["list"], ["show"], ["map"], ["panel"], ["plan", "--page", "64"], ["plan", "--page", "64", "-o", "new.zt"], ["copy", "-o", "new.zt"]):
         troubled(line, *words, "short.zt", status=1)
     troubled(line, "get", "short.zt", "a", "b", status=1)
     expect(os.path.exists(os.path.join(WORK, "new.zt")), False)
@@ -306,8 +308,8 @@ def try_reading_in_layout_1_0():
         expect(done("list", "--layout", "1.0", path).count(b"\n"), 1 + len(full["objects"]) + sum(len(thing["components"]) for thing in full["objects"]))
 
 
-def imported(path, new):
-    status, said, trouble = zt("import", path, "-o", new)
+def imported(path, new, *words):
+    status, said, trouble = zt("import", path, "-o", new, *words)
     expect((status, said, trouble), (0, b"", b"zt: " + path.encode() + b": " + NOT_CARRIED + b"\n"))
 
 
@@ -316,7 +318,7 @@ def described(path, *words):
     full, whole = told("show", "--json", path, *words), content(path)
     part_of = lambda of: whole[of["offset"] : of["offset"] + of["length"]] if of else None
     parts = lambda thing: [[part[key] for key in ("name", "dtype", "type", "digest")] + [part_of(part)] for part in thing["components"]]
-    return part_of(full["attributes"]), [[thing[key] for key in ("name", "format", "shape", "attributes")] + [parts(thing)] for thing in full["objects"]]
+    return part_of(full["attributes"]), [[thing[key] for key in ("name", "format", "shape")] + [part_of(thing["attributes"]), parts(thing)] for thing in full["objects"]]
 
 
 def try_imports():
@@ -364,6 +366,266 @@ def small_files():
     resource.setrlimit(resource.RLIMIT_FSIZE, (100, 100))
 
 
+def parts_of(path, *words):
+    """Object, component, offset and length of each component, in the order of rows."""
+    full = told("show", "--json", path, *words)
+    return [(thing["name"], part["name"], part["offset"], part["length"]) for thing in full["objects"] for part in thing["components"]]
+
+
+def covered(ranges):
+    """How many positions lie in at least one of these ranges."""
+    count = reached = 0
+    for offset, length in sorted(ranges):
+        count += max(0, offset + length - max(offset, reached))
+        reached = max(reached, offset + length)
+    return count
+
+
+def blobs_of(lengths):
+    """A file with an object for each length, `o0` and so on, each with the bytes of its own."""
+    things, blobs = [], b""
+    for i, length in enumerate(lengths):
+        things.append((f"o{i}", sample.thing([length], "dense", [("data", sample.component("u8", 64 + len(blobs), length))])))
+        blobs += bytes((i * 7 + j) % 251 for j in range(length)) + bytes(-length % 64)
+    return sample.file(things, blobs)
+
+
+# Lengths that just fit a page, miss it by a byte, and take several; empty ones before, between and behind.
+LENGTHS = [0, 1, 64, 100, 4096, 0, 3968, 129, 4095, 4097, 2100, 4000, 1900, 5000, 8192, 8193, 12000, 63, 0]
+
+
+def plan_holds(offsets, lengths, page):
+    """The rules of every plan, and the pages that it was made for: one that fits in a page crosses no edge, a longer one touches as few as it can."""
+    expect(len(offsets), len(lengths))
+    expect([offset for offset in offsets if offset % 64 or offset < 64], [])
+    full = [(offset, length) for offset, length in zip(offsets, lengths) if length]
+    for offset, length in full:
+        expect((offset + length - 1) // page - offset // page + 1, 1 if length <= page else -(-length // page), (offset, length, page))
+    expect(covered(full), sum(length for _, length in full), "no byte is shared")
+
+
+def planned(path, page, *words):
+    """The offsets of a plan that was proposed, as lines in the file `plan` too."""
+    lines = done("plan", path, "--page", str(page), *words)
+    offsets = [int(line) for line in lines.splitlines()]
+    expect(lines, b"".join(b"%d\n" % offset for offset in offsets))
+    put("plan", lines)
+    return offsets
+
+
+def laid_by(path, offsets, *words):
+    """That planned.zt is the file, with each component where the plan says, zeros between, and the manifest after the greatest end."""
+    expect(done("check", "planned.zt"), b"planned.zt: sound\n", path)
+    parts = parts_of("planned.zt")
+    expect([offset for *_, offset, _ in parts], offsets, path)
+    expect(described("planned.zt"), described(path, *words), path)
+    whole, spans = content("planned.zt"), told("map", "--json", "planned.zt")["spans"]
+    gaps = [whole[span["offset"] : span["offset"] + span["length"]] for span in spans if span["kind"] == "gaps"]
+    expect(b"".join(gaps).strip(b"\0"), b"", "gaps are zeros")
+    expect(told("show", "--json", "planned.zt")["manifest"]["offset"], max([offset + length for *_, offset, length in parts], default=8), path)
+
+
+def try_plans():
+    put("lengths.zt", blobs_of(LENGTHS))
+    put("none.zt", sample.file([]))
+    for path in ["lengths.zt", "none.zt", *sound_files(6)]:
+        lengths = [length for *_, length in parts_of(path)]
+        for page in (64, 256, 4096, 1 << 20):
+            offsets = planned(path, page)
+            plan_holds(offsets, lengths, page)
+            expect(offsets, sorted(offsets), "in the order of rows")
+            done("copy", "--plan", "plan", path, "-o", "planned.zt")
+            laid_by(path, offsets)
+    # Without a page's edges to keep to, the plan is the writer's own placement.
+    planned("lengths.zt", 64)
+    expect(done("copy", "--plan", "plan", "lengths.zt", "-o", "-"), done("copy", "lengths.zt", "-o", "-"))
+
+
+def try_plans_of_layout_1_0():
+    for path in ["first.zt", *sound_files(6, first_files)]:
+        lengths = [length for *_, length in parts_of(path, "--layout", "1.0")]
+        offsets = planned(path, 256, "--layout", "1.0")
+        plan_holds(offsets, lengths, 256)
+        imported(path, "planned.zt", "--plan", "plan")
+        laid_by(path, offsets, "--layout", "1.0")
+
+
+def try_plans_under_a_ceiling():
+    lengths = [2100, 4000, 1900]
+    put("gaps.zt", blobs_of(lengths))
+    expect(planned("gaps.zt", 4096), [64, 4096, 8192])
+    expect(planned("gaps.zt", 4096, "--ceiling", "10092"), [64, 4096, 8192], "a ceiling that is just kept")
+    # The same in gaps, longest first.
+    for ceiling in (10091, 8108):
+        offsets = planned("gaps.zt", 4096, f"--ceiling={ceiling}")
+        expect(offsets, [4096, 64, 6208])
+        plan_holds(offsets, lengths, 4096)
+        done("copy", "--plan", "plan", "--ceiling", str(ceiling), "gaps.zt", "-o", "planned.zt")
+        laid_by("gaps.zt", offsets)
+    put("kept.plan", b"old")
+    for output in ([], ["-o", "kept.plan"], ["-o", "-"]):
+        line = b"gaps.zt: no plan was found for the ceiling 8107; there is one for 8108"
+        troubled(line, "plan", "gaps.zt", "--page", "4096", "--ceiling", "8107", *output, status=1)
+    expect(content("kept.plan"), b"old")
+    put("lengths.zt", blobs_of(LENGTHS))
+    needed = int(re.search(rb"there is one for (\d+)", zt("plan", "lengths.zt", "--page", "4096", "--ceiling", "0")[2])[1])
+    offsets = planned("lengths.zt", 4096, "--ceiling", str(needed))
+    plan_holds(offsets, LENGTHS, 4096)
+    expect(max(offset + length for offset, length in zip(offsets, LENGTHS)), needed)
+    expect(zt("plan", "lengths.zt", "--page", "4096", "--ceiling", str(needed - 1))[0], 1)
+    done("copy", "--plan", "plan", "lengths.zt", "-o", "planned.zt")
+    laid_by("lengths.zt", offsets)
+    expect(done("plan", "--page", "64", "--ceiling", "0", "none.zt"), b"", "no component, no offset")
+    # An empty component alone needs its offset only; the ceiling of 2^40 is the highest there is.
+    put("empties.zt", blobs_of([0, 0]))
+    expect(planned("empties.zt", 4096, "--ceiling", "64"), [64, 64])
+    troubled(b"empties.zt: no plan was found for the ceiling 63; there is one for 64", "plan", "empties.zt", "--page", "64", "--ceiling", "63", status=1)
+    expect(planned("empties.zt", 1 << 40), [64, 64])
+
+
+def try_plans_where_they_go():
+    expect(done("plan", "--page", "4096", "lengths.zt", "-o", "written.plan"), b"")
+    expect(content("written.plan"), done("plan", "--page=4096", "lengths.zt", "--output=-"))
+    expect(done("plan", "-", "--page", "4096", input=content("lengths.zt")), content("written.plan"))
+    done("copy", "--plan=-", "lengths.zt", "-o", "planned.zt", input=content("written.plan"))
+    by_file = content("planned.zt")
+    done("copy", "-", "--plan", "written.plan", "-o", "planned.zt", input=content("lengths.zt"))
+    expect(content("planned.zt"), by_file)
+    put("no-end.plan", content("written.plan")[:-1])
+    expect(done("copy", "lengths.zt", "--plan", "no-end.plan", "-o", "-"), by_file, "the last line's end may be missing")
+    troubled(b"-: standard input can be read only once", "copy", "-", "--plan", "-", "-o", "x.zt", input=content("lengths.zt"))
+    troubled(b"no.plan: No such file or directory", "copy", "lengths.zt", "--plan", "no.plan", "-o", "x.zt")
+    troubled(b"cases: Is a directory", "copy", "lengths.zt", "--plan", "cases", "-o", "x.zt")
+    troubled(b"no.zt: No such file or directory", "plan", "--page", "64", "no.zt")
+    troubled(b"no/where: No such file or directory", "plan", "--page", "64", "lengths.zt", "-o", "no/where")
+    put("kept.plan", b"old")
+    troubled(b"kept.plan: File too large", "plan", "--page", "64", "lengths.zt", "-o", "kept.plan", preexec_fn=small_files)
+    expect(content("kept.plan"), b"old")
+    nothing_left(WORK)
+
+
+def try_plans_that_are_no_plan():
+    digits = b"no decimal number: an offset is digits and nothing else"
+    wrong = [(b"64\n%s\n128\n" % line, 2, digits) for line in (b" 128", b"128 ", b"128\r", b"+128", b"-128", b"0x80", b"128.0", b"1e3", b"#", b"12\x008", b"\xd9\xa1")]
+    wrong += [(content("lengths.zt"), 1, digits), (b"64,128", 1, digits), (b"x" * 100000, 1, digits)]
+    wrong += [(b"64\n\n128\n", 2, b"an empty line, where an offset is due"), (b"\n", 1, b"an empty line, where an offset is due"), (b"64\n128\n\n", 3, b"an empty line, where an offset is due")]
+    wrong += [(b"64\n%s" % number, 2, b"too large a number: no offset is above 2^40") for number in (b"18446744073709551616\n", b"9" * 1000)]
+    put("kept.zt", b"old")
+    for text, line, words in wrong:
+        put("wrong.plan", text)
+        troubled(b"wrong.plan: line %d: %s" % (line, words), "copy", "--plan", "wrong.plan", "gaps.zt", "-o", "kept.zt")
+    expect(content("kept.zt"), b"old")
+    nothing_left(WORK)
+
+
+def try_plans_that_are_refused():
+    odd = sample.thing([], "f", [("a b", sample.component("u8", 64, 0)), ("", sample.component("u8", 64, 200))])
+    put("rows.zt", sample.file([("w", sample.thing([100], "dense", [("data", sample.component("u8", 64, 100))])), ("\n\\", odd)], bytes(256)))
+    second, third = b"line 2, object \\0a\\5c, component a\\20b: ", b"line 3, object \\0a\\5c, component : "
+    ways = [
+        (b"64\n65\n256\n", second + b"offset 65 is no multiple of 64"),
+        (b"64\n256\n65\n", third + b"offset 65 is no multiple of 64"),
+        (b"0\n64\n256\n", b"line 1, object w, component data: offset 0 is under 64"),
+        (b"64\n1099511627840\n256\n", second + b"offset 1099511627840 and length 0 end above the ceiling, 1099511627776"),
+        (b"64\n256\n18446744073709551552\n", third + b"offset 18446744073709551552 and length 200 end above the ceiling, 1099511627776"),
+        (b"64\n256\n128\n", third + b"offset 128 and length 200 share a byte with line 1, object w, component data, offset 64 and length 100"),
+        (b"256\n256\n64\n", third + b"offset 64 and length 200 share a byte with line 1, object w, component data, offset 256 and length 100"),
+        (b"64\n64\n", b"object \\0a\\5c, component : has no offset: the plan's lines are 2"),
+        (b"", b"object w, component data: has no offset: the plan's lines are 0"),
+        (b"64\n64\n256\n512\n576\n", b"line 4: offsets are left over: the file's components are 3, the plan's lines 5"),
+        (b"64\n7\n128\n512\n", second + b"offset 7 is no multiple of 64"),
+    ]
+    put("kept.zt", b"old")
+    for text, words in ways:
+        put("refused.plan", text)
+        for output in ("kept.zt", "new.zt", "-"):
+            troubled(b"refused.plan: refused 27 PLAN, " + words, "copy", "--plan", "refused.plan", "rows.zt", "-o", output, status=1)
+    # The empty one may lie anywhere; ends are just at the ceiling, and one past.
+    put("good.plan", b"256\n64\n0000000448\n")
+    done("copy", "--plan", "good.plan", "--ceiling", "648", "rows.zt", "-o", "planned.zt")
+    laid_by("rows.zt", [256, 64, 448])
+    line = b"good.plan: refused 27 PLAN, " + third + b"offset 448 and length 200 end above the ceiling, 647"
+    troubled(line, "copy", "--plan", "good.plan", "--ceiling", "647", "rows.zt", "-o", "kept.zt", status=1)
+    put("short.plan", b"64\n")
+    line = b"short.plan: refused 27 PLAN, object m, component values: has no offset: the plan's lines are 1"
+    troubled(line, "import", "--plan", "short.plan", "first.zt", "-o", "kept.zt", status=1)
+    expect((content("kept.zt"), os.path.exists(os.path.join(WORK, "new.zt"))), (b"old", False))
+    nothing_left(WORK)
+
+
+def finding_of(part, blob):
+    """What follows a component's line on the panel."""
+    if part["dtype"] != "f32" or part["type"] is not None or len(blob) % 4:
+        return ""
+    numbers = struct.unpack(f"<{len(blob) // 4}f", blob)
+    real = [number for number in numbers if number == number]
+    if not numbers:
+        return " empty"
+    count = len(numbers) - len(real)
+    # Of equal numbers, as the two zeros, min and max keep the first.
+    return f" min {min(real):.8e} max {max(real):.8e} nan {count}" if real else f" nan {count}"
+
+
+def panel_of(path, *words):
+    full, whole = told("show", "--json", path, *words), content(path)
+    things = full["objects"]
+    lines = [f"objects {len(things)} components {sum(len(thing['components']) for thing in things)}"]
+    for thing in things:
+        lines.append(f"object {shown(thing['name'])} {shown(thing['format'])}")
+        for part in thing["components"]:
+            blob = whole[part["offset"] : part["offset"] + part["length"]]
+            lines.append(f"blob {shown(part['name'])} {part['dtype']} {part['offset']} {part['length']}{finding_of(part, blob)}")
+    inside = covered([(part["offset"], part["length"]) for thing in things for part in thing["components"]])
+    start, manifest = full["manifest"]["offset"], full["manifest"]["length"]
+    lines.append(f"bytes frame {len(whole) - start + 8 - manifest} manifest {manifest} inside {inside} between {start - 8 - inside}")
+    return "".join(line + "\n" for line in lines).encode()
+
+
+BITS = (0, 0x80000000, 1, 0x80000001, 0x7F7FFFFF, 0xFF7FFFFF, 0x7F800000, 0xFF800000, 0x7FC00000, 0xFF800001, 0x3F800000, 0xBFA00000, 0x4B7FFFFF, 0x00800000)
+
+
+def numbers_sample():
+    """f32 of every kind, alone and in pairs in both orders, many at random; and components of which no finding is due."""
+    chance = random.Random(1)
+    lists = [[], *([bits] for bits in BITS), *([a, b] for a in BITS for b in BITS), *([chance.getrandbits(32) for _ in range(count)] for count in (3, 17, 5000))]
+    parts, blobs = [], b""
+    for bits in lists:
+        parts.append(sample.component("f32", 64 + len(blobs), 4 * len(bits)))
+        blobs += struct.pack(f"<{len(bits)}I", *bits) + bytes(-4 * len(bits) % 64)
+    for length, dtype, more in ((7, "f32", {}), (8, "f32", {"type": "complex64"}), (8, "f32", {"type": ""}), (8, "f64", {}), (8, "u8", {})):
+        parts.append(sample.component(dtype, 64, length, **more))
+    things = [(f"o {i}", sample.thing([], "any", [(str(j), part) for j, part in enumerate(parts[i : i + 16])])) for i in range(0, len(parts), 16)]
+    return sample.file(things, blobs)
+
+
+def try_panel():
+    put("numbers.zt", numbers_sample())
+    text = done("panel", "numbers.zt")
+    expect(text, panel_of("numbers.zt"))
+    for words in (b" empty\n", b" nan 1\n", b" min -inf max inf nan 0\n", b" min -0.00000000e+00 max -0.00000000e+00 nan 0\n", b" max 3.40282347e+38 nan 1\n", b" min 1.40129846e-45 "):
+        expect(words in text, True, words)
+    for path in ["known.zt", "none.zt", *sound_files(16)]:
+        expect(done("panel", path), panel_of(path), path)
+    for path in ["first.zt", *sound_files(8, first_files)]:
+        expect(done("panel", "--layout", "1.0", path), panel_of(path, "--layout", "1.0"), path)
+    expect(done("panel", "-", input=content("numbers.zt")), text)
+    # The longest lines, beside the shortest names, on as many rows as there may be.
+    parts = [(chr(97 + i), sample.component("f32", 64, 12)) for i in range(16)]
+    put("widest.zt", sample.file([(f"{i:x}", sample.thing([], "", parts)) for i in range(1024)], struct.pack("<3I", 0xFF7FFFFF, 0xFF7FFFFE, 0xFFFFFFFF)))
+    expect(done("panel", "widest.zt"), panel_of("widest.zt"))
+
+
+def try_panels_of_several_files():
+    put("short.zt", b"ZTEN1000")
+    put(" odd\n.zt", content("known.zt"))
+    status, said, trouble = zt("panel", "known.zt", "short.zt", "none.zt", " odd\n.zt")
+    expect(said, b"known.zt:\n" + panel_of("known.zt") + b"none.zt:\n" + panel_of("none.zt") + b"\\20odd\\0a.zt:\n" + panel_of("known.zt"))
+    expect((status, trouble), (1, b"zt: short.zt: refused 1 SHORT, object 0, component 0: file under 24 bytes\n"))
+    status, said, trouble = zt("panel", "short.zt", "no.zt", "known.zt")
+    expect((status, said), (2, b"known.zt:\n" + panel_of("known.zt")))
+    expect(trouble.splitlines()[1:], [b"zt: no.zt: No such file or directory"])
+
+
 def try_outputs_that_cannot_be():
     os.mkdir(os.path.join(WORK, "folder"))
     troubled(b"folder: Is a directory", "copy", "known.zt", "-o", "folder")
@@ -396,9 +658,11 @@ def try_full_disk():
 
 
 EVERY = (
-    *([command, "known.zt"] for command in ("check", "list", "show", "map")),
+    *([command, "known.zt"] for command in ("check", "list", "show", "map", "panel")),
     ["get", "known.zt", "w", "data"],
     ["copy", "known.zt", "-o", "-"],
+    ["plan", "known.zt", "--page", "64"],
+    ["plan", "known.zt", "--page", "64", "-o", "-"],
     ["list", "--layout", "1.0", "first.zt"],
     ["--help"],
     ["--version"],
@@ -490,6 +754,10 @@ def try_five_gigabytes():
     account = told("map", "--json", "five.zt")
     expect((account["components"], account["gaps"], account["length"]), (five - 56, 56, os.path.getsize(path)))
     expect(done("map", "five.zt").splitlines()[0], b"#" * 64)
+    text = b"objects 2 components 2\nobject w dense\nblob data u8 64 %d\nobject end dense\nblob data f32 %d 8%s\nbytes frame 24 manifest %d inside %d between 56\n"
+    found = finding_of({"dtype": "f32", "type": None}, b"far away").encode()
+    expect(done("panel", "five.zt"), text % (five - 64, five, found, account["manifest"], five - 56))
+    expect(done("plan", "five.zt", "--page", "4096"), b"64\n%d\n" % five)
     expect(told("show", "--json", "five.zt")["objects"][1]["components"][0]["offset"], five)
     with open(path, "r+b") as into:
         into.truncate(five)
@@ -620,7 +888,7 @@ def try_an_interrupted_copy():
 
 def try_usage():
     commands = done("--commands").decode().split()
-    expect(commands[:7], ["check", "list", "show", "map", "get", "copy", "import"])
+    expect(commands[:9], ["check", "list", "show", "map", "panel", "get", "copy", "import", "plan"])
     everything = done("--help").decode()
     for command in commands:
         expect(everything.count(f"zt {command} "), 1)
@@ -640,6 +908,13 @@ def try_usage():
     troubled(b"--layout: no such option; zt copy --help says how it is called", "copy", "known.zt", "--layout", "1.0", "-o", "x")
     expect(done("list", "--layout", "1.2.0", "known.zt"), done("list", "known.zt"))
     troubled(b"copy: -o has no path; zt copy --help says how it is called", "copy", "known.zt", "-o")
+    troubled(b"copy: --plan has no path; zt copy --help says how it is called", "copy", "known.zt", "-o", "x", "--plan")
+    troubled(b"copy: --ceiling goes with --plan; zt copy --help says how it is called", "copy", "known.zt", "-o", "x", "--ceiling", "64")
+    troubled(b"plan: --page N is missing; zt plan --help says how it is called", "plan", "known.zt")
+    for option, most in (("--page", b"no page: it is a decimal number of bytes, a multiple of 64"), ("--ceiling", b"no ceiling: it is a decimal number of bytes")):
+        for value in ("", "x", "-64", "64k", " 64", "1099511627840", "18446744073709551616") + (("0", "63", "65") if option == "--page" else ()):
+            line = (value or option).replace(" ", "\\20").encode() + b": " + most + b", 1099511627776 (2^40) at most; zt plan --help says how it is called"
+            troubled(line, "plan", "known.zt", "--page", "64", option, value)
     troubled(b"--json: no such option; zt copy --help says how it is called", "copy", "known.zt", "--json", "-o", "x")
     expect(done("list", "known.zt", "--json"), done("list", "--json", "--", "known.zt"))
 

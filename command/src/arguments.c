@@ -1,5 +1,6 @@
 /* Options and operands apart. */
 #include "arguments.h"
+#include "decimal.h"
 #include "stream.h"
 #include "zt.h"
 #include <stdio.h>
@@ -11,6 +12,8 @@ void print_usage(const command *of) {
     if (of->options & TAKES_JSON) print_words(&out, " [--json]");
     if (of->options & TAKES_LAYOUT) print_words(&out, " [--layout 1.0]");
     if (of->options & TAKES_ESCAPED) print_words(&out, " [--escaped]");
+    if (of->options & TAKES_PLAN) print_words(&out, " [--plan PLAN [--ceiling N]]");
+    if (of->options & NEEDS_PAGE) print_words(&out, " --page N [--ceiling N]");
     if (of->options & TAKES_OUTPUT) print_words(&out, of->options & NEEDS_OUTPUT ? " -o NEW" : " [-o NEW]");
     print_words(&out, " ");
     print_words(&out, of->operands);
@@ -37,44 +40,71 @@ static const char *output_named(const char *word, const char *next, int *taken) 
     return output ? output : value_of("--output", word, next, taken);
 }
 
-/* Whether there is such a layout. */
-static int layout_read(uint64_t *into, const char *named) {
+/* What is wrong with an option: its value, or the option itself where it has none, and words; no words if nothing is. */
+typedef struct {
+    const char *word, *words;
+} mistake;
+
+static mistake layout_read(uint64_t *into, const char *named) {
     *into = strcmp(named, "1.0") == 0 ? ZT_LAYOUT_1_0 : ZT_LAYOUT_1_2;
-    return *into == ZT_LAYOUT_1_0 || strcmp(named, "1.2.0") == 0;
+    return (mistake){named, *into == ZT_LAYOUT_1_0 || strcmp(named, "1.2.0") == 0 ? NULL : "no layout: there are 1.0 and 1.2.0"};
+}
+
+static mistake ceiling_read(arguments *into, const char *named) {
+    into->ceiled = 1;
+    if (decimal_read(&into->ceiling, named, strlen(named)) == DECIMAL && into->ceiling <= CEILING_MOST) return (mistake){NULL, NULL};
+    return (mistake){named, "no ceiling: it is a decimal number of bytes, 1099511627776 (2^40) at most"};
+}
+
+/* Offsets are multiples of 64, so that no other page's edges could be kept to without gaps that nobody wants. */
+static mistake page_read(arguments *into, const char *named) {
+    int decimal = decimal_read(&into->page, named, strlen(named)) == DECIMAL;
+    if (decimal && into->page >= ALIGNMENT && into->page % ALIGNMENT == 0 && into->page <= CEILING_MOST) return (mistake){NULL, NULL};
+    return (mistake){named, "no page: it is a decimal number of bytes, a multiple of 64, 1099511627776 (2^40) at most"};
 }
 
 /* One option; answers how many words it takes, 0 if it is none of this command's, and keeps what is wrong with its value. */
-static int option_read(arguments *into, const command *of, const char *word, const char *next, const char **wrong) {
-    const char *output, *layout;
-    int taken = 1;
+static int option_read(arguments *into, const command *of, const char *word, const char *next, mistake *wrong) {
+    const char *value;
+    int taken = 1, planned = of->options & (TAKES_PLAN | NEEDS_PAGE);
     if (strcmp(word, "--help") == 0) into->help = 1;
     else if (of->options & TAKES_JSON && strcmp(word, "--json") == 0) into->json = 1;
     else if (of->options & TAKES_ESCAPED && strcmp(word, "--escaped") == 0) into->escaped = 1;
-    else if (of->options & TAKES_OUTPUT && (output = output_named(word, next, &taken))) into->output = output;
-    else if (of->options & TAKES_LAYOUT && (layout = value_of("--layout", word, next, &taken))) {
-        if (!layout_read(&into->layout, layout)) *wrong = *layout ? layout : word;
-    }
+    else if (of->options & TAKES_OUTPUT && (value = output_named(word, next, &taken))) into->output = value;
+    else if (of->options & TAKES_LAYOUT && (value = value_of("--layout", word, next, &taken))) *wrong = layout_read(&into->layout, value);
+    else if (of->options & TAKES_PLAN && (value = value_of("--plan", word, next, &taken))) into->plan = value;
+    else if (of->options & NEEDS_PAGE && (value = value_of("--page", word, next, &taken))) *wrong = page_read(into, value);
+    else if (planned && (value = value_of("--ceiling", word, next, &taken))) *wrong = ceiling_read(into, value);
     else taken = 0;
+    if (wrong->words && !*wrong->word) wrong->word = word;
     return taken;
+}
+
+/* What the options ask of each other, and of the operands' number. */
+static int arguments_fit(const arguments *given, const command *of) {
+    if (given->count < of->least) return usage_trouble(of, of->name, "an operand is missing");
+    if (of->most && given->count > of->most) return usage_trouble(of, given->operands[of->most], "one operand too many");
+    if (of->options & NEEDS_OUTPUT && !given->output) return usage_trouble(of, of->name, "-o NEW is missing");
+    if (given->output && !given->output[0]) return usage_trouble(of, of->name, "-o has no path");
+    if (of->options & NEEDS_PAGE && !given->page) return usage_trouble(of, of->name, "--page N is missing");
+    if (given->plan && !given->plan[0]) return usage_trouble(of, of->name, "--plan has no path");
+    if (of->options & TAKES_PLAN && given->ceiled && !given->plan) return usage_trouble(of, of->name, "--ceiling goes with --plan");
+    return DONE;
 }
 
 int arguments_read(arguments *into, const command *of, int count, const char **words) {
     int ended = 0, at = 0;
-    *into = (arguments){.operands = words};
+    *into = (arguments){.operands = words, .ceiling = CEILING_MOST};
     while (at < count) {
-        const char *word = words[at], *wrong = NULL;
+        const char *word = words[at];
+        mistake wrong = {NULL, NULL};
         int taken = 1;
         if (ended || word[0] != '-' || word[1] == '\0') into->operands[into->count++] = word;
         else if (strcmp(word, "--") == 0) ended = 1;
         else taken = option_read(into, of, word, at + 1 < count ? words[at + 1] : NULL, &wrong);
         if (taken == 0) return usage_trouble(of, word, "no such option");
-        if (wrong) return usage_trouble(of, wrong, "no layout: there are 1.0 and 1.2.0");
+        if (wrong.words) return usage_trouble(of, wrong.word, wrong.words);
         at += taken;
     }
-    if (into->help) return DONE;
-    if (into->count < of->least) return usage_trouble(of, of->name, "an operand is missing");
-    if (of->most && into->count > of->most) return usage_trouble(of, into->operands[of->most], "one operand too many");
-    if (of->options & NEEDS_OUTPUT && !into->output) return usage_trouble(of, of->name, "-o NEW is missing");
-    if (into->output && !into->output[0]) return usage_trouble(of, of->name, "-o has no path");
-    return DONE;
+    return into->help ? DONE : arguments_fit(into, of);
 }

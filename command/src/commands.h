@@ -7,7 +7,9 @@ int check_files(const arguments *given);
 int list_file(const arguments *given);
 int show_file(const arguments *given);
 int map_file(const arguments *given);
+int panel_files(const arguments *given);
 int get_component(const arguments *given);
 int copy_file(const arguments *given);
 int import_file(const arguments *given);
+int plan_file(const arguments *given);
 #endif

@@ -14,10 +14,14 @@ static const command commands[] = {
     {"list", "FILE", "the listing: objects and their components", TAKES_JSON | TAKES_LAYOUT, 1, 1, list_file},
     {"show", "FILE", "formats, shapes, dtypes, types, places, digests, in columns", TAKES_JSON | TAKES_LAYOUT, 1, 1, show_file},
     {"map", "FILE", "a bar of the file's bytes, and what they belong to", TAKES_JSON | TAKES_LAYOUT, 1, 1, map_file},
+    {"panel", "FILE..", "the panel's text: the listing, what the f32 numbers show, and where the bytes are", TAKES_LAYOUT, 1, 0, panel_files},
     {"get", "FILE OBJECT COMPONENT", "one component's bytes", TAKES_OUTPUT | TAKES_ESCAPED | TAKES_LAYOUT, 3, 3, get_component},
-    {"copy", "FILE", "the file read and written anew, unknown fields gone", TAKES_OUTPUT | NEEDS_OUTPUT, 1, 1, copy_file},
+    {"copy", "FILE", "the file read and written anew, unknown fields gone, with --plan each component where the plan says",
+     TAKES_OUTPUT | NEEDS_OUTPUT | TAKES_PLAN, 1, 1, copy_file},
     {"import", "OLD", "a file of layout 1.0 written as one of 1.2.0; unknown fields, generator and attributes of tensors among them, are not carried over",
-     TAKES_OUTPUT | NEEDS_OUTPUT, 1, 1, import_file},
+     TAKES_OUTPUT | NEEDS_OUTPUT | TAKES_PLAN, 1, 1, import_file},
+    {"plan", "FILE", "a plan for copy or import: an offset for each component, a line each, by which it touches as few pages as its length allows",
+     TAKES_OUTPUT | TAKES_LAYOUT | NEEDS_PAGE, 1, 1, plan_file},
 };
 enum { COMMANDS = sizeof commands / sizeof *commands };
 
@@ -29,9 +33,10 @@ static int print_help(void) {
         print_words(&out, "\n");
     }
     print_words(&out, "zt --help, zt COMMAND --help, zt --version\n\n"
-                      "FILE may be - for standard input. --json prints JSON; --escaped takes names as listings print them; -o NEW writes a file,\n"
-                      "which appears whole or not at all, - for standard output; --layout 1.0 reads files of document 001's layout, 1.2.0 those of\n"
-                      "the current one, as without it; -- ends options.\n"
+                      "FILE and PLAN may be - for standard input. --json prints JSON; --escaped takes names as listings print them; -o NEW writes\n"
+                      "a file, which appears whole or not at all, - for standard output; --layout 1.0 reads files of document 001's layout, 1.2.0\n"
+                      "those of the current one, as without it; --page is a flash page's bytes, --ceiling where the last component must have\n"
+                      "ended, 2^40 without it; -- ends options.\n"
                       "Status: 0 sound or done, 1 refused, 2 usage, trouble with a file, or no room.\n");
     return DONE;
 }
