@@ -1,0 +1,3 @@
+-- The definitions that the contracts of matching cite.
+pub mod Named
+pub mod Matched
