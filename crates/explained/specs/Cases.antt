@@ -10,6 +10,7 @@ use Rattle.meaning.specs.Layouts.{layoutOf}
 use Rattle.meaning.specs.Read.{Span}
 use Rattle.cases.specs.Files.{emptySized, emptyOf, oneFile, plainFile, two}
 use Rattle.explained.specs.Explain.{Explanation, explain}
+use Rattle.explained.specs.Sentence.{sentence}
 
 abbrev text : String → List ℕ
 text s = (0x60 + length (ascii s)) ∷ ascii s
@@ -70,6 +71,26 @@ cases =
     ∷ record { layout = 1; file = oldFile "float32" "data" 7; room = 0; says = 23 ∷ 0 ∷ 0 ∷ 95 ∷ 1 ∷ 145 ∷ 4 ∷ 166 ∷ 1 ∷ 0 ∷ [] }
     ∷ record { layout = 1; file = oldFile "float32" "data" 8; room = 28; says = 0 ∷ 0 ∷ 0 ∷ 0 ∷ 0 ∷ 0 ∷ 0 ∷ 0 ∷ 0 ∷ 0 ∷ [] }
     ∷ []
+
+-- the sentence about a file, without its newline
+pub record Said : Type 0 where
+  pub layout : ℕ
+  pub file : List ℕ
+  pub room : ℕ
+  pub line : String
+
+abbrev pub sentences : List Said
+sentences =
+    record { layout = 0; file = plainFile 8 two (0x18 ∷ 64 ∷ []) (8 ∷ []); room = 28; line = "accepted" }
+    ∷ record { layout = 0; file = plainFile 8 two (0x18 ∷ 65 ∷ []) (8 ∷ []); room = 0; line = "refused 19 ALIGN: offset not a multiple of 64; object w; component data; bytes 155 to 156" }
+    ∷ record { layout = 0; file = plainFile 8 two (0x18 ∷ 64 ∷ []) (8 ∷ []); room = 27; line = "refused 24 ROOM: lent table too short; 28 numbers needed" }
+    ∷ record { layout = 0; file = emptySized 23; room = 0; line = "refused 6 CBOR: malformed, ended early, or bytes left over; bytes 17 to 17" }
+    ∷ record { layout = 0; file = []; room = 0; line = "refused 1 SHORT: file under 24 bytes; at byte 0" }
+    ∷ record { layout = 1; file = ascii "ZTEN1000"; room = 0; line = "refused 1 SHORT: file under 16 bytes; bytes 0 to 7" }
+    ∷ []
+
+abbrev pub spoken : Said → Bool
+spoken c = same (sentence (layoutOf (c .layout)) (c .file) (c .room)) (ascii (c .line) ++ 10 ∷ [])
 
 abbrev pub flat : Explanation → List ℕ
 flat e =

@@ -6,5 +6,6 @@ pub mod Order
 pub mod Breaks
 pub mod Explain
 pub mod Promise
+pub mod Sentence
 pub mod Computed
 pub mod Cases
