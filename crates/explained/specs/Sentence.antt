@@ -44,21 +44,24 @@ reasons L =
 unfoldable pub reason : Layout → ℕ → List ℕ
 reason L n = getD ([] ∷ reasons L) n []
 
+abbrev pub blank : List ℕ → List ℕ
+blank w = 32 ∷ w
+
 -- a name where one is given, shown as in the listing; 0 and 0 means none is
 unfoldable pub belongs : String → List ℕ → Span → List ℕ
-belongs what file s = cond (eqb (s .place) 0 && eqb (s .size) 0) [] (ascii what ++ 32 ∷ shownText (bytesAt file s))
+belongs what file s = cond (eqb (s .place) 0 && eqb (s .size) 0) [] (ascii what ++ blank (shownText (bytesAt file s)))
 
 -- the bytes at fault, from the first to the last; the one before which there is nothing; or the room that is needed
 unfoldable pub where′ : Explanation → List ℕ
 where′ e =
-    cond (eqb (e .number) ROOM) (ascii ";" ++ 32 ∷ decimal (e .room) ++ ascii " numbers needed")
-    (cond (eqb (e .place .size) 0) (ascii "; at byte" ++ 32 ∷ decimal (e .place .place))
-    (ascii "; bytes" ++ 32 ∷ decimal (e .place .place) ++ ascii " to" ++ 32 ∷ decimal (e .place .place + e .place .size - 1)))
+    cond (eqb (e .number) ROOM) (ascii ";" ++ (blank (decimal (e .room)) ++ ascii " numbers needed"))
+    (cond (eqb (e .place .size) 0) (ascii "; at byte" ++ blank (decimal (e .place .place)))
+    (ascii "; bytes" ++ (blank (decimal (e .place .place)) ++ (ascii " to" ++ blank (decimal (e .place .place + e .place .size - 1))))))
 
 unfoldable pub refusedLine : Layout → List ℕ → Explanation → List ℕ
 refusedLine L file e =
-    ascii "refused" ++ 32 ∷ decimal (e .number) ++ 32 ∷ reason L (e .number)
-    ++ belongs "; object" file (e .objectName) ++ belongs "; component" file (e .componentName) ++ where′ e ++ 10 ∷ []
+    ascii "refused" ++ (blank (decimal (e .number)) ++ (blank (reason L (e .number))
+    ++ (belongs "; object" file (e .objectName) ++ (belongs "; component" file (e .componentName) ++ (where′ e ++ 10 ∷ [])))))
 
 unfoldable pub said : Layout → List ℕ → Explanation → List ℕ
 said L file e = cond (eqb (e .number) 0) (ascii "accepted" ++ 10 ∷ []) (refusedLine L file e)

@@ -1,0 +1,3 @@
+-- Laws behind the proofs of sentence.
+pub mod Reasons
+pub mod Lines
