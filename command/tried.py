@@ -215,6 +215,10 @@ def try_get():
     expect(content("got"), b"")
     troubled(b"data: the file has no such object", "get", "get.zt", "data", "data")
     troubled(b"data: the object has no such component", "get", "get.zt", "other", "data")
+    hint = b"; --escaped takes names as listings print them"
+    troubled(b"a\\5c20b: the file has no such object" + hint, "get", "get.zt", "a\\20b", "data")
+    troubled(b"\\5c20: the object has no such component" + hint, "get", "get.zt", "other", "\\20")
+    troubled(b"a\\5c20\\00b: the file has no such object", "get", "get.zt", "--escaped", "a\\5c20\\00b", "data")
     troubled(b"a\\5cz: no name as listings print it: a backslash takes two hex digits", "get", "--escaped", "get.zt", "a\\z", "data")
 
 
@@ -258,6 +262,10 @@ def try_copy_keeps_mode_and_links():
     nothing_left(WORK)
 
 
+# What is said besides of a file that is sound in the other layout.
+AS_FIRST = b"; it is sound as layout 1.0, which --layout 1.0 and import read"
+AS_CURRENT = b"; it is sound as layout 1.2.0"
+
 # Where the words of zt.h are 1.2.0's.
 FIRST_WORDS = {1: "file under 16 bytes", 5: "manifest size 0 or over file length - 16", 22: "needed role absent"}
 NOT_CARRIED = b"fields unknown to layout 1.0, generator and attributes of tensors among them, are not carried over"
@@ -300,7 +308,13 @@ def try_reading_in_layout_1_0():
     expect((full["manifest"]["length"], account["manifest"], full["objects"][1]["attributes"]), (length - 16 - 208, length - 16 - 208, None))
     expect(len(done("show", "--layout", "1.0", "first.zt").splitlines()), 4 + 2 + 4)
     for words in (["list"], ["list", "--layout", "1.2.0"]):
-        troubled(b"first.zt: refused 3 FOOTER, object 0, component 0: last 8 wrong", *words, "first.zt", status=1)
+        troubled(b"first.zt: refused 3 FOOTER, object 0, component 0: last 8 wrong" + AS_FIRST, *words, "first.zt", status=1)
+    expect(zt("check", "first.zt"), (1, b"first.zt: refused 3 FOOTER, object 0, component 0: last 8 wrong" + AS_FIRST + b"\n", b""))
+    status, said, _ = zt("check", "--json", "first.zt", "cases/000000.zt")
+    expect((status, json.loads(said)[0]["refusal"]["words"]), (1, "last 8 wrong" + AS_FIRST.decode()))
+    # It is said of a sound file only.
+    put("cut-first.zt", first_sample()[:-1])
+    expect(zt("check", "cut-first.zt"), (1, b"cut-first.zt: refused 3 FOOTER, object 0, component 0: last 8 wrong\n", b""))
     for path in sound_files(12, first_files):
         full, account = told("show", "--json", "--layout", "1.0", path), told("map", "--json", "--layout", "1.0", path)
         expect(account["manifest"], full["manifest"]["length"], path)
@@ -341,7 +355,7 @@ def try_imports_that_are_refused():
     line = b"known.zt: refused 4 BIG, object 0, component 0: manifest size over the limit, 16,777,216"
     put("short-first.zt", b"ZTEN1000")
     for words in ("kept.zt", "none.zt"):
-        troubled(line, "import", "known.zt", "-o", words, status=1)
+        troubled(line + AS_CURRENT, "import", "known.zt", "-o", words, status=1)
         troubled(b"short-first.zt: refused 1 SHORT, object 0, component 0: file under 16 bytes", "import", "short-first.zt", "-o", words, status=1)
         troubled(b"no.zt: No such file or directory", "import", "no.zt", "-o", words)
     expect((content("kept.zt"), os.path.exists(os.path.join(WORK, "none.zt"))), (b"old", False))
@@ -481,6 +495,23 @@ def try_plans_under_a_ceiling():
     expect(planned("empties.zt", 4096, "--ceiling", "64"), [64, 64])
     troubled(b"empties.zt: no plan was found for the ceiling 63; there is one for 64", "plan", "empties.zt", "--page", "64", "--ceiling", "63", status=1)
     expect(planned("empties.zt", 1 << 40), [64, 64])
+
+
+def try_no_plan_below_the_highest_ceiling():
+    """Sparse: a gigabyte that 1,025 components share, which no writer could lay apart."""
+    length = 1 << 30
+    part = sample.component("u8", 64, length)
+    things = [(f"o{i}", sample.thing([], "any", [("a", part), ("b", part)])) for i in range(512)] + [("last", sample.thing([], "any", [("a", part)]))]
+    with open(os.path.join(WORK, "shared.zt"), "wb") as into:
+        into.write(sample.MAGIC)
+        into.seek(64 + length)
+        into.write(sample.behind(sample.manifest(things)))
+    line = b"shared.zt: no plan was found: components would end above 2^40, the highest ceiling there is"
+    troubled(line, "plan", "--page", "4096", "shared.zt", status=1)
+    put("shared.plan", b"".join(b"%d\n" % (64 + i * length) for i in range(1025)))
+    line = b"offset 1098437886016 and length 1073741824 end above the ceiling, 1099511627776"
+    troubled(b"shared.plan: refused 27 PLAN, line 1024, object o511, component b: " + line, "copy", "--plan", "shared.plan", "shared.zt", "-o", "x.zt", status=1)
+    os.remove(os.path.join(WORK, "shared.zt"))
 
 
 def try_plans_where_they_go():
@@ -733,8 +764,10 @@ def try_no_permission():
             untried.append("a file without permission: root may read it, and nobody can't run the command here")
             return
     expect(zt("check", "secret.zt", "known.zt", before=before), (2, b"known.zt: sound\n", b"zt: secret.zt: Permission denied\n"))
+    troubled(b"secret.zt: Permission denied", "copy", "--plan", "secret.zt", "known.zt", "-o", "mine.zt", before=before)
     os.chmod(WORK, 0o555)
     troubled(b"mine.zt: Permission denied", "copy", "known.zt", "-o", "mine.zt", before=before)
+    troubled(b"mine.plan: Permission denied", "plan", "--page", "64", "known.zt", "-o", "mine.plan", before=before)
     os.chmod(WORK, 0o755)
 
 

@@ -3,6 +3,7 @@
 #include "model.h"
 #include "whole.h"
 #include <errno.h>
+#include <stdio.h>
 #include <stdlib.h>
 #include <string.h>
 
@@ -27,6 +28,14 @@ static int name_read(text *name, const char *operand, int escaped) {
 
 static int same(text a, text b) { return a.length == b.length && (a.length == 0 || memcmp(a.at, b.at, a.length) == 0); }
 
+/* A name with a backslash may have been copied from a listing, where it stands for another. */
+static int no_such(const arguments *given, text name, const char *what) {
+    char words[120];
+    int copied = !given->escaped && name.length && memchr(name.at, '\\', name.length);
+    snprintf(words, sizeof words, "%s%s", what, copied ? "; --escaped takes names as listings print them" : "");
+    return trouble_named(name.at, name.length, words);
+}
+
 /* The index among all components; or their count, and what is missing was said. */
 static uint64_t find(const model *of, const arguments *given, text object, text component) {
     uint64_t first = 0;
@@ -36,12 +45,12 @@ static uint64_t find(const model *of, const arguments *given, text object, text 
         if (same(text_of(of, row + ZT_OBJECT_NAME), object)) {
             for (uint64_t j = first; j < first + count; j++)
                 if (same(text_of(of, component_row(of, j) + ZT_COMPONENT_NAME), component)) return j;
-            trouble(given->operands[2], "the object has no such component");
+            no_such(given, component, "the object has no such component");
             return of->answer.components;
         }
         first += count;
     }
-    trouble(given->operands[1], "the file has no such object");
+    no_such(given, object, "the file has no such object");
     return of->answer.components;
 }
 

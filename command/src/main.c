@@ -34,9 +34,10 @@ static int print_help(void) {
     }
     print_words(&out, "zt --help, zt COMMAND --help, zt --version\n\n"
                       "FILE and PLAN may be - for standard input. --json prints JSON; --escaped takes names as listings print them; -o NEW writes\n"
-                      "a file, which appears whole or not at all, - for standard output; --layout 1.0 reads files of document 001's layout, 1.2.0\n"
-                      "those of the current one, as without it; --page is a flash page's bytes, --ceiling where the last component must have\n"
-                      "ended, 2^40 without it; -- ends options.\n"
+                      "a file, which appears whole or not at all, - for standard output; --layout 1.0 reads files of older boxes, 1.2.0 those of\n"
+                      "today, as without it; --page is the bytes of a flash page, --ceiling the byte where components must have ended, 2^40\n"
+                      "without it; -- ends options. Names and paths are printed with bytes outside 33 to 126, and the backslash, as \\ and two\n"
+                      "hex digits.\n"
                       "Status: 0 sound or done, 1 refused, 2 usage, trouble with a file, or no room.\n");
     return DONE;
 }

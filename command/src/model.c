@@ -37,7 +37,16 @@ int model_close(model *of, int status) {
     return status;
 }
 
-fault fault_of(const model *of) { return (fault){of->answer.number, of->answer.object, of->answer.component, of->layout}; }
+/* A sound file of the other layout is refused by its last 8 bytes: they are no footer, or a footer and no size. */
+static int is_sound_as_other(const model *of) {
+    int first = of->layout == ZT_LAYOUT_1_0;
+    if (of->answer.number != (first ? ZT_BIG : ZT_FOOTER)) return 0;
+    return zt_accept_as(first ? ZT_LAYOUT_1_2 : ZT_LAYOUT_1_0, of->file.at, of->file.length) == ZT_ACCEPTED;
+}
+
+fault fault_of(const model *of) {
+    return (fault){of->answer.number, of->answer.object, of->answer.component, of->layout, is_sound_as_other(of)};
+}
 
 const uint64_t *object_row(const model *of, uint64_t object) { return of->table + ZT_OBJECT_WIDTH * object; }
 

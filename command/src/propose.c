@@ -34,7 +34,7 @@ static int judged(const model *of, const plan *by) {
     zt_written written = plan_write(of, by, NULL, 0);
     if (written.number == ZT_ROOM) return DONE;
     if (written.number == ZT_PLAN) return say_plan_refused(of, by, written.object);
-    return say_refused(of->file.path, (fault){written.number, written.object, written.component, ZT_LAYOUT_1_2});
+    return say_refused(of->file.path, (fault){written.number, written.object, written.component, ZT_LAYOUT_1_2, 0});
 }
 
 static void print_plan(const plan *of) {

@@ -1,6 +1,7 @@
 /* What is said of a refusal: number, name, indices and words, for people and as JSON. */
 #include "json.h"
 #include "refusal.h"
+#include <stdio.h>
 #include <string.h>
 
 /* The words of zt.h are 1.2.0's: in layout 1.0 the frame is 16 bytes, and an index role can't be anything but u64. */
@@ -9,6 +10,12 @@ static const char *words_of(fault what) {
     if (what.layout == ZT_LAYOUT_1_0 && what.number == ZT_FIT) return "manifest size 0 or over file length - 16";
     if (what.layout == ZT_LAYOUT_1_0 && what.number == ZT_ROLE) return "needed role absent";
     return zt_refusal_words(what.number);
+}
+
+/* Whoever forgot to say the layout, or said the wrong one, is told so. */
+static const char *other_words(fault what) {
+    if (!what.sound_as_other) return "";
+    return what.layout == ZT_LAYOUT_1_0 ? "; it is sound as layout 1.2.0" : "; it is sound as layout 1.0, which --layout 1.0 and import read";
 }
 
 void print_refused(stream *to, fault what) {
@@ -22,6 +29,7 @@ void print_refused(stream *to, fault what) {
     print_number(to, what.component);
     print_words(to, ": ");
     print_words(to, words_of(what));
+    print_words(to, other_words(what));
     print_words(to, "\n");
 }
 
@@ -36,6 +44,7 @@ int say_refused(const char *path, fault what) {
 }
 
 void json_verdict(const char *path, fault what) {
+    char words[256];
     json_key(1, "", "file");
     json_words(path);
     json_key(0, " ", "sound");
@@ -49,6 +58,7 @@ void json_verdict(const char *path, fault what) {
     json_number(0, " ", "object", what.object);
     json_number(0, " ", "component", what.component);
     json_key(0, " ", "words");
-    json_words(words_of(what));
+    snprintf(words, sizeof words, "%s%s", words_of(what), other_words(what));
+    json_words(words);
     print_words(&out, "}");
 }

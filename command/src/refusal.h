@@ -4,9 +4,10 @@
 #include "stream.h"
 #include "zt.h"
 
-/* The number, ZT_ACCEPTED for none, where it is, and the layout by whose rules it is one. */
+/* The number, ZT_ACCEPTED for none, where it is, the layout by whose rules it is one, and whether the file is sound by the other's. */
 typedef struct {
     uint64_t number, object, component, layout;
+    int sound_as_other;
 } fault;
 
 /* "refused 20 BOUNDS, object 0, component 1: offset under 64, ..", as a line. */

@@ -66,11 +66,11 @@ size_t escaped_length(const uint8_t *at, size_t length) {
 
 char last_trouble[160];
 
-void remark(const char *path, const char *words) {
+static void say(const uint8_t *about, size_t length, const char *words) {
     flush(&out);
     print_words(&err, "zt: ");
-    if (path) {
-        print_escaped(&err, (const uint8_t *)path, strlen(path));
+    if (about) {
+        print_escaped(&err, about, length);
         print_words(&err, ": ");
     }
     print_words(&err, words);
@@ -78,9 +78,16 @@ void remark(const char *path, const char *words) {
     flush(&err);
 }
 
+void remark(const char *path, const char *words) { say((const uint8_t *)path, path ? strlen(path) : 0, words); }
+
 int trouble(const char *path, const char *words) {
     snprintf(last_trouble, sizeof last_trouble, "%s", words);
     remark(path, words);
+    return TROUBLE;
+}
+
+int trouble_named(const uint8_t *name, size_t length, const char *words) {
+    say(name, length, words);
     return TROUBLE;
 }
 

@@ -32,8 +32,9 @@ void remark(const char *path, const char *words);
 
 /* The same of what went wrong; answers TROUBLE. */
 int trouble(const char *path, const char *words);
-int trouble_of(const char *path, int error); /* the words of an errno */
-extern char last_trouble[160];               /* the words of the last one, for JSON */
+int trouble_of(const char *path, int error);                              /* the words of an errno */
+int trouble_named(const uint8_t *name, size_t length, const char *words); /* about a name, which may hold a zero */
+extern char last_trouble[160];                                            /* the words of the last one about a path, for JSON */
 
 /* Writes what is left and closes standard output: TROUBLE if any of it couldn't be written. */
 int finish_output(void);
