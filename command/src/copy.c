@@ -28,11 +28,6 @@ static zt_written write_to(const model *of, const plan *by, uint8_t *at, size_t 
                     room);
 }
 
-static int say_unwritten(const model *of, const plan *by, zt_written written) {
-    if (by && written.number == ZT_PLAN) return say_plan_refused(of, by, written.object);
-    return say_refused(of->file.path, (fault){written.number, written.object, written.component, ZT_LAYOUT_1_2, 0});
-}
-
 /* What is refused for another reason than room is so before any room is asked for. */
 static int copied(const model *of, const plan *by, const char *output) {
     zt_written written = write_to(of, by, NULL, 0);

@@ -108,11 +108,13 @@ static void print_breach(const model *of, const plan *by, uint64_t row) {
     }
 }
 
-int say_plan_refused(const model *of, const plan *by, uint64_t row) {
+static int say_plan_refused(const model *of, const plan *by, uint64_t row) {
     flush(&out);
     print_words(&err, "zt: ");
     print_escaped(&err, (const uint8_t *)by->path, strlen(by->path));
-    print_words(&err, ": refused 27 PLAN, ");
+    print_counted(": refused ", ZT_PLAN, " ");
+    print_words(&err, zt_refusal_name(ZT_PLAN));
+    print_words(&err, ", ");
     if (row == of->answer.components) {
         print_counted("line ", row + 1, ": offsets are left over");
         print_counted(": the file's components are ", row, "");
@@ -126,4 +128,9 @@ int say_plan_refused(const model *of, const plan *by, uint64_t row) {
     print_words(&err, "\n");
     flush(&err);
     return REFUSED;
+}
+
+int say_unwritten(const model *of, const plan *by, zt_written written) {
+    if (by && written.number == ZT_PLAN) return say_plan_refused(of, by, written.object);
+    return say_refused(of->file.path, (fault){written.number, written.object, written.component, ZT_LAYOUT_1_2, 0});
 }

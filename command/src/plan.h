@@ -21,8 +21,11 @@ void plan_close(plan *of);
 /* zt_write_planned, with the model's rows. */
 zt_written plan_write(const model *of, const plan *by, uint8_t *at, size_t room);
 
-/* Why the plan is refused, on standard error: the line, the component that it is for, and the rule that is broken there. Answers REFUSED. */
-int say_plan_refused(const model *of, const plan *by, uint64_t row);
+/*
+ * Why nothing is written, on standard error; answers REFUSED. Of a plan that is refused: the line, the component that it is for, and the rule that is broken
+ * there. The plan may be null.
+ */
+int say_unwritten(const model *of, const plan *by, zt_written written);
 
 /* Where the last component ends by a plan that was accepted. */
 uint64_t plan_end(const model *of, const plan *by);

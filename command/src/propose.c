@@ -30,11 +30,10 @@ static int propose(plan *into, const model *of, const uint64_t *lengths, uint64_
     return tight <= into->ceiling ? DONE : say_too_low(of, into->ceiling, tight < end ? tight : end);
 }
 
+/* No output is lent, so that ROOM says that all else is right. */
 static int judged(const model *of, const plan *by) {
     zt_written written = plan_write(of, by, NULL, 0);
-    if (written.number == ZT_ROOM) return DONE;
-    if (written.number == ZT_PLAN) return say_plan_refused(of, by, written.object);
-    return say_refused(of->file.path, (fault){written.number, written.object, written.component, ZT_LAYOUT_1_2, 0});
+    return written.number == ZT_ROOM ? DONE : say_unwritten(of, by, written);
 }
 
 static void print_plan(const plan *of) {
