@@ -17,7 +17,7 @@ use Rattle.rows.proofs.EachRow.{first-so, others-so}
 use Rattle.rows.proofs.Whole.{sound-lies, sound-attributes, sound-objects, sound-components}
 use Rattle.rows.proofs.SoundRow as row-of
 use Rattle.rows.proofs.Describes as describes
-use Rattle.layout.specs.Rows.{Within, ComponentRow, ObjectRow, ComponentRows, WholeRows}
+use Rattle.layout.specs.Rows.{Within, ComponentRow, ObjectRow, ComponentRows, ObjectRows, WholeRows}
 
 -- what each of n rows is asked, row by row
 each-so : {A : Type 0} (p : A → Bool) (read : List ℕ → A) (width n at : ℕ) (rows : List ℕ) → all p (eachRow read width n (drop at rows)) ≡ true
@@ -63,22 +63,25 @@ module _ (buffer plan rows : List ℕ) (objects components : ℕ) (attributes : 
   lies : objectWidth * objects + componentWidth * components ≤ length rows
   lies = sound-lies buffer rows objects components attributes sound
 
-  module _ (low : reached plan (begun plan) lengths ≤ turnLimit plan) where
-    blob-rows : ComponentRows buffer plan rows components (objectWidth * objects) (begun plan)
+  -- where this turn is reached
+  module _ {turn : ℕ} (low : reached plan turn lengths ≤ turnLimit plan) where
+    pub blob-rows : ComponentRows buffer plan rows components (objectWidth * objects) turn
     blob-rows = record {
       each = λ j h. component-fits buffer (drop (objectWidth * objects + componentWidth * j) rows) (omega (arith, h, lies, length-drop (objectWidth * objects + componentWidth * j) rows))
           (each-so (componentSound buffer) askedComponent componentWidth components (objectWidth * objects) rows (sound-components buffer rows objects components attributes sound) j h);
       lie = lies;
-      low = subst (λ (k : ℕ). k ≤ turnLimit plan) (ap (reached plan (begun plan)) (describes.blob-lengths buffer rows objects components attributes sound)) low;
+      low = subst (λ (k : ℕ). k ≤ turnLimit plan) (ap (reached plan turn) (describes.blob-lengths buffer rows objects components attributes sound)) low;
     }
 
-    pub rows-fit : WholeRows buffer plan rows objects components (attributes .place) (attributes .size)
-    rows-fit = record {
-      attributes = within buffer attributes (row-of.attributes-inside buffer 31 attributes (sound-attributes buffer rows objects components attributes sound));
-      each = record {
-        each = λ i h. object-fits buffer (drop (0 + objectWidth * i) rows) (omega (arith, h, lies, length-drop (0 + objectWidth * i) rows))
-            (each-so (objectSound buffer) askedObject objectWidth objects 0 rows (sound-objects buffer rows objects components attributes sound) i h);
-        components = subst (λ (m : ℕ). ComponentRows buffer plan rows m (objectWidth * objects) (begun plan)) (sym (describes.rows-counted buffer rows objects components attributes sound)) blob-rows;
-      };
-      blobs = blob-rows;
+    pub object-rows : ObjectRows buffer plan rows objects 0 (objectWidth * objects) turn
+    object-rows = record {
+      each = λ i h. object-fits buffer (drop (0 + objectWidth * i) rows) (omega (arith, h, lies, length-drop (0 + objectWidth * i) rows))
+          (each-so (objectSound buffer) askedObject objectWidth objects 0 rows (sound-objects buffer rows objects components attributes sound) i h);
+      components = subst (λ (m : ℕ). ComponentRows buffer plan rows m (objectWidth * objects) turn) (sym (describes.rows-counted buffer rows objects components attributes sound)) blob-rows;
     }
+
+  pub attributes-fit : Within buffer (attributes .place) (attributes .size)
+  attributes-fit = within buffer attributes (row-of.attributes-inside buffer 31 attributes (sound-attributes buffer rows objects components attributes sound))
+
+  pub rows-fit : reached plan (begun plan) lengths ≤ turnLimit plan → WholeRows buffer plan rows objects components (attributes .place) (attributes .size)
+  rows-fit low = record { attributes = attributes-fit; each = object-rows low; blobs = blob-rows low }

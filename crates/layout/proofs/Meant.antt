@@ -31,7 +31,7 @@ use Rattle.layout.specs.Pieces.{presence, range, optional, componentAt, 
 use Rattle.layout.specs.Rows.{Within, ComponentRow, ComponentRows, ObjectRows, WholeRows}
 use Rattle.layout.proofs.Walking.{within-length, first-component, next-components, its-components, next-objects}
 
-abbrev field : String → List ℕ → List ℕ
+abbrev pub field : String → List ℕ → List ℕ
 field key value = textBytes (ascii key) ++ value
 
 -- ---- one map of the format: its fields, by which of the optional ones are there
@@ -53,7 +53,7 @@ unfolding mapBytes given entryBytes
 object-fields true S F A C = simp append-nil
 object-fields false S F A C = simp append-nil
 
-root-fields : (t : Bool) (N A O : List ℕ)
+pub root-fields : (t : Bool) (N A O : List ℕ)
     → mapBytes (given rootNames (some N ∷ cond t none (some A) ∷ some O ∷ []))
     ≡ shortestHead 5 (2 + cond t 0 1) ++ (field "version" N ++ (cond t [] (field "attributes" A) ++ field "objects" O))
 unfolding mapBytes given entryBytes
@@ -105,7 +105,7 @@ module _ (buffer : List ℕ) where
   abbrev blobs-in : List AskedComponent → List (List ℕ)
   blobs-in cs = describes.blobsOf buffer cs
 
-  blobs-meant : (plan rows file : List ℕ) (n row turn : ℕ) → ComponentRows buffer plan rows n row turn
+  pub blobs-meant : (plan rows file : List ℕ) (n row turn : ℕ) → ComponentRows buffer plan rows n row turn
       → blobsOf buffer plan rows file n row turn
       ≡ blobsOver file (offsetsFrom plan turn (map length (blobs-in (eachRow askedComponent componentWidth n (drop row rows))))) (blobs-in (eachRow askedComponent componentWidth n (drop row rows)))
   unfolding blobsOf blobsOver offsetsFrom eachRow describedComponent
@@ -128,12 +128,12 @@ module _ (buffer : List ℕ) where
   entries-counted plan n [] = refl
   entries-counted plan n (c ∷ cs) = ap suc (entries-counted plan (stepped plan n (length (c .blob))) cs)
 
-  objects-counted : (plan : List ℕ) (n : ℕ) (os : List DescribedObject) → length (objectsFrom plan n os) ≡ length os
+  pub objects-counted : (plan : List ℕ) (n : ℕ) (os : List DescribedObject) → length (objectsFrom plan n os) ≡ length os
   unfolding objectsFrom
   objects-counted plan n [] = refl
   objects-counted plan n (o ∷ os) = ap suc (objects-counted plan (reached plan n (blobLengths (o .components))) os)
 
-  described-counted : (os : List AskedObject) (cs : List AskedComponent) → length (describedObjects buffer os cs) ≡ length os
+  pub described-counted : (os : List AskedObject) (cs : List AskedComponent) → length (describedObjects buffer os cs) ≡ length os
   unfolding describedObjects
   described-counted [] cs = refl
   described-counted (o ∷ os) cs = ap suc (described-counted os (drop (o .count) cs))
@@ -177,13 +177,13 @@ module _ (buffer : List ℕ) where
           ∷ cond t none (some (range buffer (getD r attributesColumn 0) (getD r attributesLengthColumn 0))) ∷ some z ∷ []))) (sym (components-map rs)))
 
     -- n objects from the place `row` on, with the components that they count from the place `from` on
-    abbrev all-counted : ℕ → ℕ → ℕ
+    abbrev pub all-counted : ℕ → ℕ → ℕ
     all-counted n row = counted (eachRow askedObject objectWidth n (drop row rows))
 
-    abbrev asked-from : ℕ → ℕ → List AskedComponent
+    abbrev pub asked-from : ℕ → ℕ → List AskedComponent
     asked-from m from = eachRow askedComponent componentWidth m (drop from rows)
 
-    abbrev described-from : ℕ → ℕ → ℕ → ℕ → List DescribedObject
+    abbrev pub described-from : ℕ → ℕ → ℕ → ℕ → List DescribedObject
     described-from n m row from = describedObjects buffer (eachRow askedObject objectWidth n (drop row rows)) (asked-from m from)
 
     module _ (n row from place : ℕ) (rs : ObjectRows buffer plan rows (suc n) row from place)
@@ -240,7 +240,7 @@ module _ (buffer : List ℕ) where
           together : (A B C D : List ℕ) → A ++ (B ++ (C ++ D)) ≡ (A ++ (B ++ C)) ++ D
           together A B C D = simp append-assoc
 
-    objects-meant : (n row from place : ℕ) → ObjectRows buffer plan rows n row from place → all (componentSound buffer) (asked-from (all-counted n row) from) ≡ true
+    pub objects-meant : (n row from place : ℕ) → ObjectRows buffer plan rows n row from place → all (componentSound buffer) (asked-from (all-counted n row) from) ≡ true
         → objectsOf buffer plan rows n row from place ≡ joined (map entryBytes (objectsFrom plan place (described-from n (all-counted n row) row from)))
     unfolding objectsOf objectsFrom eachRow describedObjects
     objects-meant zero row from place rs e = refl

@@ -8,7 +8,7 @@ use borrow.Rule.Slice.PartAt.{part-to-end}
 use Rattle.meaning.specs.Columns.{objectWidth, componentWidth, countColumn, offsetColumn, lengthColumn}
 use Rattle.meaning.specs.WrittenFile.{over}
 use Rattle.meaning.proofs.Over.{over-length}
-use Rattle.rows.specs.Running.{begun, offsetAt, stepped}
+use Rattle.rows.specs.Running.{offsetAt, stepped}
 use Rattle.emit.specs.Laid.{Room, Laid}
 use Rattle.emit.proofs.Laying.{Going, going, go-on, room-one, as-bytes, same-length, stands, front-of, relaid}
 use Rattle.rows.proofs.Running.{reached-next}
@@ -33,12 +33,9 @@ pub record BlobsLeft (buffer plan rows whole xs : List ℕ) (left row turn past 
   pub same : whole ≡ blobsOf buffer plan rows front left row turn
   pub room : length whole ≤ length xs
 
-pub blobs-begin : {buffer plan rows xs : List ℕ} {n first at turn : ℕ} → ComponentRows buffer plan rows n first (begun plan)
-    → FrontRoom (blobsOf buffer plan rows (take at xs) n first (begun plan)) at xs → turn ≡ begun plan
-    → BlobsLeft buffer plan rows (blobsOf buffer plan rows (take at xs) n first (begun plan)) xs n first turn at xs
-blobs-begin {buffer} {plan} {rows} {xs} {n} {first} {at} rs h e =
-    subst (λ (t : ℕ). BlobsLeft buffer plan rows (blobsOf buffer plan rows (take at xs) n first (begun plan)) xs n first t at xs) (sym e)
-    (record { rest = rs; front = take at xs; laid = stands at xs (h .front); same = refl; room = h .fits })
+pub blobs-begin : {buffer plan rows xs : List ℕ} {n first at turn : ℕ} → ComponentRows buffer plan rows n first turn → FrontRoom (blobsOf buffer plan rows (take at xs) n first turn) at xs
+    → BlobsLeft buffer plan rows (blobsOf buffer plan rows (take at xs) n first turn) xs n first turn at xs
+blobs-begin {xs} {at} rs h = record { rest = rs; front = take at xs; laid = stands at xs (h .front); same = refl; room = h .fits }
 
 module _ {buffer plan rows whole xs ys : List ℕ} {left row turn past : ℕ} (b : BlobsLeft buffer plan rows whole xs left row turn past ys) where
   pub all-blobs : left ≤ 0 → Laid whole 0 xs ys past
@@ -113,12 +110,9 @@ pub record ObjectsLeft (buffer plan rows all : List ℕ) (at : ℕ) (xs : List �
   pub rest : ObjectRows buffer plan rows left row from reached
   pub going : Going all at xs (objectsOf buffer plan rows left row from reached) past ys
 
-pub objects-begin : {buffer plan rows xs : List ℕ} {n first at turn : ℕ} → ObjectRows buffer plan rows n 0 first (begun plan)
-    → Room (objectsOf buffer plan rows n 0 first (begun plan)) at xs → turn ≡ begun plan
-    → ObjectsLeft buffer plan rows (objectsOf buffer plan rows n 0 first (begun plan)) at xs n 0 first turn at xs
-objects-begin {buffer} {plan} {rows} {xs} {n} {first} {at} rs h e =
-    subst (λ (t : ℕ). ObjectsLeft buffer plan rows (objectsOf buffer plan rows n 0 first (begun plan)) at xs n 0 first t at xs) (sym e)
-    (record { rest = rs; going = going _ _ _ h })
+pub objects-begin : {buffer plan rows xs : List ℕ} {n first at turn : ℕ} → ObjectRows buffer plan rows n 0 first turn → Room (objectsOf buffer plan rows n 0 first turn) at xs
+    → ObjectsLeft buffer plan rows (objectsOf buffer plan rows n 0 first turn) at xs n 0 first turn at xs
+objects-begin rs h = record { rest = rs; going = going _ _ _ h }
 
 module _ {buffer plan rows all xs ys : List ℕ} {at left row from reached past : ℕ} (b : ObjectsLeft buffer plan rows all at xs left row from reached past ys) (some : 0 < left) where
   abbrev count : ℕ

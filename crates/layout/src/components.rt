@@ -16,14 +16,12 @@ use columns::TYPE;
 use columns::TYPE_LENGTH;
 use emit::head_at;
 use emit::zeros_at;
-use sizes::placing::first_turn;
 use sizes::placing::offset_at;
 use sizes::placing::stepped;
 ghost use mathlib.Core.Path.{_≡_};
 ghost use Prim.Native.Nat.{max};
 ghost use lib.ListN.{take};
 ghost use Rattle.meaning.specs.WrittenFile.{over};
-ghost use Rattle.rows.specs.Running.{begun};
 ghost use Rattle.emit.specs.Laid.{Room, Laid};
 ghost use Rattle.layout.specs.Pieces as is;
 ghost use Rattle.layout.specs.Rows.{Within, BlobRoom, FrontRoom, ComponentRow, ComponentRows};
@@ -57,7 +55,7 @@ fn blob_at(out: &mut [u8], past: usize, start: usize, buffer: &[u8], place: u64,
     farther(past, end)
 }
 
-// The blobs of n components over the front of the output, which is laid up to `at`: in any order, each at its offset.
+// The blobs of n components over the front of the output, which is laid up to `at`, where the turn `turn` is reached: in any order, each at its offset.
 pub fn blobs_at(
     out: &mut [u8],
     at: usize,
@@ -66,20 +64,21 @@ pub fn blobs_at(
     rows: &[u64],
     n: u64,
     first: usize,
+    turn: u64,
 ) -> usize
-    requires { ⌜ ComponentRows (now buffer) (now plan) (now rows) n first (begun (now plan)) ⌝ }
-    requires { ⌜ FrontRoom (is.blobsOf (now buffer) (now plan) (now rows) (take at (now out)) n first (begun (now plan))) at (now out) ⌝ }
-    ensures { λ r. ⌜ Laid (is.blobsOf (now (buffer .entry)) (now (plan .entry)) (now (rows .entry)) (take at (now (out .entry))) n first (begun (now (plan .entry)))) 0 (now (out .entry)) (now (out .exit)) r ⌝ }
+    requires { ⌜ ComponentRows (now buffer) (now plan) (now rows) n first turn ⌝ }
+    requires { ⌜ FrontRoom (is.blobsOf (now buffer) (now plan) (now rows) (take at (now out)) n first turn) at (now out) ⌝ }
+    ensures { λ r. ⌜ Laid (is.blobsOf (now (buffer .entry)) (now (plan .entry)) (now (rows .entry)) (take at (now (out .entry))) n first turn) 0 (now (out .entry)) (now (out .exit)) r ⌝ }
 {
     let mut past = at;
     let mut row = first;
     let mut left = n;
-    let mut turn = first_turn(plan);
+    let mut next = turn;
     while 0 < left {
-        let start = offset_at(plan, turn) as usize;
+        let start = offset_at(plan, next) as usize;
         let size = rows[row + LENGTH];
         past = blob_at(out, past, start, buffer, rows[row + OFFSET], size);
-        turn = stepped(plan, turn, size);
+        next = stepped(plan, next, size);
         row += columns::COMPONENT;
         left -= 1;
     }

@@ -7,6 +7,7 @@ use emit::head_at;
 use emit::magic_at;
 use emit::size_at;
 use emit::text_at;
+use sizes::placing::first_turn;
 ghost use Prim.Native.Nat.{_*_};
 ghost use Rattle.rows.specs.Running.{begun};
 ghost use Rattle.emit.specs.Laid.{Room, Laid};
@@ -14,7 +15,7 @@ ghost use Rattle.layout.specs.Pieces as is;
 ghost use Rattle.layout.specs.Rows.{Within, ObjectRows, WholeRows};
 
 // The root's fields, up to its objects.
-fn root(out: &mut [u8], buffer: &[u8], objects: u64, place: u64, size: u64) -> usize
+pub fn root(out: &mut [u8], buffer: &[u8], objects: u64, place: u64, size: u64) -> usize
     requires { ⌜ Within (now buffer) place size ⌝ }
     requires { ⌜ Room (is.rootFront (now buffer) objects place size) 0 (now out) ⌝ }
     ensures { λ r. ⌜ Laid (is.rootFront (now (buffer .entry)) objects place size) 0 (now (out .entry)) (now (out .exit)) r ⌝ }
@@ -44,7 +45,17 @@ fn manifest(
     ensures { λ r. ⌜ Laid (is.manifestFrom (now (buffer .entry)) (now (plan .entry)) (now (rows .entry)) objects first place size) 0 (now (out .entry)) (now (out .exit)) r ⌝ }
 {
     let past = root(out, &buffer[0..], objects, place, size);
-    objects_at(out, past, &buffer[0..], plan, &rows[0..], objects, first)
+    let turn = first_turn(plan);
+    objects_at(
+        out,
+        past,
+        &buffer[0..],
+        plan,
+        &rows[0..],
+        objects,
+        first,
+        turn,
+    )
 }
 
 // Header, blobs, manifest, size, footer.
@@ -63,6 +74,7 @@ pub fn whole(
     ensures { λ r. ⌜ Laid (is.wholeOf (now (buffer .entry)) (now (plan .entry)) (now (rows .entry)) objects components place size) 0 (now (out .entry)) (now (out .exit)) r ⌝ }
 {
     let first = columns::OBJECT * objects as usize;
+    let turn = first_turn(plan);
     let start = magic_at(out, 0);
     let end = blobs_at(
         out,
@@ -72,6 +84,7 @@ pub fn whole(
         &rows[0..],
         components,
         first,
+        turn,
     );
     let n = manifest(
         &mut out[end..],

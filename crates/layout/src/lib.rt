@@ -1,8 +1,8 @@
 // The whole file that sound rows ask for: header, blobs, manifest, size, footer.
-mod components;
+pub mod components;
 mod fields;
-mod framing;
-mod objects;
+pub mod framing;
+pub mod objects;
 
 ghost use mathlib.Core.Path.{_≡_};
 ghost use mathlib.Core.List.{_++_};

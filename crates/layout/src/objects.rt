@@ -16,8 +16,6 @@ use columns::SHAPE;
 use emit::head_at;
 use emit::list_at;
 use emit::text_at;
-use sizes::placing::first_turn;
-ghost use Rattle.rows.specs.Running.{begun};
 ghost use Rattle.emit.specs.Laid.{Room, Laid};
 ghost use Rattle.layout.specs.Pieces as is;
 ghost use Rattle.layout.specs.Rows.{ObjectRow, ObjectRows};
@@ -59,7 +57,7 @@ fn rest_at(out: &mut [u8], at: usize, buffer: &[u8], row: &[u64]) -> usize
     head_at(out, c, 5, row[COUNT])
 }
 
-// The entries of n objects, the first at the rows' start, their components from the place `first` on.
+// The entries of n objects, the first at the rows' start, their components from the place `first` on, where the turn `turn` is reached.
 pub fn objects_at(
     out: &mut [u8],
     at: usize,
@@ -68,23 +66,24 @@ pub fn objects_at(
     rows: &[u64],
     n: u64,
     first: usize,
+    turn: u64,
 ) -> usize
-    requires { ⌜ ObjectRows (now buffer) (now plan) (now rows) n 0 first (begun (now plan)) ⌝ }
-    requires { ⌜ Room (is.objectsOf (now buffer) (now plan) (now rows) n 0 first (begun (now plan))) at (now out) ⌝ }
-    ensures { λ r. ⌜ Laid (is.objectsOf (now (buffer .entry)) (now (plan .entry)) (now (rows .entry)) n 0 first (begun (now (plan .entry)))) at (now (out .entry)) (now (out .exit)) r ⌝ }
+    requires { ⌜ ObjectRows (now buffer) (now plan) (now rows) n 0 first turn ⌝ }
+    requires { ⌜ Room (is.objectsOf (now buffer) (now plan) (now rows) n 0 first turn) at (now out) ⌝ }
+    ensures { λ r. ⌜ Laid (is.objectsOf (now (buffer .entry)) (now (plan .entry)) (now (rows .entry)) n 0 first turn) at (now (out .entry)) (now (out .exit)) r ⌝ }
 {
     let mut past = at;
     let mut row = 0;
     let mut from = first;
-    let mut turn = first_turn(plan);
+    let mut next = turn;
     let mut left = n;
     while 0 < left {
         let count = rows[row + COUNT];
         let front = front_at(out, past, &buffer[0..], &rows[row..]);
         let rest = rest_at(out, front, &buffer[0..], &rows[row..]);
-        let p = components_at(out, rest, &buffer[0..], plan, &rows[0..], count, from, turn);
+        let p = components_at(out, rest, &buffer[0..], plan, &rows[0..], count, from, next);
         past = p.at;
-        turn = p.turn;
+        next = p.turn;
         from += columns::COMPONENT * count as usize;
         row += columns::OBJECT;
         left -= 1;

@@ -86,7 +86,7 @@ attributes-stay (some t) a e =
 abbrev attributesAt : ℕ
 attributesAt = 1
 
-record Parts (L : Layout) (start : ℕ) (t : Node Ends) (m : Model Ends) : Type 0 where
+pub record Parts (L : Layout) (start : ℕ) (t : Node Ends) (m : Model Ends) : Type 0 where
   pub pairs : List (Pair Ends)
   pub kind-is : kind t ≡ table pairs
   pub objects : Node Ends
@@ -157,48 +157,49 @@ module _ (layout start : ℕ) (m : List ℕ) (before : List ℕ) where
     unfolding answer tableAfter roomy
     no-room e = let r = a .is in let i = room-is in (rw (r, i, ← e) refl, rw (r, i, ← e) refl)
 
-    module _ (room : length m < FAULT) (fits : true ≡ leb (objectWidth * objects + componentWidth * components) (length before)) where
-      parts : Parts (layoutOf layout) start (a .tree) (a .model)
+    module _ (room : length m < FAULT) where
+      pub parts : Parts (layoutOf layout) start (a .tree) (a .model)
       parts = parts-of (layoutOf layout) start (a .tree) (a .model) (a .judged)
 
       -- where the objects and the attributes stand
-      objects-read : (place : ℕ) → place ≡ length m - at → (rest : List ℕ) × Reads 31 (Here m place) (parts .objects) rest
+      pub objects-read : (place : ℕ) → place ≡ length m - at → (rest : List ℕ) × Reads 31 (Here m place) (parts .objects) rest
       objects-read place here =
           let h : Holds 31 m at (some (parts .objects)) = subst (Holds 31 m at) (parts .objects-there) (a .objects-at (a .tree) (a .rest) (a .reads) (parts .pairs) (parts .kind-is)) in
           (h .1 .rest, subst (λ u. Reads 31 u (parts .objects) (h .1 .rest)) (sym (part-to-end m place ∙ ap (λ i. drop i m) here)) (h .1 .reads))
 
-      attributes-hold : Holds 31 m left (a .model .attributes)
+      pub attributes-hold : Holds 31 m left (a .model .attributes)
       attributes-hold =
           subst (λ l. Holds 31 m l (a .model .attributes)) (sym (a .attributes-left))
           (field-holds m room (a .tree) (a .rest) (a .reads) (parts .pairs) (parts .kind-is) (slot attributesAt (layoutOf layout .root)) (a .model .attributes) (sym (parts .attributes-are)))
 
-      enough : roomFor (a .model) ≤ length before
-      unfolding roomFor
-      enough = let x = leb-true (objectWidth * objects + componentWidth * components) (length before) (sym fits) in let z = a .objects-are in let w = a .components-are in omega arith
+      module _ (fits : true ≡ leb (objectWidth * objects + componentWidth * components) (length before)) where
+        enough : roomFor (a .model) ≤ length before
+        unfolding roomFor
+        enough = let x = leb-true (objectWidth * objects + componentWidth * components) (length before) (sym fits) in let z = a .objects-are in let w = a .components-are in omega arith
 
-      reading-is : (manifestReading (layoutOf layout) (start + length m) start m >>= roomy (length before)) ≡ pass (record { start = start; model = mapModel (spanOf (start + length m)) (a .model) })
-      unfolding roomy
-      reading-is = let r = a .is in let i = room-is in rw (r, i, ← fits) refl
+        reading-is : (manifestReading (layoutOf layout) (start + length m) start m >>= roomy (length before)) ≡ pass (record { start = start; model = mapModel (spanOf (start + length m)) (a .model) })
+        unfolding roomy
+        reading-is = let r = a .is in let i = room-is in rw (r, i, ← fits) refl
 
-      answer-is : (s : Span) → AttributesIs m left (start + length m) s → read objects components start s ≡ answered (pass (record { start = start; model = mapModel (spanOf (start + length m)) (a .model) }))
-      unfolding answer
-      answer-is s h =
-          let x = a .objects-are ∙ sym (length-map (a .model .objects) (mapObject (spanOf (start + length m)))) in
-          let y = a .components-are ∙ sym (count-mapped (start + length m) (a .model .objects)) in
-          let z = h (a .model .attributes) attributes-hold in
-          let u : s .place ≡ attributesSpan (mapOption (mapP (spanOf (start + length m))) (a .model .attributes)) .place = ap (λ (s : spans.Span). s .place) z in
-          let v : s .size ≡ attributesSpan (mapOption (mapP (spanOf (start + length m))) (a .model .attributes)) .size = ap (λ (s : spans.Span). s .size) z in
-          rw (x, y, u, v) refl
+        answer-is : (s : Span) → AttributesIs m left (start + length m) s → read objects components start s ≡ answered (pass (record { start = start; model = mapModel (spanOf (start + length m)) (a .model) }))
+        unfolding answer
+        answer-is s h =
+            let x = a .objects-are ∙ sym (length-map (a .model .objects) (mapObject (spanOf (start + length m)))) in
+            let y = a .components-are ∙ sym (count-mapped (start + length m) (a .model .objects)) in
+            let z = h (a .model .attributes) attributes-hold in
+            let u : s .place ≡ attributesSpan (mapOption (mapP (spanOf (start + length m))) (a .model .attributes)) .place = ap (λ (s : spans.Span). s .place) z in
+            let v : s .size ≡ attributesSpan (mapOption (mapP (spanOf (start + length m))) (a .model .attributes)) .size = ap (λ (s : spans.Span). s .size) z in
+            rw (x, y, u, v) refl
 
-      pub written : (place : ℕ) → place ≡ length m - at → (after : List ℕ) → Written layout (Here m place) start (start + length m) (objectWidth * objects) before after
-          → (s : Span) → AttributesIs m left (start + length m) s → Filled (layoutOf layout) start m before (read objects components start s) after
-      unfolding tableAfter
-      written place here after w s h =
-          let o = objects-read place here in
-          let from : objectWidth * objects ≡ objectWidth * length (a .model .objects) = ap (λ n. objectWidth * n) (a .objects-are) in (
-            answer-is s h ∙ ap answered (sym reading-is),
-            w (parts .objects) (o .0) (o .1) (a .model) (parts .objects-judged) from enough ∙ ap (tableAfter before) (sym reading-is),
-          )
+        pub written : (place : ℕ) → place ≡ length m - at → (after : List ℕ) → Written layout (Here m place) start (start + length m) (objectWidth * objects) before after
+            → (s : Span) → AttributesIs m left (start + length m) s → Filled (layoutOf layout) start m before (read objects components start s) after
+        unfolding tableAfter
+        written place here after w s h =
+            let o = objects-read place here in
+            let from : objectWidth * objects ≡ objectWidth * length (a .model .objects) = ap (λ n. objectWidth * n) (a .objects-are) in (
+              answer-is s h ∙ ap answered (sym reading-is),
+              w (parts .objects) (o .0) (o .1) (a .model) (parts .objects-judged) from enough ∙ ap (tableAfter before) (sym reading-is),
+            )
 
 -- ---------------------------------------------------------------- as the code has it
 

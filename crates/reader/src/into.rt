@@ -52,7 +52,7 @@ fn fits(room: usize, objects: usize, components: usize) -> bool
 }
 
 // The root's attributes, which have `left` bytes left in m, in a file where m ends at `end`.
-fn attributes(m: &[u8], left: usize, end: usize) -> Span
+pub fn attributes(m: &[u8], left: usize, end: usize) -> Span
     ensures { λ r. ⌜ is.AttributesIs (now (m .entry)) left end r ⌝ }
 {
     let at = place_of(m.len(), left);

@@ -77,7 +77,7 @@ module _ (plan buffer : List ℕ) where
   -- ---- objects
 
   -- a shape is no longer than rows have room for
-  abbrev short : AskedObject → Bool
+  abbrev pub short : AskedObject → Bool
   short o = ltb (length (o .shape)) 24
 
   short-row : (row : List ℕ) → objectSound buffer (askedObject row) ≡ true → short (askedObject row) ≡ true
@@ -85,7 +85,7 @@ module _ (plan buffer : List ℕ) where
   short-row row e =
       lt-ltb (length (take (getD row rankColumn 0) (drop shapeColumn row))) 24 (omega (arith, object-rank-small buffer (askedObject row) e, length-take (getD row rankColumn 0) (drop shapeColumn row)))
 
-  short-rows : (n : ℕ) (rows : List ℕ) → all (objectSound buffer) (eachRow askedObject objectWidth n rows) ≡ true → all short (eachRow askedObject objectWidth n rows) ≡ true
+  pub short-rows : (n : ℕ) (rows : List ℕ) → all (objectSound buffer) (eachRow askedObject objectWidth n rows) ≡ true → all short (eachRow askedObject objectWidth n rows) ≡ true
   unfolding eachRow
   short-rows zero rows e = refl
   short-rows (suc n) rows e =
@@ -108,7 +108,7 @@ module _ (plan buffer : List ℕ) where
         parts-length n cs f,
       )
 
-  objects-length : (n : ℕ) (os : List AskedObject) (cs : List AskedComponent) → counted os ≡ length cs → all (objectSound buffer) os ≡ true → all short os ≡ true
+  pub objects-length : (n : ℕ) (os : List AskedObject) (cs : List AskedComponent) → counted os ≡ length cs → all (objectSound buffer) os ≡ true → all short os ≡ true
       → all (componentSound buffer) cs ≡ true → entriesSize (objectsFrom plan n (describedObjects buffer os cs)) ≡ objectsSize plan n os cs
   unfolding entriesSize objectsFrom objectsSize describedObjects describedObject counted
   objects-length n [] cs k e s f = refl

@@ -49,7 +49,7 @@ fn component(row: &[u64], offset: u64) -> u64
 }
 
 // n components, where the turn `first` is reached.
-fn components(plan: &[u64], rows: &[u64], n: u64, first: u64) -> u64
+pub fn components(plan: &[u64], rows: &[u64], n: u64, first: u64) -> u64
     requires { ⌜ componentWidth * n ≤ length (now rows) ⌝ }
     requires { ⌜ reached (now plan) first (blobSizes (eachRow askedComponent componentWidth n (now rows))) ≤ turnLimit (now plan) ⌝ }
     ensures { λ r. ⌜ r ≡ is.capped (is.componentsSize (now (plan .entry)) first (eachRow askedComponent componentWidth n (now (rows .entry)))) ⌝ }
@@ -70,7 +70,7 @@ fn components(plan: &[u64], rows: &[u64], n: u64, first: u64) -> u64
 }
 
 // The object whose row these numbers begin with, without its components.
-fn object(row: &[u64]) -> u64
+pub fn object(row: &[u64]) -> u64
     requires { ⌜ objectWidth ≤ length (now row) ⌝ }
     requires { ⌜ getD (now row) rankColumn 0 ≤ 8 ⌝ }
     ensures { λ r. ⌜ r ≡ is.capped (is.objectSize (askedObject (now (row .entry)))) ⌝ }

@@ -1,11 +1,11 @@
 // The rows of an accepted manifest, written into the lent table (document 01, "The table and the view") in a second pass, by the walkers that judged it.
 // Every slice runs to the manifest's end, which is the file's place `end`; a place in it is the number of bytes left there, 0 for none.
 mod late;
-mod lay;
+pub mod lay;
 mod object_row;
 mod pass;
 mod row;
-mod rows;
+pub mod rows;
 pub mod span;
 
 use late::late;
@@ -21,7 +21,7 @@ ghost use Rattle.walk.proofs.Turns.{Modes};
 ghost use Rattle.table.specs.Objects.{WholePut, AllLaid, Written};
 
 // Puts the rows of object number `owner`, whose key begins s and whose value begins c, at depth 3: its own from i on, its components' from `from` on.
-fn put_whole(
+pub fn put_whole(
     layout: u64,
     s: &[u8],
     c: &[u8],

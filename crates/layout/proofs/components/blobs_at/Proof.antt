@@ -2,7 +2,6 @@
 use Rattle.layout.proofs.Turns as turns
 use Rattle.layout.proofs.Walking as walking
 use Rattle.layout.specs.Pieces.{blobsOf}
-use Rattle.rows.specs.Running.{begun}
 use Rattle.emit.proofs.Laying as laying
 use lib.ListN.{take}
 use native.Mathlib.Omega.{arith}
@@ -12,39 +11,35 @@ use Rattle.layout.proofs.components.blobs_at.Tie as tie
 use Rattle.layout.proofs.components.blobs_at.Reads as reads
 use Rattle.layout.proofs.components.blobs_at.Lts as lts
 use Rattle.layout.proofs.components.blob_at.Reads as blob-at-reads
-use Rattle.sizes.proofs.placing.first_turn.Reads as first-turn-reads
 use Rattle.sizes.proofs.placing.offset_at.Reads as offset-at-reads
 use Rattle.sizes.proofs.placing.stepped.Reads as stepped-reads
 
 abbrev Inv-loop : tie.InvT-loop
-Inv-loop out₀ at buffer plan rows n first past₀ row₀ left₀ turn₀ out past row left turn = turns.BlobsLeft buffer plan rows (blobsOf buffer plan rows (take at out₀) n first (begun plan)) out₀ left row turn past out
+Inv-loop out₀ at buffer plan rows n first turn past₀ row₀ left₀ next₀ out past row left next = turns.BlobsLeft buffer plan rows (blobsOf buffer plan rows (take at out₀) n first turn) out₀ left row next past out
 
 abbrev μ-loop : tie.MeasureT-loop
-μ-loop out₀ at buffer plan rows n first past₀ row₀ left₀ turn₀ out past row left turn = left
-
-first-turn-requires : tie.Need-first-turn-requires Inv-loop μ-loop
-first-turn-requires c κs = search needs
+μ-loop out₀ at buffer plan rows n first turn past₀ row₀ left₀ next₀ out past row left next = left
 
 loop-holds : tie.Need-loop-holds Inv-loop μ-loop
-loop-holds c = turns.blobs-begin ((c .before .before .before .before .before .pre .0)) ((c .before .before .before .before .before .pre .1)) ((c .first-turn .ensures))
+loop-holds c = turns.blobs-begin ((c .before .before .before .before .pre .0)) ((c .before .before .before .before .pre .1))
 
 offset-at-requires : tie.Need-offset-at-requires Inv-loop μ-loop
 offset-at-requires c κs = walking.reached-low ((c .before .loop .inv .rest))
 
 add-size : tie.Need-add-size Inv-loop μ-loop
-add-size c = let l = walking.first-long ((c .before .before .loop .inv .rest)) ((c .before .loop-test .taken)) in let g = (c .before .before .before .before .before .before .before .before .good) in omega arith
+add-size c = let l = walking.first-long ((c .before .before .loop .inv .rest)) ((c .before .loop-test .taken)) in let g = (c .before .before .before .before .before .before .before .good) in omega arith
 
 mul-size : tie.Need-mul-size Inv-loop μ-loop
-mul-size c = let l = walking.first-long ((c .before .before .loop .inv .rest)) ((c .before .loop-test .taken)) in let g = (c .before .before .before .before .before .before .before .before .good) in omega arith
+mul-size c = let l = walking.first-long ((c .before .before .loop .inv .rest)) ((c .before .loop-test .taken)) in let g = (c .before .before .before .before .before .before .before .good) in omega arith
 
 shared-slice-read-size : tie.Need-shared-slice-read-size Inv-loop μ-loop
 shared-slice-read-size c = omega (arith, walking.first-long ((c .before .before .before .loop .inv .rest)) ((c .before .before .loop-test .taken)))
 
 add-blob-at : tie.Need-add-blob-at Inv-loop μ-loop
-add-blob-at c = let l = walking.first-long ((c .before .before .before .before .loop .inv .rest)) ((c .before .before .before .loop-test .taken)) in let g = (c .before .before .before .before .before .before .before .before .before .before .good) in omega arith
+add-blob-at c = let l = walking.first-long ((c .before .before .before .before .loop .inv .rest)) ((c .before .before .before .loop-test .taken)) in let g = (c .before .before .before .before .before .before .before .before .before .good) in omega arith
 
 mul-blob-at : tie.Need-mul-blob-at Inv-loop μ-loop
-mul-blob-at c = let l = walking.first-long ((c .before .before .before .before .loop .inv .rest)) ((c .before .before .before .loop-test .taken)) in let g = (c .before .before .before .before .before .before .before .before .before .before .good) in omega arith
+mul-blob-at c = let l = walking.first-long ((c .before .before .before .before .loop .inv .rest)) ((c .before .before .before .loop-test .taken)) in let g = (c .before .before .before .before .before .before .before .before .before .good) in omega arith
 
 shared-slice-read-blob-at : tie.Need-shared-slice-read-blob-at Inv-loop μ-loop
 shared-slice-read-blob-at c = omega (arith, walking.first-long ((c .before .before .before .before .before .loop .inv .rest)) ((c .before .before .before .before .loop-test .taken)))
@@ -56,7 +51,7 @@ stepped-requires : tie.Need-stepped-requires Inv-loop μ-loop
 stepped-requires c κs = walking.next-low ((c .before .before .before .before .before .before .before .before .loop .inv .rest)) ((c .before .before .before .before .before .before .before .loop-test .taken))
 
 add-row : tie.Need-add-row Inv-loop μ-loop
-add-row c = let l = walking.first-long ((c .before .before .before .before .before .before .before .before .before .loop .inv .rest)) ((c .before .before .before .before .before .before .before .before .loop-test .taken)) in let g = (c .before .before .before .before .before .before .before .before .before .before .before .before .before .before .before .good) in omega arith
+add-row c = let l = walking.first-long ((c .before .before .before .before .before .before .before .before .before .loop .inv .rest)) ((c .before .before .before .before .before .before .before .before .loop-test .taken)) in let g = (c .before .before .before .before .before .before .before .before .before .before .before .before .before .before .good) in omega arith
 
 sub-left : tie.Need-sub-left Inv-loop μ-loop
 sub-left c = search needs
@@ -79,7 +74,6 @@ blobs-at-spec =
     (tie.spec
     Inv-loop
     μ-loop
-    first-turn-requires
     loop-holds
     offset-at-requires
     add-size

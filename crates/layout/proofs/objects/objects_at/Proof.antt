@@ -5,7 +5,6 @@ use Rattle.layout.specs.Pieces.{objectsOf, componentsOf, objectFront, ob
 use Rattle.layout.specs.Rows.{ObjectRow, ComponentRows}
 use Rattle.emit.proofs.Laying as laying
 use Rattle.rows.proofs.Lent as rows
-use Rattle.rows.specs.Running.{begun}
 use Rattle.meaning.specs.Columns.{countColumn}
 use lib.ListN.{getD}
 use mathlib.Core.Path.{sym, _∙_}
@@ -19,26 +18,22 @@ use Rattle.layout.proofs.objects.objects_at.Lts as lts
 use Rattle.layout.proofs.components.components_at.Reads as components-at-reads
 use Rattle.layout.proofs.objects.front_at.Reads as front-at-reads
 use Rattle.layout.proofs.objects.rest_at.Reads as rest-at-reads
-use Rattle.sizes.proofs.placing.first_turn.Reads as first-turn-reads
 
 abbrev Inv-loop : tie.InvT-loop
-Inv-loop out₀ at buffer plan rows n first past₀ row₀ from₀ turn₀ left₀ out past row from turn left =
-    turns.ObjectsLeft buffer plan rows (objectsOf buffer plan rows n 0 first (begun plan)) at out₀ left row from turn past out
+Inv-loop out₀ at buffer plan rows n first turn past₀ row₀ from₀ next₀ left₀ out past row from next left =
+    turns.ObjectsLeft buffer plan rows (objectsOf buffer plan rows n 0 first turn) at out₀ left row from next past out
 
 abbrev μ-loop : tie.MeasureT-loop
-μ-loop out₀ at buffer plan rows n first past₀ row₀ from₀ turn₀ left₀ out past row from turn left = left
-
-first-turn-requires : tie.Need-first-turn-requires Inv-loop μ-loop
-first-turn-requires c κs = search needs
+μ-loop out₀ at buffer plan rows n first turn past₀ row₀ from₀ next₀ left₀ out past row from next left = left
 
 loop-holds : tie.Need-loop-holds Inv-loop μ-loop
-loop-holds c = turns.objects-begin ((c .before .before .before .before .before .pre .0)) ((c .before .before .before .before .before .pre .1)) ((c .first-turn .ensures))
+loop-holds c = turns.objects-begin ((c .before .before .before .before .pre .0)) ((c .before .before .before .before .pre .1))
 
 add-count : tie.Need-add-count Inv-loop μ-loop
-add-count c = let l = walking.object-long ((c .before .loop .inv .rest)) ((c .loop-test .taken)) in let g = (c .before .before .before .before .before .before .before .good) in omega arith
+add-count c = let l = walking.object-long ((c .before .loop .inv .rest)) ((c .loop-test .taken)) in let g = (c .before .before .before .before .before .before .good) in omega arith
 
 mul-count : tie.Need-mul-count Inv-loop μ-loop
-mul-count c = let l = walking.object-long ((c .before .loop .inv .rest)) ((c .loop-test .taken)) in let g = (c .before .before .before .before .before .before .before .good) in omega arith
+mul-count c = let l = walking.object-long ((c .before .loop .inv .rest)) ((c .loop-test .taken)) in let g = (c .before .before .before .before .before .before .good) in omega arith
 
 shared-slice-read-count : tie.Need-shared-slice-read-count Inv-loop μ-loop
 shared-slice-read-count c = omega (arith, walking.object-long ((c .before .before .loop .inv .rest)) ((c .before .loop-test .taken)))
@@ -53,7 +48,7 @@ part-front-at-end : tie.Need-part-front-at-end Inv-loop μ-loop
 part-front-at-end c = search needs
 
 mul-front-at : tie.Need-mul-front-at Inv-loop μ-loop
-mul-front-at c = let l = walking.object-long ((c .before .before .before .before .loop .inv .rest)) ((c .before .before .before .loop-test .taken)) in let g = (c .before .before .before .before .before .before .before .before .before .before .good) in omega arith
+mul-front-at c = let l = walking.object-long ((c .before .before .before .before .loop .inv .rest)) ((c .before .before .before .loop-test .taken)) in let g = (c .before .before .before .before .before .before .before .before .before .good) in omega arith
 
 sub-front-at-2 : tie.Need-sub-front-at-2 Inv-loop μ-loop
 sub-front-at-2 c = omega (arith, walking.object-long ((c .before .before .before .before .loop .inv .rest)) ((c .before .before .before .loop-test .taken)))
@@ -65,7 +60,7 @@ part-front-at-end-2 : tie.Need-part-front-at-end-2 Inv-loop μ-loop
 part-front-at-end-2 c = search needs
 
 front-at-requires : tie.Need-front-at-requires Inv-loop μ-loop
-front-at-requires c κs = (walking.as-lent ((c .before .before .before .before .before .before .before .before .before .before .before .args .buffer .now)) ((c .before .before .before .before .before .before .before .before .before .before .before .args .rows .now)) ((c .before .before .before .before .before .loop .row)) ObjectRow (walking.first-object ((c .before .before .before .before .before .loop .inv .rest)) ((c .before .before .before .before .loop-test .taken))), laying.room-as (sym (rows.lent-both ((c .before .before .before .before .before .before .before .before .before .before .before .args .buffer .now)) ((c .before .before .before .before .before .before .before .before .before .before .before .args .rows .now)) ((c .before .before .before .before .before .loop .row)) objectFront)) (turns.room-for-front ((c .before .before .before .before .before .loop .inv)) ((c .before .before .before .before .loop-test .taken))))
+front-at-requires c κs = (walking.as-lent ((c .before .before .before .before .before .before .before .before .before .before .args .buffer .now)) ((c .before .before .before .before .before .before .before .before .before .before .args .rows .now)) ((c .before .before .before .before .before .loop .row)) ObjectRow (walking.first-object ((c .before .before .before .before .before .loop .inv .rest)) ((c .before .before .before .before .loop-test .taken))), laying.room-as (sym (rows.lent-both ((c .before .before .before .before .before .before .before .before .before .before .args .buffer .now)) ((c .before .before .before .before .before .before .before .before .before .before .args .rows .now)) ((c .before .before .before .before .before .loop .row)) objectFront)) (turns.room-for-front ((c .before .before .before .before .before .loop .inv)) ((c .before .before .before .before .loop-test .taken))))
 
 sub-rest-at : tie.Need-sub-rest-at Inv-loop μ-loop
 sub-rest-at c = search needs
@@ -77,7 +72,7 @@ part-rest-at-end : tie.Need-part-rest-at-end Inv-loop μ-loop
 part-rest-at-end c = search needs
 
 mul-rest-at : tie.Need-mul-rest-at Inv-loop μ-loop
-mul-rest-at c = let l = walking.object-long ((c .before .before .before .before .before .before .before .before .before .before .loop .inv .rest)) ((c .before .before .before .before .before .before .before .before .before .loop-test .taken)) in let g = (c .before .before .before .before .before .before .before .before .before .before .before .before .before .before .before .before .good) in omega arith
+mul-rest-at c = let l = walking.object-long ((c .before .before .before .before .before .before .before .before .before .before .loop .inv .rest)) ((c .before .before .before .before .before .before .before .before .before .loop-test .taken)) in let g = (c .before .before .before .before .before .before .before .before .before .before .before .before .before .before .before .good) in omega arith
 
 sub-rest-at-2 : tie.Need-sub-rest-at-2 Inv-loop μ-loop
 sub-rest-at-2 c = omega (arith, walking.object-long ((c .before .before .before .before .before .before .before .before .before .before .loop .inv .rest)) ((c .before .before .before .before .before .before .before .before .before .loop-test .taken)))
@@ -89,7 +84,7 @@ part-rest-at-end-2 : tie.Need-part-rest-at-end-2 Inv-loop μ-loop
 part-rest-at-end-2 c = search needs
 
 rest-at-requires : tie.Need-rest-at-requires Inv-loop μ-loop
-rest-at-requires c κs = (walking.as-lent ((c .before .before .before .before .before .before .before .before .before .before .before .before .before .before .before .before .before .args .buffer .now)) ((c .before .before .before .before .before .before .before .before .before .before .before .before .before .before .before .before .before .args .rows .now)) ((c .before .before .before .before .before .before .before .before .before .before .before .loop .row)) ObjectRow (walking.first-object ((c .before .before .before .before .before .before .before .before .before .before .before .loop .inv .rest)) ((c .before .before .before .before .before .before .before .before .before .before .loop-test .taken))), laying.room-as (sym (rows.lent-both ((c .before .before .before .before .before .before .before .before .before .before .before .before .before .before .before .before .before .args .buffer .now)) ((c .before .before .before .before .before .before .before .before .before .before .before .before .before .before .before .before .before .args .rows .now)) ((c .before .before .before .before .before .before .before .before .before .before .before .loop .row)) objectRest)) (turns.room-for-rest ((c .before .before .before .before .before .before .before .before .before .before .before .loop .inv)) ((c .before .before .before .before .before .before .before .before .before .before .loop-test .taken)) (laying.as-bytes (rows.lent-both ((c .before .before .before .before .before .before .before .before .before .before .before .before .before .before .before .before .before .args .buffer .now)) ((c .before .before .before .before .before .before .before .before .before .before .before .before .before .before .before .before .before .args .rows .now)) ((c .before .before .before .before .before .before .before .before .before .before .before .loop .row)) objectFront) ((c .before .before .before .before .before .front-at .ensures)))))
+rest-at-requires c κs = (walking.as-lent ((c .before .before .before .before .before .before .before .before .before .before .before .before .before .before .before .before .args .buffer .now)) ((c .before .before .before .before .before .before .before .before .before .before .before .before .before .before .before .before .args .rows .now)) ((c .before .before .before .before .before .before .before .before .before .before .before .loop .row)) ObjectRow (walking.first-object ((c .before .before .before .before .before .before .before .before .before .before .before .loop .inv .rest)) ((c .before .before .before .before .before .before .before .before .before .before .loop-test .taken))), laying.room-as (sym (rows.lent-both ((c .before .before .before .before .before .before .before .before .before .before .before .before .before .before .before .before .args .buffer .now)) ((c .before .before .before .before .before .before .before .before .before .before .before .before .before .before .before .before .args .rows .now)) ((c .before .before .before .before .before .before .before .before .before .before .before .loop .row)) objectRest)) (turns.room-for-rest ((c .before .before .before .before .before .before .before .before .before .before .before .loop .inv)) ((c .before .before .before .before .before .before .before .before .before .before .loop-test .taken)) (laying.as-bytes (rows.lent-both ((c .before .before .before .before .before .before .before .before .before .before .before .before .before .before .before .before .args .buffer .now)) ((c .before .before .before .before .before .before .before .before .before .before .before .before .before .before .before .before .args .rows .now)) ((c .before .before .before .before .before .before .before .before .before .before .before .loop .row)) objectFront) ((c .before .before .before .before .before .front-at .ensures)))))
 
 sub-components-at : tie.Need-sub-components-at Inv-loop μ-loop
 sub-components-at c = search needs
@@ -111,18 +106,18 @@ part-components-at-end-2 c = search needs
 
 components-at-requires : tie.Need-components-at-requires Inv-loop μ-loop
 components-at-requires c κs = (
-  walking.as-lent ((c .before .before .before .before .before .before .before .before .before .before .before .before .before .before .before .before .before .before .before .before .before .before .before .args .buffer .now)) ((c .before .before .before .before .before .before .before .before .before .before .before .before .before .before .before .before .before .before .before .before .before .before .before .args .rows .now)) 0 (λ b r. ComponentRows b ((c .before .before .before .before .before .before .before .before .before .before .before .before .before .before .before .before .before .before .before .before .before .before .before .args .plan .now)) r (getD ((c .before .before .before .before .before .before .before .before .before .before .before .before .before .before .before .before .before .before .before .before .before .before .before .args .rows .now)) ((c .before .before .before .before .before .before .before .before .before .before .before .before .before .before .before .before .before .loop .row) + countColumn) 0) ((c .before .before .before .before .before .before .before .before .before .before .before .before .before .before .before .before .before .loop .from)) ((c .before .before .before .before .before .before .before .before .before .before .before .before .before .before .before .before .before .loop .turn))) (walking.its-components ((c .before .before .before .before .before .before .before .before .before .before .before .before .before .before .before .before .before .loop .inv .rest)) ((c .before .before .before .before .before .before .before .before .before .before .before .before .before .before .before .before .loop-test .taken))),
-  laying.room-as (sym (rows.lent-both ((c .before .before .before .before .before .before .before .before .before .before .before .before .before .before .before .before .before .before .before .before .before .before .before .args .buffer .now)) ((c .before .before .before .before .before .before .before .before .before .before .before .before .before .before .before .before .before .before .before .before .before .before .before .args .rows .now)) 0 (λ b r. componentsOf b ((c .before .before .before .before .before .before .before .before .before .before .before .before .before .before .before .before .before .before .before .before .before .before .before .args .plan .now)) r (getD ((c .before .before .before .before .before .before .before .before .before .before .before .before .before .before .before .before .before .before .before .before .before .before .before .args .rows .now)) ((c .before .before .before .before .before .before .before .before .before .before .before .before .before .before .before .before .before .loop .row) + countColumn) 0) ((c .before .before .before .before .before .before .before .before .before .before .before .before .before .before .before .before .before .loop .from)) ((c .before .before .before .before .before .before .before .before .before .before .before .before .before .before .before .before .before .loop .turn))))) (turns.room-for-components ((c .before .before .before .before .before .before .before .before .before .before .before .before .before .before .before .before .before .loop .inv)) ((c .before .before .before .before .before .before .before .before .before .before .before .before .before .before .before .before .loop-test .taken)) (laying.as-bytes (rows.lent-both ((c .before .before .before .before .before .before .before .before .before .before .before .before .before .before .before .before .before .before .before .before .before .before .before .args .buffer .now)) ((c .before .before .before .before .before .before .before .before .before .before .before .before .before .before .before .before .before .before .before .before .before .before .before .args .rows .now)) ((c .before .before .before .before .before .before .before .before .before .before .before .before .before .before .before .before .before .loop .row)) objectFront) ((c .before .before .before .before .before .before .before .before .before .before .before .front-at .ensures))) (laying.as-bytes (rows.lent-both ((c .before .before .before .before .before .before .before .before .before .before .before .before .before .before .before .before .before .before .before .before .before .before .before .args .buffer .now)) ((c .before .before .before .before .before .before .before .before .before .before .before .before .before .before .before .before .before .before .before .before .before .before .before .args .rows .now)) ((c .before .before .before .before .before .before .before .before .before .before .before .before .before .before .before .before .before .loop .row)) objectRest) ((c .before .before .before .before .before .rest-at .ensures)))),
+  walking.as-lent ((c .before .before .before .before .before .before .before .before .before .before .before .before .before .before .before .before .before .before .before .before .before .before .args .buffer .now)) ((c .before .before .before .before .before .before .before .before .before .before .before .before .before .before .before .before .before .before .before .before .before .before .args .rows .now)) 0 (λ b r. ComponentRows b ((c .before .before .before .before .before .before .before .before .before .before .before .before .before .before .before .before .before .before .before .before .before .before .args .plan .now)) r (getD ((c .before .before .before .before .before .before .before .before .before .before .before .before .before .before .before .before .before .before .before .before .before .before .args .rows .now)) ((c .before .before .before .before .before .before .before .before .before .before .before .before .before .before .before .before .before .loop .row) + countColumn) 0) ((c .before .before .before .before .before .before .before .before .before .before .before .before .before .before .before .before .before .loop .from)) ((c .before .before .before .before .before .before .before .before .before .before .before .before .before .before .before .before .before .loop .next))) (walking.its-components ((c .before .before .before .before .before .before .before .before .before .before .before .before .before .before .before .before .before .loop .inv .rest)) ((c .before .before .before .before .before .before .before .before .before .before .before .before .before .before .before .before .loop-test .taken))),
+  laying.room-as (sym (rows.lent-both ((c .before .before .before .before .before .before .before .before .before .before .before .before .before .before .before .before .before .before .before .before .before .before .args .buffer .now)) ((c .before .before .before .before .before .before .before .before .before .before .before .before .before .before .before .before .before .before .before .before .before .before .args .rows .now)) 0 (λ b r. componentsOf b ((c .before .before .before .before .before .before .before .before .before .before .before .before .before .before .before .before .before .before .before .before .before .before .args .plan .now)) r (getD ((c .before .before .before .before .before .before .before .before .before .before .before .before .before .before .before .before .before .before .before .before .before .before .args .rows .now)) ((c .before .before .before .before .before .before .before .before .before .before .before .before .before .before .before .before .before .loop .row) + countColumn) 0) ((c .before .before .before .before .before .before .before .before .before .before .before .before .before .before .before .before .before .loop .from)) ((c .before .before .before .before .before .before .before .before .before .before .before .before .before .before .before .before .before .loop .next))))) (turns.room-for-components ((c .before .before .before .before .before .before .before .before .before .before .before .before .before .before .before .before .before .loop .inv)) ((c .before .before .before .before .before .before .before .before .before .before .before .before .before .before .before .before .loop-test .taken)) (laying.as-bytes (rows.lent-both ((c .before .before .before .before .before .before .before .before .before .before .before .before .before .before .before .before .before .before .before .before .before .before .args .buffer .now)) ((c .before .before .before .before .before .before .before .before .before .before .before .before .before .before .before .before .before .before .before .before .before .before .args .rows .now)) ((c .before .before .before .before .before .before .before .before .before .before .before .before .before .before .before .before .before .loop .row)) objectFront) ((c .before .before .before .before .before .before .before .before .before .before .before .front-at .ensures))) (laying.as-bytes (rows.lent-both ((c .before .before .before .before .before .before .before .before .before .before .before .before .before .before .before .before .before .before .before .before .before .before .args .buffer .now)) ((c .before .before .before .before .before .before .before .before .before .before .before .before .before .before .before .before .before .before .before .before .before .before .args .rows .now)) ((c .before .before .before .before .before .before .before .before .before .before .before .before .before .before .before .before .before .loop .row)) objectRest) ((c .before .before .before .before .before .rest-at .ensures)))),
 )
 
 mul-from : tie.Need-mul-from Inv-loop μ-loop
-mul-from c = let l = (walking.its-components ((c .before .before .before .before .before .before .before .before .before .before .before .before .before .before .before .before .before .before .before .before .loop .inv .rest)) ((c .before .before .before .before .before .before .before .before .before .before .before .before .before .before .before .before .before .before .before .loop-test .taken))) .lie in let g = (c .before .before .before .before .before .before .before .before .before .before .before .before .before .before .before .before .before .before .before .before .before .before .before .before .before .before .good) in omega arith
+mul-from c = let l = (walking.its-components ((c .before .before .before .before .before .before .before .before .before .before .before .before .before .before .before .before .before .before .before .before .loop .inv .rest)) ((c .before .before .before .before .before .before .before .before .before .before .before .before .before .before .before .before .before .before .before .loop-test .taken))) .lie in let g = (c .before .before .before .before .before .before .before .before .before .before .before .before .before .before .before .before .before .before .before .before .before .before .before .before .before .good) in omega arith
 
 add-from : tie.Need-add-from Inv-loop μ-loop
-add-from c = let l = (walking.its-components ((c .before .before .before .before .before .before .before .before .before .before .before .before .before .before .before .before .before .before .before .before .loop .inv .rest)) ((c .before .before .before .before .before .before .before .before .before .before .before .before .before .before .before .before .before .before .before .loop-test .taken))) .lie in let g = (c .before .before .before .before .before .before .before .before .before .before .before .before .before .before .before .before .before .before .before .before .before .before .before .before .before .before .good) in omega arith
+add-from c = let l = (walking.its-components ((c .before .before .before .before .before .before .before .before .before .before .before .before .before .before .before .before .before .before .before .before .loop .inv .rest)) ((c .before .before .before .before .before .before .before .before .before .before .before .before .before .before .before .before .before .before .before .loop-test .taken))) .lie in let g = (c .before .before .before .before .before .before .before .before .before .before .before .before .before .before .before .before .before .before .before .before .before .before .before .before .before .good) in omega arith
 
 add-row : tie.Need-add-row Inv-loop μ-loop
-add-row c = let l = walking.object-long ((c .before .before .before .before .before .before .before .before .before .before .before .before .before .before .before .before .before .before .before .before .loop .inv .rest)) ((c .before .before .before .before .before .before .before .before .before .before .before .before .before .before .before .before .before .before .before .loop-test .taken)) in let g = (c .before .before .before .before .before .before .before .before .before .before .before .before .before .before .before .before .before .before .before .before .before .before .before .before .before .before .good) in omega arith
+add-row c = let l = walking.object-long ((c .before .before .before .before .before .before .before .before .before .before .before .before .before .before .before .before .before .before .before .before .loop .inv .rest)) ((c .before .before .before .before .before .before .before .before .before .before .before .before .before .before .before .before .before .before .before .loop-test .taken)) in let g = (c .before .before .before .before .before .before .before .before .before .before .before .before .before .before .before .before .before .before .before .before .before .before .before .before .before .good) in omega arith
 
 sub-left : tie.Need-sub-left Inv-loop μ-loop
 sub-left c = search needs
@@ -131,8 +126,8 @@ loop-less : tie.Need-loop-less Inv-loop μ-loop
 loop-less c = omega (arith, (c .before .before .before .before .before .before .before .before .before .before .before .before .before .before .before .before .before .before .before .loop-test .taken))
 
 loop-again : tie.Need-loop-again Inv-loop μ-loop
-loop-again c = turns.object-turn ((c .before .before .before .before .before .before .before .before .before .before .before .before .before .before .before .before .before .before .before .before .loop .inv)) ((c .before .before .before .before .before .before .before .before .before .before .before .before .before .before .before .before .before .before .before .loop-test .taken)) (laying.as-bytes (rows.lent-both ((c .before .before .before .before .before .before .before .before .before .before .before .before .before .before .before .before .before .before .before .before .before .before .before .before .before .before .args .buffer .now)) ((c .before .before .before .before .before .before .before .before .before .before .before .before .before .before .before .before .before .before .before .before .before .before .before .before .before .before .args .rows .now)) ((c .before .before .before .before .before .before .before .before .before .before .before .before .before .before .before .before .before .before .before .before .loop .row)) objectFront) ((c .before .before .before .before .before .before .before .before .before .before .before .before .before .before .front-at .ensures))) (laying.as-bytes (rows.lent-both ((c .before .before .before .before .before .before .before .before .before .before .before .before .before .before .before .before .before .before .before .before .before .before .before .before .before .before .args .buffer .now)) ((c .before .before .before .before .before .before .before .before .before .before .before .before .before .before .before .before .before .before .before .before .before .before .before .before .before .before .args .rows .now)) ((c .before .before .before .before .before .before .before .before .before .before .before .before .before .before .before .before .before .before .before .before .loop .row)) objectRest) ((c .before .before .before .before .before .before .before .before .rest-at .ensures)))
-    (laying.as-bytes (rows.lent-both ((c .before .before .before .before .before .before .before .before .before .before .before .before .before .before .before .before .before .before .before .before .before .before .before .before .before .before .args .buffer .now)) ((c .before .before .before .before .before .before .before .before .before .before .before .before .before .before .before .before .before .before .before .before .before .before .before .before .before .before .args .rows .now)) 0 (λ b r. componentsOf b ((c .before .before .before .before .before .before .before .before .before .before .before .before .before .before .before .before .before .before .before .before .before .before .before .before .before .before .args .plan .now)) r (getD ((c .before .before .before .before .before .before .before .before .before .before .before .before .before .before .before .before .before .before .before .before .before .before .before .before .before .before .args .rows .now)) ((c .before .before .before .before .before .before .before .before .before .before .before .before .before .before .before .before .before .before .before .before .loop .row) + countColumn) 0) ((c .before .before .before .before .before .before .before .before .before .before .before .before .before .before .before .before .before .before .before .before .loop .from)) ((c .before .before .before .before .before .before .before .before .before .before .before .before .before .before .before .before .before .before .before .before .loop .turn)))) ((c .before .before .components-at .ensures .0))) (((c .before .before .components-at .ensures .1)) ∙ rows.lent-both ((c .before .before .before .before .before .before .before .before .before .before .before .before .before .before .before .before .before .before .before .before .before .before .before .before .before .before .args .buffer .now)) ((c .before .before .before .before .before .before .before .before .before .before .before .before .before .before .before .before .before .before .before .before .before .before .before .before .before .before .args .rows .now)) 0 (λ b r. reachedPast ((c .before .before .before .before .before .before .before .before .before .before .before .before .before .before .before .before .before .before .before .before .before .before .before .before .before .before .args .plan .now)) r (getD ((c .before .before .before .before .before .before .before .before .before .before .before .before .before .before .before .before .before .before .before .before .before .before .before .before .before .before .args .rows .now)) ((c .before .before .before .before .before .before .before .before .before .before .before .before .before .before .before .before .before .before .before .before .loop .row) + countColumn) 0) ((c .before .before .before .before .before .before .before .before .before .before .before .before .before .before .before .before .before .before .before .before .loop .from)) ((c .before .before .before .before .before .before .before .before .before .before .before .before .before .before .before .before .before .before .before .before .loop .turn))))
+loop-again c = turns.object-turn ((c .before .before .before .before .before .before .before .before .before .before .before .before .before .before .before .before .before .before .before .before .loop .inv)) ((c .before .before .before .before .before .before .before .before .before .before .before .before .before .before .before .before .before .before .before .loop-test .taken)) (laying.as-bytes (rows.lent-both ((c .before .before .before .before .before .before .before .before .before .before .before .before .before .before .before .before .before .before .before .before .before .before .before .before .before .args .buffer .now)) ((c .before .before .before .before .before .before .before .before .before .before .before .before .before .before .before .before .before .before .before .before .before .before .before .before .before .args .rows .now)) ((c .before .before .before .before .before .before .before .before .before .before .before .before .before .before .before .before .before .before .before .before .loop .row)) objectFront) ((c .before .before .before .before .before .before .before .before .before .before .before .before .before .before .front-at .ensures))) (laying.as-bytes (rows.lent-both ((c .before .before .before .before .before .before .before .before .before .before .before .before .before .before .before .before .before .before .before .before .before .before .before .before .before .args .buffer .now)) ((c .before .before .before .before .before .before .before .before .before .before .before .before .before .before .before .before .before .before .before .before .before .before .before .before .before .args .rows .now)) ((c .before .before .before .before .before .before .before .before .before .before .before .before .before .before .before .before .before .before .before .before .loop .row)) objectRest) ((c .before .before .before .before .before .before .before .before .rest-at .ensures)))
+    (laying.as-bytes (rows.lent-both ((c .before .before .before .before .before .before .before .before .before .before .before .before .before .before .before .before .before .before .before .before .before .before .before .before .before .args .buffer .now)) ((c .before .before .before .before .before .before .before .before .before .before .before .before .before .before .before .before .before .before .before .before .before .before .before .before .before .args .rows .now)) 0 (λ b r. componentsOf b ((c .before .before .before .before .before .before .before .before .before .before .before .before .before .before .before .before .before .before .before .before .before .before .before .before .before .args .plan .now)) r (getD ((c .before .before .before .before .before .before .before .before .before .before .before .before .before .before .before .before .before .before .before .before .before .before .before .before .before .args .rows .now)) ((c .before .before .before .before .before .before .before .before .before .before .before .before .before .before .before .before .before .before .before .before .loop .row) + countColumn) 0) ((c .before .before .before .before .before .before .before .before .before .before .before .before .before .before .before .before .before .before .before .before .loop .from)) ((c .before .before .before .before .before .before .before .before .before .before .before .before .before .before .before .before .before .before .before .before .loop .next)))) ((c .before .before .components-at .ensures .0))) (((c .before .before .components-at .ensures .1)) ∙ rows.lent-both ((c .before .before .before .before .before .before .before .before .before .before .before .before .before .before .before .before .before .before .before .before .before .before .before .before .before .args .buffer .now)) ((c .before .before .before .before .before .before .before .before .before .before .before .before .before .before .before .before .before .before .before .before .before .before .before .before .before .args .rows .now)) 0 (λ b r. reachedPast ((c .before .before .before .before .before .before .before .before .before .before .before .before .before .before .before .before .before .before .before .before .before .before .before .before .before .args .plan .now)) r (getD ((c .before .before .before .before .before .before .before .before .before .before .before .before .before .before .before .before .before .before .before .before .before .before .before .before .before .args .rows .now)) ((c .before .before .before .before .before .before .before .before .before .before .before .before .before .before .before .before .before .before .before .before .loop .row) + countColumn) 0) ((c .before .before .before .before .before .before .before .before .before .before .before .before .before .before .before .before .before .before .before .before .loop .from)) ((c .before .before .before .before .before .before .before .before .before .before .before .before .before .before .before .before .before .before .before .before .loop .next))))
 
 same-length : tie.Need-same-length Inv-loop μ-loop
 same-length c = laying.same-so-far ((c .before .loop .inv .going))
@@ -146,7 +141,6 @@ objects-at-spec =
     (tie.spec
     Inv-loop
     μ-loop
-    first-turn-requires
     loop-holds
     add-count
     mul-count
