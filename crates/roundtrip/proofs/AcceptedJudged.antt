@@ -35,7 +35,7 @@ module _ {A B : Type 0} (R : A → B → Type 0) where
   Beside (a ∷ l) [] = ⊥
   Beside (a ∷ l) (b ∷ bs) = R a b × Beside l bs
 
-  each-beside : (f : ℕ → A → Check B) → ((i : ℕ) (a : A) → If (R a) (f i a)) → (i : ℕ) (l : List A) → If (Beside l) (each f i l)
+  pub each-beside : (f : ℕ → A → Check B) → ((i : ℕ) (a : A) → If (R a) (f i a)) → (i : ℕ) (l : List A) → If (Beside l) (each f i l)
   each-beside f g i [] = passes [] tt
   each-beside f g i (a ∷ l) = bind (f i a) _ (g i a) λ b q. bind (each f (suc i) l) _ (each-beside f g (suc i) l) λ bs qs. passes (b ∷ bs) (q, qs)
 
@@ -74,12 +74,12 @@ map-length f [] = refl
 map-length f (a ∷ l) = ap suc (map-length f l)
 
 module _ {P : Type 0} where
-  abbrev called : Named P → List ℕ
+  abbrev pub called : Named P → List ℕ
   called n = n .name .letters
 
   -- ---- names
 
-  names-held : (limit : ℕ) (t : Node P) → If (λ (ns : List (Named P)). judgedNames limit (map called ns) ≡ pass tt) (names limit t)
+  pub names-held : (limit : ℕ) (t : Node P) → If (λ (ns : List (Named P)). judgedNames limit (map called ns) ≡ pass tt) (names limit t)
   unfolding names judgedNames
   names-held limit t =
       bind (aTable t) _ (anyhow (aTable t)) λ ps u.
@@ -161,10 +161,10 @@ module _ {P : Type 0} where
     pub components : GoodComponents (o .components)
     pub rules : formatRules (o .format .letters) (o .shape) (map part (o .components)) ≡ pass tt
 
-  abbrev FromNamed : Named P → Object P → Type 0
+  abbrev pub FromNamed : Named P → Object P → Type 0
   FromNamed n o = (o .name .letters ≡ n .name .letters) × GoodObject o
 
-  object-held : (L : Layout) (start : ℕ) (n : Named P) → If (FromNamed n) (object L start n)
+  pub object-held : (L : Layout) (start : ℕ) (n : Named P) → If (FromNamed n) (object L start n)
   unfolding object
   object-held L start n =
       bind (objectFields (L .object) (n .value)) _ (anyhow (objectFields (L .object) (n .value))) λ o u₁.

@@ -23,15 +23,16 @@ use Rattle.meaning.specs.Sound.{rootLevels, objectLevels}
 use Rattle.meaning.specs.Described.{DescribedComponent, DescribedObject, Described, readComponent, readObject, describedBy}
 use Rattle.readback.specs.Every.{Every}
 use Rattle.readback.specs.Trees.{isDeep, deepAt}
-use Rattle.readback.specs.Spelled.{SpelledComponent, SpelledObject}
+use Rattle.readback.specs.Spelled.{SpelledComponent, SpelledObject, Spelled}
 use Rattle.readback.specs.Back.{ReadsBack}
 use Rattle.readback.specs.Judged.{judgedNames, judgedComponent, partOf, judgedObject, judgedObjects, deepOption, anyTooDeep, tooDeep, judged}
 use Rattle.panel.specs.Stands.{Each}
 use Rattle.shown.specs.Accepted.{Framing, IfAny, AttributesStand, ObjectAccepted}
 use Rattle.shown.proofs.ReadingJudged.{current-framing}
+use Rattle.shown.proofs.Judgement.{ModelStands}
 use Rattle.shown.proofs.AcceptedFile.{accepted}
 use Rattle.roundtrip.proofs.If.{passed-so}
-use Rattle.roundtrip.proofs.AcceptedSpelled.{accepted-spelled}
+use Rattle.roundtrip.proofs.AcceptedSpelled.{accepted-stands, accepted-spelled}
 use Rattle.roundtrip.proofs.AcceptedJudged.{GoodComponent, GoodObject, GoodModel, reading-good}
 
 -- a description whose parts have nothing left to refuse
@@ -135,29 +136,39 @@ names-texts limit ns = go (all utf8 ns)
     go true h = refl
     go false h = absurd (refused-not h)
 
-pub accepted-passed : (L : Layout) → Framing L → (file : List ℕ) (r : Reading) → reading L file ≡ pass r → Passed (describedBy file (r .model))
-unfolding describedBy
-accepted-passed L framing file r e =
-    let g : GoodModel (r .model) = passed-so (reading-good L file) e in
-    let a = accepted L framing file r e in
-    record {
-      shallow = shallow-option file L (r .start) rootLevels (r .model .attributes) (a .attributes);
-      shallows = shallow-objects file L (r .start) (r .model .objects) (a .objects);
-      texts = rw (object-names file (r .model .objects)) (names-texts objectLimit (map (λ o. o .name .letters) (r .model .objects)) (g .names));
-      objects = objects-passed file (r .model .objects) (g .objects) (accepted-spelled L framing file r e .objects);
-    }
-
-pub read-passed : {file : List ℕ} {d : Described} → ReadsBack file d → Passed d
-read-passed {file} b = subst Passed (b .back) (accepted-passed current current-framing file (b .read) (b .is))
-
 names-left : (limit : ℕ) (ns : List (List ℕ)) → judgedNames limit ns ≡ pass tt → ((COUNT unless leb (length ns) limit) >> (TWICE unless distinct ns)) ≡ pass tt
 unfolding judgedNames
 names-left limit ns h = sym (rw (names-texts limit ns h) refl) ∙ h
 
--- the reader's refusal of the file that the writer makes of it: none
-pub accepted-judged : (L : Layout) → Framing L → (file : List ℕ) (r : Reading) → reading L file ≡ pass r → judged (describedBy file (r .model)) ≡ pass tt
-unfolding describedBy
-accepted-judged L framing file r e =
-    let g : GoodModel (r .model) = passed-so (reading-good L file) e in
-    passed-judged (describedBy file (r .model)) (accepted-passed L framing file r e)
-    ∙ rw (object-names file (r .model .objects)) (names-left objectLimit (map (λ o. o .name .letters) (r .model .objects)) (g .names))
+-- of a model whose texts and attributes stand in the manifest and whose parts have passed their checks
+module _ (L : Layout) (file : List ℕ) (start : ℕ) (m : Model Span) (g : GoodModel m) (stands : ModelStands L file start m) (spelled : Spelled file m) where
+  pub good-passed : Passed (describedBy file m)
+  unfolding describedBy
+  good-passed = record {
+    shallow = shallow-option file L start rootLevels (m .attributes) (stands .attributes);
+    shallows = shallow-objects file L start (m .objects) (stands .objects);
+    texts = rw (object-names file (m .objects)) (names-texts objectLimit (map (λ o. o .name .letters) (m .objects)) (g .names));
+    objects = objects-passed file (m .objects) (g .objects) (spelled .objects);
+  }
+
+  -- the reader's refusal of the file that the writer makes of it: none
+  pub good-judged : judged (describedBy file m) ≡ pass tt
+  unfolding describedBy
+  good-judged =
+      passed-judged (describedBy file m) good-passed ∙ rw (object-names file (m .objects)) (names-left objectLimit (map (λ o. o .name .letters) (m .objects)) (g .names))
+
+module _ (L : Layout) (framing : Framing L) (file : List ℕ) (r : Reading) (accepts : reading L file ≡ pass r) where
+  good : GoodModel (r .model)
+  good = passed-so (reading-good L file) accepts
+
+  stands : ModelStands L file (r .start) (r .model)
+  stands = accepted-stands L file r (accepted L framing file r accepts)
+
+  pub accepted-passed : Passed (describedBy file (r .model))
+  accepted-passed = good-passed L file (r .start) (r .model) good stands (accepted-spelled L framing file r accepts)
+
+  pub accepted-judged : judged (describedBy file (r .model)) ≡ pass tt
+  accepted-judged = good-judged L file (r .start) (r .model) good stands (accepted-spelled L framing file r accepts)
+
+pub read-passed : {file : List ℕ} {d : Described} → ReadsBack file d → Passed d
+read-passed {file} b = subst Passed (b .back) (accepted-passed current current-framing file (b .read) (b .is))

@@ -1,4 +1,4 @@
--- What an accepted file's model says is spelled in the file: readback's premise follows from shown's promise.
+-- What a model whose texts and attributes stand in the manifest says is spelled in the file, and so what an accepted file's does: readback's premise follows from shown's promise.
 use Prim.Native.Nat.{ℕ, suc, _+_, _≤_}
 use native.Mathlib.Omega.{arith}
 use mathlib.Core.List.{List, [], _∷_}
@@ -8,7 +8,7 @@ use lib.ListN.{length}
 use Rattle.meaning.specs.Check.{pass}
 use Rattle.meaning.specs.Tree.{Node, noteOf}
 use Rattle.meaning.specs.Read.{Span, bytesAt}
-use Rattle.meaning.specs.Model.{Word, Component, Object}
+use Rattle.meaning.specs.Model.{Word, Component, Object, Model}
 use Rattle.meaning.specs.Types.{storages}
 use Rattle.meaning.specs.Layouts.{Layout}
 use Rattle.meaning.specs.Frame.{Reading, reading}
@@ -17,7 +17,8 @@ use Rattle.readback.specs.Spelled as back
 use Rattle.readback.specs.Spelled.{SpelledWord, SpelledMap, SpelledComponent, SpelledObject, Spelled}
 use Rattle.readback.proofs.BeginsAsMap.{map-is-well-formed}
 use Rattle.panel.specs.Stands.{Each}
-use Rattle.shown.specs.Accepted.{Framing, IfAny, WordStands, AttributesStand, ComponentAccepted, ObjectAccepted}
+use Rattle.shown.specs.Accepted.{Framing, IfAny, WordStands, AttributesStand, ComponentAccepted, ObjectAccepted, Accepted}
+use Rattle.shown.proofs.Judgement.{ModelStands}
 use Rattle.shown.proofs.AcceptedFile.{accepted}
 
 module _ (L : Layout) (file : List ℕ) (start : ℕ) (header : 8 ≤ start) (inside : start ≤ length file) where
@@ -61,11 +62,16 @@ module _ (L : Layout) (file : List ℕ) (start : ℕ) (header : 8 ≤ start) (in
     components = each-every (o .components) component-spelled (h .components);
   }
 
+  pub stands-spelled : (m : Model Span) → ModelStands L file start m → Spelled file m
+  stands-spelled m h = record {
+    attributes = if-any (m .attributes) (map-spelled 30) (h .attributes);
+    objects = each-every (m .objects) object-spelled (h .objects);
+  }
+
+pub accepted-stands : (L : Layout) (file : List ℕ) (r : Reading) → Accepted L file r → ModelStands L file (r .start) (r .model)
+accepted-stands L file r h = record { attributes = h .attributes; objects = h .objects }
+
 pub accepted-spelled : (L : Layout) → Framing L → (file : List ℕ) (r : Reading) → reading L file ≡ pass r → Spelled file (r .model)
 accepted-spelled L framing file r e =
     let h = accepted L framing file r e in let f = h .footer in
-    let inside : r .start ≤ length file = omega (arith, f) in
-    record {
-      attributes = if-any L file (r .start) (h .header) inside (r .model .attributes) (map-spelled L file (r .start) (h .header) inside 30) (h .attributes);
-      objects = each-every L file (r .start) (h .header) inside (r .model .objects) (object-spelled L file (r .start) (h .header) inside) (h .objects);
-    }
+    stands-spelled L file (r .start) (h .header) (omega (arith, f)) (r .model) (accepted-stands L file r h)

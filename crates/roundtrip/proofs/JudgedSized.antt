@@ -38,7 +38,7 @@ module _ {P : Type 0} where
   abbrev SmallValue : Pair P → Type 0
   SmallValue p = Small (p .value)
 
-  abbrev SmallNamed : Named P → Type 0
+  abbrev pub SmallNamed : Named P → Type 0
   SmallNamed n = Small (n .value)
 
   abbrev Kinds : Kind P → Type 0
@@ -135,10 +135,10 @@ module _ {P : Type 0} where
       bind (aTable t) _ (table-so t h) λ ps q.
       tested KEY (all (λ p. isSome (keyOf p)) ps) _ λ e. tested TWICE (all (λ n. leb (count n ps) 1) (somes known)) _ λ f. passes ps q
 
-  abbrev Names : ℕ → List (Named P) → Type 0
+  abbrev pub Names : ℕ → List (Named P) → Type 0
   Names limit ns = Every SmallNamed ns × (length ns ≤ limit)
 
-  names-so : (limit : ℕ) (t : Node P) → Small t → If (Names limit) (names limit t)
+  pub names-so : (limit : ℕ) (t : Node P) → Small t → If (Names limit) (names limit t)
   unfolding names nameOf
   names-so limit t h =
       bind (aTable t) _ (table-so t h) λ ps q.
@@ -177,7 +177,7 @@ module _ {P : Type 0} where
   unfolding objectFields
   objectFields-so known t h = bind (fields known t) _ (fields-so known t h) λ ps q. passes _ (record { shape = field-so _ ps q; components = field-so _ ps q })
 
-  object-so : (L : Layout) (start : ℕ) (n : Named P) → SmallNamed n → If SizedObject (object L start n)
+  pub object-so : (L : Layout) (start : ℕ) (n : Named P) → SmallNamed n → If SizedObject (object L start n)
   unfolding object
   object-so L start n h =
       bind (objectFields (L .object) (n .value)) _ (objectFields-so (L .object) (n .value) h) λ o p.
@@ -204,7 +204,7 @@ module _ {P : Type 0} where
       bound ns l (pass os) h = passes os (h .is .0, within objectLimit ns os (h .is .1) l)
       bound ns l (refuse n o c) h = record { is = tt }
 
-  rootObjects-so : (known : Slots) (t : Node P) → Small t → If (λ (r : RootFields P). IfAny Small (r .objects)) (rootFields known t)
+  pub rootObjects-so : (known : Slots) (t : Node P) → Small t → If (λ (r : RootFields P). IfAny Small (r .objects)) (rootFields known t)
   unfolding rootFields
   rootObjects-so known t h = bind (fields known t) _ (fields-so known t h) λ ps q. passes _ (field-so _ ps q)
 
@@ -219,7 +219,7 @@ module _ {P : Type 0} where
       bind (objectsOf L start objects) _ (objects-so L start objects at-objects) λ os q.
       passes _ (record { count = q .1; objects = q .0 }))
 
-checked-small : (note : List ℕ → List ℕ → Span) (s : List ℕ) → Bytes s → If Small (checked (manifest note s))
+pub checked-small : (note : List ℕ → List ℕ → Span) (s : List ℕ) → Bytes s → If Small (checked (manifest note s))
 unfolding checked
 checked-small note s h = go (manifest note s) refl
   where

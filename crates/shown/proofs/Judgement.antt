@@ -89,7 +89,7 @@ required-in (some n) (some a) h = record { is = h }
 
 module _ (L : Layout) (file : List ℕ) (start : ℕ) where
   -- with d levels left
-  abbrev At : ℕ → Node Span → Type 0
+  abbrev pub At : ℕ → Node Span → Type 0
   At = Placed L file start
 
   abbrev Pairing : ℕ → Pair Span → Type 0
@@ -175,7 +175,7 @@ module _ (L : Layout) (file : List ℕ) (start : ℕ) where
   presentKind-so d t null h = tt
   presentKind-so d t another h = h
 
-  abbrev Naming : ℕ → Named Span → Type 0
+  abbrev pub Naming : ℕ → Named Span → Type 0
   Naming d n = Spelt (n .name) × At d (n .value)
 
   nameKind-so : (d : ℕ) (v : Node Span) (k : Kind Span) → At d v → Kinds d k → Judged (Naming d) (nameKind v k)
@@ -232,7 +232,7 @@ module _ (L : Layout) (file : List ℕ) (start : ℕ) where
       bind (aTable t) _ (with-verdict (aTable t) (table-so d t h)) λ ps q.
       tested KEY (all (λ p. isSome (keyOf p)) ps) _ tt λ e. tested TWICE (all (λ n. leb (count n ps) 1) (somes known)) _ tt λ f. passes ps q
 
-  names-so : (d limit : ℕ) (t : Node Span) → At d t → Judged (Each (Naming (less d))) (names limit t)
+  pub names-so : (d limit : ℕ) (t : Node Span) → At d t → Judged (Each (Naming (less d))) (names limit t)
   unfolding names nameOf
   names-so d limit t h =
       bind (aTable t) _ (table-so d t h) λ ps q.
@@ -367,7 +367,7 @@ module _ (L : Layout) (file : List ℕ) (start : ℕ) where
       bind (each (λ i. aNumber) 0 dims) _ (each-so (λ i. aNumber) (λ i a v. number-so a) 0 dims (any-each dims)) λ s v.
       tested COUNT (leb (length s) 8) _ tt λ e. passes s (leb-true (length s) 8 e)
 
-  attributes-so : (d : ℕ) (t : Node Span) → At d t → Judged (AttributesStand L file start d) (attributesOf t)
+  pub attributes-so : (d : ℕ) (t : Node Span) → At d t → Judged (AttributesStand L file start d) (attributesOf t)
   unfolding attributesOf
   attributes-so d t h = by (aTable t) refl (table-so d t h)
     where
@@ -396,7 +396,7 @@ module _ (L : Layout) (file : List ℕ) (start : ℕ) where
         components = field-so 29 _ ps (q .1);
       })
 
-  object-so : (n : Named Span) → Naming 30 n → Judged (ObjectAccepted L file start) (object L start n)
+  pub object-so : (n : Named Span) → Naming 30 n → Judged (ObjectAccepted L file start) (object L start n)
   unfolding object inherited
   object-so n h =
       bind (objectFields (L .object) (n .value)) _ (objectFields-so (n .value) (h .1)) λ o p.
@@ -423,16 +423,16 @@ module _ (L : Layout) (file : List ℕ) (start : ℕ) where
 
   -- ---- the root: its fields have 31 levels left
 
-  version-so : (t : Node Span) → At 31 t → Judged Any (aVersion t)
+  pub version-so : (t : Node Span) → At 31 t → Judged Any (aVersion t)
   unfolding aVersion
   version-so t h = bind (aWord t) _ (word-so 31 t h) λ v q. tested VERSION (versionShape (v .letters)) _ tt λ e. test MAJOR (majorOne (v .letters)) tt
 
-  record RootFieldsAt (r : RootFields Span) : Type 0 where
-    version : IfAny (At 31) (r .version)
-    attributes : IfAny (At 31) (r .attributes)
-    objects : IfAny (At 31) (r .objects)
+  pub record RootFieldsAt (r : RootFields Span) : Type 0 where
+    pub version : IfAny (At 31) (r .version)
+    pub attributes : IfAny (At 31) (r .attributes)
+    pub objects : IfAny (At 31) (r .objects)
 
-  rootFields-so : (t : Node Span) → At 32 t → Judged RootFieldsAt (rootFields (L .root) t)
+  pub rootFields-so : (t : Node Span) → At 32 t → Judged RootFieldsAt (rootFields (L .root) t)
   unfolding rootFields
   rootFields-so t h =
       bind (fields (L .root) t) _ (fields-so 32 (L .root) t h) λ ps q. passes _ (record { version = field-so 31 _ ps (q .1); attributes = field-so 31 _ ps (q .1); objects = field-so 31 _ ps (q .1) })
