@@ -1,0 +1,1 @@
+// Rescuing what is sound: definitions in specs/, laws about them in proofs/.
