@@ -1,0 +1,4 @@
+-- Laws behind the proofs of stop.
+pub mod Stuck
+pub mod Heads
+pub mod Turns

@@ -1,0 +1,2 @@
+-- The definitions that the contracts of stop cite.
+pub mod Stop
