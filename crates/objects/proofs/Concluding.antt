@@ -25,11 +25,11 @@ module _ (m : List ℕ) (t : Tally) (first : First) (left size : List ℕ) (room
   judged = names-told objectLimit m t left size room x h
 
   pub names-conclude : (n : ℕ) → x ≡ NoNames n → Concluded m t first left size (No n 0 0)
-  names-conclude n e L start ps kept u ku = names-fault L start ps u n (judged (NoNames n) e ps (kept .named) u ku)
+  names-conclude n e deep L start ps kept u ku = names-fault deep L start ps u n (judged (NoNames n) e ps (kept .named) u ku)
 
   module _ (e : x ≡ Names) where
     pub fault-concludes : (n o c : ℕ) → first ≡ Fault n o c → Concluded m t first left size (No n o c)
-    fault-concludes n o c f L start ps kept u ku = entry-fault L start ps u (judged Names e ps (kept .named) u ku) n o c (rw f at (kept .judged))
+    fault-concludes n o c f deep L start ps kept u ku = entry-fault deep L start ps u (judged Names e ps (kept .named) u ku) n o c (rw f at (kept .judged))
 
     pub fine-concludes : (total : ℕ) → first ≡ Fine total → Concluded m t first left size (Yes (t .count) total)
-    fine-concludes total f L start ps kept u ku = all-fine L start ps u (judged Names e ps (kept .named) u ku) (t .count) total (kept .named .counted) (rw f at (kept .judged))
+    fine-concludes total f deep L start ps kept u ku = all-fine deep L start ps u (judged Names e ps (kept .named) u ku) (t .count) total (kept .named .counted) (rw f at (kept .judged))

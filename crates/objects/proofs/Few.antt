@@ -4,6 +4,7 @@ use native.Mathlib.Omega.{arith}
 use mathlib.Core.List.{List, [], _∷_, _++_, map}
 use mathlib.Core.Path.{_≡_, ap, subst}
 use mathlib.Core.Option.{Option}
+use mathlib.Core.Bool.{Bool, true, false}
 use lib.ListN.{length}
 use Rattle.meaning.specs.Tree.{Node}
 use Rattle.meaning.specs.Check.{pass, _>>=_, _>>_, inComponent, required, requiredIn, optional}
@@ -18,6 +19,7 @@ use Rattle.meaning.specs.Layouts.{Layout, slot, dtypeAt}
 use Rattle.walk.specs.Reading.{Ends}
 use Rattle.naming.proofs.Judging.{few-names}
 use Rattle.naming.proofs.Entries.{each-length}
+use Rattle.objects.specs.Found.{passedOver, judging}
 use Rattle.components.proofs.Typed.{passed, passed-on, pass-same}
 
 few-components : (L : Layout) (start : ℕ) (above : List ℕ → Option ℕ) (t : Node Ends) (cs : List (Component Ends)) → componentsOf L start above t ≡ pass cs → length cs ≤ componentLimit
@@ -28,7 +30,7 @@ few-components L start above t cs e =
     let same = each-length (λ j c. inComponent j (component L start (above (c .name .letters)) c)) 0 (ns .value) cs (ns .then) in
     omega arith
 
-pub few-in-object : (L : Layout) (start : ℕ) (n : Named Ends) (o : Object Ends) → object L start n ≡ pass o → length (o .components) ≤ componentLimit
+few-in-object : (L : Layout) (start : ℕ) (n : Named Ends) (o : Object Ends) → object L start n ≡ pass o → length (o .components) ≤ componentLimit
 unfolding object
 few-in-object L start n o e =
     let fields = passed (objectFields (L .object) (n .value)) _ o e in
@@ -44,6 +46,11 @@ few-in-object L start n o e =
     let whole = passed-on (formatRules (text .value .letters) (dims .value) (map part (found .value))) _ o (found .then) in
     let same : found .value ≡ o .components = ap (λ (o : Object Ends). o .components) (pass-same whole) in
     subst (λ cs. length cs ≤ componentLimit) same (few-components L start (inherited (text .value .letters) (dtype .value)) (components .value) (found .value) (found .is))
+
+pub few-in-judging : (deep : Bool) (L : Layout) (start : ℕ) (n : Named Ends) (o : Object Ends) → judging deep L start n ≡ pass o → length (o .components) ≤ componentLimit
+unfolding judging passedOver
+few-in-judging true L start n o e = few-in-object L start n o e
+few-in-judging false L start n o e = subst (λ (o : Object Ends). length (o .components) ≤ componentLimit) (pass-same e) (omega arith)
 
 pub count-snoc : (os : List (Object Ends)) (o : Object Ends) → componentCount (os ++ o ∷ []) ≡ componentCount os + length (o .components)
 unfolding componentCount

@@ -1,4 +1,5 @@
 pub mod Few
+pub mod OneObject
 pub mod Keeping
 pub mod Looping
 pub mod Concluding

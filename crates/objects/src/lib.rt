@@ -10,7 +10,7 @@ ghost use Rattle.meaning.specs.Layouts.{layoutOf};
 ghost use Rattle.cbor.specs.Ending.{code, itemEnd, rest};
 ghost use Rattle.walk.proofs.Turns.{Modes};
 ghost use Rattle.objects.specs.Found.{ObjectsIs};
-ghost use Rattle.objects.specs.Firsts.{plus, Keeps, Walked, Concluded};
+ghost use Rattle.objects.specs.Firsts.{plus, OneIs, Keeps, Walked, Concluded};
 
 // The first fault among the entries so far: its number, object and component; or how many components there are.
 pub enum First {
@@ -62,18 +62,32 @@ fn keep(v: Judged, j: usize, first: First) -> First
     }
 }
 
+// The value that begins c, judged as an object; passed over where only names are asked for.
+fn one(layout: u64, c: &[u8], start: u64, deep: bool) -> object::Whole
+    ensures { λ r. ⌜ (r .end ≡ code (itemEnd 30 (now (c .entry)))) × OneIs deep (layoutOf layout) (now (c .entry)) start (r .verdict) ⌝ }
+{
+    if deep {
+        return object::object(layout, &c[0..], start);
+    }
+    object::Whole {
+        end: cbor::skip(&c[0..], 30),
+        verdict: Judged::Yes(0),
+    }
+}
+
 // Entries that begin s, counted as `walk::map` says. Their names are noted in left and size.
 fn entries(
     layout: u64,
     s: &[u8],
     start: u64,
+    deep: bool,
     mode: u64,
     count: u64,
     left: &mut [usize],
     size: &mut [usize],
 ) -> Run
     requires { ⌜ (length (now left) ≡ 1024) × (length (now size) ≡ 1024) × Modes mode count ⌝ }
-    ensures { λ r. ⌜ (r .end ≡ code (rest mode count 30 (now (s .entry)))) × (length (now (left .exit)) ≡ 1024) × Walked (layoutOf layout) start mode count (now (s .entry)) (r .names) (now (left .exit)) (now (size .exit)) (r .first) ⌝ }
+    ensures { λ r. ⌜ (r .end ≡ code (rest mode count 30 (now (s .entry)))) × (length (now (left .exit)) ≡ 1024) × Walked deep (layoutOf layout) start mode count (now (s .entry)) (r .names) (now (left .exit)) (now (size .exit)) (r .first) ⌝ }
 {
     let mut at = 0;
     let mut due = count;
@@ -101,7 +115,7 @@ fn entries(
             }
             Entry::Value(k) => {
                 let v = at + k;
-                let w = object::object(layout, &s[v..], start);
+                let w = one(layout, &s[v..], start, deep);
                 if s.len() - v < w.end {
                     return Run {
                         end: w.end,
@@ -135,9 +149,9 @@ fn verdict(m: &[u8], names: Tally, first: First, left: &[usize], size: &[usize])
     }
 }
 
-// The objects that begin c, at depth 2, of a file whose manifest begins at `start`.
-pub fn objects(layout: u64, c: &[u8], start: u64) -> Whole
-    ensures { λ r. ⌜ (r .end ≡ code (itemEnd 31 (now (c .entry)))) × ObjectsIs (layoutOf layout) (now (c .entry)) start (r .found) ⌝ }
+// The objects that begin c, at depth 2, of a file whose manifest begins at `start`; their names alone unless `deep`.
+pub fn objects(layout: u64, c: &[u8], start: u64, deep: bool) -> Whole
+    ensures { λ r. ⌜ (r .end ≡ code (itemEnd 31 (now (c .entry)))) × ObjectsIs deep (layoutOf layout) (now (c .entry)) start (r .found) ⌝ }
 {
     let mut left = [0usize; 1024];
     let mut size = [0usize; 1024];
@@ -147,7 +161,7 @@ pub fn objects(layout: u64, c: &[u8], start: u64) -> Whole
             found: Found::No(8, 0, 0),
         },
         Opening::Opened(mode, count, from) => {
-            let w = entries(layout, &c[from..], start, mode, count, &mut left, &mut size);
+            let w = entries(layout, &c[from..], start, deep, mode, count, &mut left, &mut size);
             let names = w.names;
             let first = w.first;
             let f = verdict(&c[from..], names, first, &left, &size);

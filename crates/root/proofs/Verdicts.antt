@@ -17,7 +17,7 @@ use Rattle.meaning.specs.Model.{Object}
 use Rattle.meaning.specs.Kind.{kind, table, aTable, asTable}
 use Rattle.meaning.specs.Field as field
 use Rattle.meaning.specs.Layouts.{slot, somes, Layout}
-use Rattle.meaning.specs.Judge.{attributesOf, aVersion, objectsOf, judge}
+use Rattle.meaning.specs.Judge.{attributesOf, aVersion}
 use Rattle.walk.specs.Reading.{Ends, Chain, leftAt}
 use Rattle.fields.specs.Slots.{Holds}
 use Rattle.fields.specs.Attributes.{AttributesAt}
@@ -25,12 +25,13 @@ use Rattle.fields.proofs.Standing.{hold-none, Item, hold-some, keys-are-text, n
 use Rattle.fields.proofs.Texts.{Here}
 use Rattle.objects.specs.declared.Found.{Found}
 use Rattle.objects.specs.Found as objects
+use Rattle.objects.specs.Found.{objectsBy}
 use Rattle.root.specs.declared.Judged.{Judged}
 use Rattle.root.specs.declared.Judged.the-variants.{No}
 use Rattle.root.specs.declared.judge.Fine.{Fine}
 use Rattle.root.specs.declared.judge.Fine.the-variants.{No as Bad, Yes as Good}
 use Rattle.root.specs.Walk.{Noted}
-use Rattle.root.specs.Verdict.{fine, known, VersionAt, counted, told, judged, VerdictIs}
+use Rattle.root.specs.Verdict.{fine, known, VersionAt, counted, told, judgeBy, judged, VerdictIs}
 
 -- ---------------------------------------------------------------- what the slots say, a branch each
 
@@ -72,39 +73,39 @@ module _ (map : Bool) (left at : ℕ) (found : Found) where
 abbrev the : Layout → ℕ → List (Pair Ends) → Option (Node Ends)
 the L i ps = field.field (slot i (L .root)) ps
 
-module _ (L : Layout) (start : ℕ) (t : Node Ends) (ps : List (Pair Ends)) (kt : kind t ≡ table ps) where
-  judged-odd : all (λ q. field.isSome (field.keyOf q)) ps ≡ false → No 9 0 0 ≡ judged (judge L start t)
-  unfolding judge field.rootFields field.fields aTable asTable
+module _ (deep : Bool) (L : Layout) (start : ℕ) (t : Node Ends) (ps : List (Pair Ends)) (kt : kind t ≡ table ps) where
+  judged-odd : all (λ q. field.isSome (field.keyOf q)) ps ≡ false → No 9 0 0 ≡ judged (judgeBy deep L start t)
+  unfolding judgeBy field.rootFields field.fields aTable asTable
   judged-odd e = rw kt (rw e refl)
 
   module _ (a : all (λ q. field.isSome (field.keyOf q)) ps ≡ true) where
-    judged-twice : all (λ m. leb (field.count m ps) 1) (somes (L .root)) ≡ false → No 11 0 0 ≡ judged (judge L start t)
-    unfolding judge field.rootFields field.fields aTable asTable
+    judged-twice : all (λ m. leb (field.count m ps) 1) (somes (L .root)) ≡ false → No 11 0 0 ≡ judged (judgeBy deep L start t)
+    unfolding judgeBy field.rootFields field.fields aTable asTable
     judged-twice e = rw kt (rw (a, e) refl)
 
     module _ (b : all (λ m. leb (field.count m ps) 1) (somes (L .root)) ≡ true) where
-      judged-no-version : the L 0 ps ≡ none → No 12 0 0 ≡ judged (judge L start t)
-      unfolding judge field.rootFields field.fields aTable asTable
+      judged-no-version : the L 0 ps ≡ none → No 12 0 0 ≡ judged (judgeBy deep L start t)
+      unfolding judgeBy field.rootFields field.fields aTable asTable
       judged-no-version e = rw kt (rw (a, b) (rw e refl))
 
       module _ (version : Node Ends) (g : the L 0 ps ≡ some version) where
-        judged-version : (n : ℕ) → aVersion version ≡ fault n → No n 0 0 ≡ judged (judge L start t)
-        unfolding judge field.rootFields field.fields aTable asTable
+        judged-version : (n : ℕ) → aVersion version ≡ fault n → No n 0 0 ≡ judged (judgeBy deep L start t)
+        unfolding judgeBy field.rootFields field.fields aTable asTable
         judged-version n e = rw kt (rw (a, b) (rw g (rw e refl)))
 
         module _ (v : aVersion version ≡ pass tt) where
-          judged-attributes : optional attributesOf (the L 1 ps) ≡ fault KIND → No 8 0 0 ≡ judged (judge L start t)
-          unfolding judge field.rootFields field.fields aTable asTable
+          judged-attributes : optional attributesOf (the L 1 ps) ≡ fault KIND → No 8 0 0 ≡ judged (judgeBy deep L start t)
+          unfolding judgeBy field.rootFields field.fields aTable asTable
           judged-attributes e = rw kt (rw (a, b) (rw g (rw v (rw e refl))))
 
           module _ (w : optional attributesOf (the L 1 ps) ≡ pass (the L 1 ps)) where
-            judged-no-objects : the L 2 ps ≡ none → No 12 0 0 ≡ judged (judge L start t)
-            unfolding judge field.rootFields field.fields aTable asTable
+            judged-no-objects : the L 2 ps ≡ none → No 12 0 0 ≡ judged (judgeBy deep L start t)
+            unfolding judgeBy field.rootFields field.fields aTable asTable
             judged-no-objects e = rw kt (rw (a, b) (rw g (rw v (rw w (rw e refl)))))
 
             module _ (o : Node Ends) (x : the L 2 ps ≡ some o) where
-              judged-objects : (left : ℕ) → left ≡ leftAt (the L 1 ps) → (k : Check (List (Object Ends))) → objectsOf L start o ≡ k → counted left (objects.judged k) ≡ judged (judge L start t)
-              unfolding judge field.rootFields field.fields aTable asTable
+              judged-objects : (left : ℕ) → left ≡ leftAt (the L 1 ps) → (k : Check (List (Object Ends))) → objectsBy deep L start o ≡ k → counted left (objects.judged k) ≡ judged (judgeBy deep L start t)
+              unfolding judgeBy field.rootFields field.fields aTable asTable
               judged-objects left l (pass os) e = rw kt (rw (a, b) (rw g (rw v (rw w (rw x (rw e (rw l refl)))))))
               judged-objects left l (refuse n i j) e = rw kt (rw (a, b) (rw g (rw v (rw w (rw x (rw e refl))))))
 
@@ -116,7 +117,7 @@ left-of d s l none h = h
 left-of d s l (some t) h = h .1 .left-is
 
 module _ (s p : List ℕ) (found : Found) where
-  module _ (L : Layout) (start d : ℕ) (ps : List (Pair Ends)) (q : List ℕ) (chain : Chain (suc d) s ps q) (noted : Noted L start p found ps)
+  module _ (deep : Bool) (L : Layout) (start d : ℕ) (ps : List (Pair Ends)) (q : List ℕ) (chain : Chain (suc d) s ps q) (noted : Noted deep L start p found ps)
       (t : Node Ends) (kt : kind t ≡ table ps) where
     keys : eqb (getD p 4 0) 0 ≡ all (λ q. field.isSome (field.keyOf q)) ps
     keys = keys-are-text (L .root) 3 (L .rootPlaces) (suc d) s ps q chain p (noted .0)
@@ -134,7 +135,7 @@ module _ (s p : List ℕ) (found : Found) where
       pub version : Item (suc d) s (getD p 0 0) (the L 0 ps)
 
     abbrev Told : Fine → Type 0
-    Told (Bad m) = No m 0 0 ≡ judged (judge L start t)
+    Told (Bad m) = No m 0 0 ≡ judged (judgeBy deep L start t)
     Told Good = Ready
 
     slots-told : Told (known p)
@@ -142,9 +143,9 @@ module _ (s p : List ℕ) (found : Found) where
     slots-told = go (eqb (getD p 4 0) 0) refl (eqb (getD p 5 0) 0) refl (eqb (getD p 0 0) 0) refl
       where
         go : (x₁ : Bool) → eqb (getD p 4 0) 0 ≡ x₁ → (x₂ : Bool) → eqb (getD p 5 0) 0 ≡ x₂ → (x₃ : Bool) → eqb (getD p 0 0) 0 ≡ x₃ → Told (cond x₁ (cond x₂ (cond x₃ (Bad 12) Good) (Bad 11)) (Bad 9))
-        go false a x₂ b x₃ c = judged-odd L start t ps kt (sym keys ∙ a)
-        go true a false b x₃ c = judged-twice L start t ps kt (sym keys ∙ a) (sym twice ∙ b)
-        go true a true b true c = judged-no-version L start t ps kt (sym keys ∙ a) (sym twice ∙ b) (hold-none (suc d) s (getD p 0 0) (the L 0 ps) (stands 0 (omega arith)) (eqb-true (getD p 0 0) 0 c))
+        go false a x₂ b x₃ c = judged-odd deep L start t ps kt (sym keys ∙ a)
+        go true a false b x₃ c = judged-twice deep L start t ps kt (sym keys ∙ a) (sym twice ∙ b)
+        go true a true b true c = judged-no-version deep L start t ps kt (sym keys ∙ a) (sym twice ∙ b) (hold-none (suc d) s (getD p 0 0) (the L 0 ps) (stands 0 (omega arith)) (eqb-true (getD p 0 0) 0 c))
         go true a true b false c = record {
           text-keys = sym keys ∙ a;
           no-repeats = sym twice ∙ b;
@@ -152,44 +153,44 @@ module _ (s p : List ℕ) (found : Found) where
         }
 
     module _ (r : Ready) where
-      version-told : (m : ℕ) → aVersion (r .version .item) ≡ fault m → No m 0 0 ≡ judged (judge L start t)
-      version-told m e = judged-version L start t ps kt (r .text-keys) (r .no-repeats) (r .version .item) (r .version .is) m e
+      version-told : (m : ℕ) → aVersion (r .version .item) ≡ fault m → No m 0 0 ≡ judged (judgeBy deep L start t)
+      version-told m e = judged-version deep L start t ps kt (r .text-keys) (r .no-repeats) (r .version .item) (r .version .is) m e
 
       all-told : aVersion (r .version .item) ≡ pass tt → (map : Bool) → optional attributesOf (the L 1 ps) ≡ cond map (pass (the L 1 ps)) (fault KIND)
-          → told map (getD p 1 0) (getD p 2 0) found ≡ judged (judge L start t)
-      all-told v false w = judged-attributes L start t ps kt (r .text-keys) (r .no-repeats) (r .version .item) (r .version .is) v w
+          → told map (getD p 1 0) (getD p 2 0) found ≡ judged (judgeBy deep L start t)
+      all-told v false w = judged-attributes deep L start t ps kt (r .text-keys) (r .no-repeats) (r .version .item) (r .version .is) v w
       all-told v true w = go (eqb (getD p 2 0) 0) refl
         where
-          go : (x : Bool) → eqb (getD p 2 0) 0 ≡ x → cond x (No 12 0 0) (counted (getD p 1 0) found) ≡ judged (judge L start t)
-          go true e = judged-no-objects L start t ps kt (r .text-keys) (r .no-repeats) (r .version .item) (r .version .is) v w (hold-none (suc d) s (getD p 2 0) (the L 2 ps) (stands 2 (omega arith)) (eqb-true (getD p 2 0) 0 e))
+          go : (x : Bool) → eqb (getD p 2 0) 0 ≡ x → cond x (No 12 0 0) (counted (getD p 1 0) found) ≡ judged (judgeBy deep L start t)
+          go true e = judged-no-objects deep L start t ps kt (r .text-keys) (r .no-repeats) (r .version .item) (r .version .is) v w (hold-none (suc d) s (getD p 2 0) (the L 2 ps) (stands 2 (omega arith)) (eqb-true (getD p 2 0) 0 e))
           go false e =
               let o = hold-some (suc d) s (getD p 2 0) (the L 2 ps) (stands 2 (omega arith)) (eqb-false (getD p 2 0) 0 e) in
               ap (counted (getD p 1 0)) (noted .1 (o .item) (o .is))
-              ∙ judged-objects L start t ps kt (r .text-keys) (r .no-repeats) (r .version .item) (r .version .is) v w (o .item) (o .is)
-              (getD p 1 0) (left-of (suc d) s (getD p 1 0) (the L 1 ps) (stands 1 (omega arith))) (objectsOf L start (o .item)) refl
+              ∙ judged-objects deep L start t ps kt (r .text-keys) (r .no-repeats) (r .version .item) (r .version .is) v w (o .item) (o .is)
+              (getD p 1 0) (left-of (suc d) s (getD p 1 0) (the L 1 ps) (stands 1 (omega arith))) (objectsBy deep L start (o .item)) refl
 
   module _ (f : Fine) (asked : f ≡ known (Here p 0)) where
     slots-say : f ≡ known p
     slots-say = asked ∙ ap known (part-to-end p 0)
 
     pub refused : (m : ℕ) → f ≡ Bad m → VerdictIs s p found (No m 0 0)
-    refused m e L start d ps q chain noted t kt = subst (Told L start d ps q chain noted t kt) (sym slots-say ∙ e) (slots-told L start d ps q chain noted t kt)
+    refused m e deep L start d ps q chain noted t kt = subst (Told deep L start d ps q chain noted t kt) (sym slots-say ∙ e) (slots-told deep L start d ps q chain noted t kt)
 
     module _ (e : f ≡ Good) (v : Fine) (versioned : VersionAt (Here s 0) (getD p 0 0) v) where
-      module _ (L : Layout) (start d : ℕ) (ps : List (Pair Ends)) (q : List ℕ) (chain : Chain (suc d) s ps q) (noted : Noted L start p found ps)
+      module _ (deep : Bool) (L : Layout) (start d : ℕ) (ps : List (Pair Ends)) (q : List ℕ) (chain : Chain (suc d) s ps q) (noted : Noted deep L start p found ps)
           (t : Node Ends) (kt : kind t ≡ table ps) where
-        ready : Ready L start d ps q chain noted t kt
-        ready = subst (Told L start d ps q chain noted t kt) (sym slots-say ∙ e) (slots-told L start d ps q chain noted t kt)
+        ready : Ready deep L start d ps q chain noted t kt
+        ready = subst (Told deep L start d ps q chain noted t kt) (sym slots-say ∙ e) (slots-told deep L start d ps q chain noted t kt)
 
         version-is : (u : Fine) → v ≡ u → aVersion (ready .version .item) ≡ fine u
         version-is u z = subst (λ x. VersionAt x (getD p 0 0) u) (part-to-end s 0) (rw z at versioned) d (ready .version .item) (ready .version .stands)
 
       pub version-refused : (m : ℕ) → v ≡ Bad m → VerdictIs s p found (No m 0 0)
-      version-refused m z L start d ps q chain noted t kt =
-          version-told L start d ps q chain noted t kt (ready L start d ps q chain noted t kt) m (version-is L start d ps q chain noted t kt (Bad m) z)
+      version-refused m z deep L start d ps q chain noted t kt =
+          version-told deep L start d ps q chain noted t kt (ready deep L start d ps q chain noted t kt) m (version-is deep L start d ps q chain noted t kt (Bad m) z)
 
       pub as-told : v ≡ Good → (map : Bool) → AttributesAt (Here s 0) (getD p 1 0) map → (r : Judged) → r ≡ told map (getD p 1 0) (getD p 2 0) found → VerdictIs s p found r
-      as-told z map w r h L start d ps q chain noted t kt =
+      as-told z map w r h deep L start d ps q chain noted t kt =
           let a : AttributesAt s (getD p 1 0) map = subst (λ x. AttributesAt x (getD p 1 0) map) (part-to-end s 0) w in
-          h ∙ all-told L start d ps q chain noted t kt (ready L start d ps q chain noted t kt) (version-is L start d ps q chain noted t kt Good z) map
-          (a d (the L 1 ps) (stands L start d ps q chain noted t kt 1 (omega arith)))
+          h ∙ all-told deep L start d ps q chain noted t kt (ready deep L start d ps q chain noted t kt) (version-is deep L start d ps q chain noted t kt Good z) map
+          (a d (the L 1 ps) (stands deep L start d ps q chain noted t kt 1 (omega arith)))

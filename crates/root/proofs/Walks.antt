@@ -3,6 +3,7 @@
 use Prim.Native.Nat.{ℕ, _+_, _-_, _≤_, _<_}
 use native.Mathlib.Omega.{arith}
 use mathlib.Core.List.{List}
+use mathlib.Core.Bool.{Bool, true}
 use mathlib.Core.Option.{Option, none, some}
 use mathlib.Core.Path.{_≡_, refl, sym, ap, _∙_, subst}
 use lib.ListN.{length, getD, drop, replicate, length-drop}
@@ -14,7 +15,7 @@ use Rattle.meaning.specs.Refusal.{KIND}
 use Rattle.meaning.specs.Kind.{table, aTable, asTable}
 use Rattle.meaning.specs.Layouts.{Layout, slot, objectsAt}
 use Rattle.meaning.specs.Field.{rootFields, fields, field}
-use Rattle.meaning.specs.Judge.{judge}
+use Rattle.meaning.specs.Judge.{objectsOf, judge}
 use Rattle.cbor.specs.Ending.{FAULT, code, itemEnd, rest}
 use Rattle.walk.specs.Reading.{Ends, Reads}
 use Rattle.walk.specs.Places.{MapIs, EntryIs}
@@ -29,19 +30,19 @@ use Rattle.fields.proofs.Standing.{field-stands}
 use Rattle.fields.proofs.Texts.{Here}
 use Rattle.fields.proofs.Keeping as keeping
 use Rattle.objects.specs.declared.Found.{Found}
-use Rattle.objects.specs.Found.{ObjectsIs}
+use Rattle.objects.specs.Found.{judging, objectsBy, ObjectsIs}
 use Rattle.root.specs.declared.Judged.{Judged}
 use Rattle.root.specs.declared.Judged.the-variants.{No}
 use Rattle.root.specs.Walk.{Says, Walked, ValueIs}
-use Rattle.root.specs.Verdict.{VerdictIs, RootIs, ObjectsAt}
+use Rattle.root.specs.Verdict.{judgeBy, judged, VerdictIs, WholeIs, RootIs, ObjectsAt}
 
 -- ---------------------------------------------------------------- one value
 
-module _ (L : Layout) (start k seen : ℕ) (c : List ℕ) (found : Found) where
-  pub first-objects : k ≡ 2 → seen ≡ 0 → (found′ : Found) → ObjectsIs L (Here c 0) start found′ → ValueIs L start k seen c found found′
-  first-objects a b found′ h = record { first = λ x y. subst (λ u. ObjectsIs L u start found′) (part-to-end c 0) h; other = λ n. absurd (n a b) }
+module _ (deep : Bool) (L : Layout) (start k seen : ℕ) (c : List ℕ) (found : Found) where
+  pub first-objects : k ≡ 2 → seen ≡ 0 → (found′ : Found) → ObjectsIs deep L (Here c 0) start found′ → ValueIs deep L start k seen c found found′
+  first-objects a b found′ h = record { first = λ x y. subst (λ u. ObjectsIs deep L u start found′) (part-to-end c 0) h; other = λ n. absurd (n a b) }
 
-  pub other-value : (k ≡ 2 → seen ≡ 0 → ⊥) → ValueIs L start k seen c found found
+  pub other-value : (k ≡ 2 → seen ≡ 0 → ⊥) → ValueIs deep L start k seen c found found
   other-value n = record { first = λ x y. absurd (n x y); other = λ n. refl }
 
 -- ---------------------------------------------------------------- the loop
@@ -50,45 +51,45 @@ pub objects-known : objectsAt < 3
 objects-known = omega arith
 
 -- up to `at`, with n items due, the slots p and what was found
-abbrev pub Looping : Layout → ℕ → ℕ → ℕ → List ℕ → ℕ → ℕ → List ℕ → Found → Type 0
-Looping L start = keeping.Looping (L .root) 3 (L .rootPlaces) objectsAt objects-known (L .rootApart) (Says L start) 30
+abbrev pub Looping : Bool → Layout → ℕ → ℕ → ℕ → List ℕ → ℕ → ℕ → List ℕ → Found → Type 0
+Looping deep L start = keeping.Looping (L .root) 3 (L .rootPlaces) objectsAt objects-known (L .rootApart) (Says deep L start) 30
 
-module _ (L : Layout) (start mode count : ℕ) (s : List ℕ) (modes : Modes mode count) where
-  pub loop-starts : (p : List ℕ) (found : Found) → p ≡ replicate 6 0 → Looping L start mode count s 0 count p found
-  loop-starts p found e = keeping.loop-starts (L .root) 3 (L .rootPlaces) objectsAt objects-known (L .rootApart) (Says L start) 30 mode count s modes p found e
+module _ (deep : Bool) (L : Layout) (start mode count : ℕ) (s : List ℕ) (modes : Modes mode count) where
+  pub loop-starts : (p : List ℕ) (found : Found) → p ≡ replicate 6 0 → Looping deep L start mode count s 0 count p found
+  loop-starts p found e = keeping.loop-starts (L .root) 3 (L .rootPlaces) objectsAt objects-known (L .rootApart) (Says deep L start) 30 mode count s modes p found e
 
-  module _ (room : length s < FAULT) (at n : ℕ) (p : List ℕ) (found : Found) (w : Looping L start mode count s at n p found) where
+  module _ (room : length s < FAULT) (at n : ℕ) (p : List ℕ) (found : Found) (w : Looping deep L start mode count s at n p found) where
     pub six-slots : length p ≡ 6
     six-slots = w .slots
 
     pub still-due : 1 ≤ mode → 0 < n
-    still-due = keeping.still-due (L .root) 3 (L .rootPlaces) objectsAt objects-known (L .rootApart) (Says L start) 30 mode count s modes room at n p found w
+    still-due = keeping.still-due (L .root) 3 (L .rootPlaces) objectsAt objects-known (L .rootApart) (Says deep L start) 30 mode count s modes room at n p found w
 
     module _ (x : Entry) (h : EntryIs 31 mode n (Here s at) x) where
-      pub ends-inside : (e : ℕ) → x ≡ End e → e ≤ length s - at → (at + e ≡ code (rest mode count 31 s)) × Walked L start mode count s p found
-      ends-inside = keeping.ends-inside (L .root) 3 (L .rootPlaces) objectsAt objects-known (L .rootApart) (Says L start) 30 mode count s modes room at n p found w x h
+      pub ends-inside : (e : ℕ) → x ≡ End e → e ≤ length s - at → (at + e ≡ code (rest mode count 31 s)) × Walked deep L start mode count s p found
+      ends-inside = keeping.ends-inside (L .root) 3 (L .rootPlaces) objectsAt objects-known (L .rootApart) (Says deep L start) 30 mode count s modes room at n p found w x h
 
-      pub ends-faulty : (e : ℕ) → x ≡ End e → length s - at < e → (e ≡ code (rest mode count 31 s)) × Walked L start mode count s p found
-      ends-faulty = keeping.ends-faulty (L .root) 3 (L .rootPlaces) objectsAt objects-known (L .rootApart) (Says L start) 30 mode count s modes room at n p found w x h
+      pub ends-faulty : (e : ℕ) → x ≡ End e → length s - at < e → (e ≡ code (rest mode count 31 s)) × Walked deep L start mode count s p found
+      ends-faulty = keeping.ends-faulty (L .root) 3 (L .rootPlaces) objectsAt objects-known (L .rootApart) (Says deep L start) 30 mode count s modes room at n p found w x h
 
       module _ (k : ℕ) (is : x ≡ Value k) where
         pub value-inside : at + k ≤ length s
-        value-inside = keeping.value-inside (L .root) 3 (L .rootPlaces) objectsAt objects-known (L .rootApart) (Says L start) 30 mode count s modes room at n p found w x h k is
+        value-inside = keeping.value-inside (L .root) 3 (L .rootPlaces) objectsAt objects-known (L .rootApart) (Says deep L start) 30 mode count s modes room at n p found w x h k is
 
         module _ (e : ℕ) (ended : e ≡ code (itemEnd 31 (Here s (at + k)))) where
           pub two-due : 2 ≤ n
-          two-due = keeping.two-due (L .root) 3 (L .rootPlaces) objectsAt objects-known (L .rootApart) (Says L start) 30 mode count s modes room at n p found w x h k is e ended
+          two-due = keeping.two-due (L .root) 3 (L .rootPlaces) objectsAt objects-known (L .rootApart) (Says deep L start) 30 mode count s modes room at n p found w x h k is e ended
 
-          pub value-faulty : length s - (at + k) < e → (found′ : Found) → (e ≡ code (rest mode count 31 s)) × Walked L start mode count s p found′
-          value-faulty = keeping.value-faulty (L .root) 3 (L .rootPlaces) objectsAt objects-known (L .rootApart) (Says L start) 30 mode count s modes room at n p found w x h k is e ended
+          pub value-faulty : length s - (at + k) < e → (found′ : Found) → (e ≡ code (rest mode count 31 s)) × Walked deep L start mode count s p found′
+          value-faulty = keeping.value-faulty (L .root) 3 (L .rootPlaces) objectsAt objects-known (L .rootApart) (Says deep L start) 30 mode count s modes room at n p found w x h k is e ended
 
           module _ (l : e ≤ length s - (at + k)) where
             pub goes-on : at < at + k + e
-            goes-on = keeping.goes-on (L .root) 3 (L .rootPlaces) objectsAt objects-known (L .rootApart) (Says L start) 30 mode count s modes room at n p found w x h k is e ended l
+            goes-on = keeping.goes-on (L .root) 3 (L .rootPlaces) objectsAt objects-known (L .rootApart) (Says deep L start) 30 mode count s modes room at n p found w x h k is e ended l
 
-            pub loops-on : (j : ℕ) → SlotIs (L .root) (Here s at) j → (found′ : Found) → ValueIs L start j (getD p 2 0) (Here s (at + k)) found found′
-                → (q : List ℕ) → q ≡ marked 3 p j (length s - (at + k)) → Looping L start mode count s (at + k + e) (n - 2) q found′
-            loops-on j slot found′ valued q m = keeping.loops-on (L .root) 3 (L .rootPlaces) objectsAt objects-known (L .rootApart) (Says L start) 30 mode count s modes room at n p found w x h k is e ended l j slot found′ valued q m
+            pub loops-on : (j : ℕ) → SlotIs (L .root) (Here s at) j → (found′ : Found) → ValueIs deep L start j (getD p 2 0) (Here s (at + k)) found found′
+                → (q : List ℕ) → q ≡ marked 3 p j (length s - (at + k)) → Looping deep L start mode count s (at + k + e) (n - 2) q found′
+            loops-on j slot found′ valued q m = keeping.loops-on (L .root) 3 (L .rootPlaces) objectsAt objects-known (L .rootApart) (Says deep L start) 30 mode count s modes room at n p found w x h k is e ended l j slot found′ valued q m
 
 -- ---------------------------------------------------------------- the whole value
 
@@ -101,17 +102,17 @@ holds-whole d c a l left (some t) (some-left, x) =
     let z : a + (length (drop a c) - left) ≡ length c - left = omega arith in
     (some-left, record { rest = x .rest; within = omega arith; left-is = x .left-is; reads = subst (λ u. Reads d u t (x .rest)) (drop-drop (length (drop a c) - left) a c ∙ ap (λ i. drop i c) z) (x .reads) })
 
-module _ (L : Layout) (c : List ℕ) (start : ℕ) (x : Opening) (h : MapIs (Here c 0) x) where
-  pub no-map : x ≡ NotOpen → RootIs L c start (No 8 0 0)
-  unfolding judge rootFields fields
+module _ (deep : Bool) (L : Layout) (c : List ℕ) (start : ℕ) (x : Opening) (h : MapIs (Here c 0) x) where
+  pub no-map : x ≡ NotOpen → WholeIs deep L c start (No 8 0 0)
+  unfolding judgeBy rootFields fields
   no-map e t q r = rw (opens.opening c x h NotOpen e 31 t q r) refl
 
-  pub entries-judged : (mode count size : ℕ) → x ≡ Opened mode count size → (p : List ℕ) (found : Found) → Walked L start mode count (Here c size) p found
-      → (v : Judged) → VerdictIs (Here c size) p found v → RootIs L c start v
+  pub entries-judged : (mode count size : ℕ) → x ≡ Opened mode count size → (p : List ℕ) (found : Found) → Walked deep L start mode count (Here c size) p found
+      → (v : Judged) → VerdictIs (Here c size) p found v → WholeIs deep L c start v
   entries-judged mode count size is p found walked v judged t q r =
       let m = opens.opened c x h mode count size is .trees 31 t q r in
-      let w = subst (λ u. Walked L start mode count u p found) (part-to-end c size) walked (m .pairs) (m .last) (m .due) in
-      subst (λ u. VerdictIs u p found v) (part-to-end c size) judged L start 30 (m .pairs) (m .last) (m .due .chain) w t (m .kind-is)
+      let w = subst (λ u. Walked deep L start mode count u p found) (part-to-end c size) walked (m .pairs) (m .last) (m .due) in
+      subst (λ u. VerdictIs u p found v) (part-to-end c size) judged deep L start 30 (m .pairs) (m .last) (m .due .chain) w t (m .kind-is)
 
   pub no-objects : x ≡ NotOpen → ObjectsAt L c 0
   unfolding aTable asTable
@@ -119,12 +120,28 @@ module _ (L : Layout) (c : List ℕ) (start : ℕ) (x : Opening) (h : MapIs (Her
       let z : pass ps ≡ fault KIND = (rw is refl) ∙ opens.opening c x h NotOpen e 31 t q r in
       absurd (let y : _≡_ {A = ℕ} 0 1 = cc in omega arith)
 
-  pub objects-stand : (mode count size : ℕ) → x ≡ Opened mode count size → (p : List ℕ) (found : Found) → Walked L start mode count (Here c size) p found → (left : ℕ) → left ≡ getD p 2 0 → ObjectsAt L c left
+  pub objects-stand : (mode count size : ℕ) → x ≡ Opened mode count size → (p : List ℕ) (found : Found) → Walked deep L start mode count (Here c size) p found → (left : ℕ) → left ≡ getD p 2 0 → ObjectsAt L c left
   objects-stand mode count size is p found walked left e t q r ps kt =
       let o = opens.opened c x h mode count size is in
       let m = o .trees 31 t q r in
       let z : table (m .pairs) ≡ table ps = sym (m .kind-is) ∙ kt in
       let y : m .pairs ≡ ps = cc in
-      let w = subst (λ u. Walked L start mode count u p found) (part-to-end c size) walked (m .pairs) (m .last) (m .due) in
+      let w = subst (λ u. Walked deep L start mode count u p found) (part-to-end c size) walked (m .pairs) (m .last) (m .due) in
       let f = field-stands (L .root) 3 (L .rootPlaces) 31 (drop size c) (m .pairs) (m .last) (m .due .chain) p (w .0) (L .rootApart) objectsAt objects-known in
       holds-whole 31 c size (o .within) left (field (slot objectsAt (L .root)) ps) (subst (λ l. Holds 31 (drop size c) l (field (slot objectsAt (L .root)) ps)) (sym e) (subst (λ ps. Holds 31 (drop size c) (getD p 2 0) (field (slot objectsAt (L .root)) ps)) y f))
+
+-- ---------------------------------------------------------------- all judged, or the names alone
+
+module _ (L : Layout) (c : List ℕ) (start : ℕ) where
+  abbrev Told : (List ℕ → Judged → Type 0) → ℕ → Judged → ℕ → List ℕ → Type 0
+  Told Is e v left s = (e ≡ code (itemEnd 32 s)) × Is s v × ObjectsAt L s left
+
+  all-judged : (s : List ℕ) (v : Judged) → WholeIs true L s start v → RootIs L s start v
+  unfolding judgeBy objectsBy judging judge objectsOf
+  all-judged s v h = h
+
+  pub judged-whole : (e : ℕ) (v : Judged) (left : ℕ) → Told (λ s v. WholeIs true L s start v) e v left (Here c 0) → Told (λ s v. RootIs L s start v) e v left c
+  judged-whole e v left h = let k = subst (Told (λ s v. WholeIs true L s start v) e v left) (part-to-end c 0) h in (k .0, all-judged c v (k .1), k .2)
+
+  pub opened-whole : (deep : Bool) (e : ℕ) (v : Judged) (left : ℕ) → Told (λ s v. WholeIs deep L s start v) e v left (Here c 0) → Told (λ s v. WholeIs deep L s start v) e v left c
+  opened-whole deep e v left h = subst (Told (λ s v. WholeIs deep L s start v) e v left) (part-to-end c 0) h

@@ -6,17 +6,18 @@ use mathlib.Core.Path.{_≡_}
 use lib.ListN.{length, getD}
 use lib.Dec.{eqb}
 use Rattle.meaning.specs.Tree.{Node, Pair}
-use Rattle.meaning.specs.Check.{Check, pass, refuse, fault}
+use Rattle.meaning.specs.Check.{Check, pass, refuse, _>>=_, _>>_, fault, required, optional}
 use Rattle.meaning.specs.Refusal.{KIND, KEY, TWICE, MISSING}
 use Rattle.meaning.specs.Model.{Model}
-use Rattle.meaning.specs.Field.{field}
+use Rattle.meaning.specs.Field.{field, rootFields}
 use Rattle.meaning.specs.Kind.{kind, table}
-use Rattle.meaning.specs.Judge.{aVersion, judge}
+use Rattle.meaning.specs.Judge.{attributesOf, aVersion, judge}
 use Rattle.meaning.specs.Rows.{componentCount}
 use Rattle.meaning.specs.Layouts.{Layout, slot, objectsAt}
 use Rattle.walk.specs.Reading.{Ends, Reads, Chain, leftAt}
 use Rattle.walk.specs.Places.{Whatever}
 use Rattle.fields.specs.Slots.{ItemAt, Holds}
+use Rattle.objects.specs.Found.{objectsBy}
 use Rattle.objects.specs.declared.Found.{Found}
 use Rattle.objects.specs.declared.Found.the-variants.{No as NoObjects, Yes as Objects}
 use Rattle.root.specs.Walk.{Noted}
@@ -50,15 +51,30 @@ told map left objects found = cond map (cond (eqb objects 0) (No MISSING 0 0) (c
 
 -- ---------------------------------------------------------------- the whole
 
+-- a root with its objects judged, or passed over where only their names are asked for
+unfoldable pub judgeBy : {P : Type 0} → Bool → Layout → ℕ → Node P → Check (Model P)
+judgeBy deep L start t = do
+  r ← rootFields (L .root) t
+  version ← required (r .version)
+  aVersion version
+  a ← optional attributesOf (r .attributes)
+  objects ← required (r .objects)
+  os ← objectsBy deep L start objects
+  pass (record { attributes = a; objects = os })
+
 abbrev pub judged : Check (Model Ends) → Judged
 judged (pass m) = Yes (length (m .objects)) (componentCount (m .objects)) (leftAt (m .attributes))
 judged (refuse n o c) = No n o c
 
 -- for every map of the pairs that are read from s on, where p holds their slots, and `found` what the objects say
 abbrev pub VerdictIs : List ℕ → List ℕ → Found → Judged → Type 0
-VerdictIs s p found r = (L : Layout) (start d : ℕ) (ps : List (Pair Ends)) (q : List ℕ) → Chain (suc d) s ps q → Noted L start p found ps
-    → (t : Node Ends) → kind t ≡ table ps → r ≡ judged (judge L start t)
+VerdictIs s p found r = (deep : Bool) (L : Layout) (start d : ℕ) (ps : List (Pair Ends)) (q : List ℕ) → Chain (suc d) s ps q → Noted deep L start p found ps
+    → (t : Node Ends) → kind t ≡ table ps → r ≡ judged (judgeBy deep L start t)
 
+abbrev pub WholeIs : Bool → Layout → List ℕ → ℕ → Judged → Type 0
+WholeIs deep L s start r = (t : Node Ends) (q : List ℕ) → Reads 32 s t q → r ≡ judged (judgeBy deep L start t)
+
+-- all is judged
 abbrev pub RootIs : Layout → List ℕ → ℕ → Judged → Type 0
 RootIs L s start r = (t : Node Ends) (q : List ℕ) → Reads 32 s t q → r ≡ judged (judge L start t)
 

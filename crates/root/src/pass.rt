@@ -26,13 +26,21 @@ fn slot(layout: u64, s: &[u8]) -> usize
 }
 
 // The value that begins c, whose key has slot k. The first `objects` (their slot still holds 0, which is `seen`) are walked; with any other value, what was found
-// before stays.
-fn value(layout: u64, c: &[u8], start: u64, k: usize, seen: usize, found: Found) -> Whole
-    ensures { λ r. ⌜ (r .end ≡ code (itemEnd 31 (now (c .entry)))) × is.ValueIs (layoutOf layout) start k seen (now (c .entry)) found (r .found) ⌝ }
+// before stays. Objects are judged, or their names alone unless `deep`.
+fn value(
+    layout: u64,
+    c: &[u8],
+    start: u64,
+    deep: bool,
+    k: usize,
+    seen: usize,
+    found: Found,
+) -> Whole
+    ensures { λ r. ⌜ (r .end ≡ code (itemEnd 31 (now (c .entry)))) × is.ValueIs deep (layoutOf layout) start k seen (now (c .entry)) found (r .found) ⌝ }
 {
     if k == 2 {
         if seen == 0 {
-            return objects::objects(layout, &c[0..], start);
+            return objects::objects(layout, &c[0..], start, deep);
         }
     }
     Whole {
@@ -42,9 +50,17 @@ fn value(layout: u64, c: &[u8], start: u64, k: usize, seen: usize, found: Found)
 }
 
 // Entries that begin s, counted as `walk::map` says: where they end, and what was found among the objects. The places of the known fields are left in p.
-pub fn entries(layout: u64, s: &[u8], start: u64, mode: u64, count: u64, p: &mut [usize]) -> Whole
+pub fn entries(
+    layout: u64,
+    s: &[u8],
+    start: u64,
+    deep: bool,
+    mode: u64,
+    count: u64,
+    p: &mut [usize],
+) -> Whole
     requires { ⌜ (now p ≡ replicate 6 0) × Modes mode count ⌝ }
-    ensures { λ r. ⌜ (r .end ≡ code (rest mode count 31 (now (s .entry)))) × is.Walked (layoutOf layout) start mode count (now (s .entry)) (now (p .exit)) (r .found) ⌝ }
+    ensures { λ r. ⌜ (r .end ≡ code (rest mode count 31 (now (s .entry)))) × is.Walked deep (layoutOf layout) start mode count (now (s .entry)) (now (p .exit)) (r .found) ⌝ }
 {
     let mut at = 0;
     let mut due = count;
@@ -66,7 +82,7 @@ pub fn entries(layout: u64, s: &[u8], start: u64, mode: u64, count: u64, p: &mut
             Entry::Value(k) => {
                 let v = at + k;
                 let j = slot(layout, &s[at..]);
-                let w = value(layout, &s[v..], start, j, p[2], found);
+                let w = value(layout, &s[v..], start, deep, j, p[2], found);
                 let e = w.end;
                 found = w.found;
                 if s.len() - v < e {

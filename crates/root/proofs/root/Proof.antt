@@ -1,9 +1,4 @@
--- `root::root` meets its contract: a law for each branch.
-use native.Mathlib.Omega.{arith}
-use mathlib.Core.Path.{refl, ap, _∙_}
-use borrow.Rule.Slice.PartAt.{part-to-end}
-use Rattle.cbor.specs.Ending.{code, itemEnd}
-use Rattle.walk.proofs.Opens as opens
+-- `root::root` meets its contract.
 use Rattle.meaning.specs.Layouts.{layoutOf}
 use Rattle.root.proofs.Walks as walks
 use borrow.Author.Needs.{needs}
@@ -11,32 +6,4 @@ use Rattle.root.proofs.root.Statement.{statement}
 use Rattle.root.proofs.root.Tie as tie
 
 pub root-spec : {M : Type 1} → statement M
-root-spec =
-    tie.close
-    (tie.spec
-    (λ c. search needs)
-    (λ c. search needs)
-    (λ c. search needs)
-    (λ c κs. search needs)
-    (λ c. search needs)
-    (λ c. search needs)
-    (λ c. search needs)
-    (λ c. search needs)
-    (λ c κs. search needs)
-    (λ c. search needs)
-    (λ c. opens.size-inside (c .before .before .before .before .before .before .args .s .now) _ (c .before .before .before .map .ensures) _ _ _ (c .before .mode .given .1))
-    (λ c. opens.size-inside (c .before .before .before .before .before .before .args .s .now) _ (c .before .before .before .map .ensures) _ _ _ (c .before .mode .given .1))
-    (λ c. search needs)
-    (λ c. search needs)
-    (λ c κs. (refl, opens.modes (c .before .before .before .before .before .before .before .before .args .s .now) _ (c .before .before .before .before .before .map .ensures) _ _ _ (c .before .before .before .mode .given .1)))
-    (λ c. opens.size-inside (c .before .before .before .before .before .before .before .before .before .before .args .s .now) _ (c .before .before .before .before .before .before .before .map .ensures) _ _ _ (c .before .before .before .before .before .mode .given .1))
-    (λ c. opens.size-inside (c .before .before .before .before .before .before .before .before .before .before .args .s .now) _ (c .before .before .before .before .before .before .before .map .ensures) _ _ _ (c .before .before .before .before .before .mode .given .1))
-    (λ c. search needs)
-    (λ c. search needs)
-    (λ c κs. search needs)
-    (λ c. search needs)
-    (λ c. opens.size-inside (c .before .before .before .before .before .before .before .before .before .before .before .before .before .args .s .now) _ (c .before .before .before .before .before .before .before .before .before .before .map .ensures) _ _ _ (c .before .before .before .before .before .before .before .before .mode .given .1))
-    (λ c. (opens.ends-faulty (c .before .before .before .before .before .before .before .before .before .before .before .before .before .before .args .s .now) _ (c .before .before .before .before .before .before .before .before .before .before .before .map .ensures) _ _ _ (c .before .before .before .before .before .before .before .before .before .mode .given .1) 31 (omega arith) _ (c .before .before .before .before .before .entries .ensures .0) (c .if1 .taken), walks.entries-judged (layoutOf (c .before .before .before .before .before .before .before .before .before .before .before .before .before .before .args .layout)) (c .before .before .before .before .before .before .before .before .before .before .before .before .before .before .args .s .now) (c .before .before .before .before .before .before .before .before .before .before .before .before .before .before .args .start) _ (c .before .before .before .before .before .before .before .before .before .before .before .map .ensures) _ _ _ (c .before .before .before .before .before .before .before .before .before .mode .given .1) _ _ (c .before .before .before .before .before .entries .ensures .1) _ (c .before .verdict .ensures), walks.objects-stand (layoutOf (c .before .before .before .before .before .before .before .before .before .before .before .before .before .before .args .layout)) (c .before .before .before .before .before .before .before .before .before .before .before .before .before .before .args .s .now) (c .before .before .before .before .before .before .before .before .before .before .before .before .before .before .args .start) _ (c .before .before .before .before .before .before .before .before .before .before .before .map .ensures) _ _ _ (c .before .before .before .before .before .before .before .before .before .mode .given .1) _ _ (c .before .before .before .before .before .entries .ensures .1) _ refl))
-    (λ c. let a = opens.size-inside (c .before .before .before .before .before .before .before .before .before .before .before .before .before .before .args .s .now) _ (c .before .before .before .before .before .before .before .before .before .before .before .map .ensures) _ _ _ (c .before .before .before .before .before .before .before .before .before .mode .given .1) in let b = (c .if1 .left) in let g = (c .before .before .before .before .before .before .before .before .before .before .before .before .before .before .good) in omega arith)
-    (λ c. ((c .skip .ensures) ∙ ap (λ u. code (itemEnd 32 u)) (part-to-end (c .before .before .before .before .before .before .before .args .s .now) 0), walks.no-map (layoutOf (c .before .before .before .before .before .before .before .args .layout)) (c .before .before .before .before .before .before .before .args .s .now) (c .before .before .before .before .before .before .before .args .start) _ (c .before .before .before .before .map .ensures) (c .before .before .enum-told .given .1), walks.no-objects (layoutOf (c .before .before .before .before .before .before .before .args .layout)) (c .before .before .before .before .before .before .before .args .s .now) (c .before .before .before .before .before .before .before .args .start) _ (c .before .before .before .before .map .ensures) (c .before .before .enum-told .given .1)))
-    (λ c. (opens.ends-inside (c .before .before .before .before .before .before .before .before .before .before .before .before .before .before .args .s .now) _ (c .before .before .before .before .before .before .before .before .before .before .before .map .ensures) _ _ _ (c .before .before .before .before .before .before .before .before .before .mode .given .1) 31 (omega arith) _ (c .before .before .before .before .before .entries .ensures .0) (c .if1 .left), walks.entries-judged (layoutOf (c .before .before .before .before .before .before .before .before .before .before .before .before .before .before .args .layout)) (c .before .before .before .before .before .before .before .before .before .before .before .before .before .before .args .s .now) (c .before .before .before .before .before .before .before .before .before .before .before .before .before .before .args .start) _ (c .before .before .before .before .before .before .before .before .before .before .before .map .ensures) _ _ _ (c .before .before .before .before .before .before .before .before .before .mode .given .1) _ _ (c .before .before .before .before .before .entries .ensures .1) _ (c .before .verdict .ensures), walks.objects-stand (layoutOf (c .before .before .before .before .before .before .before .before .before .before .before .before .before .before .args .layout)) (c .before .before .before .before .before .before .before .before .before .before .before .before .before .before .args .s .now) (c .before .before .before .before .before .before .before .before .before .before .before .before .before .before .args .start) _ (c .before .before .before .before .before .before .before .before .before .before .before .map .ensures) _ _ _ (c .before .before .before .before .before .before .before .before .before .mode .given .1) _ _ (c .before .before .before .before .before .entries .ensures .1) _ refl)))
+root-spec = tie.close (tie.spec (λ c. search needs) (λ c. search needs) (λ c. search needs) (λ c κs. search needs) (λ c. walks.judged-whole (layoutOf (c .before .before .before .args .layout)) (c .before .before .before .args .s .now) (c .before .before .before .args .start) _ _ _ (c .judged-root .ensures)))
