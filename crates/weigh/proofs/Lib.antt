@@ -1,0 +1,2 @@
+-- Laws behind the answer: from the manifest, and from the frame.
+pub mod Weighing

@@ -1,0 +1,2 @@
+-- What is answered of a weighed file.
+pub mod Weighed
