@@ -1,0 +1,2 @@
+-- Lists that share no text.
+pub mod Unshared
