@@ -1,19 +1,17 @@
 -- From what the manifest was told to be and what its objects were measured as to what is answered of the file.
-use Prim.Native.Nat.{ℕ, suc, _+_, _-_, _*_, _≤_, _<_}
+use Prim.Native.Nat.{ℕ, suc, _+_, _-_, _≤_, _<_}
 use native.Mathlib.Omega.{arith}
-use mathlib.Core.List.{List, [], _∷_, map}
-use mathlib.Core.Path.{_≡_, refl, sym, ap, ap₂, _∙_, subst}
+use mathlib.Core.List.{List, [], _∷_}
+use mathlib.Core.Path.{_≡_, refl, sym, ap, _∙_, subst}
 use lib.ListN.{length, take, drop, length-map, length-drop}
 use lib.Seq.{length-take-le}
 use borrow.Rule.Slice.PartAt.{part-to-end}
 use Rattle.meaning.specs.Limit.{manifestLimit, endLimit}
-use Rattle.meaning.specs.Tree.{Node, mapP}
-use Rattle.meaning.specs.Check.{Check, pass, refuse}
-use Rattle.meaning.specs.Model.{Object, Model}
-use Rattle.meaning.specs.Notes.{mapObject, mapComponent, mapModel, mapOption}
-use Rattle.meaning.specs.Frame.{Reading, frame, reading}
+use Rattle.meaning.specs.Check.{refuse}
+use Rattle.meaning.specs.Model.{Object}
+use Rattle.meaning.specs.Notes.{mapObject, mapComponent, mapModel}
+use Rattle.meaning.specs.Frame.{frame, reading}
 use Rattle.meaning.specs.Layouts.{layoutOf}
-use Rattle.meaning.specs.Rows.{attributesSpan, componentCount}
 use Rattle.readback.specs.Every.{Every}
 use Rattle.cbor.specs.Ending.{FAULT}
 use Rattle.walk.specs.Reading.{Ends}
@@ -21,7 +19,7 @@ use Rattle.walk.proofs.Passed.{Here}
 use Rattle.frame.specs.Told.{told}
 use Rattle.frame.specs.declared.Framed.{Framed}
 use Rattle.frame.specs.declared.Framed.the-variants as frames-are
-use Rattle.table.specs.Spans.{spanOf, spanned}
+use Rattle.table.specs.Spans.{spanOf}
 use Rattle.table.specs.declared.span.Span.{Span}
 use Rattle.table.proofs.Objecting.{count-mapped}
 use Rattle.reader.specs.Verdict.{manifestReading, Accepted, ManifestIs}
@@ -33,7 +31,7 @@ use Rattle.reader.proofs.Answers.{parts, objects-read, attributes-hold}
 use Rattle.window.specs.Summed.{InWindow, spans, Measured}
 use Rattle.weigh.specs.declared.Weighed.{Weighed}
 use Rattle.weigh.specs.declared.Weighed.the-variants as weighed
-use Rattle.weigh.specs.Weighed.{Sums, Weighs, WeighedIs}
+use Rattle.weigh.specs.Weighed.{Weighs, WeighedIs}
 
 unmapped-in-window : (end : ℕ) (os : List (Object Ends)) → Every InWindow (spans end os) → Every InWindow os
 unmapped-in-window end [] w = tt
