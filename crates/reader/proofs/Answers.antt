@@ -1,11 +1,11 @@
 -- From an accepted manifest to the answer and the table: its room, where its attributes and its objects stand, and the rows.
 use Prim.Native.Nat.{ℕ, _+_, _-_, _*_, _/_, _≤_, _<_}
 use native.Mathlib.Omega.{arith}
-use mathlib.Core.List.{List, _++_}
+use mathlib.Core.List.{List, _++_, append-assoc, append-nil}
 use mathlib.Core.Bool.{Bool, true, false}
 use mathlib.Core.Option.{Option, none, some}
 use mathlib.Core.Path.{_≡_, refl, sym, ap, ap₂, _∙_, subst}
-use lib.ListN.{length, take, drop, length-map, length-drop}
+use lib.ListN.{length, take, drop, length-map, length-append, length-drop, drop-of-length-le}
 use lib.Seq.{length-take-le}
 use lib.Dec.{leb}
 use borrow.Author.Tests.{leb-true, leb-false, le-leb, lt-leb}
@@ -25,7 +25,7 @@ use Rattle.meaning.specs.Layouts.{Layout, slot, somes, objectsAt, layoutOf}
 use Rattle.meaning.specs.Field.{rootFields, isSome, keyOf, count}
 use Rattle.meaning.specs.Judge.{judge, aVersion, attributesOf, objectsOf}
 use Rattle.meaning.specs.Frame.{Reading, frame, reading}
-use Rattle.meaning.specs.Rows.{attributesSpan, componentCount, roomFor, roomy, answer, tableAfter, readInto}
+use Rattle.meaning.specs.Rows.{attributesSpan, componentCount, rows, roomFor, roomy, answer, tableAfter, readInto}
 use Rattle.cbor.specs.Ending.{FAULT, took, code, itemEnd}
 use Rattle.walk.specs.Reading.{Ends, Reads, leftAt}
 use Rattle.walk.proofs.Passed.{Here}
@@ -47,7 +47,7 @@ use Rattle.reader.specs.declared.Told.{Told}
 use Rattle.reader.specs.declared.Told.the-variants.{No, Yes}
 use Rattle.reader.specs.declared.into.Answer.{Answer}
 use Rattle.reader.specs.Verdict.{manifestReading, Accepted, ManifestIs}
-use Rattle.reader.specs.Answer.{refused, read, answered, AttributesIs, Filled}
+use Rattle.reader.specs.Answer.{refused, read, answered, AttributesIs, ahead, laidOver, placed, Filled}
 use Rattle.reader.proofs.Frames.{framed, inside, manifest-read}
 
 -- ---------------------------------------------------------------- the attributes
@@ -137,12 +137,65 @@ field-holds m room t q e ps is name (some x) g =
     let i = a .some in let j = a .fits in
     holds-whole 31 m (h .at) (h .within) (length (noteOf x .start)) (some x) (omega arith, s)
 
+-- ---------------------------------------------------------------- the part that is lent to the rows
+
+-- the part of a table from a number on, and the table with what that then holds
+abbrev lentPart : ℕ → List ℕ → List ℕ
+lentPart first t = take (length t - first) (drop first t)
+
+abbrev lentBack : ℕ → List ℕ → List ℕ → List ℕ
+lentBack first t l = take first t ++ (l ++ drop (length t - first) (drop first t))
+
+part-length : (first : ℕ) (t : List ℕ) → length (lentPart first t) ≡ length t - first
+part-length first t = ap length (part-to-end t first) ∙ length-drop first t
+
+back-is : (first : ℕ) (t l : List ℕ) → lentBack first t l ≡ take first t ++ l
+back-is first t l =
+    let h : length (drop first t) ≤ length t - first = omega (arith, length-drop first t) in
+    ap (λ (z : List ℕ). take first t ++ (l ++ z)) (drop-of-length-le (drop first t) h) ∙ ap (λ (z : List ℕ). take first t ++ z) (append-nil l)
+
+part-room : (last : Bool) (t : List ℕ) (needed first : ℕ) → needed ≤ length t → first ≡ ahead last (length t) needed → needed ≤ length (lentPart first t)
+unfolding ahead
+part-room false t needed first h e = omega (arith, part-length first t, e, h)
+part-room true t needed first h e = omega (arith, part-length first t, e, h)
+
+-- the first number of the part
+module _ (last : Bool) (room needed : ℕ) where
+  pub ahead-last : last ≡ true → room - needed ≡ ahead last room needed
+  unfolding ahead
+  ahead-last e = rw e refl
+
+  pub ahead-inside : (first : ℕ) → first ≡ ahead last room needed → first ≤ room
+  unfolding ahead
+  ahead-inside first = by last
+    where
+      by : (b : Bool) → first ≡ ahead b room needed → first ≤ room
+      by false e = omega (arith, e)
+      by true e = omega (arith, e)
+
+pub back-length : (first : ℕ) (t l : List ℕ) → first ≤ length t → length l ≡ length (lentPart first t) → length (lentBack first t l) ≡ length t
+back-length first t l h e =
+    let a : length (take first t ++ l) ≡ length (take first t) + length l = length-append (take first t) l in
+    ap length (back-is first t l) ∙ (omega (arith, a, length-take-le first t h, e, part-length first t, h))
+
+rows-laid : (last : Bool) (t l : List ℕ) (needed first : ℕ) → needed ≤ length t → first ≡ ahead last (length t) needed
+    → lentBack first t (l ++ drop needed (lentPart first t)) ≡ laidOver last t needed l
+unfolding ahead laidOver
+rows-laid false t l needed first h e =
+    back-is first t (l ++ drop needed (lentPart first t))
+    ∙ (rw e refl) ∙ ap (λ (z : List ℕ). l ++ drop needed z) (part-to-end t 0)
+rows-laid true t l needed first h e =
+    let d : length (lentPart first t) ≤ needed = omega (arith, part-length first t, e, h) in
+    back-is first t (l ++ drop needed (lentPart first t))
+    ∙ ap (λ (z : List ℕ). take first t ++ (l ++ z)) (drop-of-length-le (lentPart first t) d)
+    ∙ ap (λ (z : List ℕ). take first t ++ z) (append-nil l) ∙ ap (λ (i : ℕ). take i t ++ l) e
+
 -- ---------------------------------------------------------------- the answer
 
 module _ (layout start : ℕ) (m : List ℕ) (before : List ℕ) where
-  pub manifest-refuses : (n o c : ℕ) → manifestReading (layoutOf layout) (start + length m) start m ≡ refuse n o c → Filled (layoutOf layout) start m before (refused n o c) before
-  unfolding answer tableAfter
-  manifest-refuses n o c e = (rw e refl, rw e refl)
+  pub manifest-refuses : (last : Bool) (n o c : ℕ) → manifestReading (layoutOf layout) (start + length m) start m ≡ refuse n o c → Filled (layoutOf layout) last start m before (refused n o c) before
+  unfolding answer placed
+  manifest-refuses last n o c e = (rw e refl, rw e refl)
 
   module _ (objects components left at : ℕ) (a : Accepted (layoutOf layout) (start + length m) start m objects components left at) where
     room-is : roomFor (mapModel (spanOf (start + length m)) (a .model)) ≡ objectWidth * objects + componentWidth * components
@@ -153,9 +206,9 @@ module _ (layout start : ℕ) (m : List ℕ) (before : List ℕ) where
         let z = a .objects-are in let w = a .components-are in
         omega arith
 
-    pub no-room : false ≡ leb (objectWidth * objects + componentWidth * components) (length before) → Filled (layoutOf layout) start m before (refused 24 0 0) before
-    unfolding answer tableAfter roomy
-    no-room e = let r = a .is in let i = room-is in (rw (r, i, ← e) refl, rw (r, i, ← e) refl)
+    pub no-room : (last : Bool) → false ≡ leb (objectWidth * objects + componentWidth * components) (length before) → Filled (layoutOf layout) last start m before (refused 24 0 0) before
+    unfolding answer roomy placed
+    no-room last e = let r = a .is in let i = room-is in (rw (r, i, ← e) refl, rw (r, i, ← e) refl)
 
     module _ (room : length m < FAULT) where
       pub parts : Parts (layoutOf layout) start (a .tree) (a .model)
@@ -173,10 +226,6 @@ module _ (layout start : ℕ) (m : List ℕ) (before : List ℕ) where
           (field-holds m room (a .tree) (a .rest) (a .reads) (parts .pairs) (parts .kind-is) (slot attributesAt (layoutOf layout .root)) (a .model .attributes) (sym (parts .attributes-are)))
 
       module _ (fits : true ≡ leb (objectWidth * objects + componentWidth * components) (length before)) where
-        enough : roomFor (a .model) ≤ length before
-        unfolding roomFor
-        enough = let x = leb-true (objectWidth * objects + componentWidth * components) (length before) (sym fits) in let z = a .objects-are in let w = a .components-are in omega arith
-
         reading-is : (manifestReading (layoutOf layout) (start + length m) start m >>= roomy (length before)) ≡ pass (record { start = start; model = mapModel (spanOf (start + length m)) (a .model) })
         unfolding roomy
         reading-is = let r = a .is in let i = room-is in rw (r, i, ← fits) refl
@@ -191,38 +240,57 @@ module _ (layout start : ℕ) (m : List ℕ) (before : List ℕ) where
             let v : s .size ≡ attributesSpan (mapOption (mapP (spanOf (start + length m))) (a .model .attributes)) .size = ap (λ (s : spans.Span). s .size) z in
             rw (x, y, u, v) refl
 
-        pub written : (place : ℕ) → place ≡ length m - at → (after : List ℕ) → Written layout (Here m place) start (start + length m) (objectWidth * objects) before after
-            → (s : Span) → AttributesIs m left (start + length m) s → Filled (layoutOf layout) start m before (read objects components start s) after
-        unfolding tableAfter
-        written place here after w s h =
-            let o = objects-read place here in
-            let from : objectWidth * objects ≡ objectWidth * length (a .model .objects) = ap (λ n. objectWidth * n) (a .objects-are) in (
-              answer-is s h ∙ ap answered (sym reading-is),
-              w (parts .objects) (o .0) (o .1) (a .model) (parts .objects-judged) from enough ∙ ap (tableAfter before) (sym reading-is),
-            )
+        module _ (last : Bool) (first : ℕ) (before-rows : first ≡ ahead last (length before) (objectWidth * objects + componentWidth * components)) where
+          rows-ahead : first ≡ ahead last (length before) (roomFor (mapModel (spanOf (start + length m)) (a .model)))
+          rows-ahead = before-rows ∙ ap (ahead last (length before)) (sym room-is)
+
+          enough-mapped : roomFor (mapModel (spanOf (start + length m)) (a .model)) ≤ length before
+          enough-mapped = let x = leb-true (objectWidth * objects + componentWidth * components) (length before) (sym fits) in omega (arith, x, room-is)
+
+          part-enough : roomFor (a .model) ≤ length (lentPart first before)
+          unfolding roomFor
+          part-enough =
+              let z = a .objects-are in let w = a .components-are in
+              let y = part-room last before (objectWidth * objects + componentWidth * components) first (leb-true _ _ (sym fits)) before-rows in
+              omega (arith, y, z, w)
+
+          pub written : (place : ℕ) → place ≡ length m - at → (after : List ℕ) → Written layout (Here m place) start (start + length m) (objectWidth * objects) (lentPart first before) after
+              → (s : Span) → AttributesIs m left (start + length m) s → Filled (layoutOf layout) last start m before (read objects components start s) (lentBack first before after)
+          unfolding placed
+          written place here after w s h =
+              let o = objects-read place here in
+              let M = mapModel (spanOf (start + length m)) (a .model) in
+              let from : objectWidth * objects ≡ objectWidth * length (a .model .objects) = ap (λ n. objectWidth * n) (a .objects-are) in (
+                answer-is s h ∙ ap answered (sym reading-is),
+                ap (lentBack first before) (w (parts .objects) (o .0) (o .1) (a .model) (parts .objects-judged) from part-enough)
+                    ∙ rows-laid last before (rows M) (roomFor M) first enough-mapped rows-ahead ∙ ap (placed last before) (sym reading-is),
+              )
 
 -- ---------------------------------------------------------------- as the code has it
 
-module _ (layout start : ℕ) (m before : List ℕ) (x : Told) (h : (end : ℕ) → ManifestIs (layoutOf layout) end start (Here m 0) x) where
+module _ (layout : ℕ) (last : Bool) (start : ℕ) (m before : List ℕ) (x : Told) (h : (end : ℕ) → ManifestIs (layoutOf layout) end start (Here m 0) x) where
   told-there : (y : Told) → x ≡ y → ManifestIs (layoutOf layout) (start + length m) start m y
   told-there y e = subst (ManifestIs (layoutOf layout) (start + length m) start m) e (subst (λ u. ManifestIs (layoutOf layout) (start + length m) start u x) (part-to-end m 0) (h (start + length m)))
 
-  pub filled-not : (n o c : ℕ) → x ≡ No n o c → (r : Answer) → r ≡ refused n o c → Filled (layoutOf layout) start m before r before
-  filled-not n o c e r is = subst (λ r. Filled (layoutOf layout) start m before r before) (sym is) (manifest-refuses layout start m before n o c (told-there (No n o c) e))
+  pub filled-not : (n o c : ℕ) → x ≡ No n o c → (r : Answer) → r ≡ refused n o c → Filled (layoutOf layout) last start m before r before
+  filled-not n o c e r is = subst (λ r. Filled (layoutOf layout) last start m before r before) (sym is) (manifest-refuses layout start m before last n o c (told-there (No n o c) e))
 
   module _ (objects components left at : ℕ) (e : x ≡ Yes objects components left at) where
-    pub filled-no-room : false ≡ leb (objectWidth * objects + componentWidth * components) (length before) → (r : Answer) → r ≡ refused 24 0 0 → Filled (layoutOf layout) start m before r before
-    filled-no-room f r is = subst (λ r. Filled (layoutOf layout) start m before r before) (sym is) (no-room layout start m before objects components left at (told-there (Yes objects components left at) e) f)
+    pub filled-no-room : false ≡ leb (objectWidth * objects + componentWidth * components) (length before) → (r : Answer) → r ≡ refused 24 0 0 → Filled (layoutOf layout) last start m before r before
+    filled-no-room f r is = subst (λ r. Filled (layoutOf layout) last start m before r before) (sym is) (no-room layout start m before objects components left at (told-there (Yes objects components left at) e) last f)
 
-    pub filled-so : length m < FAULT → true ≡ leb (objectWidth * objects + componentWidth * components) (length before) → (place : ℕ) → place ≡ length m - at → (after : List ℕ)
-        → Written layout (Here m place) start (start + length m) (objectWidth * objects) before after → (s : Span) → AttributesIs (Here m 0) left (start + length m) s → Filled (layoutOf layout) start m before (read objects components start s) after
-    filled-so room f place here after w s a =
-        written layout start m before objects components left at (told-there (Yes objects components left at) e) room f place here after w s (subst (λ u. AttributesIs u left (start + length m) s) (part-to-end m 0) a)
+    pub filled-so : length m < FAULT → true ≡ leb (objectWidth * objects + componentWidth * components) (length before)
+        → (first : ℕ) → first ≡ ahead last (length before) (objectWidth * objects + componentWidth * components) → (place : ℕ) → place ≡ length m - at → (after : List ℕ)
+        → Written layout (Here m place) start (start + length m) (objectWidth * objects) (lentPart first before) after → (s : Span) → AttributesIs (Here m 0) left (start + length m) s
+        → Filled (layoutOf layout) last start m before (read objects components start s) (lentBack first before after)
+    filled-so room f first ahead-is place here after w s a =
+        written layout start m before objects components left at (told-there (Yes objects components left at) e) room f last first ahead-is place here after w s
+        (subst (λ u. AttributesIs u left (start + length m) s) (part-to-end m 0) a)
 
 -- from the frame on
-module _ (layout : ℕ) (file before : List ℕ) (r : Framed) (asked : frame (layoutOf layout) (Here file 0) ≡ framed-told r) where
-  pub no-frame-read : (n : ℕ) → r ≡ NoFrame n → (a : Answer) → a ≡ refused n 0 0 → (a ≡ answered (readInto (layoutOf layout) file (length before))) × (before ≡ tableAfter before (readInto (layoutOf layout) file (length before)))
-  unfolding readInto reading answer tableAfter
+module _ (layout : ℕ) (last : Bool) (file before : List ℕ) (r : Framed) (asked : frame (layoutOf layout) (Here file 0) ≡ framed-told r) where
+  pub no-frame-read : (n : ℕ) → r ≡ NoFrame n → (a : Answer) → a ≡ refused n 0 0 → (a ≡ answered (readInto (layoutOf layout) file (length before))) × (before ≡ placed last before (readInto (layoutOf layout) file (length before)))
+  unfolding readInto reading answer placed
   no-frame-read n e a is = let z = framed layout file r asked (NoFrame n) e in (is ∙ (rw z refl), rw z refl)
 
   module _ (start size : ℕ) (e : r ≡ At start size) where
@@ -232,10 +300,16 @@ module _ (layout : ℕ) (file before : List ℕ) (r : Framed) (asked : frame (la
     pub manifest-short : length file < FAULT → start + length (take (start + size - start) (drop start file)) < FAULT
     manifest-short l = let i = inside layout file r asked start size e in let n = manifest-length in omega arith
 
-    pub frame-read : (m : List ℕ) → m ≡ take (start + size - start) (drop start file) → (a : Answer) (after : List ℕ) → Filled (layoutOf layout) start m before a after
-        → (a ≡ answered (readInto (layoutOf layout) file (length before))) × (after ≡ tableAfter before (readInto (layoutOf layout) file (length before)))
+    pub frame-read : (m : List ℕ) → m ≡ take (start + size - start) (drop start file) → (a : Answer) (after : List ℕ) → Filled (layoutOf layout) last start m before a after
+        → (a ≡ answered (readInto (layoutOf layout) file (length before))) × (after ≡ placed last before (readInto (layoutOf layout) file (length before)))
     unfolding readInto
     frame-read m is a after f =
         let l : length m ≡ size = ap length is ∙ manifest-length in
         let z : reading (layoutOf layout) file ≡ manifestReading (layoutOf layout) (start + length m) start m = manifest-read layout file r asked start size e ∙ ap₂ (λ i u. manifestReading (layoutOf layout) i start u) (ap (λ n. start + n) (sym l)) (sym is) in
-        (f .0 ∙ ap (λ k. answered (k >>= roomy (length before))) (sym z), f .1 ∙ ap (λ k. tableAfter before (k >>= roomy (length before))) (sym z))
+        (f .0 ∙ ap (λ k. answered (k >>= roomy (length before))) (sym z), f .1 ∙ ap (λ k. placed last before (k >>= roomy (length before))) (sym z))
+
+-- at the beginning it is meaning's own table
+pub at-beginning : (t : List ℕ) (k : Check Reading) → placed false t k ≡ tableAfter t k
+unfolding tableAfter placed laidOver
+at-beginning t (pass r) = refl
+at-beginning t (refuse n o c) = refl

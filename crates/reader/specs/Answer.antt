@@ -1,16 +1,17 @@
 -- What a reading into a table answers, and what the table then holds, in the words of meaning's Rows.
-use Prim.Native.Nat.{ℕ, _+_}
-use mathlib.Core.List.{List}
+use Prim.Native.Nat.{ℕ, _+_, _-_}
+use mathlib.Core.List.{List, _++_}
+use mathlib.Core.Bool.{Bool, true, false}
 use mathlib.Core.Option.{Option}
 use mathlib.Core.Path.{_≡_}
-use lib.ListN.{length}
+use lib.ListN.{length, take, drop}
 use Rattle.meaning.specs.Tree.{Node, mapP}
-use Rattle.meaning.specs.Check.{Check, _>>=_}
+use Rattle.meaning.specs.Check.{Check, pass, refuse, _>>=_}
 use Rattle.meaning.specs.Notes.{mapOption}
 use Rattle.meaning.specs.Frame.{Reading}
 use Rattle.meaning.specs.Layouts.{Layout}
 use Rattle.meaning.specs.Rows as meant
-use Rattle.meaning.specs.Rows.{attributesSpan, roomy, answer, tableAfter}
+use Rattle.meaning.specs.Rows.{attributesSpan, rows, roomFor, roomy, answer}
 use Rattle.walk.specs.Reading.{Ends}
 use Rattle.fields.specs.Slots.{Holds}
 use Rattle.table.specs.Spans.{spanOf, spanned}
@@ -50,5 +51,23 @@ AttributesIs m left end r = (o : Option (Node Ends)) → Holds 31 m left o → s
 abbrev into : Layout → ℕ → List ℕ → List ℕ → Check Reading
 into L start m before = manifestReading L (start + length m) start m >>= roomy (length before)
 
-abbrev pub Filled : Layout → ℕ → List ℕ → List ℕ → Answer → List ℕ → Type 0
-Filled L start m before r after = (r ≡ answered (into L start m before)) × (after ≡ tableAfter before (into L start m before))
+-- how many numbers of a table stand before rows that need so many: none, or all that is left where the rows are its last
+unfoldable pub ahead : Bool → ℕ → ℕ → ℕ
+ahead false room needed = 0
+ahead true room needed = room - needed
+
+-- a table with rows that need so many numbers laid over its beginning, or over its end
+unfoldable pub laidOver : Bool → List ℕ → ℕ → List ℕ → List ℕ
+laidOver false table needed l = l ++ drop needed table
+laidOver true table needed l = take (length table - needed) table ++ l
+
+-- what the lent table holds afterwards: untouched on refusal, and beside the rows
+unfoldable pub placed : Bool → List ℕ → Check Reading → List ℕ
+placed last table (refuse n o c) = table
+placed last table (pass r) = laidOver last table (roomFor (r .model)) (rows (r .model))
+
+abbrev pub endAfter : List ℕ → Check Reading → List ℕ
+endAfter table k = placed true table k
+
+abbrev pub Filled : Layout → Bool → ℕ → List ℕ → List ℕ → Answer → List ℕ → Type 0
+Filled L last start m before r after = (r ≡ answered (into L start m before)) × (after ≡ placed last before (into L start m before))

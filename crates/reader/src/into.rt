@@ -6,7 +6,7 @@ use frame::Framed;
 use table::span::Span;
 use table::span::whole;
 ghost use mathlib.Core.Path.{_≡_};
-ghost use Prim.Native.Nat.{_+_, _*_, _<_};
+ghost use Prim.Native.Nat.{_+_, _*_, _<_, _≤_};
 ghost use lib.ListN.{length};
 ghost use lib.Dec.{leb};
 ghost use Rattle.meaning.specs.Columns.{objectWidth, componentWidth};
@@ -60,10 +60,21 @@ pub fn attributes(m: &[u8], left: usize, end: usize) -> Span
     whole(left, size, end)
 }
 
-// The manifest m, which begins at `start`, read into t.
-fn fill(layout: u64, m: &[u8], start: usize, t: &mut [u64]) -> Answer
+// The numbers of a table that stand before the rows of so many objects and components: none, or where the rows are its last all that they don't need.
+fn ahead(last: bool, room: usize, objects: usize, components: usize) -> usize
+    requires { ⌜ objectWidth * objects + componentWidth * components ≤ room ⌝ }
+    ensures { λ r. ⌜ r ≡ is.ahead last room (objectWidth * objects + componentWidth * components) ⌝ }
+{
+    if last {
+        return room - (columns::OBJECT * objects + columns::COMPONENT * components);
+    }
+    0
+}
+
+// The manifest m, which begins at `start`, read into t: its beginning, or its last numbers.
+fn fill(layout: u64, m: &[u8], start: usize, last: bool, t: &mut [u64]) -> Answer
     requires { ⌜ start + length (now m) < FAULT ⌝ }
-    ensures { λ r. ⌜ is.Filled (layoutOf layout) start (now (m .entry)) (now (t .entry)) r (now (t .exit)) ⌝ }
+    ensures { λ r. ⌜ is.Filled (layoutOf layout) last start (now (m .entry)) (now (t .entry)) r (now (t .exit)) ⌝ }
 {
     match manifest(layout, &m[0..], start as u64) {
         Told::No(n, o, c) => refused(n, o, c),
@@ -73,13 +84,14 @@ fn fill(layout: u64, m: &[u8], start: usize, t: &mut [u64]) -> Answer
             }
             let end = start + m.len();
             let place = place_of(m.len(), at);
+            let first = ahead(last, t.len(), objects, components);
             table::write(
                 layout,
                 &m[place..],
                 start as u64,
                 end,
                 columns::OBJECT * objects,
-                t,
+                &mut t[first..],
             );
             let a = attributes(&m[0..], left, end);
             Answer {
@@ -96,17 +108,31 @@ fn fill(layout: u64, m: &[u8], start: usize, t: &mut [u64]) -> Answer
     }
 }
 
-// A file of this layout, lent whole, read into a lent table.
-pub fn read_as(layout: u64, file: &[u8], t: &mut [u64]) -> Answer
-    ensures { λ r. ⌜ (r ≡ is.answered (readInto (layoutOf layout) (now (file .entry)) (length (now (t .entry))))) × (now (t .exit) ≡ tableAfter (now (t .entry)) (readInto (layoutOf layout) (now (file .entry)) (length (now (t .entry))))) ⌝ }
+// A file of this layout, lent whole, read into a lent table: its beginning, or its last numbers.
+fn place(layout: u64, file: &[u8], last: bool, t: &mut [u64]) -> Answer
+    ensures { λ r. ⌜ (r ≡ is.answered (readInto (layoutOf layout) (now (file .entry)) (length (now (t .entry))))) × (now (t .exit) ≡ is.placed last (now (t .entry)) (readInto (layoutOf layout) (now (file .entry)) (length (now (t .entry))))) ⌝ }
 {
     match frame::frame(layout, &file[0..]) {
         Framed::No(n) => refused(n, 0, 0),
         Framed::At(start, size) => {
             let end = start + size;
-            fill(layout, &file[start..end], start, t)
+            fill(layout, &file[start..end], start, last, t)
         }
     }
+}
+
+// A file of this layout, lent whole, read into a lent table.
+pub fn read_as(layout: u64, file: &[u8], t: &mut [u64]) -> Answer
+    ensures { λ r. ⌜ (r ≡ is.answered (readInto (layoutOf layout) (now (file .entry)) (length (now (t .entry))))) × (now (t .exit) ≡ tableAfter (now (t .entry)) (readInto (layoutOf layout) (now (file .entry)) (length (now (t .entry))))) ⌝ }
+{
+    place(layout, file, false, t)
+}
+
+// Likewise, but the rows are the table's last numbers.
+pub fn read_last(layout: u64, file: &[u8], t: &mut [u64]) -> Answer
+    ensures { λ r. ⌜ (r ≡ is.answered (readInto (layoutOf layout) (now (file .entry)) (length (now (t .entry))))) × (now (t .exit) ≡ is.endAfter (now (t .entry)) (readInto (layoutOf layout) (now (file .entry)) (length (now (t .entry))))) ⌝ }
+{
+    place(layout, file, true, t)
 }
 
 // A file of 1.2.0.
