@@ -96,14 +96,31 @@ all-zero [] h i = refl
 all-zero (n ∷ l) h zero = eqb-true n 0 (and-left (eqb n 0) (all (λ n. eqb n 0) l) h)
 all-zero (n ∷ l) h (suc i) = all-zero l (and-right (eqb n 0) (all (λ n. eqb n 0) l) h) i
 
-pub idle-holds-none : (a : Engine) → OkEngine a → eqb (flagOf (a .state)) 0 ≡ true → length (a .rows) ≡ 0
+idle-zeros : (a : Engine) → OkEngine a → eqb (flagOf (a .state)) 0 ≡ true → all (λ n. eqb n 0) (a .state) ≡ true
 unfolding stateSound
-idle-holds-none a k e =
+idle-zeros a k e =
     let z : cond (eqb (flagOf (a .state)) 0) (all (λ n. eqb n 0) (a .state)) true ≡ true =
     and-right (leb (flagOf (a .state)) 1 && leb (layoutColumn (a .state)) 1 && eqb (heldOf (a .state)) (objectWidth * objectsOf (a .state) + componentWidth * componentsOf (a .state)))
     (cond (eqb (flagOf (a .state)) 0) (all (λ n. eqb n 0) (a .state)) true) (k .sound) in
-    let y : all (λ n. eqb n 0) (a .state) ≡ true = ap (λ (b : Bool). cond b (all (λ n. eqb n 0) (a .state)) true) (sym e) ∙ z in
-    sym (k .held) ∙ all-zero (a .state) y 1
+    ap (λ (b : Bool). cond b (all (λ n. eqb n 0) (a .state)) true) (sym e) ∙ z
+
+pub idle-holds-none : (a : Engine) → OkEngine a → eqb (flagOf (a .state)) 0 ≡ true → length (a .rows) ≡ 0
+idle-holds-none a k e = sym (k .held) ∙ all-zero (a .state) (idle-zeros a k e) 1
+
+zeros-of : (l : List ℕ) → all (λ n. eqb n 0) l ≡ true → l ≡ replicate (length l) 0
+zeros-of [] h = refl
+zeros-of (n ∷ l) h =
+    ap₂ {A = ℕ} {B = List ℕ} (λ x y. x ∷ y) (eqb-true n 0 (and-left (eqb n 0) (all (λ n. eqb n 0) l) h)) (zeros-of l (and-right (eqb n 0) (all (λ n. eqb n 0) l) h))
+
+pub idle-is-nothing : (a : Engine) → OkEngine a → eqb (flagOf (a .state)) 0 ≡ true → a ≡ nothing
+unfolding nothing
+idle-is-nothing a k e =
+    ap₂ {A = List ℕ} {B = List ℕ} (λ x y. record { state = x; rows = y })
+    (zeros-of (a .state) (idle-zeros a k e) ∙ ap (λ (n : ℕ). replicate {A = ℕ} n 0) (k .eight)) (none (a .rows) (idle-holds-none a k e))
+  where
+    none : (l : List ℕ) → length l ≡ 0 → l ≡ []
+    none [] h = refl
+    none (n ∷ l) h = absurd (omega arith)
 
 -- ---- calls
 

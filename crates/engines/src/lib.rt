@@ -1,1 +1,1 @@
-// Two engines, one table: definitions in specs/, laws about them in proofs/. There is no code yet.
+// Two engines, one table: definitions in specs/, laws about them in proofs/. The code is in crate sharing.

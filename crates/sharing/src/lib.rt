@@ -9,10 +9,15 @@ use states::Place;
 use view::Extent;
 ghost use mathlib.Core.Path.{_≡_};
 ghost use mathlib.Core.List.{[], _∷_};
+ghost use Prim.Native.Nat.{_+_, _*_, _≤_};
 ghost use lib.ListN.{length, take, drop, replicate};
+ghost use lib.Seq.{sets};
+ghost use Rattle.meaning.specs.Columns.{objectWidth, componentWidth};
+ghost use Rattle.meaning.specs.Layouts.{layoutOf};
+ghost use Rattle.meaning.specs.Rows.{readInto};
 ghost use Rattle.reader.specs.Answer as read;
 ghost use Rattle.engines.specs.Calls.{load, drops, holds, view, list, layoutNumber, answered, leaves};
-ghost use Rattle.engines.specs.Told as is;
+ghost use Rattle.sharing.specs.Told as is;
 
 const INDEX: u64 = 26;
 
@@ -80,63 +85,49 @@ fn keep(
     s[7] = layout;
 }
 
-// The first engine's rows stand at the table's beginning.
-fn load_first(shared: &mut [u64], layout: u64, file: &[u8]) -> Answer
-    ensures answer { λ r. ⌜ r ≡ is.answer (answered 65536 0 (load layout (now (file .entry))) (now (shared .entry))) ⌝ }
-    ensures left { λ r. ⌜ now (shared .exit) ≡ leaves 65536 0 (load layout (now (file .entry))) (now (shared .entry)) ⌝ }
+// An engine's state, from what reading answered.
+fn settle(
+    shared: &mut [u64],
+    engine: u64,
+    layout: u64,
+    objects: u64,
+    components: u64,
+    start: u64,
+    place: u64,
+    size: u64,
+)
+    requires known { ⌜ engine ≤ 1 ⌝ }
+    requires few { ⌜ objectWidth * objects + componentWidth * components ≤ 65536 ⌝ }
+    requires whole { ⌜ length (now shared) ≡ 65552 ⌝ }
+    ensures { λ r. ⌜ now (shared .exit) ≡ sets (now (shared .entry)) (65536 + 8 * engine) (is.stateWith layout objects components start place size) ⌝ }
 {
-    match states::standing(&shared[0..], 0) {
-        Place::Nowhere => refused(INDEX),
-        Place::Loaded(_, _, _, _) => refused(BUSY),
-        Place::Idle(free) => {
-            let a = read_as(layout, &file[0..], &mut shared[0..free]);
-            if 0 < a.number {
-                return a;
-            }
-            let numbers = columns::OBJECT_64 * a.objects + columns::COMPONENT_64 * a.components;
-            keep(
-                &mut shared[states::TABLE..states::SECOND],
-                numbers,
-                a.objects,
-                a.components,
-                a.start,
-                a.place,
-                a.size,
-                layout_number(layout),
-            );
-            a
-        }
-    }
+    let numbers = columns::OBJECT_64 * objects + columns::COMPONENT_64 * components;
+    let at = states::state_at(engine);
+    let end = at + states::STATE;
+    keep(
+        &mut shared[at..end],
+        numbers,
+        objects,
+        components,
+        start,
+        place,
+        size,
+        layout_number(layout),
+    );
 }
 
-// The second's at its end.
-fn load_second(shared: &mut [u64], layout: u64, file: &[u8]) -> Answer
-    ensures answer { λ r. ⌜ r ≡ is.answer (answered 65536 1 (load layout (now (file .entry))) (now (shared .entry))) ⌝ }
-    ensures left { λ r. ⌜ now (shared .exit) ≡ leaves 65536 1 (load layout (now (file .entry))) (now (shared .entry)) ⌝ }
+// A file read into the free numbers: the first engine's rows go to the table's beginning, the second's to its end.
+fn lay(shared: &mut [u64], engine: u64, free: usize, layout: u64, file: &[u8]) -> Answer
+    requires room { ⌜ free ≤ 65536 ⌝ }
+    requires whole { ⌜ length (now shared) ≡ 65552 ⌝ }
+    ensures answer { λ r. ⌜ r ≡ read.answered (readInto (layoutOf layout) (now (file .entry)) free) ⌝ }
+    ensures left { λ r. ⌜ now (shared .exit) ≡ is.laid 65536 engine (now (shared .entry)) (readInto (layoutOf layout) (now (file .entry)) free) ⌝ }
 {
-    match states::standing(&shared[0..], 1) {
-        Place::Nowhere => refused(INDEX),
-        Place::Loaded(_, _, _, _) => refused(BUSY),
-        Place::Idle(free) => {
-            let begin = states::TABLE - free;
-            let a = read_last(layout, &file[0..], &mut shared[begin..states::TABLE]);
-            if 0 < a.number {
-                return a;
-            }
-            let numbers = columns::OBJECT_64 * a.objects + columns::COMPONENT_64 * a.components;
-            keep(
-                &mut shared[states::SECOND..states::SHARED],
-                numbers,
-                a.objects,
-                a.components,
-                a.start,
-                a.place,
-                a.size,
-                layout_number(layout),
-            );
-            a
-        }
+    if engine == 0 {
+        return read_as(layout, &file[0..], &mut shared[0..free]);
     }
+    let begin = states::TABLE - free;
+    read_last(layout, &file[0..], &mut shared[begin..states::TABLE])
 }
 
 // A file's rows are laid into what is free, and the engine's state says so.
@@ -144,13 +135,27 @@ pub fn load(shared: &mut [u64], engine: u64, layout: u64, file: &[u8]) -> Answer
     ensures answer { λ r. ⌜ r ≡ is.answer (answered 65536 engine (load layout (now (file .entry))) (now (shared .entry))) ⌝ }
     ensures left { λ r. ⌜ now (shared .exit) ≡ leaves 65536 engine (load layout (now (file .entry))) (now (shared .entry)) ⌝ }
 {
-    if engine == 0 {
-        return load_first(shared, layout, file);
+    match states::standing(&shared[0..], engine) {
+        Place::Nowhere => refused(INDEX),
+        Place::Loaded(_, _, _, _) => refused(BUSY),
+        Place::Idle(free) => {
+            let a = lay(shared, engine, free, layout, &file[0..]);
+            if 0 < a.number {
+                return a;
+            }
+            settle(
+                shared,
+                engine,
+                layout,
+                a.objects,
+                a.components,
+                a.start,
+                a.place,
+                a.size,
+            );
+            a
+        }
     }
-    if engine == 1 {
-        return load_second(shared, layout, file);
-    }
-    refused(INDEX)
 }
 
 fn zero(s: &mut [u64])
@@ -163,34 +168,13 @@ fn zero(s: &mut [u64])
     }
 }
 
-fn release_first(shared: &mut [u64]) -> u64
-    ensures answer { λ r. ⌜ r ≡ is.number (answered 65536 0 drops (now (shared .entry))) ⌝ }
-    ensures left { λ r. ⌜ now (shared .exit) ≡ leaves 65536 0 drops (now (shared .entry)) ⌝ }
+// So many numbers from a place on become zeros.
+fn clear(shared: &mut [u64], from: usize, count: usize)
+    requires { ⌜ from + count ≤ length (now shared) ⌝ }
+    ensures { λ r. ⌜ now (shared .exit) ≡ sets (now (shared .entry)) from (replicate count 0) ⌝ }
 {
-    match states::standing(&shared[0..], 0) {
-        Place::Nowhere => INDEX,
-        Place::Idle(_) => 0,
-        Place::Loaded(_, numbers, _, _) => {
-            zero(&mut shared[0..numbers]);
-            zero(&mut shared[states::TABLE..states::SECOND]);
-            0
-        }
-    }
-}
-
-fn release_second(shared: &mut [u64]) -> u64
-    ensures answer { λ r. ⌜ r ≡ is.number (answered 65536 1 drops (now (shared .entry))) ⌝ }
-    ensures left { λ r. ⌜ now (shared .exit) ≡ leaves 65536 1 drops (now (shared .entry)) ⌝ }
-{
-    match states::standing(&shared[0..], 1) {
-        Place::Nowhere => INDEX,
-        Place::Idle(_) => 0,
-        Place::Loaded(place, _, _, _) => {
-            zero(&mut shared[place..states::TABLE]);
-            zero(&mut shared[states::SECOND..states::SHARED]);
-            0
-        }
-    }
+    let end = from + count;
+    zero(&mut shared[from..end]);
 }
 
 // An engine's rows and state become zeros.
@@ -198,13 +182,15 @@ pub fn release(shared: &mut [u64], engine: u64) -> u64
     ensures answer { λ r. ⌜ r ≡ is.number (answered 65536 engine drops (now (shared .entry))) ⌝ }
     ensures left { λ r. ⌜ now (shared .exit) ≡ leaves 65536 engine drops (now (shared .entry)) ⌝ }
 {
-    if engine == 0 {
-        return release_first(shared);
+    match states::standing(&shared[0..], engine) {
+        Place::Nowhere => INDEX,
+        Place::Idle(_) => 0,
+        Place::Loaded(place, numbers, _, _) => {
+            clear(shared, place, numbers);
+            clear(shared, states::state_at(engine), states::STATE);
+            0
+        }
     }
-    if engine == 1 {
-        return release_second(shared);
-    }
-    INDEX
 }
 
 // Where one component of the engine's file lies.

@@ -1,0 +1,8 @@
+pub mod Standing
+pub mod Tested
+pub mod Looked
+pub mod Zeroed
+pub mod Lent
+pub mod Drops
+pub mod Loads
+pub mod Laid

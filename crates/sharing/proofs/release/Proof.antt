@@ -1,0 +1,75 @@
+-- `sharing::release` meets its contract: a law for each way out. Assumes nothing.
+use Rattle.sharing.proofs.Drops as drops
+use Rattle.sharing.proofs.Looked.{asked}
+use borrow.Author.Needs.{needs}
+use Rattle.sharing.proofs.release.Statement.{statement}
+use Rattle.sharing.proofs.release.Tie as tie
+
+sub-standing : tie.Need-sub-standing
+sub-standing c = search needs
+
+part-standing-start : tie.Need-part-standing-start
+part-standing-start c = search needs
+
+part-standing-end : tie.Need-part-standing-end
+part-standing-end c = search needs
+
+standing-requires : tie.Need-standing-requires
+standing-requires c κs = search needs
+
+enum-told : tie.Need-enum-told
+enum-told c = search needs
+
+enum-told-2 : tie.Need-enum-told-2
+enum-told-2 c = search needs
+
+enum-known-place : tie.Need-enum-known-place
+enum-known-place c = search needs
+
+clear-requires : tie.Need-clear-requires
+clear-requires c κs = drops.rows-inside 65536 (c .before .before .before .before .before .before .before .before .args .engine) (c .before .before .before .before .before .before .before .before .args .shared .now) _ _ _ _ (asked 65536 (c .before .before .before .before .before .before .before .before .args .engine) (c .before .before .before .before .before .before .before .before .args .shared .now) _ _ (c .before .before .before .before .standing .ensures) (c .before .before .place .given .1))
+
+state-at-requires : tie.Need-state-at-requires
+state-at-requires c κs = drops.loaded-small 65536 (c .before .before .before .before .before .before .before .before .before .before .before .before .args .engine) (c .before .before .before .before .before .before .before .before .before .before .before .before .args .shared .now) _ _ _ _ (asked 65536 (c .before .before .before .before .before .before .before .before .before .before .before .before .args .engine) (c .before .before .before .before .before .before .before .before .before .before .before .before .args .shared .now) _ _ (c .before .before .before .before .before .before .before .before .standing .ensures) (c .before .before .before .before .before .before .place .given .1))
+
+clear-requires-2 : tie.Need-clear-requires-2
+clear-requires-2 c κs = drops.state-inside 65536 (c .before .before .before .before .before .before .before .before .before .before .before .before .before .args .engine) (c .before .before .before .before .before .before .before .before .before .before .before .before .before .args .shared .now) _ _ _ _ (asked 65536 (c .before .before .before .before .before .before .before .before .before .before .before .before .before .args .engine) (c .before .before .before .before .before .before .before .before .before .before .before .before .before .args .shared .now) _ _ (c .before .before .before .before .before .before .before .before .before .standing .ensures) (c .before .before .before .before .before .before .before .place .given .1)) _ (c .before .before .before .before .clear .ensures) _ (c .state-at .ensures)
+
+same-length : tie.Need-same-length
+same-length c = search needs
+
+returns : tie.Need-returns
+returns c = drops.nowhere-drops 65536 (c .before .before .before .before .before .before .args .engine) (c .before .before .before .before .before .before .args .shared .now) (asked 65536 (c .before .before .before .before .before .before .args .engine) (c .before .before .before .before .before .before .args .shared .now) _ _ (c .before .before .standing .ensures) (c .enum-told .given .1))
+
+same-length-2 : tie.Need-same-length-2
+same-length-2 c = search needs
+
+returns-2 : tie.Need-returns-2
+returns-2 c = drops.idle-drops 65536 (c .before .before .before .before .before .before .args .engine) (c .before .before .before .before .before .before .args .shared .now) _ (asked 65536 (c .before .before .before .before .before .before .args .engine) (c .before .before .before .before .before .before .args .shared .now) _ _ (c .before .before .standing .ensures) (c .enum-told2 .given .1))
+
+same-length-3 : tie.Need-same-length-3
+same-length-3 c = search needs
+
+returns-3 : tie.Need-returns-3
+returns-3 c = drops.loaded-drops 65536 (c .before .before .before .before .before .before .before .before .before .before .before .before .before .before .before .before .args .engine) (c .before .before .before .before .before .before .before .before .before .before .before .before .before .before .before .before .args .shared .now) _ _ _ _ (asked 65536 (c .before .before .before .before .before .before .before .before .before .before .before .before .before .before .before .before .args .engine) (c .before .before .before .before .before .before .before .before .before .before .before .before .before .before .before .before .args .shared .now) _ _ (c .before .before .before .before .before .before .before .before .before .before .before .before .standing .ensures) (c .before .before .before .before .before .before .before .before .before .before .place .given .1)) _ (c .before .before .before .before .before .before .before .clear .ensures) _ (c .before .before .before .state-at .ensures) _ (c .before .before .clear2 .ensures)
+
+pub release-spec : {M : Type 1} → statement M
+release-spec =
+    tie.close
+    (tie.spec
+    sub-standing
+    part-standing-start
+    part-standing-end
+    standing-requires
+    enum-told
+    enum-told-2
+    enum-known-place
+    clear-requires
+    state-at-requires
+    clear-requires-2
+    same-length
+    returns
+    same-length-2
+    returns-2
+    same-length-3
+    returns-3)

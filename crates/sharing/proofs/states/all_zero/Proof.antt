@@ -1,0 +1,28 @@
+-- `sharing::states::all_zero` meets its contract: a law for each way out. Assumes nothing.
+use Rattle.sharing.proofs.Tested as states
+use Prim.Native.Nat.{_-_}
+use lib.ListN.{length}
+use borrow.Author.Needs.{needs}
+use Rattle.sharing.proofs.states.all_zero.Statement.{statement}
+use Rattle.sharing.proofs.states.all_zero.Tie as tie
+
+abbrev Inv-loop : tie.InvT-loop
+Inv-loop s i₀ i = states.ZerosTo s i
+
+abbrev μ-loop : tie.MeasureT-loop
+μ-loop s i₀ i = length s - i
+
+pub all-zero-spec : {M : Type 1} → statement M
+all-zero-spec =
+    tie.close
+    (tie.spec
+    Inv-loop
+    μ-loop
+    (λ c. states.zeros-begin _)
+    (λ c. search needs)
+    (λ c. search needs)
+    (λ c. search needs)
+    (λ c. search needs)
+    (λ c. states.zeros-more _ _ (c .before .before .before .loop .inv) (c .before .before .loop-test .taken) (c .if1 .taken))
+    (λ c. states.zeros-not _ _ (c .before .before .before .loop .inv) (c .before .before .loop-test .taken) (c .if1 .left))
+    (λ c. states.zeros-all _ _ (c .before .loop .inv) (c .loop-test .left)))
