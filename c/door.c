@@ -20,7 +20,7 @@ static void numbers(void) {
     SAME(ZT_ACCEPTED, 0), SAME(ZT_SHORT, 1), SAME(ZT_HEADER, 2), SAME(ZT_FOOTER, 3), SAME(ZT_BIG, 4), SAME(ZT_FIT, 5), SAME(ZT_CBOR, 6);
     SAME(ZT_DEEP, 7), SAME(ZT_KIND, 8), SAME(ZT_KEY, 9), SAME(ZT_TEXT, 10), SAME(ZT_TWICE, 11), SAME(ZT_MISSING, 12), SAME(ZT_VERSION, 13);
     SAME(ZT_MAJOR, 14), SAME(ZT_COUNT, 15), SAME(ZT_DTYPE, 16), SAME(ZT_ENCODING, 17), SAME(ZT_TYPE, 18), SAME(ZT_ALIGN, 19), SAME(ZT_BOUNDS, 20);
-    SAME(ZT_RANK, 21), SAME(ZT_ROLE, 22), SAME(ZT_LENGTH, 23), SAME(ZT_ROOM, 24), SAME(ZT_ROW, 25), SAME(ZT_INDEX, 26), SAME(ZT_PLAN, 27);
+    SAME(ZT_RANK, 21), SAME(ZT_ROLE, 22), SAME(ZT_LENGTH, 23), SAME(ZT_ROOM, 24), SAME(ZT_ROW, 25), SAME(ZT_INDEX, 26), SAME(ZT_PLAN, 27), SAME(ZT_BUSY, 28);
 }
 
 /* The columns and widths of rows, the limits, the storage codes and the layouts, each with its number in documents 01 and 02. */
@@ -227,11 +227,79 @@ static void of_a_layout(void) {
     for (i = 0; i < LAID; i++) SAME(table[i], 0xA5A5A5A5A5A5A5A5u);
 }
 
+/* The whole of what two engines share, by what each call leaves: the first engine's rows from 0 on, the second's up to 65,536, then the states. */
+static uint64_t shared[ZT_SHARED];
+enum { TABLE = 65536 };
+
+static void two_engines(void) {
+    zt_answer a, b;
+    zt_held h;
+    zt_range r;
+    zt_text t;
+    uint64_t length, i;
+    SAME(ZT_SHARED, 65552);
+    fill(rows);
+    length = zt_write(rows, NUMBERS, OBJECTS, COMPONENTS, ROOT, ROOT_LENGTH, buffer, sizeof buffer - 1, out, sizeof out).length;
+    lay_first();
+    memset(shared, 0, sizeof shared);
+
+    /* engine 0: the file of three objects; engine 1: the file of layout 1.0 */
+    a = zt_load(shared, ZT_SHARED, 0, ZT_LAYOUT_1_2, out, length);
+    SAME(a.number, ZT_ACCEPTED), SAME(a.object, 0), SAME(a.component, 0), SAME(a.objects, OBJECTS), SAME(a.components, COMPONENTS);
+    SAME(a.start, 64 * COMPONENTS + 17), SAME(a.size, ROOT_LENGTH), SAME(memcmp(out + a.place, buffer + ROOT, ROOT_LENGTH), 0);
+    b = zt_load(shared, ZT_SHARED, 1, ZT_LAYOUT_1_0, first, FIRST);
+    SAME(b.number, ZT_ACCEPTED), SAME(b.objects, TENSORS), SAME(b.components, PIECES), SAME(b.start, FIRST_START), SAME(b.size, 4);
+    zt_read(out, length, table, NUMBERS);
+    SAME(memcmp(shared, table, NUMBERS * sizeof *table), 0);
+    zt_read_as(ZT_LAYOUT_1_0, first, FIRST, table, LAID);
+    SAME(memcmp(shared + TABLE - LAID, table, LAID * sizeof *table), 0);
+    for (i = NUMBERS; i < TABLE - LAID; i++) SAME(shared[i], 0);
+    {
+        const uint64_t states[] = {1, NUMBERS, OBJECTS, COMPONENTS, a.start, a.place, a.size, 0, 1, LAID, TENSORS, PIECES, b.start, b.place, b.size, 1};
+        SAME(memcmp(shared + TABLE, states, sizeof states), 0);
+    }
+    SAME(zt_load(shared, ZT_SHARED, 0, ZT_LAYOUT_1_2, out, 0).number, ZT_BUSY), SAME(zt_load(shared, ZT_SHARED, 1, ZT_LAYOUT_1_0, first, FIRST).number, ZT_BUSY);
+
+    h = zt_holds(shared, ZT_SHARED, 0);
+    SAME(h.number, ZT_ACCEPTED), SAME(h.place, 0), SAME(h.numbers, NUMBERS), SAME(h.objects, OBJECTS), SAME(h.components, COMPONENTS), SAME(h.start, a.start);
+    SAME(h.attributes_place, a.place), SAME(h.attributes_length, a.size);
+    h = zt_holds(shared, ZT_SHARED, 1);
+    SAME(h.number, ZT_ACCEPTED), SAME(h.place, TABLE - LAID), SAME(h.numbers, LAID), SAME(h.objects, TENSORS), SAME(h.components, PIECES);
+    SAME(h.start, b.start), SAME(h.attributes_place, b.place), SAME(h.attributes_length, b.size);
+
+    r = zt_engine_view(shared, ZT_SHARED, 0, out, length, 5);
+    SAME(r.number, ZT_ACCEPTED), SAME(r.offset, 6 * 64), SAME(r.length, 16);
+    r = zt_engine_view(shared, ZT_SHARED, 1, first, FIRST, 2);
+    SAME(r.number, ZT_ACCEPTED), SAME(r.offset, 192), SAME(r.length, 16);
+    SAME(zt_engine_view(shared, ZT_SHARED, 1, first, FIRST, PIECES).number, ZT_INDEX);
+    t = zt_engine_list(shared, ZT_SHARED, 1, first, FIRST, text, sizeof text);
+    SAME(t.number, ZT_ACCEPTED), SAME(memcmp(text, "objects 2 components 4\nobject m dense\n", 38), 0);
+    SAME(zt_engine_list(shared, ZT_SHARED, 1, first, FIRST, text, t.length).length, t.length);
+    SAME(zt_engine_list(shared, ZT_SHARED, 1, first, FIRST, text, t.length - 1).number, ZT_ROOM);
+
+    /* one more number, one less, a third engine, a state that no calls leave */
+    SAME(zt_load(shared, ZT_SHARED - 1, 0, 0, out, length).number, ZT_INDEX), SAME(zt_drop(shared, ZT_SHARED - 1, 0), ZT_INDEX);
+    SAME(zt_load(shared, ZT_SHARED, 2, 0, out, length).number, ZT_INDEX), SAME(zt_drop(shared, ZT_SHARED, UINT64_MAX), ZT_INDEX);
+    SAME(zt_holds(shared, ZT_SHARED, 2).number, ZT_INDEX), SAME(zt_holds(shared, 0, 0).number, ZT_INDEX);
+    shared[TABLE + 1] += 1;
+    SAME(zt_drop(shared, ZT_SHARED, 1), ZT_INDEX), SAME(zt_engine_list(shared, ZT_SHARED, 1, first, FIRST, text, sizeof text).number, ZT_INDEX);
+    shared[TABLE + 1] -= 1;
+
+    /* the second drops, and again, which does nothing; then the first */
+    SAME(zt_drop(shared, ZT_SHARED, 1), ZT_ACCEPTED), SAME(zt_drop(shared, ZT_SHARED, 1), ZT_ACCEPTED);
+    for (i = NUMBERS; i < TABLE; i++) SAME(shared[i], 0);
+    SAME(shared[TABLE], 1), SAME(shared[TABLE + 8], 0), SAME(zt_holds(shared, ZT_SHARED, 1).numbers, 0);
+    SAME(zt_engine_view(shared, ZT_SHARED, 1, first, FIRST, 0).number, ZT_INDEX);
+    SAME(zt_drop(shared, ZT_SHARED, 0), ZT_ACCEPTED);
+    for (i = 0; i < ZT_SHARED; i++) SAME(shared[i], 0);
+}
+
 int main(void) {
     numbers();
     columns();
     accepted();
     refused();
     of_a_layout();
+    two_engines();
     return wrong;
 }

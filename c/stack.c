@@ -1,5 +1,5 @@
 /*
- * How much stack the calls of zt.h take on the files named: each is judged, read, listed and written anew, in either layout, in a thread whose stack was
+ * How much stack the calls of zt.h take on the files named: each is judged, read, listed, written anew and loaded for two engines, in either layout, in a thread whose stack was
  * painted before, and what is no longer paint was used. Prints the deepest use; it must stay within what zt.h says.
  */
 #include "read_file.h"
@@ -12,7 +12,7 @@
 
 enum { STACK = 1 << 17, ROOM = ZT_TABLE_MOST, TEXT = 1 << 24 };
 
-static uint64_t table[ROOM];
+static uint64_t table[ROOM], shared[ZT_SHARED];
 static uint8_t text[TEXT], out[2 * TEXT];
 
 typedef struct {
@@ -27,6 +27,17 @@ static inline __attribute__((always_inline)) void all_of(bytes file, zt_answer a
     zt_write(table, ROOM, a.objects, a.components, a.place, a.size, file.at, file.length, out, sizeof out);
 }
 
+/* The calls of two engines: the second loads what room the first leaves. */
+static inline __attribute__((always_inline)) void for_engines(uint64_t layout, bytes file) {
+    for (uint64_t engine = 0; engine < 2; engine++) {
+        zt_load(shared, ZT_SHARED, engine, layout, file.at, file.length);
+        zt_holds(shared, ZT_SHARED, engine);
+        zt_engine_view(shared, ZT_SHARED, engine, file.at, file.length, 0);
+        zt_engine_list(shared, ZT_SHARED, engine, file.at, file.length, text, TEXT);
+    }
+    for (uint64_t engine = 0; engine < 2; engine++) zt_drop(shared, ZT_SHARED, engine);
+}
+
 static void *judge(void *given) {
     task *t = given;
     t->top = __builtin_frame_address(0);
@@ -35,6 +46,7 @@ static void *judge(void *given) {
     for (uint64_t layout = ZT_LAYOUT_1_2; layout <= ZT_LAYOUT_1_0; layout++) {
         zt_accept_as(layout, t->file.at, t->file.length);
         all_of(t->file, zt_read_as(layout, t->file.at, t->file.length, table, ROOM));
+        for_engines(layout, t->file);
     }
     return NULL;
 }

@@ -65,7 +65,8 @@ enum zt_refusal {
     ZT_ROOM = 24,     /* lent table or output too short */
     ZT_ROW = 25,      /* writer's rows unsound */
     ZT_INDEX = 26,    /* row outside count or table, or range not inside the file */
-    ZT_PLAN = 27      /* placement plan refused; the object's index is the first row at fault, or the count of rows where offsets are left over */
+    ZT_PLAN = 27,     /* placement plan refused; the object's index is the first row at fault, or the count of rows where offsets are left over */
+    ZT_BUSY = 28      /* an engine that has a file loaded loads */
 };
 
 /*
@@ -286,6 +287,33 @@ zt_written zt_write(const uint64_t *rows, size_t numbers, uint64_t objects, uint
  */
 zt_written zt_write_planned(const uint64_t *rows, size_t numbers, uint64_t objects, uint64_t components, uint64_t attributes_place, uint64_t attributes_length,
                             const uint8_t *buffer, size_t buffer_length, const uint64_t *plan, size_t planned, uint64_t ceiling, uint8_t *out, size_t out_room);
+
+/*
+ * Two engines and one table (document 02, Request 11). `shared` holds a table of 65,536 numbers, then eight numbers of state for each engine; zeros at first, and `numbers` is
+ * ZT_SHARED. Engine 0's rows stand at the table's beginning, engine 1's at its end, so what is free is one piece, and no call of one engine reads or writes the other's rows or
+ * changes its state. Of the other, an engine's answers depend on how many numbers it holds, and that only in zt_load. Every call answers ZT_INDEX and changes nothing for an engine
+ * above 1, for `numbers` other than ZT_SHARED, and for states that no calls leave. Calls of both engines on one `shared` must not run at the same time.
+ */
+#define ZT_SHARED 65552
+
+/*
+ * A file of a layout loaded for an engine: ZT_BUSY, before the file is looked at, if one is loaded; then zt_read_as's refusal; ZT_ROOM exactly if the free numbers are fewer than
+ * ZT_NUMBERS(objects, components). What is refused changes nothing; else the rows and the engine's state are written, and nothing else. `shared` must not overlap the file.
+ */
+zt_answer zt_load(uint64_t *shared, size_t numbers, uint64_t engine, uint64_t layout, const uint8_t *file, size_t length);
+
+/* The engine's rows and state become zeros, free for both. ZT_ACCEPTED, also where nothing was loaded; or ZT_INDEX. */
+uint64_t zt_drop(uint64_t *shared, size_t numbers, uint64_t engine);
+
+/* Where an engine's rows stand in the table and how many numbers they are, and what zt_load answered; all 0 if nothing is loaded, or ZT_INDEX and zeros. */
+typedef struct {
+    uint64_t number, place, numbers, objects, components, start, attributes_place, attributes_length;
+} zt_held;
+zt_held zt_holds(const uint64_t *shared, size_t numbers, uint64_t engine);
+
+/* zt_view and zt_list by the engine's rows; ZT_INDEX if it has nothing loaded. The file is the one that was loaded. */
+zt_range zt_engine_view(const uint64_t *shared, size_t numbers, uint64_t engine, const uint8_t *file, size_t length, uint64_t index);
+zt_text zt_engine_list(const uint64_t *shared, size_t numbers, uint64_t engine, const uint8_t *file, size_t length, uint8_t *text, size_t text_room);
 
 /*
  * Words about numbers: plain C, library/words.c, no part of what is proved. The installed libraries hold it; beside the archive that `rt staticlib zt` writes,

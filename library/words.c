@@ -34,6 +34,7 @@ static const refusal refusals[] = {
     {"ROW", "writer's rows unsound"},
     {"INDEX", "row outside count or table, or range not inside the file"},
     {"PLAN", "placement plan refused; the object's index is the first row at fault, or the count of rows where offsets are left over"},
+    {"BUSY", "an engine that has a file loaded loads"},
 };
 static const refusal no_refusal = {"UNKNOWN", "no refusal has this number"};
 

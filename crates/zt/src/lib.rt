@@ -3,6 +3,7 @@ use account::Bytes;
 use finding::table::Found;
 use panel::Listed;
 use reader::into::Answer;
+use sharing::Held;
 use summary::Panel;
 use view::Extent;
 use writer::Written;
@@ -21,6 +22,8 @@ ghost use Rattle.panel.specs.Lines.{listed};
 ghost use Rattle.panel.specs.Told as listing;
 ghost use Rattle.account.specs.Account.{accounted};
 ghost use Rattle.summary.specs.Panel as panelled;
+ghost use Rattle.engines.specs.Calls as calls;
+ghost use Rattle.sharing.specs.Told as said;
 ghost use Rattle.writer.specs.Told.{Answered};
 ghost use Rattle.readback.specs.Lent.{Lent};
 
@@ -164,4 +167,53 @@ pub extern "C" fn zt_write_planned(
         buffer,
         out,
     )
+}
+
+// Two engines and one table, whose numbers and states are lent to every call. A file of a layout, loaded for an engine: INDEX, BUSY, the reader's refusal, ROOM; or what reading answers. The
+// rows and the engine's state are written, and nothing else.
+#[no_mangle]
+pub extern "C" fn zt_load(shared: &mut [u64], engine: u64, layout: u64, file: &[u8]) -> Answer
+    ensures answer { λ r. ⌜ r ≡ said.answer (calls.answered 65536 engine (calls.load layout (now (file .entry))) (now (shared .entry))) ⌝ }
+    ensures left { λ r. ⌜ now (shared .exit) ≡ calls.leaves 65536 engine (calls.load layout (now (file .entry))) (now (shared .entry)) ⌝ }
+{
+    sharing::load(shared, engine, layout, file)
+}
+
+// An engine's rows and state become zeros: 0, also if nothing was loaded; or INDEX.
+#[no_mangle]
+pub extern "C" fn zt_drop(shared: &mut [u64], engine: u64) -> u64
+    ensures answer { λ r. ⌜ r ≡ said.number (calls.answered 65536 engine calls.drops (now (shared .entry))) ⌝ }
+    ensures left { λ r. ⌜ now (shared .exit) ≡ calls.leaves 65536 engine calls.drops (now (shared .entry)) ⌝ }
+{
+    sharing::release(shared, engine)
+}
+
+// Where an engine's rows stand, and what was answered when they were loaded; all 0 if nothing is loaded.
+#[no_mangle]
+pub extern "C" fn zt_holds(shared: &[u64], engine: u64) -> Held
+    ensures { λ r. ⌜ r ≡ said.held (calls.answered 65536 engine calls.holds (now (shared .entry))) ⌝ }
+{
+    sharing::holds(shared, engine)
+}
+
+// The view of a component by an engine's rows.
+#[no_mangle]
+pub extern "C" fn zt_engine_view(shared: &[u64], engine: u64, file: &[u8], index: u64) -> Extent
+    ensures { λ r. ⌜ r ≡ said.extent (calls.answered 65536 engine (calls.view (now (file .entry)) index) (now (shared .entry))) ⌝ }
+{
+    sharing::view(shared, engine, file, index)
+}
+
+// The listing by an engine's rows, put into a lent text.
+#[no_mangle]
+pub extern "C" fn zt_engine_list(
+    shared: &[u64],
+    engine: u64,
+    file: &[u8],
+    text: &mut [u8],
+) -> Listed
+    ensures answer { λ r. ⌜ r ≡ said.listed (calls.answered 65536 engine (calls.list (now (file .entry)) (length (now (text .entry)))) (now (shared .entry))) ⌝ }
+    ensures written { λ r. ⌜ now (text .exit) ≡ said.textAfter (calls.answered 65536 engine (calls.list (now (file .entry)) (length (now (text .entry)))) (now (shared .entry))) (now (text .entry)) ⌝ }
+{
+    sharing::list(shared, engine, file, text)
 }

@@ -218,3 +218,14 @@ zt_written zt_write_planned(const uint64_t *rows, size_t numbers, uint64_t objec
     STRUCT(zt_written, zt_write_planned, LENT(rows, numbers), NUMBER(objects), NUMBER(components), NUMBER(attributes_place), NUMBER(attributes_length),
            LENT(buffer, buffer_length), LENT(plan, planned), NUMBER(ceiling), WRITTEN(out, out_room))
 }
+zt_answer zt_load(uint64_t *shared, size_t numbers, uint64_t engine, uint64_t layout, const uint8_t *file, size_t length) {
+    STRUCT(zt_answer, zt_load, WRITTEN(shared, numbers), NUMBER(engine), NUMBER(layout), LENT(file, length))
+}
+uint64_t zt_drop(uint64_t *shared, size_t numbers, uint64_t engine) { return WORD(zt_drop, WRITTEN(shared, numbers), NUMBER(engine)); }
+zt_held zt_holds(const uint64_t *shared, size_t numbers, uint64_t engine) { STRUCT(zt_held, zt_holds, LENT(shared, numbers), NUMBER(engine)) }
+zt_range zt_engine_view(const uint64_t *shared, size_t numbers, uint64_t engine, const uint8_t *file, size_t length, uint64_t index) {
+    STRUCT(zt_range, zt_engine_view, LENT(shared, numbers), NUMBER(engine), LENT(file, length), NUMBER(index))
+}
+zt_text zt_engine_list(const uint64_t *shared, size_t numbers, uint64_t engine, const uint8_t *file, size_t length, uint8_t *text, size_t text_room) {
+    STRUCT(zt_text, zt_engine_list, LENT(shared, numbers), NUMBER(engine), LENT(file, length), WRITTEN(text, text_room))
+}

@@ -244,6 +244,20 @@ pub struct Listed {
     pub length: u64,
 }
 
+/// Where an engine's rows stand, and what was answered when they were loaded; zeros if nothing is loaded, INDEX and zeros on refusal.
+#[repr(C)]
+#[derive(Debug, PartialEq, Eq)]
+pub struct Held {
+    pub number: u64,
+    pub place: u64,
+    pub numbers: u64,
+    pub objects: u64,
+    pub components: u64,
+    pub start: u64,
+    pub attributes_place: u64,
+    pub attributes_length: u64,
+}
+
 /// What writing answers: the refusal with its indices, or the file's length.
 #[repr(C)]
 #[derive(Debug, PartialEq, Eq)]
@@ -324,6 +338,33 @@ mod zt {
             out: *mut u8,
             out_room: usize,
         ) -> super::Written;
+        pub fn zt_load(
+            shared: *mut u64,
+            numbers: usize,
+            engine: u64,
+            layout: u64,
+            file: *const u8,
+            length: usize,
+        ) -> super::Answer;
+        pub fn zt_drop(shared: *mut u64, numbers: usize, engine: u64) -> u64;
+        pub fn zt_holds(shared: *const u64, numbers: usize, engine: u64) -> super::Held;
+        pub fn zt_engine_view(
+            shared: *const u64,
+            numbers: usize,
+            engine: u64,
+            file: *const u8,
+            length: usize,
+            index: u64,
+        ) -> super::Extent;
+        pub fn zt_engine_list(
+            shared: *const u64,
+            numbers: usize,
+            engine: u64,
+            file: *const u8,
+            length: usize,
+            text: *mut u8,
+            text_room: usize,
+        ) -> super::Listed;
     }
 }
 
@@ -439,6 +480,42 @@ pub fn write_planned(asked: &PlannedSet, out: &mut [u8]) -> Written {
             asked.ceiling,
             out.as_mut_ptr(),
             out.len(),
+        )
+    }
+}
+
+/// The calls of two engines that share their numbers.
+pub fn load(shared: &mut [u64], engine: u64, layout: u64, file: &[u8]) -> Answer {
+    // SAFETY: each pointer and length are a slice's, and the slices don't overlap.
+    unsafe { zt::zt_load(shared.as_mut_ptr(), shared.len(), engine, layout, file.as_ptr(), file.len()) }
+}
+
+pub fn drop_rows(shared: &mut [u64], engine: u64) -> u64 {
+    // SAFETY: the pointer and the length are a slice's.
+    unsafe { zt::zt_drop(shared.as_mut_ptr(), shared.len(), engine) }
+}
+
+pub fn holds(shared: &[u64], engine: u64) -> Held {
+    // SAFETY: the pointer and the length are a slice's.
+    unsafe { zt::zt_holds(shared.as_ptr(), shared.len(), engine) }
+}
+
+pub fn engine_view(shared: &[u64], engine: u64, file: &[u8], index: u64) -> Extent {
+    // SAFETY: each pointer and length are a slice's.
+    unsafe { zt::zt_engine_view(shared.as_ptr(), shared.len(), engine, file.as_ptr(), file.len(), index) }
+}
+
+pub fn engine_list(shared: &[u64], engine: u64, file: &[u8], text: &mut [u8]) -> Listed {
+    // SAFETY: each pointer and length are a slice's, and the lent text overlaps neither.
+    unsafe {
+        zt::zt_engine_list(
+            shared.as_ptr(),
+            shared.len(),
+            engine,
+            file.as_ptr(),
+            file.len(),
+            text.as_mut_ptr(),
+            text.len(),
         )
     }
 }
