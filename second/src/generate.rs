@@ -98,6 +98,11 @@ pub fn nth_file_as(layout: Layout, seed: u64, index: u64) -> Vec<u8> {
     }
 }
 
+/// The history at an index, by a seed.
+pub fn nth_history(seed: u64, index: u64) -> History {
+    history::history(&mut Rng::new(Rng::new(seed ^ index.rotate_left(32)).number()))
+}
+
 impl Generator {
     pub fn new(seed: u64) -> Generator {
         Generator {
