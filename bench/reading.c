@@ -1,9 +1,10 @@
-/* The table beside the acceptance check, and the listing beside the table. */
+/* The table beside the acceptance check, the listing beside the table, and two engines' loading and dropping beside reading and memset. */
 #include "bench.h"
 #include "inputs.h"
 #include "timing.h"
 #include "zt.h"
 #include <stdlib.h>
+#include <string.h>
 
 enum { OBJECTS = 1000, ROOM = ZT_TABLE_MOST, TEXT = 1 << 20 };
 
@@ -34,6 +35,32 @@ static bool first_accepted(const void *x) {
     return zt_accept_as(ZT_LAYOUT_1_0, z->file.bytes, z->file.length) == ZT_ACCEPTED;
 }
 
+/* An engine's state, after the table that both engines share; as it was when the file was loaded. */
+enum { STATE = ZT_SHARED - 16, NUMBERS = ZT_NUMBERS(OBJECTS, OBJECTS) };
+static uint64_t shared[ZT_SHARED], loaded_state[8], zeroed[ZT_SHARED];
+
+/* With the state put back to zeros each time, so that the engine isn't busy. */
+static bool loaded(const void *x) {
+    const zt_file *z = x;
+    memset(shared + STATE, 0, sizeof loaded_state);
+    return zt_load(shared, ZT_SHARED, 0, ZT_LAYOUT_1_2, z->file.bytes, z->file.length).number == ZT_ACCEPTED;
+}
+
+/* With the state of a loaded engine put back each time. */
+static bool dropped(const void *x) {
+    (void)x;
+    memcpy(shared + STATE, loaded_state, sizeof loaded_state);
+    return zt_drop(shared, ZT_SHARED, 0) == ZT_ACCEPTED;
+}
+
+static bool set_to_zeros(const void *x) {
+    (void)x;
+    memset(zeroed, 0, NUMBERS * sizeof *zeroed);
+    memset(zeroed + STATE, 0, sizeof loaded_state);
+    return zeroed[0] == 0;
+}
+
+static const program load = {"zt_load", loaded}, drop = {"zt_drop", dropped}, clearing = {"memset", set_to_zeros};
 static const program table_read = {"zt_read", filled}, list = {"zt_list", listed};
 static const program first_read = {"zt_read_as, 1.0", first_filled}, first_check = {"zt_accept_as, 1.0", first_accepted};
 
@@ -50,4 +77,9 @@ void reading(void) {
     zt_file first = first_model(OBJECTS);
     compare("a model of layout 1.0", first_read, first_check, &first, OBJECTS, first.manifest.length, 2.2);
     free(first.file.bytes);
+    zt_file shared_model = model(OBJECTS, 0);
+    compare("a model, loaded for an engine", load, table_read, &shared_model, OBJECTS, shared_model.manifest.length, 1.2);
+    memcpy(loaded_state, shared + STATE, sizeof loaded_state);
+    compare("its rows, dropped", drop, clearing, &shared_model, OBJECTS, NUMBERS * sizeof *shared, 2);
+    free(shared_model.file.bytes);
 }
