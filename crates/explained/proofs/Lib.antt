@@ -9,4 +9,5 @@ pub mod Truth
 pub mod Seat
 pub mod TruthWhole
 pub mod Promise
+pub mod Jump
 pub mod Cases
