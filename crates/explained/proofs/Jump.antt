@@ -124,7 +124,7 @@ module _ (L : Layout) {P : Type 0} (start : ℕ) where
       → each (λ j x. inComponent j (component L start (above (x .name .letters)) x)) 0 ns ≡ refuse n o c → ComponentBlamed above ns n o c
   component-blamed above ns n o c e =
       let b = blamed {f = λ j x. map (Step.inComponent j (some (x .name))) (componentSteps L start (above (x .name .letters)) x)}
-          (λ j x. agree-inComponent j (some (x .name)) (agree-component L start (above (x .name .letters)) x)) 0 ns n o c e in
+      (λ j x. agree-inComponent j (some (x .name)) (agree-component L start (above (x .name .letters)) x)) 0 ns n o c e in
       go (b .index) (b .it) (b .at) (component L start (above (b .it .name .letters)) (b .it)) refl (b .refuses) (b .shown)
     where
       go : (j : ℕ) (x : Named P) → At j x 0 ns → (m : Check _) → component L start (above (x .name .letters)) x ≡ m → inComponent j m ≡ refuse n o c

@@ -1,0 +1,3 @@
+-- Laws behind the proofs of entry.
+pub mod Folding
+pub mod Choosing

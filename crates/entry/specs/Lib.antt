@@ -1,0 +1,2 @@
+-- The definitions that the contracts of entry cite.
+pub mod Nth
