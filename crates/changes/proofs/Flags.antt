@@ -99,7 +99,7 @@ none-differs : (t : ℕ → Bool) → ((i : ℕ) → t i ≡ false) → (n : ℕ
 none-differs t h zero = refl
 none-differs t h (suc n) = rw (h 0, none-differs (λ i. t (suc i)) (λ i. h (suc i)) n)
 
-somewhere-apart : (x y : List ℕ) → same x y ≡ false → (p : ℕ) × (p < longer x y) × (differsAt x y p ≡ true)
+pub somewhere-apart : (x y : List ℕ) → same x y ≡ false → (p : ℕ) × (p < longer x y) × (differsAt x y p ≡ true)
 somewhere-apart [] [] h = absurd (true-false refl h)
 somewhere-apart [] (b ∷ y) h = (0, omega arith, refl)
 somewhere-apart (a ∷ x) [] h = (0, omega arith, refl)

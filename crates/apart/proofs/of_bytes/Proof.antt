@@ -1,0 +1,34 @@
+-- `apart::of_bytes` meets its contract, whichever is the shorter one.
+use borrow.Author.Needs.{needs}
+use native.Mathlib.Omega.{arith}
+use Rattle.apart.proofs.Counting as counting
+use Rattle.apart.proofs.of_bytes.Statement.{statement}
+use Rattle.apart.proofs.of_bytes.Tie as tie
+use Rattle.text.proofs.SameIsEqual.{whole}
+
+pub of-bytes-spec : {M : Type 1} → statement M
+of-bytes-spec =
+    tie.close
+    (tie.spec
+    (λ c. search needs)
+    (λ c. search needs)
+    (λ c. search needs)
+    (λ c. search needs)
+    (λ c. search needs)
+    (λ c. search needs)
+    (λ c. search needs)
+    (λ c κs.
+    let at5 = c .before .before .before .before .before in
+    rw (whole (at5 .args .x .now), whole (at5 .args .y .now)) (counting.rest-first (at5 .args .x .now) (at5 .args .y .now) (omega arith)))
+    (λ c. rw (whole ((c .before .before .before .before .before .before .args .x .now)), whole ((c .before .before .before .before .before .before .args .y .now))) at ((c .compared .ensures)))
+    (λ c. search needs)
+    (λ c. search needs)
+    (λ c. search needs)
+    (λ c. search needs)
+    (λ c. search needs)
+    (λ c. search needs)
+    (λ c. search needs)
+    (λ c κs.
+    let at5 = c .before .before .before .before .before in
+    rw (whole (at5 .args .x .now), whole (at5 .args .y .now)) (counting.rest-second (at5 .args .x .now) (at5 .args .y .now) (omega arith)))
+    (λ c. rw (whole ((c .before .before .before .before .before .before .args .x .now)), whole ((c .before .before .before .before .before .before .args .y .now))) at ((c .compared2 .ensures))))

@@ -1,0 +1,1 @@
+-- No definition of its own: the contract cites those of put and changes.
