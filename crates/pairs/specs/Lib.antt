@@ -1,0 +1,2 @@
+-- The definitions that the contracts of pairs cite.
+pub mod Objects
