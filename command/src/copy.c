@@ -57,9 +57,8 @@ static int copy_as(uint64_t layout, const arguments *given) {
 
 int copy_file(const arguments *given) { return copy_as(ZT_LAYOUT_1_2, given); }
 
-/* Which unknown fields there are isn't known, so that it is said of every file. */
 int import_file(const arguments *given) {
     int status = copy_as(ZT_LAYOUT_1_0, given);
-    if (status == DONE) remark(given->operands[0], "fields unknown to layout 1.0, generator and attributes of tensors among them, are not carried over");
+    if (status == DONE) say_not_carried(given->operands[0], ZT_LAYOUT_1_0);
     return status;
 }

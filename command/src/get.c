@@ -26,8 +26,6 @@ static int name_read(text *name, const char *operand, int escaped) {
     return DONE;
 }
 
-static int same(text a, text b) { return a.length == b.length && (a.length == 0 || memcmp(a.at, b.at, a.length) == 0); }
-
 /* A name with a backslash may have been copied from a listing, where it stands for another. */
 static int no_such(const arguments *given, text name, const char *what) {
     char words[120];
@@ -42,9 +40,9 @@ static uint64_t find(const model *of, const arguments *given, text object, text 
     for (uint64_t i = 0; i < of->answer.objects; i++) {
         const uint64_t *row = object_row(of, i);
         uint64_t count = row[ZT_OBJECT_COMPONENTS];
-        if (same(text_of(of, row + ZT_OBJECT_NAME), object)) {
+        if (same_text(text_of(of, row + ZT_OBJECT_NAME), object)) {
             for (uint64_t j = first; j < first + count; j++)
-                if (same(text_of(of, component_row(of, j) + ZT_COMPONENT_NAME), component)) return j;
+                if (same_text(text_of(of, component_row(of, j) + ZT_COMPONENT_NAME), component)) return j;
             no_such(given, component, "the object has no such component");
             return of->answer.components;
         }

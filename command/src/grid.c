@@ -35,13 +35,13 @@ void cell_number(grid *in, uint64_t number) {
 }
 
 void cell_text(grid *in, text of) {
-    if (!of.present) cell_words(in, "-");
-    else if (of.length == 0) cell_words(in, "\\");
-    else if (of.length == 1 && of.at[0] == '-') cell_words(in, "\\2d");
-    else {
-        cell_begin(in, escaped_length(of.at, of.length), 0);
-        if (in->printing) print_escaped(&out, of.at, of.length);
+    const char *words = stand_in(of);
+    if (words) {
+        cell_words(in, words);
+        return;
     }
+    cell_begin(in, escaped_length(of.at, of.length), 0);
+    if (in->printing) print_escaped(&out, of.at, of.length);
 }
 
 void cell_range(grid *in, uint64_t place, uint64_t length) {

@@ -15,7 +15,7 @@ void row_begin(grid *in, size_t indent);
 void row_end(const grid *in);
 void cell_words(grid *in, const char *words);
 void cell_number(grid *in, uint64_t number); /* to the right */
-void cell_text(grid *in, text of);           /* "-" is absence, so a text that is just that is escaped; a backslash alone is the empty text */
+void cell_text(grid *in, text of);           /* or what stands for it */
 void cell_range(grid *in, uint64_t place, uint64_t length);
 void cell_list(grid *in, const uint64_t *numbers, uint64_t count); /* ZT_RANK_MOST at most */
 #endif

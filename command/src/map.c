@@ -62,7 +62,7 @@ static int account_of(account *into, const model *of) {
         reach(into, COMPONENTS, parts[i].offset + parts[i].length);
     }
     reach(into, GAPS, of->answer.start);
-    reach(into, MANIFEST, into->length - behind_manifest(of));
+    reach(into, MANIFEST, into->length - behind_manifest(of->layout));
     reach(into, FRAME, into->length);
     free(parts);
     return DONE;

@@ -3,6 +3,7 @@
 #include "json.h"
 #include <errno.h>
 #include <stdlib.h>
+#include <string.h>
 
 int model_open(model *of, const char *path, uint64_t layout) {
     of->layout = layout;
@@ -62,6 +63,19 @@ text text_of(const model *of, const uint64_t *place) { return text_at(of, place[
 
 text attributes_of(const model *of) { return text_at(of, of->answer.place, of->answer.size); }
 
-uint64_t behind_manifest(const model *of) { return of->layout == ZT_LAYOUT_1_0 ? 8 : 16; }
+uint64_t behind_manifest(uint64_t layout) { return layout == ZT_LAYOUT_1_0 ? 8 : 16; }
 
-uint64_t manifest_length(const model *of) { return of->file.length - behind_manifest(of) - of->answer.start; }
+uint64_t manifest_length(const model *of) { return of->file.length - behind_manifest(of->layout) - of->answer.start; }
+
+int same_text(text a, text b) { return a.length == b.length && (a.length == 0 || memcmp(a.at, b.at, a.length) == 0); }
+
+const char *stand_in(text of) {
+    if (!of.present) return "-";
+    if (of.length == 0) return "\\";
+    return of.length == 1 && of.at[0] == '-' ? "\\2d" : NULL;
+}
+
+/* Which unknown fields there are isn't known, so that it is said of every such file. */
+void say_not_carried(const char *path, uint64_t layout) {
+    if (layout == ZT_LAYOUT_1_0) remark(path, "fields unknown to layout 1.0, generator and attributes of tensors among them, are not carried over");
+}

@@ -36,6 +36,14 @@ const uint64_t *object_row(const model *of, uint64_t object);
 const uint64_t *component_row(const model *of, uint64_t component); /* its index among all components */
 text text_of(const model *of, const uint64_t *place);               /* a place in a row, with the length beside it */
 text attributes_of(const model *of);                                /* the root's */
-uint64_t behind_manifest(const model *of); /* bytes of frame: its size, and the footer if there is one */
+uint64_t behind_manifest(uint64_t layout);                          /* bytes of frame: its size, and the footer if there is one */
 uint64_t manifest_length(const model *of);
+
+int same_text(text a, text b);
+
+/* What is shown in place of a text: "-" of one that is absent, so that "-" itself is escaped, and a backslash alone of the empty one; null of any other. */
+const char *stand_in(text of);
+
+/* Of a file of layout 1.0 that was written anew: what is left out. */
+void say_not_carried(const char *path, uint64_t layout);
 #endif

@@ -71,40 +71,30 @@ static int shared(const model *of, const plan *by, uint64_t a, uint64_t b) {
 static void print_row(const model *of, const plan *by, uint64_t row) {
     const uint64_t *part = component_row(of, row);
     text owner = text_of(of, object_row(of, part[ZT_COMPONENT_OWNER]) + ZT_OBJECT_NAME), name = text_of(of, part + ZT_COMPONENT_NAME);
-    if (row < by->count) {
-        print_words(&err, "line ");
-        print_number(&err, row + 1);
-        print_words(&err, ", ");
-    }
+    if (row < by->count) print_counted(&err, "line ", row + 1, ", ");
     print_words(&err, "object ");
     print_escaped(&err, owner.at, owner.length);
     print_words(&err, ", component ");
     print_escaped(&err, name.at, name.length);
 }
 
-static void print_counted(const char *before, uint64_t number, const char *after) {
-    print_words(&err, before);
-    print_number(&err, number);
-    print_words(&err, after);
-}
-
 /* The rule that a row with an offset breaks by itself or with an earlier one, in document 02's order. */
 static void print_breach(const model *of, const plan *by, uint64_t row) {
     uint64_t offset = by->offsets[row], length = length_of(of, row), other = 0;
-    print_counted("offset ", offset, "");
+    print_counted(&err, "offset ", offset, "");
     if (offset % ALIGNMENT) {
         print_words(&err, " is no multiple of 64");
     } else if (offset < ALIGNMENT) {
         print_words(&err, " is under 64");
     } else if (offset > by->ceiling || length > by->ceiling - offset) {
-        print_counted(" and length ", length, " end above the ceiling");
-        print_counted(", ", by->ceiling, "");
+        print_counted(&err, " and length ", length, " end above the ceiling");
+        print_counted(&err, ", ", by->ceiling, "");
     } else {
         while (other < row && !shared(of, by, other, row)) other++;
-        print_counted(" and length ", length, " share a byte with ");
+        print_counted(&err, " and length ", length, " share a byte with ");
         print_row(of, by, other);
-        print_counted(", offset ", by->offsets[other], "");
-        print_counted(" and length ", length_of(of, other), "");
+        print_counted(&err, ", offset ", by->offsets[other], "");
+        print_counted(&err, " and length ", length_of(of, other), "");
     }
 }
 
@@ -112,18 +102,18 @@ static int say_plan_refused(const model *of, const plan *by, uint64_t row) {
     flush(&out);
     print_words(&err, "zt: ");
     print_escaped(&err, (const uint8_t *)by->path, strlen(by->path));
-    print_counted(": refused ", ZT_PLAN, " ");
+    print_counted(&err, ": refused ", ZT_PLAN, " ");
     print_words(&err, zt_refusal_name(ZT_PLAN));
     print_words(&err, ", ");
     if (row == of->answer.components) {
-        print_counted("line ", row + 1, ": offsets are left over");
-        print_counted(": the file's components are ", row, "");
-        print_counted(", the plan's lines ", by->count, "");
+        print_counted(&err, "line ", row + 1, ": offsets are left over");
+        print_counted(&err, ": the file's components are ", row, "");
+        print_counted(&err, ", the plan's lines ", by->count, "");
     } else {
         print_row(of, by, row);
         print_words(&err, ": ");
         if (row < by->count) print_breach(of, by, row);
-        else print_counted("has no offset: the plan's lines are ", by->count, "");
+        else print_counted(&err, "has no offset: the plan's lines are ", by->count, "");
     }
     print_words(&err, "\n");
     flush(&err);

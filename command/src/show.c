@@ -42,22 +42,17 @@ static void rows(grid *objects, grid *components, const model *of) {
     }
 }
 
-static void count(const char *what, uint64_t number) {
-    print_words(&out, what);
-    print_number(&out, number);
-}
-
 static void print_model(const model *of) {
     grid objects = {{0}, 0, 0, 0}, components = {{0}, 0, 0, 0};
     print_escaped(&out, (const uint8_t *)of->file.path, strlen(of->file.path));
-    count(": bytes ", of->file.length);
-    count(", objects ", of->answer.objects);
-    count(", components ", of->answer.components);
-    count(", manifest ", manifest_length(of));
-    count(" bytes at ", of->answer.start);
+    print_counted(&out, ": bytes ", of->file.length, "");
+    print_counted(&out, ", objects ", of->answer.objects, "");
+    print_counted(&out, ", components ", of->answer.components, "");
+    print_counted(&out, ", manifest ", manifest_length(of), "");
+    print_counted(&out, " bytes at ", of->answer.start, "");
     if (attributes_of(of).present) {
-        count(", attributes ", of->answer.size);
-        count(" bytes at ", of->answer.place);
+        print_counted(&out, ", attributes ", of->answer.size, "");
+        print_counted(&out, " bytes at ", of->answer.place, "");
     }
     print_words(&out, "\n\n");
     rows(&objects, &components, of);

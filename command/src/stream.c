@@ -43,6 +43,12 @@ void print_number(stream *to, uint64_t number) {
     print_bytes(to, digits, (size_t)snprintf(digits, sizeof digits, "%llu", (unsigned long long)number));
 }
 
+void print_counted(stream *to, const char *before, uint64_t number, const char *after) {
+    print_words(to, before);
+    print_number(to, number);
+    print_words(to, after);
+}
+
 void print_blanks(stream *to, size_t count) {
     for (; count > 0; count--) print_bytes(to, " ", 1);
 }

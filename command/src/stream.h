@@ -20,6 +20,7 @@ extern stream out, err;
 void print_bytes(stream *to, const void *at, size_t length);
 void print_words(stream *to, const char *words);
 void print_number(stream *to, uint64_t number);
+void print_counted(stream *to, const char *before, uint64_t number, const char *after);
 void print_blanks(stream *to, size_t count);
 void flush(stream *of);
 
