@@ -1,0 +1,91 @@
+-- Two accepted files' sums, the second's from where the first's end: what the writer's definitions say of the merged description.
+use Prim.Native.Nat.{ℕ, _+_, _≤_, _<_}
+use native.Mathlib.Omega.{arith}
+use mathlib.Core.List.{List, [], _∷_, _++_, map, append-assoc}
+use mathlib.Core.Logic.{⊎-elim}
+use mathlib.Core.Path.{_≡_, refl, sym, ap, ap₂, _∙_}
+use lib.ListN.{length, length-append}
+use Rattle.meaning.specs.Limit.{endLimit}
+use Rattle.meaning.specs.Read.{Span}
+use Rattle.meaning.specs.Model.{Object}
+use Rattle.meaning.specs.Layouts.{magic}
+use Rattle.meaning.specs.Described.{Described, blobs}
+use Rattle.meaning.specs.Placement.{placement, lastEnd}
+use Rattle.meaning.specs.Manifest.{Keyed, mapBytes, manifestBytes}
+use Rattle.endian.proofs.Which.{lt-or}
+use Rattle.rows.specs.Running.{begun, reached, objectsFrom}
+use Rattle.rows.proofs.Running.{reached-above, reached-joined, last-is-reached, offsets-by-rule}
+use Rattle.sizes.specs.Size.{cappedEnd, headSize}
+use Rattle.sizes.proofs.Lengths.{entriesSize, fieldSize, map-length, manifest-bytes}
+use Rattle.layout.proofs.Meant as meant
+use Rattle.joint.proofs.Meant.{objects-both, lengths-both}
+use Rattle.merging.specs.Merge.{orElse, merged}
+use Rattle.window.specs.Sums.{blobsIn, allBlobs, entrySizes}
+use Rattle.window.specs.Summed.{Sum}
+
+blobs-on : (os ps : List (Object Span)) → allBlobs (os ++ ps) ≡ allBlobs os ++ allBlobs ps
+unfolding allBlobs
+blobs-on [] ps = refl
+blobs-on (o ∷ os) ps = ap (λ (r : List ℕ). blobsIn o ++ r) (blobs-on os ps) ∙ sym (append-assoc (blobsIn o) (allBlobs os) (allBlobs ps))
+
+entries-on : (p : ℕ) (os ps : List (Object Span)) → entrySizes p (os ++ ps) ≡ entrySizes p os + entrySizes (reached [] p (allBlobs os)) ps
+unfolding entrySizes allBlobs reached
+entries-on p [] ps = omega arith
+entries-on p (o ∷ os) ps =
+    omega (arith, entries-on (reached [] p (blobsIn o)) os ps, ap (λ (k : ℕ). entrySizes k ps) (reached-joined [] p (blobsIn o) (allBlobs os)))
+
+-- sums go on where others ended
+pub sums-on : {p n q k q′ k′ : ℕ} (os ps : List (Object Span)) → Sum p n os q k → Sum q k ps q′ k′ → Sum p n (os ++ ps) q′ k′
+sums-on {p} {n} {q} {k} {q′} {k′} os ps s a =
+    let end : ℕ = reached [] p (allBlobs os) in
+    let on : reached [] p (allBlobs (os ++ ps)) ≡ reached [] end (allBlobs ps) = ap (reached [] p) (blobs-on os ps) ∙ reached-joined [] p (allBlobs os) (allBlobs ps) in
+    let low = reached-above [] end (allBlobs ps) in
+    let low′ = reached-above [] q (allBlobs ps) in
+    let e = s .ends in
+    let e′ = a .ends in
+    record {
+      ends =
+          ⊎-elim (λ (far : endLimit < end). omega (arith, far, e, e′, low, low′, on))
+          (λ (near : end ≤ endLimit).
+          let is : q ≡ end = omega (arith, e, near) in
+          e′ ∙ ap (λ (x : ℕ). cappedEnd (reached [] x (allBlobs ps))) is ∙ ap cappedEnd (sym on)) (lt-or endLimit end);
+      adds = λ l.
+          let q-low : q ≤ endLimit = omega (arith, l, e′, low′) in
+          let is : q ≡ end = omega (arith, e, q-low) in
+          omega (arith, s .adds q-low, a .adds l, entries-on p os ps, ap (λ (x : ℕ). entrySizes x ps) is);
+    }
+
+entries-sum : (es fs : List (Keyed (List ℕ))) → entriesSize (es ++ fs) ≡ entriesSize es + entriesSize fs
+unfolding entriesSize
+entries-sum [] fs = omega arith
+entries-sum (e ∷ es) fs = omega (arith, entries-sum es fs)
+
+-- of descriptions whose blobs and entries are those of models' objects
+module _ (a b : Described) (os ps : List (Object Span)) (la : map length (blobs a) ≡ allBlobs os) (lb : map length (blobs b) ≡ allBlobs ps)
+    (ea : (p : ℕ) → entriesSize (objectsFrom [] p (a .objects)) ≡ entrySizes p os) (eb : (p : ℕ) → entriesSize (objectsFrom [] p (b .objects)) ≡ entrySizes p ps) where
+  abbrev d : Described
+  d = merged a b
+
+  lengths : map length (blobs d) ≡ allBlobs (os ++ ps)
+  unfolding merged
+  lengths = lengths-both (a .objects) (b .objects) ∙ ap₂ (λ (x y : List ℕ). x ++ y) la lb ∙ sym (blobs-on os ps)
+
+  pub last-end : lastEnd (placement (map length (blobs d))) (map length (blobs d)) ≡ reached [] 8 (allBlobs (os ++ ps))
+  last-end = last-is-reached (map length (blobs d)) ∙ ap (reached [] 8) lengths
+
+  entries : entriesSize (objectsFrom [] 8 (d .objects)) ≡ entrySizes 8 (os ++ ps)
+  unfolding merged
+  entries =
+      let t : reached [] 8 (map length (blobs a)) ≡ reached [] 8 (allBlobs os) = ap (reached [] 8) la in
+      ap entriesSize (objects-both 8 (a .objects) (b .objects)) ∙ entries-sum (objectsFrom [] 8 (a .objects)) (objectsFrom [] (reached [] 8 (map length (blobs a))) (b .objects))
+      ∙ ap₂ (λ (x y : ℕ). x + y) (ea 8) (eb (reached [] 8 (map length (blobs a))) ∙ ap (λ (k : ℕ). entrySizes k ps) t) ∙ sym (entries-on 8 os ps)
+
+  pub manifest-long : (n k : ℕ) → length (a .objects) ≡ n → length (b .objects) ≡ k
+      → length (manifestBytes d (placement (map length (blobs d)))) ≡ 23 + fieldSize 11 (orElse (a .attributes) (b .attributes)) + (headSize (n + k) + entrySizes 8 (os ++ ps))
+  unfolding begun magic merged
+  manifest-long n k an bk =
+      let o : length (objectsFrom [] 8 (d .objects)) ≡ n + k = meant.objects-counted [] [] 8 (d .objects) ∙ length-append (a .objects) (b .objects) ∙ ap₂ (λ (x y : ℕ). x + y) an bk in
+      let m : length (mapBytes (objectsFrom [] 8 (d .objects))) ≡ headSize (n + k) + entrySizes 8 (os ++ ps) =
+      map-length (objectsFrom [] 8 (d .objects)) ∙ ap₂ (λ (x y : ℕ). x + y) (ap headSize o) entries in
+      ap (λ (offsets : List ℕ). length (manifestBytes d offsets)) (sym (offsets-by-rule (map length (blobs d)))) ∙ manifest-bytes [] d
+      ∙ ap (λ (x : ℕ). 23 + fieldSize 11 (orElse (a .attributes) (b .attributes)) + x) m
