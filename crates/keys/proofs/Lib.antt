@@ -1,0 +1,3 @@
+-- Laws behind the proofs of keys.
+pub mod Leftmost
+pub mod Parts

@@ -1,0 +1,2 @@
+-- The definitions that the contracts of keys cite.
+pub mod Odd
