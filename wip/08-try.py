@@ -1,7 +1,7 @@
 #!/usr/bin/env python3
 """Request 08's code that isn't proved yet, held against the second program: the contracts are left out, and what is left is compiled as Rust for this machine.
 
-  wip/08-try.py FILES      from the repository's root, with wip/08-explain.patch applied: FILES generated files of each layout, sound and damaged, each for two rooms
+  wip/08-try.py FILES      from the repository's root, with wip/08-explain.patch applied: FILES generated files of each layout, sound and damaged, each for two rooms, numbers and sentence
 """
 import os
 import re
@@ -11,8 +11,8 @@ import sys
 OUT = "target/08-try"
 LAWS = {"meaning", "cases", "explained", "readback"}
 NAMED = {
-    "spots": "cbor walk fields types text names naming component components object lengths",
-    "explain": "fields frame reader sentence spots stop table cbor walk columns",
+    "spots": "cbor walk fields text names naming component components object lengths entry keys",
+    "explain": "fields frame reader sentence spots stop entry table cbor walk columns",
 }
 TEST = """
 use second::generate::Generator;
@@ -37,7 +37,10 @@ fn main() {
                     e.number, e.object, e.component, e.objectname, e.objectsize, e.componentname, e.componentsize, e.place, e.length, e.room,
                 ];
                 numbers[want[0] as usize] += 1;
-                if want != got {
+                let mut text = vec![0; 1 << 16];
+                let said = sentence::say(layout, &file, e, &mut text);
+                let same = said.number == 0 && text[..said.length as usize] == second::explain::sentence_text(layout, &file, room)[..];
+                if want != got || !same {
                     off += 1;
                     if off < 10 {
                         println!("layout {layout} file {i} room {room}: {want:?} {got:?}");
