@@ -11,13 +11,14 @@ use Rattle.meaning.specs.Check.{Check, pass, refuse}
 use Rattle.engines.specs.Shared.{Who, first, second, Engine, flagOf, heldOf, nothing, Shared, own, closed, opened}
 use Rattle.engines.specs.Calls.{Call, drops, Said, gone, placeOf, told, given, after, answered, leaves}
 use Rattle.engines.specs.Runs.{numberOf}
-use Rattle.sharing.specs.Told.{number, standing}
-use Rattle.sharing.specs.declared.states.Place.{Place}
-use Rattle.sharing.specs.declared.states.Place.the-variants.{Nowhere, Idle, Loaded}
+use Rattle.sharing.specs.Told.{number}
+use Rattle.states.specs.Places.{standing}
+use Rattle.states.specs.declared.Place.{Place}
+use Rattle.states.specs.declared.Place.the-variants.{Nowhere, Idle, Loaded}
 use Rattle.engines.proofs.Kept.{OkEngine, Ok, idle-is-nothing}
 use Rattle.engines.proofs.Opens.{Opened, opened-closed}
 use Rattle.engines.proofs.EachCall.{leaves-is, answered-is}
-use Rattle.sharing.proofs.Standing.{IdleAt, LoadedAt, idle-at, loaded-at, nowhere-at, told-there, inside, whole}
+use Rattle.states.proofs.Stands.{IdleAt, LoadedAt, idle-at, loaded-at, nowhere-at, told-there, inside, whole}
 use Rattle.engines.proofs.Writes.{first-drop-writes, second-drop-writes}
 
 -- an engine's number is 0 or 1

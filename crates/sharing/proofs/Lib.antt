@@ -1,5 +1,3 @@
-pub mod Standing
-pub mod Tested
 pub mod Looked
 pub mod Zeroed
 pub mod Lent

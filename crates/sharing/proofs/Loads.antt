@@ -22,13 +22,14 @@ use Rattle.engines.specs.Shared.{Who, first, second, Engine, flagOf, heldOf, Sh
 use Rattle.engines.specs.Calls.{BUSY, Call, load, Said, took, readingAs, needed, layoutNumber, engineOf, loading, told, taken, after, answered, leaves}
 use Rattle.engines.specs.Runs.{numberOf}
 use Rattle.sharing.specs.Told as is
-use Rattle.sharing.specs.Told.{rowsAt, laid, stateWith, standing}
-use Rattle.sharing.specs.declared.states.Place.{Place}
-use Rattle.sharing.specs.declared.states.Place.the-variants.{Nowhere, Idle, Loaded}
+use Rattle.sharing.specs.Told.{rowsAt, laid, stateWith}
+use Rattle.states.specs.Places.{standing}
+use Rattle.states.specs.declared.Place.{Place}
+use Rattle.states.specs.declared.Place.the-variants.{Nowhere, Idle, Loaded}
 use Rattle.engines.proofs.Kept.{OkEngine, Ok, Fits}
 use Rattle.engines.proofs.Opens.{Opened, opened-closed}
 use Rattle.engines.proofs.EachCall.{leaves-is, answered-is, refused-changes-nothing}
-use Rattle.sharing.proofs.Standing.{IdleAt, LoadedAt, idle-at, loaded-at, nowhere-at, told-there, opened-whole}
+use Rattle.states.proofs.Stands.{IdleAt, LoadedAt, idle-at, loaded-at, nowhere-at, told-there, opened-whole}
 use Rattle.engines.proofs.Writes.{first-load-writes, second-load-writes}
 use Rattle.sharing.proofs.Drops.{small}
 

@@ -20,12 +20,13 @@ use Rattle.sharing.specs.declared.Held.{Held}
 use Rattle.engines.specs.Runs.{numberOf}
 use Rattle.engines.specs.Shared.{Who, first, second, partOf, Engine, flagOf, heldOf, objectsOf, componentsOf, Shared, own, opened}
 use Rattle.engines.specs.Calls.{Call, holds, view, list, Said, has, range, text, placeOf, holding, told, answered}
-use Rattle.sharing.specs.Told.{number, heldWith, held, extent, listing, listed, textAfter, standing}
-use Rattle.sharing.specs.declared.states.Place.{Place}
-use Rattle.sharing.specs.declared.states.Place.the-variants.{Nowhere, Idle, Loaded}
+use Rattle.sharing.specs.Told.{number, heldWith, held, extent, listing, listed, textAfter}
+use Rattle.states.specs.Places.{standing}
+use Rattle.states.specs.declared.Place.{Place}
+use Rattle.states.specs.declared.Place.the-variants.{Nowhere, Idle, Loaded}
 use Rattle.engines.proofs.EachCall.{answered-is, part-opened}
-use Rattle.sharing.proofs.Tested.{back-is}
-use Rattle.sharing.proofs.Standing.{IdleAt, LoadedAt, idle-at, loaded-at, nowhere-at, rows-there, told-there, inside, whole}
+use Rattle.states.proofs.Tested.{back-is}
+use Rattle.states.proofs.Stands.{IdleAt, LoadedAt, idle-at, loaded-at, nowhere-at, rows-there, told-there, inside, whole}
 
 module _ (size engine : ℕ) (l : List ℕ) where
   -- the code asks with the whole list lent on

@@ -1,9 +1,7 @@
--- What the code answers, as a function of what the calls' definitions say; and where an engine's rows stand, as the code asks it.
+-- What the code answers, as a function of what the calls' definitions say; and what a load lays.
 use Prim.Native.Nat.{ℕ, zero, suc, _+_, _-_, _*_}
 use mathlib.Core.List.{List, [], _∷_, _++_}
-use mathlib.Core.Bool.{Bool, cond}
 use lib.ListN.{length, drop, getD}
-use lib.Dec.{eqb}
 use lib.Seq.{sets}
 use Rattle.meaning.specs.Check.{Check, pass, refuse}
 use Rattle.meaning.specs.Frame.{Reading}
@@ -11,15 +9,10 @@ use Rattle.meaning.specs.Columns.{objectWidth, componentWidth}
 use Rattle.meaning.specs.Rows.{rows}
 use Rattle.view.specs.declared.Extent.{Extent}
 use Rattle.panel.specs.declared.Listed.{Listed}
-use Rattle.engines.specs.Shared.{Who, first, second, whoOf, Engine, flagOf, heldOf, objectsOf, componentsOf, Shared, own, partOf, usable, opened}
-use Rattle.engines.specs.Calls.{Said, took, gone, has, range, text, needed, layoutNumber, placeOf}
+use Rattle.engines.specs.Calls.{Said, took, gone, has, range, text, needed, layoutNumber}
 use Rattle.reader.specs.Answer as read
 use Rattle.reader.specs.declared.into.Answer.{Answer}
 use Rattle.sharing.specs.declared.Held.{Held}
-use Rattle.sharing.specs.declared.states.Usage.{Usage}
-use Rattle.sharing.specs.declared.states.Usage.the-variants.{Unusable, Holding}
-use Rattle.sharing.specs.declared.states.Place.{Place}
-use Rattle.sharing.specs.declared.states.Place.the-variants.{Nowhere, Idle, Loaded}
 
 -- ---- answers. Each call says one thing; of another an answer has nothing to tell
 
@@ -97,28 +90,3 @@ laid size engine l (pass r) = sets l (rowsAt size engine (needed r)) (rows (r .m
 -- a loaded engine's state, from what reading answered
 unfoldable pub stateWith : ℕ → ℕ → ℕ → ℕ → ℕ → ℕ → List ℕ
 stateWith layout objects components start place size = 1 ∷ (objectWidth * objects + componentWidth * components) ∷ objects ∷ components ∷ start ∷ place ∷ size ∷ layoutNumber layout ∷ []
-
--- ---- where rows stand
-
--- a state's engine: so many numbers are free, or its rows stand at a place
-unfoldable pub standsBy : ℕ → ℕ → List ℕ → Place
-standsBy place free state = cond (eqb (flagOf state) 0) (Idle free) (Loaded place (heldOf state) (objectsOf state) (componentsOf state))
-
-module _ (size : ℕ) where
-  abbrev bothIf : Bool → ℕ → ℕ → Usage
-  bothIf b front back = cond b (Holding front back) Unusable
-
-  -- the numbers that both hold
-  unfoldable pub both : List ℕ → Usage
-  both l = bothIf (usable size l (partOf size first l) (partOf size second l)) (heldOf (partOf size first l .state)) (heldOf (partOf size second l .state))
-
-  unfoldable pub stands : Who → Check Shared → Place
-  stands w (refuse n o c) = Nowhere
-  stands w (pass s) = standsBy (placeOf size w (own w s)) (length (s .free)) (own w s .state)
-
-  abbrev standsAs : Check Who → Check Shared → Place
-  standsAs (pass w) k = stands w k
-  standsAs (refuse n o c) k = Nowhere
-
-  unfoldable pub standing : ℕ → List ℕ → Place
-  standing engine l = standsAs (whoOf engine) (opened size l)

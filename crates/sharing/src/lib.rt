@@ -1,6 +1,4 @@
 // Two engines, one table (document 02, Request 11): each loads a file's rows into what is free of the shared numbers, looks at them, and gives them back.
-pub mod states;
-
 use panel::Listed;
 use reader::into::Answer;
 use reader::into::read_as;

@@ -2,8 +2,8 @@
 use native.Mathlib.Omega.{arith}
 use mathlib.Core.Path.{_∙_}
 use Rattle.sharing.proofs.Looked as looked
-use Rattle.sharing.proofs.Standing as standing
-use Rattle.sharing.proofs.Tested as tested
+use Rattle.states.proofs.Stands as standing
+use Rattle.states.proofs.Tested as tested
 use borrow.Author.Needs.{needs}
 use Rattle.sharing.proofs.holds.Statement.{statement}
 use Rattle.sharing.proofs.holds.Tie as tie

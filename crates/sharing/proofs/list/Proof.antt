@@ -1,7 +1,7 @@
 -- `sharing::list` meets its contract: a law for each way out. Assumes nothing.
 use native.Mathlib.Omega.{arith}
 use Rattle.sharing.proofs.Looked as looked
-use Rattle.sharing.proofs.Standing as standing
+use Rattle.states.proofs.Stands as standing
 use borrow.Author.Needs.{needs}
 use Rattle.sharing.proofs.list.Statement.{statement}
 use Rattle.sharing.proofs.list.Tie as tie

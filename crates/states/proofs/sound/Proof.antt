@@ -1,5 +1,5 @@
--- `sharing::states::sound` meets its contract: a law for each way out. Assumes nothing.
-use Rattle.sharing.proofs.Tested as states
+-- `states::sound` meets its contract: a law for each way out. Assumes nothing.
+use Rattle.states.proofs.Tested as states
 use native.Mathlib.Omega.{arith}
 use mathlib.Core.Path.{sym, _∙_, ap}
 use borrow.Author.Tests.{not-true, not-false}
@@ -9,8 +9,8 @@ use mathlib.Core.List.{List}
 use lib.Dec.{eqb}
 use Rattle.meaning.specs.Text.{all}
 use borrow.Author.Needs.{needs}
-use Rattle.sharing.proofs.states.sound.Statement.{statement}
-use Rattle.sharing.proofs.states.sound.Tie as tie
+use Rattle.states.proofs.sound.Statement.{statement}
+use Rattle.states.proofs.sound.Tie as tie
 
 pub sound-spec : {M : Type 1} → statement M
 sound-spec =

@@ -1,10 +1,10 @@
--- `sharing::states::all_zero` meets its contract: a law for each way out. Assumes nothing.
-use Rattle.sharing.proofs.Tested as states
+-- `states::all_zero` meets its contract: a law for each way out. Assumes nothing.
+use Rattle.states.proofs.Tested as states
 use Prim.Native.Nat.{_-_}
 use lib.ListN.{length}
 use borrow.Author.Needs.{needs}
-use Rattle.sharing.proofs.states.all_zero.Statement.{statement}
-use Rattle.sharing.proofs.states.all_zero.Tie as tie
+use Rattle.states.proofs.all_zero.Statement.{statement}
+use Rattle.states.proofs.all_zero.Tie as tie
 
 abbrev Inv-loop : tie.InvT-loop
 Inv-loop s i₀ i = states.ZerosTo s i

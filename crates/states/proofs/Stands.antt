@@ -13,9 +13,9 @@ use Rattle.meaning.specs.Text.{all}
 use Rattle.engines.specs.Shared.{Who, first, second, whoOf, Engine, flagOf, heldOf, objectsOf, componentsOf, stateSound, nothing, Shared, own, closed, partOf, usable, apart, opened}
 use Rattle.engines.specs.Calls.{BUSY, Call, load, drops, holds, view, list, Said, placeOf, loading, told, given, after, answered, leaves}
 use Rattle.engines.specs.Runs.{numberOf}
-use Rattle.sharing.specs.Told.{standsBy, stands, standing}
-use Rattle.sharing.specs.declared.states.Place.{Place}
-use Rattle.sharing.specs.declared.states.Place.the-variants.{Nowhere, Idle, Loaded}
+use Rattle.states.specs.Places.{standsBy, stands, standing}
+use Rattle.states.specs.declared.Place.{Place}
+use Rattle.states.specs.declared.Place.the-variants.{Nowhere, Idle, Loaded}
 use Rattle.engines.proofs.Kept.{OkEngine, Ok, and-left, and-right, eqb-same}
 use Rattle.engines.proofs.Opens.{Opened, opened-closed}
 use Rattle.engines.proofs.EachCall.{leaves-refused, leaves-is, answered-is, stranger-changes-nothing, stranger-is-refused, busy}

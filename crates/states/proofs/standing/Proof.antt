@@ -1,12 +1,12 @@
--- `sharing::states::standing` meets its contract: a law for each way out. Assumes nothing.
-use Rattle.sharing.proofs.Tested as states
+-- `states::standing` meets its contract: a law for each way out. Assumes nothing.
+use Rattle.states.proofs.Tested as states
 use native.Mathlib.Omega.{arith}
 use mathlib.Core.Path.{sym, _∙_, ap}
 use Prim.Native.Nat.{ℕ}
-use Rattle.sharing.specs.Told.{standing}
+use Rattle.states.specs.Places.{standing}
 use borrow.Author.Needs.{needs}
-use Rattle.sharing.proofs.states.standing.Statement.{statement}
-use Rattle.sharing.proofs.states.standing.Tie as tie
+use Rattle.states.proofs.standing.Statement.{statement}
+use Rattle.states.proofs.standing.Tie as tie
 
 sub-both : tie.Need-sub-both
 sub-both c = search needs

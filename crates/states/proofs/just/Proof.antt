@@ -1,9 +1,9 @@
--- `sharing::states::just` meets its contract: a law for each way out. Assumes nothing.
-use Rattle.sharing.proofs.Tested as states
+-- `states::just` meets its contract: a law for each way out. Assumes nothing.
+use Rattle.states.proofs.Tested as states
 use native.Mathlib.Omega.{arith}
 use borrow.Author.Needs.{needs}
-use Rattle.sharing.proofs.states.just.Statement.{statement}
-use Rattle.sharing.proofs.states.just.Tie as tie
+use Rattle.states.proofs.just.Statement.{statement}
+use Rattle.states.proofs.just.Tie as tie
 
 pub just-spec : {M : Type 1} → statement M
 just-spec =

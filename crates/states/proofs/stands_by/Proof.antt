@@ -1,11 +1,11 @@
--- `sharing::states::stands_by` meets its contract: a law for each way out. Assumes nothing.
-use Rattle.sharing.proofs.Tested as states
+-- `states::stands_by` meets its contract: a law for each way out. Assumes nothing.
+use Rattle.states.proofs.Tested as states
 use native.Mathlib.Omega.{arith}
 use mathlib.Core.Path.{sym, _∙_, ap}
 use borrow.Author.Tests.{not-true, not-false}
 use borrow.Author.Needs.{needs}
-use Rattle.sharing.proofs.states.stands_by.Statement.{statement}
-use Rattle.sharing.proofs.states.stands_by.Tie as tie
+use Rattle.states.proofs.stands_by.Statement.{statement}
+use Rattle.states.proofs.stands_by.Tie as tie
 
 pub stands-by-spec : {M : Type 1} → statement M
 stands-by-spec =

@@ -16,11 +16,11 @@ use Rattle.meaning.specs.Columns.{objectWidth, componentWidth}
 use Rattle.meaning.specs.Text.{all}
 use Rattle.engines.specs.Shared.{Who, first, second, whoOf, Engine, flagOf, heldOf, objectsOf, componentsOf, layoutColumn, stateSound, Shared, own, partOf, usable, apart, opened}
 use Rattle.engines.specs.Calls.{placeOf}
-use Rattle.sharing.specs.Told.{standsBy, both, stands, standing}
-use Rattle.sharing.specs.declared.states.Usage.{Usage}
-use Rattle.sharing.specs.declared.states.Usage.the-variants.{Unusable, Holding}
-use Rattle.sharing.specs.declared.states.Place.{Place}
-use Rattle.sharing.specs.declared.states.Place.the-variants.{Nowhere, Idle, Loaded}
+use Rattle.states.specs.Places.{standsBy, both, stands, standing}
+use Rattle.states.specs.declared.Usage.{Usage}
+use Rattle.states.specs.declared.Usage.the-variants.{Unusable, Holding}
+use Rattle.states.specs.declared.Place.{Place}
+use Rattle.states.specs.declared.Place.the-variants.{Nowhere, Idle, Loaded}
 use Rattle.engines.proofs.Kept.{eqb-same, Ok}
 use Rattle.engines.proofs.Opens.{Opened, opened-closed}
 use Rattle.engines.proofs.EachCall.{part-opened}

@@ -6,7 +6,7 @@ ghost use lib.Dec.{eqb};
 ghost use Rattle.meaning.specs.Columns.{objectWidth, componentWidth};
 ghost use Rattle.meaning.specs.Text.{all};
 ghost use Rattle.engines.specs.Shared.{heldOf, stateSound};
-ghost use Rattle.sharing.specs.Told as is;
+ghost use Rattle.states.specs.Places as is;
 
 // The table's numbers; where the second engine's state begins, after the first's eight; and all numbers that are lent.
 pub const TABLE: usize = 65536;

@@ -1,12 +1,12 @@
--- `sharing::states::both` meets its contract: a law for each way out. Assumes nothing.
-use Rattle.sharing.proofs.Tested as states
+-- `states::both` meets its contract: a law for each way out. Assumes nothing.
+use Rattle.states.proofs.Tested as states
 use native.Mathlib.Omega.{arith}
 use mathlib.Core.Path.{sym, _∙_, ap₂}
-use Rattle.sharing.specs.declared.states.Usage.the-variants.{Holding}
+use Rattle.states.specs.declared.Usage.the-variants.{Holding}
 use borrow.Author.Tests.{not-true, not-false}
 use borrow.Author.Needs.{needs}
-use Rattle.sharing.proofs.states.both.Statement.{statement}
-use Rattle.sharing.proofs.states.both.Tie as tie
+use Rattle.states.proofs.both.Statement.{statement}
+use Rattle.states.proofs.both.Tie as tie
 
 returns : tie.Need-returns
 returns c = states.length-past 65536 (c .before .before .args .shared .now) (λ e. omega (arith, e, (c .if1 .taken)))
