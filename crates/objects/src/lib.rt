@@ -38,7 +38,7 @@ pub struct Whole {
 }
 
 // Components so far and m more; as they are where there are too many to count, which COUNT refuses.
-fn plus(total: usize, m: usize) -> usize
+pub fn plus(total: usize, m: usize) -> usize
     ensures { λ r. ⌜ r ≡ plus total m ⌝ }
 {
     if m <= 16 {
@@ -161,7 +161,16 @@ pub fn objects(layout: u64, c: &[u8], start: u64, deep: bool) -> Whole
             found: Found::No(8, 0, 0),
         },
         Opening::Opened(mode, count, from) => {
-            let w = entries(layout, &c[from..], start, deep, mode, count, &mut left, &mut size);
+            let w = entries(
+                layout,
+                &c[from..],
+                start,
+                deep,
+                mode,
+                count,
+                &mut left,
+                &mut size,
+            );
             let names = w.names;
             let first = w.first;
             let f = verdict(&c[from..], names, first, &left, &size);

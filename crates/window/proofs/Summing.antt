@@ -49,7 +49,7 @@ in-object : {A : Type 0} (j : ℕ) (c : Check A) (a : A) → inObject j c ≡ pa
 in-object j (pass b) a e = e
 in-object j (refuse n o c) a e = absurd (let z : _≡_ {A = ℕ} 0 1 = cc in omega arith)
 
-mapped-in-window : (end : ℕ) (o : Object Ends) → InWindow o → InWindow (mapObject (spanOf end) o)
+pub mapped-in-window : (end : ℕ) (o : Object Ends) → InWindow o → InWindow (mapObject (spanOf end) o)
 mapped-in-window end o w = record { rank = w .rank; count = let a = w .count in omega (arith, a, length-map (o .components) (mapComponent (spanOf end))) }
 
 pub none-summed : (layout start end p n from : ℕ) (before : List ℕ) → p ≤ suc endLimit → n ≤ suc manifestLimit → Summed layout start end p n from before p n from before []
@@ -59,7 +59,7 @@ none-summed layout start end p n from before h k os e w =
     subst (SumOf end p n from before p n from before) (sym z) (record { sum = snoc.no-sum p n h k; names = λ room. (omega arith, refl) })
 
 -- what `put_whole` leaves in a window that is long enough
-window-holds : (end : ℕ) (o : Object Ends) (t t′ : List ℕ) → 208 ≤ length t → InWindow o
+pub window-holds : (end : ℕ) (o : Object Ends) (t t′ : List ℕ) → 208 ≤ length t → InWindow o
     → t′ ≡ sets (sets t 0 (objectIn end o)) objectWidth (rowsIn end 0 (o .components)) → Holds t′ (mapObject (spanOf end) o)
 window-holds end o t t′ long w is =
     let A : List ℕ = objectIn end o in

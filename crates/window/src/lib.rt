@@ -26,7 +26,7 @@ pub struct Sum {
 }
 
 // One object's rows, which begin t: its blobs from `place` on, its entry after `total` bytes.
-fn add(t: &[u64], place: u64, total: u64) -> Sum
+pub fn add(t: &[u64], place: u64, total: u64) -> Sum
     requires { ⌜ 208 ≤ length (now t) ⌝ }
     requires { ⌜ (place ≤ suc endLimit) × (total ≤ suc manifestLimit) ⌝ }
     ensures sum { λ r. ⌜ Added (now (t .entry)) place total (r .place) (r .total) ⌝ }

@@ -1,0 +1,25 @@
+-- `sieve::three` meets its contract: a law for each need.
+use mathlib.Core.Path.{sym}
+use mathlib.Core.List.{[], _∷_}
+use native.Mathlib.Omega.{arith}
+use Rattle.table.proofs.Laying as laying
+use Rattle.sieve.proofs.Putting as putting
+use borrow.Author.Needs.{needs}
+use Rattle.sieve.proofs.three.Statement.{statement}
+use Rattle.sieve.proofs.three.Tie as tie
+use Rattle.sieve.proofs.three.Reads as reads
+use Rattle.sieve.proofs.three.Lts as lts
+use Rattle.table.proofs.lay.put.Reads as put-reads
+
+pub three-spec : {M : Type 1} → statement M
+three-spec =
+    tie.close
+    (tie.spec
+    (λ c κs. search needs)
+    (λ c. search needs)
+    (λ c κs. search needs)
+    (λ c. search needs)
+    (λ c κs. search needs)
+    (λ c. search needs)
+    (λ c. putting.three-put ((c .before .before .before .before .before .before .before .before .before .before .before .before .before .before .args .list .now)) _ _ _ ((c .before .before .before .before .before .before .before .before .before .before .before .before .before .before .args .i)) _ _ _ ((c .before .before .before .before .before .before .before .before .before .before .put .ensures)) ((c .before .before .before .before .before .before .put2 .ensures)) ((c .before .before .put3 .ensures)))
+    (λ c. sym (laying.sets-out (((c .before .before .args .a)) ∷ ((c .before .before .args .b)) ∷ ((c .before .before .args .c)) ∷ []) ((c .before .before .args .list .now)) ((c .before .before .args .i)) (omega arith))))

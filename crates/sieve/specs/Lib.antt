@@ -1,0 +1,2 @@
+-- What the two passes over a manifest's objects leave.
+pub mod Sieved
