@@ -2,3 +2,4 @@
 pub mod OfFile
 pub mod OfBoth
 pub mod Answer
+pub mod Names
