@@ -1,0 +1,2 @@
+-- Laws behind the checks.
+pub mod Checking

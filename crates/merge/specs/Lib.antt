@@ -1,0 +1,2 @@
+-- What is known of two files before ROOM.
+pub mod Checked

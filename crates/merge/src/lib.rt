@@ -1,0 +1,82 @@
+// Two files in one (document 02, Req 10). What comes before ROOM is found without the lent rows.
+use sizes::piece;
+use weigh::Weighed;
+ghost use mathlib.Core.Path.{_≡_};
+ghost use Prim.Native.Nat.{_+_, _*_, _<_, _≤_};
+ghost use lib.ListN.{length};
+ghost use Rattle.readback.specs.Lent.{Held};
+ghost use Rattle.sizes.specs.Size.{capped};
+ghost use Rattle.merge.specs.Checked.{attributesSize, CheckedIs};
+
+// 2^40.
+const LAST: u64 = 1_099_511_627_776;
+
+// A byte is below 256: said of each, since a slice's own facts are its length's alone.
+fn below(b: u8) -> bool
+    ensures { λ r. ⌜ b < 256 ⌝ }
+{
+    true
+}
+
+fn held(s: &[u8])
+    ensures { λ r. ⌜ Held (now (s .entry)) ⌝ }
+{
+    let mut i = 0;
+    while i < s.len() {
+        below(s[i]);
+        i += 1;
+    }
+}
+
+// The bytes of the kept attributes with their key: the first's if it has any, else the second's.
+fn attributes(place: u64, size: u64, other: u64, length: u64) -> u64
+    ensures { λ r. ⌜ r ≡ capped (attributesSize place size other length) ⌝ }
+{
+    if rows::absent(place, size) {
+        return piece::attributes(other, length);
+    }
+    piece::attributes(place, size)
+}
+
+// A refusal: its number, which file it is about, object and component. Or, of the first file and then of the second, how many objects and components there are, and place and length of the root's
+// attributes; where the first's blobs end; and how long the merged file is.
+pub enum Verdict {
+    No(u64, u64, u64, u64),
+    Yes(u64, u64, u64, u64, u64, u64, u64, u64, u64, u64),
+}
+
+// Every check that comes before ROOM.
+pub fn checked(one: u64, first: &[u8], two: u64, second: &[u8]) -> Verdict
+    ensures { λ r. ⌜ CheckedIs one (now (first .entry)) two (now (second .entry)) r ⌝ }
+{
+    held(first);
+    held(second);
+    let mut names = [0u64; 2048];
+    match weigh::file(one, first, 8, 0, 0, &mut names) {
+        Weighed::No(n, o, c) => Verdict::No(n, 1, o, c),
+        Weighed::Yes(n, c, place, size, turn, before) => {
+            let from = 2 * n as usize;
+            match weigh::file(two, second, turn, before, from, &mut names) {
+                Weighed::No(x, o, y) => Verdict::No(x, 2, o, y),
+                Weighed::Yes(k, d, other, length, end, total) => {
+                    if LAST < end {
+                        return Verdict::No(15, 0, 0, 0);
+                    }
+                    let m = piece::capped(
+                        23 + attributes(place, size, other, length) + piece::head(n + k) + total,
+                    );
+                    if piece::LIMIT < m {
+                        return Verdict::No(4, 0, 0, 0);
+                    }
+                    if 1024 < n + k {
+                        return Verdict::No(15, 0, 0, 0);
+                    }
+                    if !unshared::unshared(first, second, &names, n as usize, k as usize) {
+                        return Verdict::No(11, 0, 0, 0);
+                    }
+                    Verdict::Yes(n, c, place, size, turn, k, d, other, length, end + m + 16)
+                }
+            }
+        }
+    }
+}
