@@ -1,0 +1,4 @@
+-- Laws behind comparing's proofs.
+pub mod Bound
+pub mod OfModel
+pub mod Answering
