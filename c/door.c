@@ -294,6 +294,49 @@ static void two_engines(void) {
     for (i = 0; i < ZT_SHARED; i++) SAME(shared[i], 0);
 }
 
+/* What changed: the file of all columns beside itself, beside itself with two bytes of a blob changed, and beside the file of layout 1.0. */
+static void what_changed(void) {
+    static uint64_t work[NUMBERS + NUMBERS], list[41];
+    static uint8_t changed[sizeof out];
+    zt_changes c;
+    uint64_t length, i;
+    fill(rows);
+    length = zt_write(rows, NUMBERS, OBJECTS, COMPONENTS, ROOT, ROOT_LENGTH, buffer, sizeof buffer - 1, out, sizeof out).length;
+    lay_first();
+    SAME(ZT_ENTRY_WIDTH, 8);
+    c = zt_diff(ZT_LAYOUT_1_2, out, length, ZT_LAYOUT_1_2, out, length, work, NUMBERS + NUMBERS, list, 0);
+    SAME(c.number, ZT_ACCEPTED), SAME(c.file, 0), SAME(c.object, 0), SAME(c.component, 0), SAME(c.entries, 0);
+
+    /* the sixth component, the third of the third object, has 16 bytes at 6 * 64 */
+    memcpy(changed, out, length);
+    changed[6 * 64 + 3] ^= 1, changed[6 * 64 + 9] ^= 1;
+    list[16] = 77;
+    c = zt_diff(ZT_LAYOUT_1_2, out, length, ZT_LAYOUT_1_2, changed, length, work, NUMBERS + NUMBERS, list, 16);
+    SAME(c.number, ZT_ACCEPTED), SAME(c.entries, 2), SAME(list[16], 77);
+    {
+        const uint64_t entries[] = {3, 2, 2, 0, 0, 32, 0, 0, 4, 2, 2, 2, 2, 32, 3, 2};
+        SAME(memcmp(list, entries, sizeof entries), 0);
+    }
+    for (i = 0; i < NUMBERS + NUMBERS; i++) SAME(work[i], 0);
+    c = zt_diff(ZT_LAYOUT_1_2, out, length, ZT_LAYOUT_1_2, changed, length, work, NUMBERS + NUMBERS, list, 15);
+    SAME(c.number, ZT_ROOM), SAME(c.file, 0), SAME(c.entries, 2), SAME(list[0], 3);
+    c = zt_diff(ZT_LAYOUT_1_2, out, length, ZT_LAYOUT_1_2, changed, length, work, NUMBERS + NUMBERS - 1, list, 16);
+    SAME(c.number, ZT_ROOM), SAME(c.file, 0), SAME(c.entries, 0);
+
+    c = zt_diff(ZT_LAYOUT_1_2, out, length, ZT_LAYOUT_1_0, first, FIRST, work, NUMBERS + NUMBERS, list, 40);
+    SAME(c.number, ZT_ACCEPTED), SAME(c.entries, 5);
+    {
+        const uint64_t entries[] = {1, 0, 0, 0, 0, 0, 0, 0, 1, 1, 0, 0, 0, 0, 0, 0, 1, 2, 0, 0, 0, 0, 0, 0, 2, 0, 0, 0, 0, 0, 0, 0, 2, 0, 1, 0, 0, 0, 0, 0};
+        SAME(memcmp(list, entries, sizeof entries), 0);
+    }
+
+    /* a file's own refusal, the first's before the second's */
+    c = zt_diff(ZT_LAYOUT_1_2, out, 7, ZT_LAYOUT_1_0, first, 0, work, 0, list, 0);
+    SAME(c.number, ZT_SHORT), SAME(c.file, 1), SAME(c.entries, 0);
+    c = zt_diff(ZT_LAYOUT_1_2, out, length, ZT_LAYOUT_1_0, first, 0, work, 0, list, 0);
+    SAME(c.number, ZT_SHORT), SAME(c.file, 2);
+}
+
 int main(void) {
     numbers();
     columns();
@@ -301,5 +344,6 @@ int main(void) {
     refused();
     of_a_layout();
     two_engines();
+    what_changed();
     return wrong;
 }

@@ -1,5 +1,5 @@
 /*
- * How much stack the calls of zt.h take on the files named: each is judged, read, listed, written anew and loaded for two engines, in either layout, in a thread whose stack was
+ * How much stack the calls of zt.h take on the files named: each is judged, read, listed, written anew, loaded for two engines and compared with itself, in either layout, in a thread whose stack was
  * painted before, and what is no longer paint was used. Prints the deepest use; it must stay within what zt.h says.
  */
 #include "read_file.h"
@@ -12,7 +12,7 @@
 
 enum { STACK = 1 << 17, ROOM = ZT_TABLE_MOST, TEXT = 1 << 24 };
 
-static uint64_t table[ROOM], shared[ZT_SHARED];
+static uint64_t table[ROOM], shared[ZT_SHARED], work[2 * ROOM];
 static uint8_t text[TEXT], out[2 * TEXT];
 
 typedef struct {
@@ -47,6 +47,7 @@ static void *judge(void *given) {
         zt_accept_as(layout, t->file.at, t->file.length);
         all_of(t->file, zt_read_as(layout, t->file.at, t->file.length, table, ROOM));
         for_engines(layout, t->file);
+        zt_diff(layout, t->file.at, t->file.length, layout, t->file.at, t->file.length, work, 2 * ROOM, table, ROOM);
     }
     return NULL;
 }

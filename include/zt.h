@@ -264,6 +264,30 @@ typedef struct {
  */
 zt_panel_text zt_panel(uint64_t layout, const uint8_t *file, size_t length, uint64_t *work, size_t room, uint8_t *text, size_t text_room);
 
+/* Numbers of an entry of zt_diff's list. */
+#define ZT_ENTRY_WIDTH 8
+
+/* What zt_diff answers: ZT_ACCEPTED and how many entries; a file's refusal, with `file` 1 for the first or 2 for the second; or ZT_ROOM, with `file` 0. */
+typedef struct {
+    uint64_t number, file, object, component, entries;
+} zt_changes;
+
+/*
+ * What changed between two files, each of its own layout; they may be the same bytes. An entry of the list is ZT_ENTRY_WIDTH numbers: its kind, the object's index in the first and in
+ * the second, the component's index in its object in the first and in the second, what differs, a position, a count. Numbers that a kind doesn't use are 0.
+ *   1, 2  object only in the first, only in the second
+ *   3     object in both that differs; it is followed by its entries of kinds 4 and 5, then 6
+ *   4     component in both that differs; with 32, `position` is the first byte of the blob that differs and `count` how many do, those past the shorter one's end included
+ *   5, 6  component only in the first, only in the second
+ * What differs is a sum: 1 shape, 2 format, 4 component names, 8 dtypes, 16 logical types (absent and empty differ), 32 bytes; of a kind 3 the whole object's, of a kind 4 that
+ * component's. Objects and components are matched by name. The first's objects come in their order, then the kind 2s in the second's order; attributes, digests and order don't count.
+ * The first file's refusal comes first, then the second's, then ZT_ROOM: with `entries` 0 if `work` has fewer numbers than both files' tables together (2 * ZT_TABLE_MOST always
+ * serve), with `entries` as many as there are if the list has room for fewer. The whole of `work` ends as zeros, whatever the answer; the list is untouched unless the answer is
+ * ZT_ACCEPTED, and beyond its entries. The list must overlap neither file nor `work`.
+ */
+zt_changes zt_diff(uint64_t first_layout, const uint8_t *first, size_t first_length, uint64_t second_layout, const uint8_t *second, size_t second_length,
+                   uint64_t *work, size_t work_room, uint64_t *list, size_t list_room);
+
 /* What zt_write answers: ZT_ACCEPTED and the file's length; or the refusal, where it is, and 0. */
 typedef struct {
     uint64_t number, object, component, length;

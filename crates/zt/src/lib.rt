@@ -1,5 +1,6 @@
 // The C interface: thin exported functions, nothing else.
 use account::Bytes;
+use comparing::Changes;
 use finding::table::Found;
 use panel::Listed;
 use reader::into::Answer;
@@ -22,6 +23,7 @@ ghost use Rattle.panel.specs.Lines.{listed};
 ghost use Rattle.panel.specs.Told as listing;
 ghost use Rattle.account.specs.Account.{accounted};
 ghost use Rattle.summary.specs.Panel as panelled;
+ghost use Rattle.comparing.specs.Told as comparison;
 ghost use Rattle.engines.specs.Calls as calls;
 ghost use Rattle.sharing.specs.Told as said;
 ghost use Rattle.writer.specs.Told.{Answered};
@@ -121,6 +123,23 @@ pub extern "C" fn zt_panel(layout: u64, file: &[u8], work: &mut [u64], text: &mu
     ensures cleared { λ r. ⌜ now (work .exit) ≡ replicate (length (now (work .entry))) 0 ⌝ }
 {
     summary::of_file(layout, file, work, text)
+}
+
+// What changed between two files, each of its own layout, put into a lent list, eight numbers an entry: 0 and how many entries; or a refusal and its file, or ROOM. The lent room ends as zeros.
+#[no_mangle]
+pub extern "C" fn zt_diff(
+    layout: u64,
+    first: &[u8],
+    other: u64,
+    second: &[u8],
+    work: &mut [u64],
+    list: &mut [u64],
+) -> Changes
+    ensures answer { λ r. ⌜ r ≡ comparison.told (comparison.compared (layoutOf layout) (now (first .entry)) (layoutOf other) (now (second .entry)) (length (now (work .entry)))) (length (now (list .entry))) ⌝ }
+    ensures written { λ r. ⌜ now (list .exit) ≡ comparison.after (comparison.compared (layoutOf layout) (now (first .entry)) (layoutOf other) (now (second .entry)) (length (now (work .entry)))) (now (list .entry)) ⌝ }
+    ensures cleared { λ r. ⌜ now (work .exit) ≡ replicate (length (now (work .entry))) 0 ⌝ }
+{
+    comparing::of_files(layout, first, other, second, work, list)
 }
 
 // A whole file from rows, put into a lent output: 0, 0, 0 and its length; or the refusal, where it is, and 0. What the slices are is all that read-back asks for.

@@ -199,6 +199,11 @@ zt_bytes zt_account(uint64_t layout, const uint8_t *file, size_t length, uint64_
 zt_panel_text zt_panel(uint64_t layout, const uint8_t *file, size_t length, uint64_t *work, size_t room, uint8_t *text, size_t text_room) {
     STRUCT(zt_panel_text, zt_panel, NUMBER(layout), LENT(file, length), WRITTEN(work, room), WRITTEN(text, text_room))
 }
+zt_changes zt_diff(uint64_t first_layout, const uint8_t *first, size_t first_length, uint64_t second_layout, const uint8_t *second, size_t second_length,
+                   uint64_t *work, size_t work_room, uint64_t *list, size_t list_room) {
+    STRUCT(zt_changes, zt_diff, NUMBER(first_layout), LENT(first, first_length), NUMBER(second_layout), LENT(second, second_length), WRITTEN(work, work_room),
+           WRITTEN(list, list_room))
+}
 zt_range zt_view(const uint8_t *file, size_t length, const uint64_t *table, size_t room, uint64_t objects, uint64_t components, uint64_t index) {
     STRUCT(zt_range, zt_view, LENT(file, length), LENT(table, room), NUMBER(objects), NUMBER(components), NUMBER(index))
 }

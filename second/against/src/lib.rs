@@ -268,9 +268,32 @@ pub struct Written {
     pub length: u64,
 }
 
+/// What comparing two files answers: a refusal with its file, or how many entries.
+#[repr(C)]
+#[derive(Debug, PartialEq, Eq)]
+pub struct Changes {
+    pub number: u64,
+    pub file: u64,
+    pub object: u64,
+    pub component: u64,
+    pub entries: u64,
+}
+
 /// Declared as `include/zt.h` has them.
 mod zt {
     extern "C" {
+        pub fn zt_diff(
+            first_layout: u64,
+            first: *const u8,
+            first_length: usize,
+            second_layout: u64,
+            second: *const u8,
+            second_length: usize,
+            work: *mut u64,
+            work_room: usize,
+            list: *mut u64,
+            list_room: usize,
+        ) -> super::Changes;
         pub fn zt_read(file: *const u8, length: usize, table: *mut u64, room: usize) -> super::Answer;
         pub fn zt_read_as(layout: u64, file: *const u8, length: usize, table: *mut u64, room: usize) -> super::Answer;
         pub fn zt_account(layout: u64, file: *const u8, length: usize, work: *mut u64, room: usize) -> super::Bytes;
@@ -394,6 +417,31 @@ pub fn panel(layout: u64, file: &[u8], work: &mut [u64], text: &mut [u8]) -> Pan
             work.len(),
             text.as_mut_ptr(),
             text.len(),
+        )
+    }
+}
+
+pub fn diff(
+    first_layout: u64,
+    first: &[u8],
+    second_layout: u64,
+    second: &[u8],
+    work: &mut [u64],
+    list: &mut [u64],
+) -> Changes {
+    // SAFETY: each pointer and length are a slice's, and the slices that are written overlap no other.
+    unsafe {
+        zt::zt_diff(
+            first_layout,
+            first.as_ptr(),
+            first.len(),
+            second_layout,
+            second.as_ptr(),
+            second.len(),
+            work.as_mut_ptr(),
+            work.len(),
+            list.as_mut_ptr(),
+            list.len(),
         )
     }
 }
