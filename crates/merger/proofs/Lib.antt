@@ -1,0 +1,2 @@
+-- Laws behind the merge.
+pub mod Laying

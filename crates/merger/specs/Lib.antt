@@ -1,0 +1,2 @@
+-- The merge's answer as the code's.
+pub mod Told

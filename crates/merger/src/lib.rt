@@ -1,0 +1,157 @@
+// Document 02, Req 10: two files, each of either layout, into one of 1.2.0. The lent rows hold both files' tables, and end as zeros.
+use merge::Verdict;
+ghost use mathlib.Core.Path.{_≡_};
+ghost use mathlib.Core.Bool.{_&&_};
+ghost use Prim.Native.Nat.{_+_, _*_};
+ghost use lib.ListN.{length};
+ghost use lib.Dec.{leb};
+ghost use Rattle.meaning.specs.Columns.{objectWidth, componentWidth};
+ghost use Rattle.meaning.specs.Layouts.{layoutOf};
+ghost use Rattle.merging.specs.Merge as is;
+ghost use Rattle.merge.specs.Checked.{Ready};
+ghost use Rattle.merger.specs.Told.{answered, Enough};
+
+// A refusal's number, which file it is about (1 or 2, or 0 for the merged one), object and component; or 0, or ROOM, and the merged file's length.
+#[repr(C)]
+pub struct Merged {
+    pub number: u64,
+    pub file: u64,
+    pub object: u64,
+    pub component: u64,
+    pub length: u64,
+}
+
+// Both files' rows, the second's behind the first's, and the file by them. The root's attributes are the first's if it has any, else the second's.
+fn lay(
+    one: u64,
+    first: &[u8],
+    two: u64,
+    second: &[u8],
+    rows: &mut [u64],
+    out: &mut [u8],
+    n: u64,
+    c: u64,
+    place: u64,
+    size: u64,
+    turn: u64,
+    k: u64,
+    d: u64,
+    other: u64,
+    rest: u64,
+    long: u64,
+)
+    requires { ⌜ Ready one (now first) two (now second) n c place size turn k d other rest long × Enough n c k d long (now rows) (now out) ⌝ }
+    ensures { λ _. ⌜ (now (out .exit) ≡ is.mergeOutput (now (out .entry)) (is.merge (layoutOf one) (now (first .entry)) (layoutOf two) (now (second .entry)) (length (now (rows .entry))) (length (now (out .entry))))) × (length (now (rows .exit)) ≡ length (now (rows .entry))) ⌝ }
+{
+    let cut = columns::OBJECT * n as usize + columns::COMPONENT * c as usize;
+    reader::into::read_as(one, first, rows);
+    reader::into::read_as(two, second, &mut rows[cut..]);
+    if rows::absent(place, size) {
+        joint::both(
+            out,
+            second,
+            other,
+            rest,
+            first,
+            &rows[0..],
+            n,
+            c,
+            second,
+            &rows[cut..],
+            k,
+            d,
+            turn,
+        );
+        return;
+    }
+    joint::both(
+        out,
+        first,
+        place,
+        size,
+        first,
+        &rows[0..],
+        n,
+        c,
+        second,
+        &rows[cut..],
+        k,
+        d,
+        turn,
+    );
+}
+
+// The merged file fits the output, and its rows, of so many objects and components, the lent ones.
+fn fits(rows: usize, out: usize, objects: u64, components: u64, long: u64) -> bool
+    ensures { λ r. ⌜ r ≡ leb long out && leb (objectWidth * objects + componentWidth * components) rows ⌝ }
+{
+    if (out as u64) < long {
+        return false;
+    }
+    columns::holds(rows, objects, components)
+}
+
+// Refused, or short of room: the rows are cleared all the same.
+pub fn merge(
+    one: u64,
+    first: &[u8],
+    two: u64,
+    second: &[u8],
+    rows: &mut [u64],
+    out: &mut [u8],
+) -> Merged
+    ensures answer { λ r. ⌜ r ≡ answered (is.merge (layoutOf one) (now (first .entry)) (layoutOf two) (now (second .entry)) (length (now (rows .entry))) (length (now (out .entry)))) ⌝ }
+    ensures output { λ r. ⌜ now (out .exit) ≡ is.mergeOutput (now (out .entry)) (is.merge (layoutOf one) (now (first .entry)) (layoutOf two) (now (second .entry)) (length (now (rows .entry))) (length (now (out .entry)))) ⌝ }
+    ensures cleared { λ r. ⌜ now (rows .exit) ≡ is.mergeRows (now (rows .entry)) ⌝ }
+{
+    match merge::checked(one, first, two, second) {
+        Verdict::No(x, f, o, y) => {
+            account::clear(rows);
+            Merged {
+                number: x,
+                file: f,
+                object: o,
+                component: y,
+                length: 0,
+            }
+        }
+        Verdict::Yes(n, c, place, size, turn, k, d, other, rest, long) => {
+            if !fits(rows.len(), out.len(), n + k, c + d, long) {
+                account::clear(rows);
+                return Merged {
+                    number: 24,
+                    file: 0,
+                    object: 0,
+                    component: 0,
+                    length: long,
+                };
+            }
+            lay(
+                one,
+                first,
+                two,
+                second,
+                rows,
+                out,
+                n,
+                c,
+                place,
+                size,
+                turn,
+                k,
+                d,
+                other,
+                rest,
+                long,
+            );
+            account::clear(rows);
+            Merged {
+                number: 0,
+                file: 0,
+                object: 0,
+                component: 0,
+                length: long,
+            }
+        }
+    }
+}
