@@ -337,6 +337,45 @@ static void what_changed(void) {
     SAME(c.number, ZT_SHORT), SAME(c.file, 2);
 }
 
+/* The file of three objects, then the one of layout 1.0, in one; and each of the answer's fields. */
+static void two_in_one(void) {
+    enum { BOTH = ZT_NUMBERS(OBJECTS + TENSORS, COMPONENTS + PIECES) };
+    static uint64_t lent[BOTH + 1];
+    static uint8_t both[8192];
+    zt_merged m;
+    zt_answer a;
+    uint64_t length, i;
+    fill(rows);
+    length = zt_write(rows, NUMBERS, OBJECTS, COMPONENTS, ROOT, ROOT_LENGTH, buffer, sizeof buffer - 1, out, sizeof out).length;
+    lay_first();
+    memset(lent, 0xA5, sizeof lent);
+    memset(both, 0xA5, sizeof both);
+    m = zt_merge(ZT_LAYOUT_1_2, out, length, ZT_LAYOUT_1_0, first, FIRST, lent, BOTH, both, sizeof both);
+    SAME(m.number, ZT_ACCEPTED), SAME(m.file, 0), SAME(m.object, 0), SAME(m.component, 0);
+    SAME(both[m.length - 1], '0'), SAME(both[m.length], 0xA5);
+    for (i = 0; i < BOTH; i++) SAME(lent[i], 0);
+    SAME(lent[BOTH], 0xA5A5A5A5A5A5A5A5u);
+    a = zt_read(both, m.length, lent, BOTH);
+    SAME(a.number, ZT_ACCEPTED), SAME(a.objects, OBJECTS + TENSORS), SAME(a.components, COMPONENTS + PIECES);
+    SAME(a.size, ROOT_LENGTH), SAME(memcmp(both + a.place, buffer + ROOT, ROOT_LENGTH), 0);
+
+    /* rows and output one short, with the length that is needed; the same name twice; either file refused, with where */
+    length = m.length;
+    m = zt_merge(ZT_LAYOUT_1_0, first, FIRST, ZT_LAYOUT_1_2, NULL, 0, lent, BOTH, both, sizeof both);
+    SAME(m.number, ZT_SHORT), SAME(m.file, 2), SAME(m.length, 0);
+    SAME(zt_merge(ZT_LAYOUT_1_0, first, FIRST, ZT_LAYOUT_1_0, first, FIRST, lent, 0, both, 0).number, ZT_TWICE);
+    first[FIRST - 9] = 23;
+    m = zt_merge(ZT_LAYOUT_1_0, first, FIRST, ZT_LAYOUT_1_2, NULL, 0, lent, BOTH, both, sizeof both);
+    SAME(m.number, ZT_LENGTH), SAME(m.file, 1), SAME(m.object, 1), SAME(m.component, 2), SAME(m.length, 0);
+    lay_first();
+    i = zt_write(rows, NUMBERS, OBJECTS, COMPONENTS, ROOT, ROOT_LENGTH, buffer, sizeof buffer - 1, out, sizeof out).length;
+    m = zt_merge(ZT_LAYOUT_1_2, out, i, ZT_LAYOUT_1_0, first, FIRST, lent, BOTH - 1, both, length);
+    SAME(m.number, ZT_ROOM), SAME(m.file, 0), SAME(m.object, 0), SAME(m.component, 0), SAME(m.length, length);
+    m = zt_merge(ZT_LAYOUT_1_2, out, i, ZT_LAYOUT_1_0, first, FIRST, lent, BOTH, both, length - 1);
+    SAME(m.number, ZT_ROOM), SAME(m.length, length);
+    SAME(zt_merge(ZT_LAYOUT_1_2, out, i, ZT_LAYOUT_1_0, first, FIRST, lent, BOTH, both, length).number, ZT_ACCEPTED);
+}
+
 int main(void) {
     numbers();
     columns();
@@ -345,5 +384,6 @@ int main(void) {
     of_a_layout();
     two_engines();
     what_changed();
+    two_in_one();
     return wrong;
 }

@@ -1,5 +1,5 @@
 /*
- * How much stack the calls of zt.h take on the files named: each is judged, read, listed, written anew, loaded for two engines and compared with itself, in either layout, in a thread whose stack was
+ * How much stack the calls of zt.h take on the files named: each is judged, read, listed, written anew, loaded for two engines, compared with itself, and merged with itself and with no objects, in either layout, in a thread whose stack was
  * painted before, and what is no longer paint was used. Prints the deepest use; it must stay within what zt.h says.
  */
 #include "read_file.h"
@@ -38,6 +38,13 @@ static inline __attribute__((always_inline)) void for_engines(uint64_t layout, b
     for (uint64_t engine = 0; engine < 2; engine++) zt_drop(shared, ZT_SHARED, engine);
 }
 
+/* A merge that finds every name shared, and one that is laid. */
+static inline __attribute__((always_inline)) void in_one(uint64_t layout, bytes file) {
+    static const uint8_t empty[] = "ZTEN1000\xA2gversione1.2.0gobjects\xA0\x18\0\0\0\0\0\0\0ZTEN1000";
+    zt_merge(layout, file.at, file.length, layout, file.at, file.length, table, ROOM, out, sizeof out);
+    zt_merge(layout, file.at, file.length, ZT_LAYOUT_1_2, empty, sizeof empty - 1, table, ROOM, out, sizeof out);
+}
+
 static void *judge(void *given) {
     task *t = given;
     t->top = __builtin_frame_address(0);
@@ -47,6 +54,7 @@ static void *judge(void *given) {
         zt_accept_as(layout, t->file.at, t->file.length);
         all_of(t->file, zt_read_as(layout, t->file.at, t->file.length, table, ROOM));
         for_engines(layout, t->file);
+        in_one(layout, t->file);
         zt_diff(layout, t->file.at, t->file.length, layout, t->file.at, t->file.length, work, 2 * ROOM, table, ROOM);
     }
     return NULL;

@@ -312,6 +312,20 @@ zt_written zt_write(const uint64_t *rows, size_t numbers, uint64_t objects, uint
 zt_written zt_write_planned(const uint64_t *rows, size_t numbers, uint64_t objects, uint64_t components, uint64_t attributes_place, uint64_t attributes_length,
                             const uint8_t *buffer, size_t buffer_length, const uint64_t *plan, size_t planned, uint64_t ceiling, uint8_t *out, size_t out_room);
 
+/* What zt_merge answers: ZT_ACCEPTED, or ZT_ROOM, and the merged file's length; or a refusal, which file it is about (1 or 2, or 0 for the merged one), where it is, and 0. */
+typedef struct {
+    uint64_t number, file, object, component, length;
+} zt_merged;
+
+/*
+ * Two files, each of its layout, into one of 1.2.0 (document 02, Request 10): the first's objects, then the second's, as zt_write writes them; root attributes are the first's if it
+ * has any, else the second's. The first file's refusal, then the second's; then of the merged file ZT_COUNT (2^40 bytes), ZT_BIG, ZT_COUNT (1,024 objects), ZT_TWICE; last
+ * ZT_ROOM, for the output or for rows under ZT_NUMBERS of both files' objects and components together. The output is untouched on refusal; the whole of the lent rows ends as
+ * zeros, whatever the answer. `rows` and `out` must overlap neither each other nor the files.
+ */
+zt_merged zt_merge(uint64_t first_layout, const uint8_t *first, size_t first_length, uint64_t second_layout, const uint8_t *second, size_t second_length,
+                   uint64_t *rows, size_t rows_room, uint8_t *out, size_t out_room);
+
 /*
  * Two engines and one table (document 02, Request 11). `shared` holds a table of 65,536 numbers, then eight numbers of state for each engine; zeros at first, and `numbers` is
  * ZT_SHARED. Engine 0's rows stand at the table's beginning, engine 1's at its end, so what is free is one piece, and no call of one engine reads or writes the other's rows or

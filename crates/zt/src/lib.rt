@@ -2,6 +2,7 @@
 use account::Bytes;
 use comparing::Changes;
 use finding::table::Found;
+use merger::Merged;
 use panel::Listed;
 use reader::into::Answer;
 use sharing::Held;
@@ -24,6 +25,8 @@ ghost use Rattle.panel.specs.Told as listing;
 ghost use Rattle.account.specs.Account.{accounted};
 ghost use Rattle.summary.specs.Panel as panelled;
 ghost use Rattle.comparing.specs.Told as comparison;
+ghost use Rattle.merging.specs.Merge as merging;
+ghost use Rattle.merger.specs.Told as joining;
 ghost use Rattle.engines.specs.Calls as calls;
 ghost use Rattle.sharing.specs.Told as said;
 ghost use Rattle.writer.specs.Told.{Answered};
@@ -186,6 +189,23 @@ pub extern "C" fn zt_write_planned(
         buffer,
         out,
     )
+}
+
+// Two files, each of a layout, into one of 1.2.0, put into a lent output: 0, or ROOM, and the file's length; or a refusal, and which file it is about. The lent rows end as zeros.
+#[no_mangle]
+pub extern "C" fn zt_merge(
+    one: u64,
+    first: &[u8],
+    two: u64,
+    second: &[u8],
+    rows: &mut [u64],
+    out: &mut [u8],
+) -> Merged
+    ensures answer { λ r. ⌜ r ≡ joining.answered (merging.merge (layoutOf one) (now (first .entry)) (layoutOf two) (now (second .entry)) (length (now (rows .entry))) (length (now (out .entry)))) ⌝ }
+    ensures output { λ r. ⌜ now (out .exit) ≡ merging.mergeOutput (now (out .entry)) (merging.merge (layoutOf one) (now (first .entry)) (layoutOf two) (now (second .entry)) (length (now (rows .entry))) (length (now (out .entry)))) ⌝ }
+    ensures cleared { λ r. ⌜ now (rows .exit) ≡ merging.mergeRows (now (rows .entry)) ⌝ }
+{
+    merger::merge(one, first, two, second, rows, out)
 }
 
 // Two engines and one table, whose numbers and states are lent to every call. A file of a layout, loaded for an engine: INDEX, BUSY, the reader's refusal, ROOM; or what reading answers. The
