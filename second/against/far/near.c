@@ -234,3 +234,8 @@ zt_range zt_engine_view(const uint64_t *shared, size_t numbers, uint64_t engine,
 zt_text zt_engine_list(const uint64_t *shared, size_t numbers, uint64_t engine, const uint8_t *file, size_t length, uint8_t *text, size_t text_room) {
     STRUCT(zt_text, zt_engine_list, LENT(shared, numbers), NUMBER(engine), LENT(file, length), WRITTEN(text, text_room))
 }
+zt_merged zt_merge(uint64_t first_layout, const uint8_t *first, size_t first_length, uint64_t second_layout, const uint8_t *second, size_t second_length,
+                   uint64_t *rows, size_t rows_room, uint8_t *out, size_t out_room) {
+    STRUCT(zt_merged, zt_merge, NUMBER(first_layout), LENT(first, first_length), NUMBER(second_layout), LENT(second, second_length), WRITTEN(rows, rows_room),
+           WRITTEN(out, out_room))
+}

@@ -279,9 +279,32 @@ pub struct Changes {
     pub entries: u64,
 }
 
+/// What merging answers: a refusal and which file it is about, or the merged file's length.
+#[repr(C)]
+#[derive(Debug, PartialEq, Eq)]
+pub struct Merged {
+    pub number: u64,
+    pub file: u64,
+    pub object: u64,
+    pub component: u64,
+    pub length: u64,
+}
+
 /// Declared as `include/zt.h` has them.
 mod zt {
     extern "C" {
+        pub fn zt_merge(
+            first_layout: u64,
+            first: *const u8,
+            first_length: usize,
+            second_layout: u64,
+            second: *const u8,
+            second_length: usize,
+            rows: *mut u64,
+            rows_room: usize,
+            out: *mut u8,
+            out_room: usize,
+        ) -> super::Merged;
         pub fn zt_diff(
             first_layout: u64,
             first: *const u8,
@@ -526,6 +549,25 @@ pub fn write_planned(asked: &PlannedSet, out: &mut [u8]) -> Written {
             asked.plan.as_ptr(),
             asked.plan.len(),
             asked.ceiling,
+            out.as_mut_ptr(),
+            out.len(),
+        )
+    }
+}
+
+/// Two files, each of its layout, into one.
+pub fn merge(one: u64, first: &[u8], two: u64, second: &[u8], rows: &mut [u64], out: &mut [u8]) -> Merged {
+    // SAFETY: each pointer and length are a slice's, and the slices don't overlap.
+    unsafe {
+        zt::zt_merge(
+            one,
+            first.as_ptr(),
+            first.len(),
+            two,
+            second.as_ptr(),
+            second.len(),
+            rows.as_mut_ptr(),
+            rows.len(),
             out.as_mut_ptr(),
             out.len(),
         )
