@@ -657,6 +657,134 @@ def try_panels_of_several_files():
     expect(trouble.splitlines()[1:], [b"zt: no.zt: No such file or directory"])
 
 
+def renamed(names, attributes=None):
+    """A file whose objects have these names, each with two components that share bytes."""
+    parts = lambda name: [("a", sample.component("u8", 64, len(name))), ("b", sample.component("u8", 64, 0))]
+    more = {} if attributes is None else {"attributes": attributes}
+    return sample.file([(name, sample.thing([], "any", parts(name))) for name in names], bytes(range(64)), author="unknown", **more)
+
+
+NOT_COMPARED = b"zt: digests and attributes are not compared\n"
+
+
+def differences(first, second, first_layout="1.2.0", second_layout="1.2.0"):
+    """The lines that a comparison is due, from what both files show."""
+    whole = [content(first), content(second)]
+    sides = [told("show", "--json", first, "--layout", first_layout)["objects"], told("show", "--json", second, "--layout", second_layout)["objects"]]
+    by_name = [{thing["name"]: thing for thing in side} for side in sides]
+    lines = []
+    for thing in sides[0]:
+        other = by_name[1].get(thing["name"])
+        lines += object_differences(whole, thing, other) if other else [f"- object {shown(thing['name'])}"]
+    return lines + [f"+ object {shown(thing['name'])}" for thing in sides[1] if thing["name"] not in by_name[0]]
+
+
+def valued(text):
+    return "-" if text is None else "\\" if text == "" else "\\2d" if text == "-" else shown(text)
+
+
+def object_differences(whole, old, new):
+    parts = [{part["name"]: part for part in thing["components"]} for thing in (old, new)]
+    name, values, lines = shown(old["name"]), [], []
+    both = {key: component_differences(whole, part, parts[1][key]) for key, part in parts[0].items() if key in parts[1]}
+    for part in parts[0]:
+        if part not in parts[1]:
+            lines.append(f"- blob {name} {shown(part)}")
+        elif both[part]:
+            lines.append(f"~ blob {name} {shown(part)}: " + ", ".join(words for _, words in both[part]))
+    lines += [f"+ blob {name} {shown(part)}" for part in parts[1] if part not in parts[0]]
+    if old["shape"] != new["shape"]:
+        values.append("shape {} -> {}".format(*(str(thing["shape"]).replace(" ", "") for thing in (old, new))))
+    if old["format"] != new["format"]:
+        values.append(f"format {valued(old['format'])} -> {valued(new['format'])}")
+    values += ["component names"] * (set(parts[0]) != set(parts[1]))
+    kinds = {kind for found in both.values() for kind, _ in found}
+    values += [kind + "s" for kind in ("dtype", "type", "byte") if kind in kinds]
+    return [f"~ object {name}: " + ", ".join(values), *lines] if values else []
+
+
+def component_differences(whole, old, new):
+    blobs = [bytes_of[part["offset"] : part["offset"] + part["length"]] for bytes_of, part in zip(whole, (old, new))]
+    found = [(key, f"{key} {valued(old[key])} -> {valued(new[key])}") for key in ("dtype", "type") if old[key] != new[key]]
+    shorter = min(map(len, blobs))
+    places = [i for i in range(shorter) if blobs[0][i] != blobs[1][i]] if blobs[0] != blobs[1] else []
+    if len(blobs[0]) != len(blobs[1]):
+        found.append(("byte", f"length {len(blobs[0])} -> {len(blobs[1])}"))
+    count = len(places) + max(map(len, blobs)) - shorter
+    return found + [("byte", f"bytes from {min([*places, shorter])} on, {count} differ")] * (count > 0)
+
+
+def compared(first, second, *words, **more):
+    status, said, trouble = zt("diff", first, second, *words)
+    wanted = differences(first, second, **more)
+    expect((said.decode().splitlines(), status, trouble), (wanted, 1 if wanted else 0, NOT_COMPARED), (first, second))
+    return wanted
+
+
+def changed_samples():
+    """A model, and the same with changes of every kind."""
+    odd = "a b\\\n\u202e"
+    part = sample.component
+    old = [
+        ("same", sample.thing([3], "dense", [("data", part("f32", 64, 12))])),
+        ("gone", sample.thing([], "any", [])),
+        (odd, sample.thing([2, 3], "any", [("data", part("f32", 64, 12, type="-")), (odd, part("u8", 64, 4)), ("last", part("u8", 128, 0))])),
+        ("", sample.thing([], "", [("", part("u8", 64, 12)), ("t", part("u8", 64, 0))])),
+    ]
+    new = [
+        ("new", sample.thing([9], "any", [])),
+        ("", sample.thing([0] * 8, "x y", [("t", part("u8", 64, 0, type="")), ("", part("i8", 64, 8))])),
+        (odd, sample.thing([2, 3], "any", [("last", part("u8", 64, 5)), ("more " + odd, part("u8", 64, 4)), ("data", part("f16", 128, 12))])),
+        ("same", sample.thing([3], "dense", [("data", part("f32", 64, 12, digest="crc32c:0x0"))], attributes=sample.Pairs([("a", 1)]))),
+    ]
+    return sample.file(old, b"twelve bytes" + bytes(52)), sample.file(new, b"twelve bytes" + bytes(52) + b"twelve BYTES", attributes=sample.Pairs())
+
+
+def try_diff():
+    old, new = changed_samples()
+    put("old.zt", old)
+    put("new.zt", new)
+    lines = compared("old.zt", "new.zt")
+    expect(lines[0], "- object gone")
+    expect(lines[1], "~ object a\\20b\\5c\\0a\\e2\\80\\ae: component names, dtypes, types, bytes")
+    expect(lines[2], "~ blob a\\20b\\5c\\0a\\e2\\80\\ae data: dtype f32 -> f16, type \\2d -> -, bytes from 7 on, 5 differ")
+    expect(lines[-3:], ["~ blob  : dtype u8 -> i8, length 12 -> 8, bytes from 8 on, 4 differ", "~ blob  t: type - -> \\", "+ object new"])
+    expect(lines[-4], "~ object : shape [] -> [0,0,0,0,0,0,0,0], format \\ -> x\\20y, dtypes, types, bytes")
+    expect(len(compared("new.zt", "old.zt")), len(lines))
+    expect(compared("old.zt", "old.zt"), [])
+    expect(zt("diff", "-", "new.zt", input=old)[1].decode().splitlines(), lines)
+    put("thousand.zt", renamed([f"o {i}" for i in range(1024)]))
+    expect(len(compared("thousand.zt", "none.zt")), 1024)
+    expect(len(compared("none.zt", "thousand.zt")), 1024)
+
+
+def try_diff_of_many():
+    sound = sound_files(60)
+    for first, second in zip(sound, sound[1:]):
+        compared(first, second)
+    for path in sound[:6]:
+        expect(compared(path, path), [])
+        done("copy", path, "-o", "copy.zt")
+        expect(compared(path, "copy.zt"), [], "places aren't differences")
+    for path in ["first.zt", *sound_files(8, first_files)]:
+        imported(path, "imported.zt")
+        expect(compared(path, "imported.zt", "--first-layout", "1.0", first_layout="1.0"), [], path)
+        expect(compared("imported.zt", path, "--second-layout=1.0", second_layout="1.0"), [], path)
+        expect(compared(path, path, "--layout", "1.0", first_layout="1.0", second_layout="1.0"), [], path)
+        compared(path, "old.zt", "--layout", "1.0", "--second-layout", "1.2.0", first_layout="1.0")
+
+
+def try_diff_of_refused_files():
+    """Status 1 says that files differ, so that a refusal is 2."""
+    short = b"short.zt: refused 1 SHORT, object 0, component 0: file under 24 bytes"
+    put("short.zt", b"ZTEN1000")
+    troubled(short, "diff", "short.zt", "first.zt")
+    troubled(short, "diff", "known.zt", "short.zt")
+    troubled(b"first.zt: refused 3 FOOTER, object 0, component 0: last 8 wrong" + AS_FIRST, "diff", "known.zt", "first.zt")
+    troubled(b"no.zt: No such file or directory", "diff", "known.zt", "no.zt")
+    troubled(b"-: standard input can be read only once", "diff", "-", "-", input=content("known.zt"))
+
+
 def try_outputs_that_cannot_be():
     os.mkdir(os.path.join(WORK, "folder"))
     troubled(b"folder: Is a directory", "copy", "known.zt", "-o", "folder")
@@ -921,7 +1049,7 @@ def try_an_interrupted_copy():
 
 def try_usage():
     commands = done("--commands").decode().split()
-    expect(commands[:9], ["check", "list", "show", "map", "panel", "get", "copy", "import", "plan"])
+    expect(commands, ["check", "list", "show", "map", "panel", "get", "copy", "import", "plan", "diff"])
     everything = done("--help").decode()
     for command in commands:
         expect(everything.count(f"zt {command} "), 1)
@@ -936,6 +1064,8 @@ def try_usage():
     troubled(b"b: one operand too many; zt list --help says how it is called", "list", "a", "b")
     troubled(b"copy: -o NEW is missing; zt copy --help says how it is called", "copy", "known.zt")
     troubled(b"import: -o NEW is missing; zt import --help says how it is called", "import", "first.zt")
+    troubled(b"x: no layout: there are 1.0 and 1.2.0; zt diff --help says how it is called", "diff", "known.zt", "known.zt", "--second-layout=x")
+    troubled(b"diff: an operand is missing; zt diff --help says how it is called", "diff", "known.zt")
     troubled(b"1.1: no layout: there are 1.0 and 1.2.0; zt list --help says how it is called", "list", "--layout", "1.1", "known.zt")
     troubled(b"--layout: no layout: there are 1.0 and 1.2.0; zt list --help says how it is called", "list", "known.zt", "--layout")
     troubled(b"--layout: no such option; zt copy --help says how it is called", "copy", "known.zt", "--layout", "1.0", "-o", "x")

@@ -11,6 +11,7 @@ void print_usage(const command *of) {
     print_words(&out, of->name);
     if (of->options & TAKES_JSON) print_words(&out, " [--json]");
     if (of->options & TAKES_LAYOUT) print_words(&out, " [--layout 1.0]");
+    if (of->options & TAKES_LAYOUTS) print_words(&out, " [--layout 1.0] [--first-layout 1.0] [--second-layout 1.0]");
     if (of->options & TAKES_ESCAPED) print_words(&out, " [--escaped]");
     if (of->options & TAKES_PLAN) print_words(&out, " [--plan PLAN [--ceiling N]]");
     if (of->options & NEEDS_PAGE) print_words(&out, " --page N [--ceiling N]");
@@ -50,6 +51,25 @@ static mistake layout_read(uint64_t *into, const char *named) {
     return (mistake){named, *into == ZT_LAYOUT_1_0 || strcmp(named, "1.2.0") == 0 ? NULL : "no layout: there are 1.0 and 1.2.0"};
 }
 
+/* --layout is for every file of a command, the other two for one of two files; answers as option_read. */
+static int layouts_read(arguments *into, const command *of, const char *word, const char *next, mistake *wrong) {
+    static const struct {
+        const char *name;
+        int options, first, second;
+    } forms[] = {{"--layout", TAKES_LAYOUT | TAKES_LAYOUTS, 1, 1}, {"--first-layout", TAKES_LAYOUTS, 1, 0}, {"--second-layout", TAKES_LAYOUTS, 0, 1}};
+    for (int i = 0; i < 3; i++) {
+        int taken;
+        uint64_t layout;
+        const char *value = of->options & forms[i].options ? value_of(forms[i].name, word, next, &taken) : NULL;
+        if (!value) continue;
+        *wrong = layout_read(&layout, value);
+        if (forms[i].first) into->layout = layout;
+        if (forms[i].second) into->second_layout = layout;
+        return taken;
+    }
+    return 0;
+}
+
 static mistake ceiling_read(arguments *into, const char *named) {
     into->ceiled = 1;
     if (decimal_read(&into->ceiling, named, strlen(named)) == DECIMAL && into->ceiling <= CEILING_MOST) return (mistake){NULL, NULL};
@@ -66,12 +86,12 @@ static mistake page_read(arguments *into, const char *named) {
 /* One option; answers how many words it takes, 0 if it is none of this command's, and keeps what is wrong with its value. */
 static int option_read(arguments *into, const command *of, const char *word, const char *next, mistake *wrong) {
     const char *value;
-    int taken = 1, planned = of->options & (TAKES_PLAN | NEEDS_PAGE);
+    int taken = 1, planned = of->options & (TAKES_PLAN | NEEDS_PAGE), layouts;
     if (strcmp(word, "--help") == 0) into->help = 1;
     else if (of->options & TAKES_JSON && strcmp(word, "--json") == 0) into->json = 1;
     else if (of->options & TAKES_ESCAPED && strcmp(word, "--escaped") == 0) into->escaped = 1;
     else if (of->options & TAKES_OUTPUT && (value = output_named(word, next, &taken))) into->output = value;
-    else if (of->options & TAKES_LAYOUT && (value = value_of("--layout", word, next, &taken))) *wrong = layout_read(&into->layout, value);
+    else if ((layouts = layouts_read(into, of, word, next, wrong))) taken = layouts;
     else if (of->options & TAKES_PLAN && (value = value_of("--plan", word, next, &taken))) into->plan = value;
     else if (of->options & NEEDS_PAGE && (value = value_of("--page", word, next, &taken))) *wrong = page_read(into, value);
     else if (planned && (value = value_of("--ceiling", word, next, &taken))) *wrong = ceiling_read(into, value);

@@ -4,7 +4,9 @@
 #include <stdint.h>
 
 /* The options there are; a command names those that it takes. */
-enum option { TAKES_JSON = 1, TAKES_OUTPUT = 2, NEEDS_OUTPUT = 4, TAKES_ESCAPED = 8, TAKES_LAYOUT = 16, TAKES_PLAN = 32, NEEDS_PAGE = 64 };
+enum option {
+    TAKES_JSON = 1, TAKES_OUTPUT = 2, NEEDS_OUTPUT = 4, TAKES_ESCAPED = 8, TAKES_LAYOUT = 16, TAKES_PLAN = 32, NEEDS_PAGE = 64, TAKES_LAYOUTS = 256
+};
 
 /* The highest ceiling of a plan, document 02's, and what divides every offset. */
 #define CEILING_MOST ((uint64_t)1 << 40)
@@ -13,7 +15,8 @@ enum { ALIGNMENT = 64 };
 typedef struct {
     int json, escaped, help, ceiled;
     const char *output, *plan; /* null if none was named */
-    uint64_t layout;           /* a zt_layout */
+    uint64_t layout;           /* a zt_layout; of two files the first's */
+    uint64_t second_layout;
     uint64_t ceiling;          /* CEILING_MOST unless one was given: then it is `ceiled` */
     uint64_t page;             /* 0 if none was given */
     int count;

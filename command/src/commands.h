@@ -12,4 +12,5 @@ int get_component(const arguments *given);
 int copy_file(const arguments *given);
 int import_file(const arguments *given);
 int plan_file(const arguments *given);
+int diff_files(const arguments *given);
 #endif

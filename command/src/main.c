@@ -22,6 +22,8 @@ static const command commands[] = {
      TAKES_OUTPUT | NEEDS_OUTPUT | TAKES_PLAN, 1, 1, import_file},
     {"plan", "FILE", "a plan for copy or import: an offset for each component, a line each, by which it touches as few pages as its length allows",
      TAKES_OUTPUT | TAKES_LAYOUT | NEEDS_PAGE, 1, 1, plan_file},
+    {"diff", "FIRST SECOND", "what changed between two files, a line for each object or component; digests and attributes are not compared",
+     TAKES_LAYOUTS, 2, 2, diff_files},
 };
 enum { COMMANDS = sizeof commands / sizeof *commands };
 
@@ -33,12 +35,13 @@ static int print_help(void) {
         print_words(&out, "\n");
     }
     print_words(&out, "zt --help, zt COMMAND --help, zt --version\n\n"
-                      "FILE and PLAN may be - for standard input. --json prints JSON; --escaped takes names as listings print them; -o NEW writes\n"
-                      "a file, which appears whole or not at all, - for standard output; --layout 1.0 reads files of older boxes, 1.2.0 those of\n"
-                      "today, as without it; --page is the bytes of a flash page, --ceiling the byte where components must have ended, 2^40\n"
-                      "without it; -- ends options. Names and paths are printed with bytes outside 33 to 126, and the backslash, as \\ and two\n"
-                      "hex digits.\n"
-                      "Status: 0 sound or done, 1 refused, 2 usage, trouble with a file, or no room.\n");
+                      "FILE, FIRST, SECOND and PLAN may be - for standard input. --json prints JSON; --escaped takes names as listings print\n"
+                      "them; -o NEW writes a file, which appears whole or not at all, - for standard output; --layout 1.0 reads files of\n"
+                      "older boxes, 1.2.0 those of today, as without it, --first-layout and --second-layout one of two files; --page is the\n"
+                      "bytes of a flash page, --ceiling the byte where components must have ended, 2^40 without it; -- ends options. Names\n"
+                      "and paths are printed with bytes outside 33 to 126, and the backslash, as \\ and two hex digits.\n"
+                      "Status: 0 sound or done, 1 refused, 2 usage, trouble with a file, or no room. 1 is of diff a difference, where a\n"
+                      "refusal is 2.\n");
     return DONE;
 }
 
