@@ -785,6 +785,81 @@ def try_diff_of_refused_files():
     troubled(b"-: standard input can be read only once", "diff", "-", "-", input=content("known.zt"))
 
 
+WHOSE = {
+    (False, False): b"no root attributes; neither file has any",
+    (True, False): b"root attributes are the first file's; the second has none",
+    (False, True): b"root attributes are the second file's; the first has none",
+    (True, True): b"root attributes are the first file's; the second's are not carried over",
+}
+
+
+def merged(first, second, *words, layouts=("1.2.0", "1.2.0")):
+    """merged.zt, which must be what both describe, as the writer has it."""
+    (one, things), (other, more) = (described(path, "--layout", layout) for path, layout in zip((first, second), layouts))
+    trouble = [b"zt: merged.zt: " + WHOSE[one is not None, other is not None]]
+    trouble += [b"zt: " + path.encode() + b": " + NOT_CARRIED for path, layout in zip((first, second), layouts) if layout == "1.0"]
+    expect(zt("merge", first, second, "-o", "merged.zt", *words), (0, b"", b"\n".join(trouble) + b"\n"), (first, second))
+    expect(described("merged.zt"), (other if one is None else one, things + more), (first, second))
+    expect(done("copy", "merged.zt", "-o", "-"), content("merged.zt"), (first, second))
+
+
+def try_merge():
+    put("left.zt", renamed(["a", "a b", ""]))
+    put("right.zt", renamed(["b", "c\n"]))
+    merged("left.zt", "right.zt")
+    merged("right.zt", "left.zt")
+    merged("none.zt", "left.zt")
+    merged("left.zt", "none.zt")
+    merged("none.zt", "none.zt")
+    expect(content("merged.zt"), content("none.zt")[:8] + content("none.zt")[64:], "48 bytes")
+    for first in (None, sample.Pairs(), sample.Pairs([("x", 1)])):
+        for second in (None, sample.Pairs([("y", 2)])):
+            put("left.zt", renamed(["a"], first))
+            put("right.zt", renamed(["b"], second))
+            merged("left.zt", "right.zt")
+    for path in sound_files(12):
+        put("right.zt", renamed(["a name that no other file has"], sample.Pairs()))
+        merged(path, "right.zt")
+        merged("right.zt", path)
+    for path in ["first.zt", *sound_files(6, first_files)]:
+        merged(path, "right.zt", "--first-layout", "1.0", layouts=("1.0", "1.2.0"))
+        merged("right.zt", path, "--second-layout", "1.0", layouts=("1.2.0", "1.0"))
+    merged("none-first.zt" if put("none-first.zt", sample.first_file([])) else None, "first.zt", "--layout", "1.0", layouts=("1.0", "1.0"))
+    # Grouping and the output's place.
+    for name in "abc":
+        put(f"{name}.zt", renamed([name]))
+    merged("a.zt", "b.zt")
+    expect(zt("merge", "merged.zt", "c.zt", "-o", "merged.zt")[0], 0, "a file may take its own place")
+    by_left = content("merged.zt")
+    merged("b.zt", "c.zt")
+    expect(zt("merge", "a.zt", "merged.zt", "-o", "-")[1], by_left)
+    expect(zt("merge", "-", "merged.zt", "-o", "-", input=content("a.zt"))[1], by_left)
+
+
+def try_merges_that_are_refused():
+    put("kept.zt", b"old")
+    put("left.zt", renamed(["x", "a b", "c", "d"]))
+    put("right.zt", renamed(["y", "d", "a b"]))
+    put("other.zt", renamed(["c"]))
+    put("short.zt", b"ZTEN1000")
+    names = [f"o{i}" for i in range(600)]
+    put("many.zt", renamed(names))
+    put("more.zt", renamed([name + "'" for name in names]))
+    count = refusals()[15][1].encode()
+    for output in ("kept.zt", "none-new.zt", "-"):
+        to = output.encode()
+        troubled(to + b": refused 11 TWICE: both files have an object d, and 1 more that both have", "merge", "left.zt", "right.zt", "-o", output, status=1)
+        troubled(to + b": refused 11 TWICE: both files have an object c", "merge", "other.zt", "left.zt", "-o", output, status=1)
+        troubled(to + b": refused 15 COUNT, object 0, component 0: " + count, "merge", "many.zt", "more.zt", "-o", output, status=1)
+        troubled(b"short.zt: refused 1 SHORT, object 0, component 0: file under 24 bytes", "merge", "short.zt", "no.zt", "-o", output, status=1)
+        troubled(b"no.zt: No such file or directory", "merge", "left.zt", "no.zt", "-o", output)
+    expect((content("kept.zt"), os.path.exists(os.path.join(WORK, "none-new.zt"))), (b"old", False))
+    troubled(b"kept.zt: File too large", "merge", "left.zt", "none.zt", "-o", "kept.zt", preexec_fn=small_files)
+    troubled(b"no/where.zt: No such file or directory", "merge", "left.zt", "none.zt", "-o", "no/where.zt")
+    expect(content("kept.zt"), b"old")
+    nothing_left(WORK)
+
+
 def try_outputs_that_cannot_be():
     os.mkdir(os.path.join(WORK, "folder"))
     troubled(b"folder: Is a directory", "copy", "known.zt", "-o", "folder")
@@ -1049,7 +1124,7 @@ def try_an_interrupted_copy():
 
 def try_usage():
     commands = done("--commands").decode().split()
-    expect(commands, ["check", "list", "show", "map", "panel", "get", "copy", "import", "plan", "diff"])
+    expect(commands, ["check", "list", "show", "map", "panel", "get", "copy", "import", "plan", "diff", "merge"])
     everything = done("--help").decode()
     for command in commands:
         expect(everything.count(f"zt {command} "), 1)
@@ -1066,6 +1141,7 @@ def try_usage():
     troubled(b"import: -o NEW is missing; zt import --help says how it is called", "import", "first.zt")
     troubled(b"x: no layout: there are 1.0 and 1.2.0; zt diff --help says how it is called", "diff", "known.zt", "known.zt", "--second-layout=x")
     troubled(b"diff: an operand is missing; zt diff --help says how it is called", "diff", "known.zt")
+    troubled(b"merge: -o NEW is missing; zt merge --help says how it is called", "merge", "known.zt", "known.zt")
     troubled(b"1.1: no layout: there are 1.0 and 1.2.0; zt list --help says how it is called", "list", "--layout", "1.1", "known.zt")
     troubled(b"--layout: no layout: there are 1.0 and 1.2.0; zt list --help says how it is called", "list", "known.zt", "--layout")
     troubled(b"--layout: no such option; zt copy --help says how it is called", "copy", "known.zt", "--layout", "1.0", "-o", "x")

@@ -13,4 +13,5 @@ int copy_file(const arguments *given);
 int import_file(const arguments *given);
 int plan_file(const arguments *given);
 int diff_files(const arguments *given);
+int merge_files(const arguments *given);
 #endif

@@ -24,6 +24,8 @@ static const command commands[] = {
      TAKES_OUTPUT | TAKES_LAYOUT | NEEDS_PAGE, 1, 1, plan_file},
     {"diff", "FIRST SECOND", "what changed between two files, a line for each object or component; digests and attributes are not compared",
      TAKES_LAYOUTS, 2, 2, diff_files},
+    {"merge", "FIRST SECOND", "the first file's objects, then the second's, written as one file",
+     TAKES_OUTPUT | NEEDS_OUTPUT | TAKES_LAYOUTS, 2, 2, merge_files},
 };
 enum { COMMANDS = sizeof commands / sizeof *commands };
 
