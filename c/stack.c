@@ -38,11 +38,11 @@ static inline __attribute__((always_inline)) void for_engines(uint64_t layout, b
     for (uint64_t engine = 0; engine < 2; engine++) zt_drop(shared, ZT_SHARED, engine);
 }
 
-/* A merge that finds every name shared, and one that is laid. */
-static inline __attribute__((always_inline)) void in_one(uint64_t layout, bytes file) {
+/* A merge that finds every name shared, and one that is laid. The rows are lent as the file needs them, since each call makes zeros of all. */
+static inline __attribute__((always_inline)) void in_one(uint64_t layout, bytes file, size_t needed) {
     static const uint8_t empty[] = "ZTEN1000\xA2gversione1.2.0gobjects\xA0\x18\0\0\0\0\0\0\0ZTEN1000";
-    zt_merge(layout, file.at, file.length, layout, file.at, file.length, table, ROOM, out, sizeof out);
-    zt_merge(layout, file.at, file.length, ZT_LAYOUT_1_2, empty, sizeof empty - 1, table, ROOM, out, sizeof out);
+    zt_merge(layout, file.at, file.length, layout, file.at, file.length, table, needed, out, sizeof out);
+    zt_merge(layout, file.at, file.length, ZT_LAYOUT_1_2, empty, sizeof empty - 1, table, needed, out, sizeof out);
 }
 
 static void *judge(void *given) {
@@ -52,10 +52,12 @@ static void *judge(void *given) {
     all_of(t->file, zt_read(t->file.at, t->file.length, table, ROOM));
     for (uint64_t layout = ZT_LAYOUT_1_2; layout <= ZT_LAYOUT_1_0; layout++) {
         zt_accept_as(layout, t->file.at, t->file.length);
-        all_of(t->file, zt_read_as(layout, t->file.at, t->file.length, table, ROOM));
+        zt_answer a = zt_read_as(layout, t->file.at, t->file.length, table, ROOM);
+        size_t needed = ZT_NUMBERS(a.objects, a.components);
+        all_of(t->file, a);
         for_engines(layout, t->file);
-        in_one(layout, t->file);
-        zt_diff(layout, t->file.at, t->file.length, layout, t->file.at, t->file.length, work, 2 * ROOM, table, ROOM);
+        in_one(layout, t->file, needed);
+        zt_diff(layout, t->file.at, t->file.length, layout, t->file.at, t->file.length, work, 2 * needed, table, ROOM);
     }
     return NULL;
 }
