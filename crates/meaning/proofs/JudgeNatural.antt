@@ -85,7 +85,7 @@ module _ {P Q : Type 0} (f : P → Q) where
   null-map true = refl
   null-map false = refl
 
-  kind-map : (t : Node P) → kind (mapP f t) ≡ mapKind f (kind t)
+  pub kind-map : (t : Node P) → kind (mapP f t) ≡ mapKind f (kind t)
   unfolding kind
   kind-map (uint p n) = refl
   kind-map (nint p n) = refl
@@ -153,20 +153,20 @@ module _ {P Q : Type 0} (f : P → Q) where
   keyKind-map null = refl
   keyKind-map another = refl
 
-  present-map : (o : Option (Node P)) → present (mapOption (mapP f) o) ≡ mapOption (mapP f) (present o)
+  pub present-map : (o : Option (Node P)) → present (mapOption (mapP f) o) ≡ mapOption (mapP f) (present o)
   unfolding present
   present-map none = refl
   present-map (some t) = simp (kind-map, presentKind-map)
 
-  aNumber-map : (t : Node P) → aNumber (mapP f t) ≡ aNumber t
+  pub aNumber-map : (t : Node P) → aNumber (mapP f t) ≡ aNumber t
   unfolding aNumber
   aNumber-map t = simp (kind-map, asNumber-map)
 
-  aWord-map : (t : Node P) → aWord (mapP f t) ≡ mapCheck (mapWord f) (aWord t)
+  pub aWord-map : (t : Node P) → aWord (mapP f t) ≡ mapCheck (mapWord f) (aWord t)
   unfolding aWord
   aWord-map t = simp (kind-map, asWord-map)
 
-  aList-map : (t : Node P) → aList (mapP f t) ≡ mapCheck (map (mapP f)) (aList t)
+  pub aList-map : (t : Node P) → aList (mapP f t) ≡ mapCheck (map (mapP f)) (aList t)
   unfolding aList
   aList-map t = simp (kind-map, asList-map)
 
@@ -174,15 +174,15 @@ module _ {P Q : Type 0} (f : P → Q) where
   unfolding aTable
   aTable-map t = simp (kind-map, asTable-map)
 
-  aText-map : (t : Node P) → aText (mapP f t) ≡ mapCheck (mapWord f) (aText t)
+  pub aText-map : (t : Node P) → aText (mapP f t) ≡ mapCheck (mapWord f) (aText t)
   unfolding aText
   aText-map t = simp (aWord-map, map-bind, bind-map, map-then, then-map)
 
-  keyOf-map : (p : Pair P) → keyOf (mapPair f p) ≡ keyOf p
+  pub keyOf-map : (p : Pair P) → keyOf (mapPair f p) ≡ keyOf p
   unfolding keyOf
   keyOf-map p = simp (kind-map, keyKind-map)
 
-  named-map : (n : List ℕ) (p : Pair P) → named n (mapPair f p) ≡ named n p
+  pub named-map : (n : List ℕ) (p : Pair P) → named n (mapPair f p) ≡ named n p
   unfolding named
   named-map n p = simp keyOf-map
 
@@ -212,19 +212,19 @@ module _ {P Q : Type 0} (f : P → Q) where
   field-map none ps = refl
   field-map (some n) ps = get-map n ps
 
-  fields-map : (slots : Slots) (t : Node P) → fields slots (mapP f t) ≡ mapCheck (map (mapPair f)) (fields slots t)
+  pub fields-map : (slots : Slots) (t : Node P) → fields slots (mapP f t) ≡ mapCheck (map (mapPair f)) (fields slots t)
   unfolding fields
   fields-map slots t = simp (aTable-map, keys-map, repeats-map, map-bind, bind-map, map-then, then-map)
 
-  rootFields-map : (slots : Slots) (t : Node P) → rootFields slots (mapP f t) ≡ mapCheck (mapRoot f) (rootFields slots t)
+  pub rootFields-map : (slots : Slots) (t : Node P) → rootFields slots (mapP f t) ≡ mapCheck (mapRoot f) (rootFields slots t)
   unfolding rootFields
   rootFields-map slots t = simp (fields-map, field-map, map-bind, bind-map)
 
-  objectFields-map : (slots : Slots) (t : Node P) → objectFields slots (mapP f t) ≡ mapCheck (mapObjectFields f) (objectFields slots t)
+  pub objectFields-map : (slots : Slots) (t : Node P) → objectFields slots (mapP f t) ≡ mapCheck (mapObjectFields f) (objectFields slots t)
   unfolding objectFields
   objectFields-map slots t = simp (fields-map, field-map, map-bind, bind-map)
 
-  componentFields-map : (slots : Slots) (t : Node P) → componentFields slots (mapP f t) ≡ mapCheck (mapComponentFields f) (componentFields slots t)
+  pub componentFields-map : (slots : Slots) (t : Node P) → componentFields slots (mapP f t) ≡ mapCheck (mapComponentFields f) (componentFields slots t)
   unfolding componentFields
   componentFields-map slots t = simp (fields-map, field-map, map-bind, bind-map)
 
@@ -237,34 +237,34 @@ module _ {P Q : Type 0} (f : P → Q) where
   nameKind-map v null = refl
   nameKind-map v another = refl
 
-  nameOf-map : (p : Pair P) → nameOf (mapPair f p) ≡ mapCheck (mapNamed f) (nameOf p)
+  pub nameOf-map : (p : Pair P) → nameOf (mapPair f p) ≡ mapCheck (mapNamed f) (nameOf p)
   unfolding nameOf
   nameOf-map p = simp (kind-map, nameKind-map)
 
-  names-map : (limit : ℕ) (t : Node P) → names limit (mapP f t) ≡ mapCheck (map (mapNamed f)) (names limit t)
+  pub names-map : (limit : ℕ) (t : Node P) → names limit (mapP f t) ≡ mapCheck (map (mapNamed f)) (names limit t)
   unfolding names
   names-map limit t =
       simp (aTable-map, each-map (mapPair f) (mapNamed f) (λ i. nameOf) (λ i. nameOf) (λ i. nameOf-map), all-map, map-map, length-map, Bind)
 
-  aDtype-map : (L : Layout) (t : Node P) → aDtype L (mapP f t) ≡ aDtype L t
+  pub aDtype-map : (L : Layout) (t : Node P) → aDtype L (mapP f t) ≡ aDtype L t
   unfolding aDtype
   aDtype-map L t = simp (aWord-map, Bind)
 
-  aType-map : (d : ℕ) (t : Node P) → aType d (mapP f t) ≡ mapCheck (mapWord f) (aType d t)
+  pub aType-map : (d : ℕ) (t : Node P) → aType d (mapP f t) ≡ mapCheck (mapWord f) (aType d t)
   unfolding aType
   aType-map d t = simp (aText-map, Bind)
 
-  raw-map : (t : Node P) → raw (mapP f t) ≡ raw t
+  pub raw-map : (t : Node P) → raw (mapP f t) ≡ raw t
   unfolding raw
   raw-map t = simp (aWord-map, Bind)
 
-  optional-type : (d : ℕ) (o : Option (Node P)) → optional (aType d) (mapOption (mapP f) o) ≡ mapCheck (mapOption (mapWord f)) (optional (aType d) o)
+  pub optional-type : (d : ℕ) (o : Option (Node P)) → optional (aType d) (mapOption (mapP f) o) ≡ mapCheck (mapOption (mapWord f)) (optional (aType d) o)
   optional-type d = optional-map (mapP f) (mapWord f) (aType d) (aType d) (aType-map d)
 
-  optional-text : (o : Option (Node P)) → optional aText (mapOption (mapP f) o) ≡ mapCheck (mapOption (mapWord f)) (optional aText o)
+  pub optional-text : (o : Option (Node P)) → optional aText (mapOption (mapP f) o) ≡ mapCheck (mapOption (mapWord f)) (optional aText o)
   optional-text = optional-map (mapP f) (mapWord f) aText aText aText-map
 
-  optional-same : {A : Type 0} (g : Node P → Check A) (g′ : Node Q → Check A) → ((a : Node P) → g′ (mapP f a) ≡ g a) → (o : Option (Node P)) → optional g′ (mapOption (mapP f) o) ≡ optional g o
+  pub optional-same : {A : Type 0} (g : Node P → Check A) (g′ : Node Q → Check A) → ((a : Node P) → g′ (mapP f a) ≡ g a) → (o : Option (Node P)) → optional g′ (mapOption (mapP f) o) ≡ optional g o
   optional-same g g′ h none = refl
   optional-same g g′ h (some a) = rw (h a)
 
@@ -281,7 +281,7 @@ module _ {P Q : Type 0} (f : P → Q) where
   note-map (simple p n) = refl
   note-map (float p w b) = refl
 
-  component-map : (L : Layout) (start : ℕ) (above : Option ℕ) (n : Named P) → component L start above (mapNamed f n) ≡ mapCheck (mapComponent f) (component L start above n)
+  pub component-map : (L : Layout) (start : ℕ) (above : Option ℕ) (n : Named P) → component L start above (mapNamed f n) ≡ mapCheck (mapComponent f) (component L start above n)
   unfolding component
   component-map L start above n =
       simp (
@@ -297,31 +297,31 @@ module _ {P Q : Type 0} (f : P → Q) where
         Bind,
       )
 
-  attributesOf-map : (t : Node P) → attributesOf (mapP f t) ≡ mapCheck (mapP f) (attributesOf t)
+  pub attributesOf-map : (t : Node P) → attributesOf (mapP f t) ≡ mapCheck (mapP f) (attributesOf t)
   unfolding attributesOf
   attributesOf-map t = simp (aTable-map, Bind)
 
-  optional-attributes : (o : Option (Node P)) → optional attributesOf (mapOption (mapP f) o) ≡ mapCheck (mapOption (mapP f)) (optional attributesOf o)
+  pub optional-attributes : (o : Option (Node P)) → optional attributesOf (mapOption (mapP f) o) ≡ mapCheck (mapOption (mapP f)) (optional attributesOf o)
   optional-attributes = optional-map (mapP f) (mapP f) attributesOf attributesOf attributesOf-map
 
-  each-number : (i : ℕ) (l : List (Node P)) → each (λ i. aNumber) i (map (mapP f) l) ≡ each (λ i. aNumber) i l
+  pub each-number : (i : ℕ) (l : List (Node P)) → each (λ i. aNumber) i (map (mapP f) l) ≡ each (λ i. aNumber) i l
   each-number i [] = refl
   each-number i (a ∷ l) = rw (aNumber-map a, each-number (suc i) l)
 
-  letters-map : (o : Option (Word P)) → lettersOf (mapOption (mapWord f) o) ≡ lettersOf o
+  pub letters-map : (o : Option (Word P)) → lettersOf (mapOption (mapWord f) o) ≡ lettersOf o
   unfolding lettersOf
   letters-map none = refl
   letters-map (some w) = refl
 
-  part-map : (c : Component P) → part (mapComponent f c) ≡ part c
+  pub part-map : (c : Component P) → part (mapComponent f c) ≡ part c
   unfolding part
   part-map c = simp letters-map
 
-  shapeOf-map : (t : Node P) → shapeOf (mapP f t) ≡ shapeOf t
+  pub shapeOf-map : (t : Node P) → shapeOf (mapP f t) ≡ shapeOf t
   unfolding shapeOf
   shapeOf-map t = simp (aList-map, each-number, Bind)
 
-  componentsOf-map : (L : Layout) (start : ℕ) (above : List ℕ → Option ℕ) (t : Node P)
+  pub componentsOf-map : (L : Layout) (start : ℕ) (above : List ℕ → Option ℕ) (t : Node P)
       → componentsOf L start above (mapP f t) ≡ mapCheck (map (mapComponent f)) (componentsOf L start above t)
   unfolding componentsOf
   componentsOf-map L start above t =
@@ -332,16 +332,16 @@ module _ {P Q : Type 0} (f : P → Q) where
         Bind,
       )
 
-  object-map : (L : Layout) (start : ℕ) (n : Named P) → object L start (mapNamed f n) ≡ mapCheck (mapObject f) (object L start n)
+  pub object-map : (L : Layout) (start : ℕ) (n : Named P) → object L start (mapNamed f n) ≡ mapCheck (mapObject f) (object L start n)
   unfolding object
   object-map L start n =
       simp (objectFields-map, optional-same (aDtype L) (aDtype L) (aDtype-map L), shapeOf-map, aText-map, optional-attributes, componentsOf-map, map-map, part-map, Bind)
 
-  aVersion-map : (t : Node P) → aVersion (mapP f t) ≡ aVersion t
+  pub aVersion-map : (t : Node P) → aVersion (mapP f t) ≡ aVersion t
   unfolding aVersion
   aVersion-map t = simp (aWord-map, Bind)
 
-  objectsOf-map : (L : Layout) (start : ℕ) (t : Node P) → objectsOf L start (mapP f t) ≡ mapCheck (map (mapObject f)) (objectsOf L start t)
+  pub objectsOf-map : (L : Layout) (start : ℕ) (t : Node P) → objectsOf L start (mapP f t) ≡ mapCheck (map (mapObject f)) (objectsOf L start t)
   unfolding objectsOf
   objectsOf-map L start t =
       simp (
