@@ -10,4 +10,5 @@ pub mod Seat
 pub mod TruthWhole
 pub mod Promise
 pub mod Jump
+pub mod Natural
 pub mod Cases

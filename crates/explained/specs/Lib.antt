@@ -2,6 +2,7 @@
 pub mod Fields
 pub mod Lengths
 pub mod Step
+pub mod Notes
 pub mod Order
 pub mod Breaks
 pub mod Explain
