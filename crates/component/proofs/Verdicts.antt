@@ -89,7 +89,7 @@ module _ {A : Type 0} where
   asked-in-vain (some n) o h e = rw e refl
 
 -- a component has its dtype in every layout but 1.0
-own-dtype : (layout : ℕ) → field.isSome (slot dtypeAt (layoutOf layout .component)) ≡ not (eqb layout 1)
+pub own-dtype : (layout : ℕ) → field.isSome (slot dtypeAt (layoutOf layout .component)) ≡ not (eqb layout 1)
 unfolding layoutOf current old field.isSome
 own-dtype layout = go (eqb layout 1)
   where

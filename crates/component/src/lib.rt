@@ -2,8 +2,8 @@
 // Every slice runs to the manifest's end, and a place is the number of bytes left there, 0 for none.
 mod judge;
 mod pass;
-mod place;
-mod value;
+pub mod place;
+pub mod value;
 
 use judge::verdict;
 use pass::entries;

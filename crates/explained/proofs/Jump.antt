@@ -74,7 +74,7 @@ module _ {P : Type 0} where
       go true e = e
       go false e = refl
 
-  first-inComponent : (j : ℕ) (w : Option (Word P)) (s : List (Step P)) → first (map (Step.inComponent j w) s) ≡ mapOption (Step.inComponent j w) (first s)
+  pub first-inComponent : (j : ℕ) (w : Option (Word P)) (s : List (Step P)) → first (map (Step.inComponent j w) s) ≡ mapOption (Step.inComponent j w) (first s)
   first-inComponent j w [] = refl
   first-inComponent j w (x ∷ s) = go (x .right) (first-inComponent j w s)
     where

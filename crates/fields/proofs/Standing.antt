@@ -25,7 +25,7 @@ blank (suc k) (suc j) = blank k j
 
 module _ (d : ℕ) where
   -- an item that is read takes a byte at least
-  some-left : (m : List ℕ) (t : Node Ends) (r : List ℕ) → Reads d m t r → 0 < length (noteOf t .start)
+  pub some-left : (m : List ℕ) (t : Node Ends) (r : List ℕ) → Reads d m t r → 0 < length (noteOf t .start)
   some-left m t r e = let a = ate d m t r e in let l : length (noteOf t .start) ≡ length m = ap (λ n. length (n .start)) (note-of d m t r e) in omega (arith, a .some, a .fits)
 
   all-some : (m : List ℕ) (ps : List (Pair Ends)) (r : List ℕ) → Chain d m ps r → AllSome ps
@@ -34,7 +34,7 @@ module _ (d : ℕ) where
 
   module _ (s : List ℕ) where
     -- an item that is read at a part of s
-    stands-at : (at : ℕ) → at ≤ length s → (t : Node Ends) (r : List ℕ) → Reads d (drop at s) t r → Stands d s (length (noteOf t .start)) t
+    pub stands-at : (at : ℕ) → at ≤ length s → (t : Node Ends) (r : List ℕ) → Reads d (drop at s) t r → Stands d s (length (noteOf t .start)) t
     stands-at at l t r e =
         let x : length (noteOf t .start) ≡ length s - at = ap (λ n. length (n .start)) (note-of d (drop at s) t r e) ∙ length-drop at s in
         let y : at ≡ length s - length (noteOf t .start) = omega arith in

@@ -14,7 +14,7 @@ pub enum Ruled {
 }
 
 // The component that fills a role: its index, bytes of one element, 1 for plain u64, and length.
-enum Filled {
+pub enum Filled {
     Absent,
     At(usize, u64, u64, u64),
 }
@@ -26,7 +26,7 @@ enum Indexed {
 }
 
 // The first component with this role: its index and its other numbers.
-fn role_of(parts: &[u64], code: u64) -> Filled
+pub fn role_of(parts: &[u64], code: u64) -> Filled
     requires { ⌜ code < 8 ⌝ }
     ensures { λ r. ⌜ ((cs : List format.Part) → now (parts .entry) ≡ partRows cs → RoleIs (roleName code) cs r) ⌝ }
 {

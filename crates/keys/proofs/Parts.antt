@@ -82,7 +82,7 @@ reads-some d s t r h =
     let w : a .size ≤ length s = subst (Fine s) (a .ends-so) (fine-ending s (item noNote d s)) in
     omega (arith, n, k, w)
 
-chain-some : (d : ℕ) (s : List ℕ) (ps : List (Pair Ends)) (r : List ℕ) → Chain d s ps r → AllSome ps × KeysSome ps
+pub chain-some : (d : ℕ) (s : List ℕ) (ps : List (Pair Ends)) (r : List ℕ) → Chain d s ps r → AllSome ps × KeysSome ps
 chain-some d s [] r h = (tt, tt)
 chain-some d s (p ∷ ps) r h =
     let k = chain-some d (h .1) ps r (h .4) in
