@@ -164,11 +164,11 @@ module _ (file : List ℕ) (start : ℕ) (note : List ℕ → List ℕ → Span)
   model : Option (Word Span) → Option (Word Span) → Component Span
   model t g = record { name = w; dtype = c .dtype; type = t; offset = offset; length = length (c .blob); digest = g; entry = noteOf T }
 
-  tells : (t g : Option (Word Span)) → lettersOf t ≡ c .type → lettersOf g ≡ c .digest → Tells file c (model t g)
+  tells : (t g : Option (Word Span)) → lettersOf t ≡ c .type → lettersOf g ≡ c .digest → Tells file offset c (model t g)
   unfolding model readComponent
-  tells t g et eg = record { same = described-is c e et eg (b .stands); size = refl }
+  tells t g et eg = record { same = described-is c e et eg (b .stands); size = refl; place = refl }
 
-  pub component-agrees : Agrees (Tells file c) (component current start none (record { name = w; value = componentPiece note offset c .meant x })) (judgedComponent c)
+  pub component-agrees : Agrees (Tells file offset c) (component current start none (record { name = w; value = componentPiece note offset c .meant x })) (judgedComponent c)
   unfolding current component judge.aDtype judge.codeOr judge.orElse kinds.aNumber kinds.asNumber kinds.aWord kinds.asWord kinds.kind kinds.present judgedComponent T model
   component-agrees =
       rw (found .is, dtype-back (c .dtype) h, eq-eqb (offset % alignment) 0 (b .multiple), le-leb alignment offset (b .low), le-leb (offset + length (c .blob)) start (b .inside))

@@ -1,9 +1,10 @@
 -- The components of an object are judged as their descriptions say, and tell them back.
 use Prim.Native.Nat.{ℕ, suc}
+use native.Mathlib.Omega.{arith}
 use mathlib.Core.List.{List, [], _∷_, map}
 use mathlib.Core.Option.{Option, none}
 use mathlib.Core.Path.{_≡_, refl, ap, ap₂}
-use lib.ListN.{drop, getD}
+use lib.ListN.{length, drop, getD}
 use Rattle.meaning.specs.Limit.{componentLimit}
 use Rattle.meaning.specs.Check.{_>>_, inComponent, each}
 use Rattle.meaning.specs.Read.{Span}
@@ -17,14 +18,14 @@ use Rattle.readback.specs.Trees.{mapPiece, componentPieces}
 use Rattle.readback.specs.Judged.{judgedNames, judgedComponent, partOf}
 use Rattle.readback.specs.Fine.{FineComponent}
 use Rattle.readback.specs.Agrees.{Agrees, passes}
-use Rattle.readback.specs.Back.{Tells, Stand, AllTell}
+use Rattle.readback.specs.Back.{Tells, Stand, AllTell, offsetsOf}
 use Rattle.readback.proofs.Agreeing.{agrees-bind, agrees-in-component, each-agrees}
 use Rattle.readback.proofs.NamesBack.{namedOf, names-agree}
 use Rattle.readback.proofs.ComponentBack.{component-agrees}
 
 module _ (file : List ℕ) (start : ℕ) (note : List ℕ → List ℕ → Span) where
   components-agree : (j : ℕ) (offsets : List ℕ) (cs : List DescribedComponent) (x : List ℕ) → Every FineComponent cs → Stand file start offsets cs
-      → Agrees (AllTell file cs) (each (λ j n. inComponent j (component current start none n)) j (namedOf note (componentPieces note offsets cs) x)) (each (λ j c. inComponent j (judgedComponent c)) j cs)
+      → Agrees (AllTell file offsets cs) (each (λ j n. inComponent j (component current start none n)) j (namedOf note (componentPieces note offsets cs) x)) (each (λ j c. inComponent j (judgedComponent c)) j cs)
   unfolding componentPieces
   components-agree j offsets [] x f s = passes tt
   components-agree j offsets (c ∷ cs) x (f, fs) (s, ss) =
@@ -38,7 +39,7 @@ module _ (file : List ℕ) (start : ℕ) (note : List ℕ → List ℕ → Span)
   component-keys offsets (c ∷ cs) = ap (λ (r : List (List ℕ)). c .name ∷ r) (component-keys (drop 1 offsets) cs)
 
   pub components-of-agree : (offsets : List ℕ) (cs : List DescribedComponent) (x : List ℕ) → Every FineComponent cs → Stand file start offsets cs
-      → Agrees (AllTell file cs) (componentsOf current start (λ r. none) (mapPiece note (componentPieces note offsets cs) .meant x))
+      → Agrees (AllTell file offsets cs) (componentsOf current start (λ r. none) (mapPiece note (componentPieces note offsets cs) .meant x))
       (judgedNames componentLimit (map (λ c. c .name) cs) >> each (λ j c. inComponent j (judgedComponent c)) 0 cs)
   unfolding componentsOf
   components-of-agree offsets cs x f s =
@@ -52,16 +53,22 @@ parts-same : {n n′ : List ℕ} {d d′ : ℕ} {t t′ : Option (List ℕ)} {s 
 parts-same en ed et es = rw (en, ed, et, es)
 
 module _ (file : List ℕ) where
-  part-is : (c : DescribedComponent) (m : Component Span) → Tells file c m → part m ≡ partOf c
+  part-is : {offset : ℕ} (c : DescribedComponent) (m : Component Span) → Tells file offset c m → part m ≡ partOf c
   unfolding part partOf readComponent
   part-is c m t =
       let e : readComponent file m ≡ c = t .same in
       parts-same (ap (λ (c : DescribedComponent). c .name) e) (ap (λ (c : DescribedComponent). c .dtype) e) (ap (λ (c : DescribedComponent). c .type) e) (t .size)
 
-  pub parts-are : (cs : List DescribedComponent) (ms : List (Component Span)) → AllTell file cs ms → map part ms ≡ map partOf cs
-  parts-are [] [] t = refl
-  parts-are (c ∷ cs) (m ∷ ms) (t, ts) = ap₂ {A = Part} {B = List Part} (λ a b. a ∷ b) (part-is c m t) (parts-are cs ms ts)
+  pub parts-are : (offsets : List ℕ) (cs : List DescribedComponent) (ms : List (Component Span)) → AllTell file offsets cs ms → map part ms ≡ map partOf cs
+  parts-are offsets [] [] t = refl
+  parts-are offsets (c ∷ cs) (m ∷ ms) (t, ts) = ap₂ {A = Part} {B = List Part} (λ a b. a ∷ b) (part-is c m t) (parts-are (drop 1 offsets) cs ms ts)
 
-  pub components-are : (cs : List DescribedComponent) (ms : List (Component Span)) → AllTell file cs ms → map (readComponent file) ms ≡ cs
-  components-are [] [] t = refl
-  components-are (c ∷ cs) (m ∷ ms) (t, ts) = ap₂ {A = DescribedComponent} {B = List DescribedComponent} (λ a b. a ∷ b) (t .same) (components-are cs ms ts)
+  pub components-are : (offsets : List ℕ) (cs : List DescribedComponent) (ms : List (Component Span)) → AllTell file offsets cs ms → map (readComponent file) ms ≡ cs
+  components-are offsets [] [] t = refl
+  components-are offsets (c ∷ cs) (m ∷ ms) (t, ts) = ap₂ {A = DescribedComponent} {B = List DescribedComponent} (λ a b. a ∷ b) (t .same) (components-are (drop 1 offsets) cs ms ts)
+
+  pub offsets-are : (offsets : List ℕ) (cs : List DescribedComponent) (ms : List (Component Span)) → AllTell file offsets cs ms → length offsets ≡ length cs → offsetsOf ms ≡ offsets
+  offsets-are [] [] [] t h = refl
+  offsets-are (o ∷ os) [] ms t h = absurd (omega arith)
+  offsets-are [] (c ∷ cs) ms t h = absurd (omega arith)
+  offsets-are (o ∷ os) (c ∷ cs) (m ∷ ms) (t, ts) h = ap₂ {A = ℕ} {B = List ℕ} (λ a b. a ∷ b) (t .place) (offsets-are os cs ms ts (omega arith))

@@ -4,8 +4,8 @@ use native.Mathlib.Omega.{arith}
 use mathlib.Core.List.{List, [], _∷_, _++_, map}
 use mathlib.Core.Bool.{Bool, true, false, cond}
 use mathlib.Core.Option.{Option, none, some}
-use mathlib.Core.Path.{_≡_, refl, ap, ap₂}
-use lib.ListN.{length, take, drop}
+use mathlib.Core.Path.{_≡_, refl, ap, ap₂, sym, _∙_}
+use lib.ListN.{length, take, drop, length-append, length-map, length-take, length-drop, take-append-drop}
 use Rattle.meaning.specs.Limit.{objectLimit}
 use Rattle.meaning.specs.Text.{ascii}
 use Rattle.meaning.specs.Check.{Check, pass, _>>_, inObject, each}
@@ -18,7 +18,7 @@ use Rattle.meaning.specs.Field as field
 use Rattle.meaning.specs.Computed.{computed}
 use Rattle.meaning.specs.Judge.{aVersion, object, objectsOf, judge}
 use Rattle.meaning.specs.Sound.{rootLevels, objectLevels}
-use Rattle.meaning.specs.Described.{DescribedObject, Described, readObject, describedBy}
+use Rattle.meaning.specs.Described.{DescribedComponent, DescribedObject, Described, blobsIn, describedBy}
 use Rattle.meaning.specs.Manifest.{Keyed, under, given}
 use Rattle.meaning.specs.Layouts.{rootNames, current}
 use Rattle.readback.specs.Every.{Every}
@@ -27,7 +27,7 @@ use Rattle.readback.specs.Trees.{textPiece, several, copiedPiece, entryP
 use Rattle.readback.specs.Judged.{judgedNames, judgedObject, judgedObjects, deepOption, anyTooDeep, tooDeep}
 use Rattle.readback.specs.Fine.{FineObject, Fine}
 use Rattle.readback.specs.Agrees.{Agrees, passes}
-use Rattle.readback.specs.Back.{StandAll}
+use Rattle.readback.specs.Back.{StandAll, offsetsOf, offsetsIn, TellsObject, TellsObjects, TellsModel}
 use Rattle.readback.proofs.Agreeing.{agrees-bind, agrees-in-object, each-agrees, then-then}
 use Rattle.readback.proofs.NamesBack.{namedOf, names-agree}
 use Rattle.readback.proofs.ComponentBack.{fieldNote, noteIn}
@@ -46,6 +46,10 @@ version-passes : (p : Span) → aVersion (text p (ascii "1.2.0")) ≡ pass tt
 unfolding computed
 version-passes p = refl
 
+nothing-left : (offsets : List ℕ) → length offsets ≡ 0 → offsets ≡ []
+nothing-left [] h = refl
+nothing-left (o ∷ os) h = absurd (omega arith)
+
 described-is : (d : Described) {a : Option (List ℕ)} {os : List DescribedObject} → a ≡ d .attributes → os ≡ d .objects → record { attributes = a; objects = os } ≡ d
 described-is d ea eo = rw (ea, eo)
 
@@ -53,11 +57,25 @@ module _ (file pre M post : List ℕ) (split : file ≡ pre ++ (M ++ post)) (sta
   abbrev span : List ℕ → List ℕ → Span
   span = spanTo (length pre + length M)
 
+  -- an object at its offsets, and the rest at those that are left
+  tells-next : (offsets : List ℕ) (o : DescribedObject) (os : List DescribedObject) (m : Object Span) (ms : List (Object Span))
+      → TellsObject file (take (length (o .components)) offsets) o m → TellsObjects file (drop (length (o .components)) offsets) os ms → TellsObjects file offsets (o ∷ os) (m ∷ ms)
+  unfolding offsetsIn blobsIn
+  tells-next offsets o os m ms t ts = record { same = ap₂ {A = DescribedObject} {B = List DescribedObject} (λ a b. a ∷ b) (t .same) (ts .same); placed = placed }
+    where
+      placed : length offsets ≡ length (map (λ c. c .blob) (o .components) ++ blobsIn os) → offsetsOf (m .components) ++ offsetsIn ms ≡ offsets
+      placed h =
+          let n : ℕ = length (o .components) in
+          let l = length-append (map (λ c. c .blob) (o .components)) (blobsIn os) in
+          let k = length-map (o .components) (λ (c : DescribedComponent). c .blob) in
+          ap₂ {A = List ℕ} {B = List ℕ} (λ a b. a ++ b) (t .placed (omega (arith, h, l, k, length-take n offsets))) (ts .placed (omega (arith, h, l, k, length-drop n offsets)))
+          ∙ take-append-drop n offsets
+
   objects-agree : (i : ℕ) (offsets : List ℕ) (os : List DescribedObject) (x : List ℕ) → Every FineObject os → anyTooDeep os ≡ false → StandAll file start offsets os
       → Suffix M (allWritten (map (entryPiece span) (objectPieces span offsets os)) ++ x)
-      → Agrees (λ ms. map (readObject file) ms ≡ os) (each (λ i n. inObject i (object current start n)) i (namedOf span (objectPieces span offsets os) x)) (each (λ i o. inObject i (judgedObject o)) i os)
-  unfolding objectPieces anyTooDeep
-  objects-agree i offsets [] x f k s h = passes refl
+      → Agrees (TellsObjects file offsets os) (each (λ i n. inObject i (object current start n)) i (namedOf span (objectPieces span offsets os) x)) (each (λ i o. inObject i (judgedObject o)) i os)
+  unfolding objectPieces anyTooDeep offsetsIn blobsIn
+  objects-agree i offsets [] x f k s h = passes (record { same = refl; placed = λ e. sym (nothing-left offsets e) })
   objects-agree i offsets (o ∷ os) x (f, fs) k (s, ss) h =
       let n : ℕ = length (o .components) in
       let rest : List (Keyed (Piece (Node Span))) = objectPieces span (drop n offsets) os in
@@ -67,7 +85,7 @@ module _ (file pre M post : List ℕ) (split : file ≡ pre ++ (M ++ post)) (sta
       (entry-suffix span M (under (o .name) (objectPiece span (take n offsets) o)) (map (entryPiece span) rest) x h)))
       (objects-agree (suc i) (drop n offsets) os x fs (cond-second (deepOption objectLevels (o .attributes)) (anyTooDeep os) k) ss
       (suffix-pieces M 1 (map (entryPiece span) (objectPieces span offsets (o ∷ os))) x h))
-      (λ m ms t ts. ap₂ {A = DescribedObject} {B = List DescribedObject} (λ a b. a ∷ b) t ts)
+      (tells-next offsets o os)
 
   object-keys : (offsets : List ℕ) (os : List DescribedObject) → map (λ e. e .key) (objectPieces span offsets os) ≡ map (λ o. o .name) os
   unfolding objectPieces
@@ -76,7 +94,7 @@ module _ (file pre M post : List ℕ) (split : file ≡ pre ++ (M ++ post)) (sta
 
   objects-of-agree : (offsets : List ℕ) (os : List DescribedObject) (x : List ℕ) → Every FineObject os → anyTooDeep os ≡ false → StandAll file start offsets os
       → Suffix M (allWritten (map (entryPiece span) (objectPieces span offsets os)) ++ x)
-      → Agrees (λ ms. map (readObject file) ms ≡ os) (objectsOf current start (mapPiece span (objectPieces span offsets os) .meant x))
+      → Agrees (TellsObjects file offsets os) (objectsOf current start (mapPiece span (objectPieces span offsets os) .meant x))
       (judgedNames objectLimit (map (λ o. o .name) os) >> each (λ i o. inObject i (judgedObject o)) 0 os)
   unfolding objectsOf
   objects-of-agree offsets os x f k s h =
@@ -155,9 +173,12 @@ module _ (file pre M post : List ℕ) (split : file ≡ pre ++ (M ++ post)) (sta
       unfolding tooDeep
       objects-shallow = cond-second (deepOption rootLevels (d .attributes)) (anyTooDeep (d .objects)) shallow
 
-      told : (ms : List (Object Span)) → map (readObject file) ms ≡ d .objects → describedBy file (record { attributes = attributes; objects = ms }) ≡ d
+      told : (ms : List (Object Span)) → TellsObjects file offsets (d .objects) ms → TellsModel file offsets d (record { attributes = attributes; objects = ms })
       unfolding describedBy
-      told ms e = described-is d (attributes-back file pre M post split 30 (d .attributes) past (f .attributes) root-shallow attributes-within) e
+      told ms t = record {
+        same = described-is d (attributes-back file pre M post split 30 (d .attributes) past (f .attributes) root-shallow attributes-within) (t .same);
+        placed = t .placed;
+      }
 
       abbrev names : Check (Unit {0})
       names = judgedNames objectLimit (map (λ o. o .name) (d .objects))
@@ -165,9 +186,9 @@ module _ (file pre M post : List ℕ) (split : file ≡ pre ++ (M ++ post)) (sta
       abbrev each-one : Check (List (Unit {0}))
       each-one = each (λ i o. inObject i (judgedObject o)) 0 (d .objects)
 
-      pub manifest-agrees : Agrees (λ m. describedBy file m ≡ d) (judge current start tree) (judgedObjects (d .objects))
+      pub manifest-agrees : Agrees (TellsModel file offsets d) (judge current start tree) (judgedObjects (d .objects))
       unfolding judge judgedObjects
       manifest-agrees =
           rw (fields-found, version-passes (fieldNote (ascii "version") tree), attributes-pass file pre M post split 30 (d .attributes) past (f .attributes) root-shallow, ← then-then names each-one (pass (tt {0})))
           (agrees-bind {k = λ os. pass (record { attributes = attributes; objects = os })}
-          (objects-of-agree offsets (d .objects) x (f .objects) objects-shallow s objects-within) (λ ms e. passes (told ms e)))
+          (objects-of-agree offsets (d .objects) x (f .objects) objects-shallow s objects-within) (λ ms t. passes (told ms t)))

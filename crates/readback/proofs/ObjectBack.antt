@@ -27,10 +27,10 @@ use Rattle.readback.specs.Trees.{numberPiece, textPiece, several, listPi
 use Rattle.readback.specs.Judged.{judgedNames, judgedComponent, partOf, judgedObject, deepOption}
 use Rattle.readback.specs.Fine.{FineObject}
 use Rattle.readback.specs.Agrees.{Agrees, passes, refuses}
-use Rattle.readback.specs.Back.{Stand, AllTell}
+use Rattle.readback.specs.Back.{Stand, AllTell, TellsObject}
 use Rattle.readback.proofs.Agreeing.{agrees-bind, then-then}
 use Rattle.readback.proofs.ComponentBack.{fieldNote, noteIn}
-use Rattle.readback.proofs.ComponentsBack.{components-of-agree, parts-are, components-are}
+use Rattle.readback.proofs.ComponentsBack.{components-of-agree, parts-are, components-are, offsets-are}
 use Rattle.readback.proofs.AttributesBack.{Suffix, suffix-rest, suffix-pieces, Within, copied, attributes-pass, attributes-back}
 
 -- ---- the shape
@@ -129,18 +129,21 @@ module _ (file pre M post : List ℕ) (split : file ≡ pre ++ (M ++ post)) (sta
     abbrev attributes : Option (Node Span)
     attributes = mapOption (copied file pre M post split 28 (past span offsets o x 3)) (o .attributes)
 
-    told : (F : Word Span) (ms : List (Component Span)) → F .letters ≡ o .format → AllTell file (o .components) ms
-        → readObject file (record { name = w; shape = o .shape; format = F; attributes = attributes; components = ms }) ≡ o
+    told : (F : Word Span) (ms : List (Component Span)) → F .letters ≡ o .format → AllTell file offsets (o .components) ms
+        → TellsObject file offsets o (record { name = w; shape = o .shape; format = F; attributes = attributes; components = ms })
     unfolding readObject
-    told F ms ef t = object-is o e ef (attributes-back file pre M post split 28 (o .attributes) (past span offsets o x 3) (f .attributes) shallow attributes-within) (components-are file (o .components) ms t)
+    told F ms ef t = record {
+      same = object-is o e ef (attributes-back file pre M post split 28 (o .attributes) (past span offsets o x 3) (f .attributes) shallow attributes-within) (components-are file offsets (o .components) ms t);
+      placed = offsets-are file offsets (o .components) ms t;
+    }
 
     -- the format's rules, and then the object passes
     abbrev lastly : Word Span → List (Component Span) → Check (Object Span)
     lastly F cs = formatRules (F .letters) (o .shape) (map part cs) >> pass (record { name = w; shape = o .shape; format = F; attributes = attributes; components = cs })
 
-    lastly-agrees : (F : Word Span) (ms : List (Component Span)) → F .letters ≡ o .format → AllTell file (o .components) ms
-        → Agrees (λ m. readObject file m ≡ o) (lastly F ms) (formatRules (F .letters) (o .shape) (map partOf (o .components)))
-    lastly-agrees F ms ef t = rw (parts-are file (o .components) ms t) (done-agrees (formatRules (F .letters) (o .shape) (map partOf (o .components))) _ (told F ms ef t))
+    lastly-agrees : (F : Word Span) (ms : List (Component Span)) → F .letters ≡ o .format → AllTell file offsets (o .components) ms
+        → Agrees (TellsObject file offsets o) (lastly F ms) (formatRules (F .letters) (o .shape) (map partOf (o .components)))
+    lastly-agrees F ms ef t = rw (parts-are file offsets (o .components) ms t) (done-agrees (formatRules (F .letters) (o .shape) (map partOf (o .components))) _ (told F ms ef t))
 
     abbrev names : Check (Unit {0})
     names = judgedNames componentLimit (map (λ c. c .name) (o .components))
@@ -152,14 +155,14 @@ module _ (file pre M post : List ℕ) (split : file ≡ pre ++ (M ++ post)) (sta
     rules g = formatRules g (o .shape) (map partOf (o .components))
 
     rules-agree : (F : Word Span) → F .letters ≡ o .format
-        → Agrees (λ m. readObject file m ≡ o) (componentsOf current start (λ r. none) (mapPiece span (componentPieces span offsets (o .components)) .meant x) >>= lastly F) (names >> (each-one >> rules (o .format)))
+        → Agrees (TellsObject file offsets o) (componentsOf current start (λ r. none) (mapPiece span (componentPieces span offsets (o .components)) .meant x) >>= lastly F) (names >> (each-one >> rules (o .format)))
     rules-agree F ef =
         let check : Check (Object Span) = componentsOf current start (λ r. none) (mapPiece span (componentPieces span offsets (o .components)) .meant x) >>= lastly F in
-        subst (λ (g : List ℕ). Agrees (λ m. readObject file m ≡ o) check (names >> (each-one >> rules g))) ef
-        (subst (Agrees (λ m. readObject file m ≡ o) check) (then-then names each-one (rules (F .letters)))
+        subst (λ (g : List ℕ). Agrees (TellsObject file offsets o) check (names >> (each-one >> rules g))) ef
+        (subst (Agrees (TellsObject file offsets o) check) (then-then names each-one (rules (F .letters)))
         (agrees-bind {k = lastly F} (components-of-agree file start span offsets (o .components) x (f .components) s) (λ ms t. lastly-agrees F ms ef t)))
 
-    pub object-agrees : Agrees (λ m. readObject file m ≡ o) (object current start (record { name = w; value = objectPiece span offsets o .meant x })) (judgedObject o)
+    pub object-agrees : Agrees (TellsObject file offsets o) (object current start (record { name = w; value = objectPiece span offsets o .meant x })) (judgedObject o)
     unfolding current object inherited kinds.aText kinds.aWord kinds.asWord kinds.kind judgedObject
     object-agrees =
         rw (

@@ -5,7 +5,7 @@ use mathlib.Core.List.{List, [], _++_, map, append-assoc, append-nil}
 use mathlib.Core.Bool.{Bool, true, false, cond, not}
 use mathlib.Core.Path.{_≡_, refl, ap, sym, _∙_, subst}
 use lib.Dec.{leb}
-use lib.ListN.{length, drop, take-append-drop}
+use lib.ListN.{length, drop, length-map, take-append-drop}
 use borrow.Author.Tests.{leb-true, le-leb}
 use Rattle.meaning.specs.Refusal.{DEEP, BIG, COUNT, ROOM}
 use Rattle.meaning.specs.Limit.{manifestLimit, endLimit}
@@ -17,7 +17,7 @@ use Rattle.meaning.specs.Layouts.{magic, current}
 use Rattle.meaning.specs.Frame.{checked, Reading, reading}
 use Rattle.meaning.specs.Placement.{placement, lastEnd}
 use Rattle.meaning.specs.Plan.{planned}
-use Rattle.meaning.specs.Described.{Described, blobs, describedBy}
+use Rattle.meaning.specs.Described.{Described, blobs}
 use Rattle.meaning.specs.Manifest.{manifestBytes}
 use Rattle.meaning.specs.WrittenFile.{littleBytes, blobsOver, closing, fileOf}
 use Rattle.meaning.specs.Write.{writtenAt, writtenPlain, writtenPlanned}
@@ -25,8 +25,8 @@ use Rattle.readback.specs.Trees.{manifestPiece}
 use Rattle.readback.specs.Judged.{tooDeep, judgedObjects, judged}
 use Rattle.readback.specs.Fine.{Fine}
 use Rattle.readback.specs.Agrees.{Agrees, refuses}
-use Rattle.readback.specs.Back.{AllAt, ReadsBack}
-use Rattle.readback.proofs.Planned.{Accepted, accepted, ends-in-time, front-stays, all-stand, placement-accepted}
+use Rattle.readback.specs.Back.{AllAt, TellsModel, ReadsBack, ReadsBackAt}
+use Rattle.readback.proofs.Planned.{Accepted, accepted, as-many, ends-in-time, front-stays, all-stand, placement-accepted}
 use Rattle.readback.proofs.Placed.{body-length}
 use Rattle.readback.proofs.Framed.{frame-is, manifest-is, reading-by}
 use Rattle.readback.proofs.Agreeing.{agrees-map, passed-has, agrees-then}
@@ -70,16 +70,16 @@ module _ (d : Described) (offsets X : List ℕ) (fine : Fine d) where
     finish t = judge current (length before) t >>= λ m. pass (record { start = length before; model = m })
 
     finish-agrees : (b : Bool) → tooDeep d ≡ b
-        → Agrees (λ r. describedBy file (r .model) ≡ d) (cond b (fault DEEP) (pass tree) >>= finish) ((DEEP unless not b) >> judgedObjects (d .objects))
+        → Agrees (λ r. TellsModel file offsets d (r .model)) (cond b (fault DEEP) (pass tree) >>= finish) ((DEEP unless not b) >> judgedObjects (d .objects))
     finish-agrees true e = refuses
     finish-agrees false e =
         agrees-map (λ m. record { start = length before; model = m })
         (manifest-agrees file before M (littleBytes 8 (length M) ++ magic) split (length before) d offsets [] fine e (stand-all file (length before) offsets (d .objects) stand) whole) (λ m r. r)
 
-    pub reading-agrees : Agrees (λ r. describedBy file (r .model) ≡ d) (reading current file) (judged d)
+    pub reading-agrees : Agrees (λ r. TellsModel file offsets d (r .model)) (reading current file) (judged d)
     unfolding judged
     reading-agrees =
-        subst (λ (c : Check Reading). Agrees (λ r. describedBy file (r .model) ≡ d) c ((DEEP unless not (tooDeep d)) >> judgedObjects (d .objects)))
+        subst (λ (c : Check Reading). Agrees (λ r. TellsModel file offsets d (r .model)) c ((DEEP unless not (tooDeep d)) >> judgedObjects (d .objects)))
         (sym (reading-by file M (length before) (frame-is X M (manifest-some d offsets) small) (manifest-is X M (manifest-some d offsets) small) ∙ ap (λ (c : Check (Node Span)). c >>= finish) checked-is))
         (finish-agrees (tooDeep d) refl)
 
@@ -107,14 +107,14 @@ module _ (d : Described) (offsets : List ℕ) (fine : Fine d) {ceiling : ℕ} (p
   unfolding magic
   headed = sym (take-append-drop 8 body) ∙ ap (λ (h : List ℕ). h ++ drop 8 body) (front-stays magic offsets (blobs d) (plan .follows) (omega arith))
 
-  pub written-agrees : size ≤ manifestLimit → Agrees (λ r. describedBy laid (r .model) ≡ d) (reading current laid) (judged d)
+  pub written-agrees : size ≤ manifestLimit → Agrees (λ r. TellsModel laid offsets d (r .model)) (reading current laid) (judged d)
   unfolding fileOf
   written-agrees small =
       let M : List ℕ = manifestBytes d offsets in
       let same : magic ++ drop 8 body ++ closing M ≡ body ++ closing M = ap (λ (b : List ℕ). b ++ closing M) (sym headed) in
       let stand = all-stand magic offsets (blobs d) (closing M) (plan .follows) (magic ++ drop 8 body) (sym headed) in
       let l : length (magic ++ drop 8 body) ≡ lastEnd offsets (map length (blobs d)) = ap length (sym headed) ∙ body-length d offsets in
-      subst (λ (f : List ℕ). Agrees (λ r. describedBy f (r .model) ≡ d) (reading current f) (judged d)) same
+      subst (λ (f : List ℕ). Agrees (λ r. TellsModel f offsets d (r .model)) (reading current f) (judged d)) same
       (reading-agrees d offsets (drop 8 body) fine stand (omega (arith, l, ends-in-time plan)) small)
 
   -- what the writer answers, without a reading
@@ -127,21 +127,29 @@ module _ (d : Described) (offsets : List ℕ) (fine : Fine d) {ceiling : ℕ} (p
       go true e = agrees-then (written-agrees (leb-true size manifestLimit e)) ((ROOM unless leb (length laid) room) >> pass laid)
       go false e = refl
 
-  -- a file that the reader accepts reads back
-  reads-back : size ≤ manifestLimit → (r : Check Reading) → reading current laid ≡ r → (f : List ℕ) → (r >> pass laid) ≡ pass f → ReadsBack f d
+  -- as many offsets as blobs
+  planned-each : length offsets ≡ length (blobs d)
+  planned-each = as-many (plan .follows) ∙ length-map (blobs d) (length {A = ℕ})
+
+  -- a file that the reader accepts reads back, with the plan's offsets
+  reads-back : size ≤ manifestLimit → (r : Check Reading) → reading current laid ≡ r → (f : List ℕ) → (r >> pass laid) ≡ pass f → ReadsBackAt f d offsets
   reads-back small (pass r) e f h =
       let same : laid ≡ f = cc in
-      subst (λ (g : List ℕ). ReadsBack g d) same (record { read = r; is = e; back = passed-has (written-agrees small) e })
+      let t : TellsModel laid offsets d (r .model) = passed-has (written-agrees small) e in
+      subst (λ (g : List ℕ). ReadsBackAt g d offsets) same (record { reads = record { read = r; is = e; back = t .same }; placed = t .placed planned-each })
   reads-back small (refuse n o c) e f h = absurd (refused-is-not h)
 
-  pub written-at-reads-back : (room : ℕ) (f : List ℕ) → writtenAt d offsets room ≡ pass f → ReadsBack f d
+  pub written-at-placed : (room : ℕ) (f : List ℕ) → writtenAt d offsets room ≡ pass f → ReadsBackAt f d offsets
   unfolding writtenAt
-  written-at-reads-back room f = go (leb size manifestLimit) refl (leb (length laid) room)
+  written-at-placed room f = go (leb size manifestLimit) refl (leb (length laid) room)
     where
-      go : (b : Bool) → leb size manifestLimit ≡ b → (b′ : Bool) → ((BIG unless b) >> (reading current laid >> ((ROOM unless b′) >> pass laid))) ≡ pass f → ReadsBack f d
+      go : (b : Bool) → leb size manifestLimit ≡ b → (b′ : Bool) → ((BIG unless b) >> (reading current laid >> ((ROOM unless b′) >> pass laid))) ≡ pass f → ReadsBackAt f d offsets
       go true e true h = reads-back (leb-true size manifestLimit e) (reading current laid) refl f h
       go true e false h = absurd (nothing-passes ROOM (reading current laid) h)
       go false e b′ h = absurd (refused-is-not h)
+
+  pub written-at-reads-back : (room : ℕ) (f : List ℕ) → writtenAt d offsets room ≡ pass f → ReadsBack f d
+  written-at-reads-back room f h = written-at-placed room f h .reads
 
 -- ---- by 01's placement
 
@@ -166,13 +174,16 @@ module _ (d : Described) (room : ℕ) (fine : Fine d) where
       go true e = written-at-is d placed fine (by-rule (leb-true (lastEnd placed lengths) endLimit e)) room
       go false e = refl
 
-  pub written-plain-reads-back : (f : List ℕ) → writtenPlain d room ≡ pass f → ReadsBack f d
+  pub written-plain-placed : (f : List ℕ) → writtenPlain d room ≡ pass f → ReadsBackAt f d placed
   unfolding writtenPlain
-  written-plain-reads-back f = go (leb (lastEnd placed lengths) endLimit) refl
+  written-plain-placed f = go (leb (lastEnd placed lengths) endLimit) refl
     where
-      go : (b : Bool) → leb (lastEnd placed lengths) endLimit ≡ b → ((COUNT unless b) >> writtenAt d placed room) ≡ pass f → ReadsBack f d
-      go true e h = written-at-reads-back d placed fine (by-rule (leb-true (lastEnd placed lengths) endLimit e)) room f h
+      go : (b : Bool) → leb (lastEnd placed lengths) endLimit ≡ b → ((COUNT unless b) >> writtenAt d placed room) ≡ pass f → ReadsBackAt f d placed
+      go true e h = written-at-placed d placed fine (by-rule (leb-true (lastEnd placed lengths) endLimit e)) room f h
       go false e h = absurd (refused-is-not h)
+
+  pub written-plain-reads-back : (f : List ℕ) → writtenPlain d room ≡ pass f → ReadsBack f d
+  written-plain-reads-back f h = written-plain-placed f h .reads
 
   -- the file without a plan is the file of the rule's own plan
   pub plain-is-planned : lastEnd placed lengths ≤ endLimit → writtenPlain d room ≡ writtenPlanned d placed endLimit room
@@ -196,10 +207,13 @@ module _ (d : Described) (plan : List ℕ) (ceiling room : ℕ) (fine : Fine d) 
       go (pass tt) e = written-at-is d plan fine (accepted ceiling plan (map length (blobs d)) e) room
       go (refuse n o c) e = refl
 
-  pub written-planned-reads-back : (f : List ℕ) → writtenPlanned d plan ceiling room ≡ pass f → ReadsBack f d
+  pub written-planned-placed : (f : List ℕ) → writtenPlanned d plan ceiling room ≡ pass f → ReadsBackAt f d plan
   unfolding writtenPlanned
-  written-planned-reads-back f = go verdict refl
+  written-planned-placed f = go verdict refl
     where
-      go : (v : Check (Unit {0})) → verdict ≡ v → (v >> writtenAt d plan room) ≡ pass f → ReadsBack f d
-      go (pass tt) e h = written-at-reads-back d plan fine (accepted ceiling plan (map length (blobs d)) e) room f h
+      go : (v : Check (Unit {0})) → verdict ≡ v → (v >> writtenAt d plan room) ≡ pass f → ReadsBackAt f d plan
+      go (pass tt) e h = written-at-placed d plan fine (accepted ceiling plan (map length (blobs d)) e) room f h
       go (refuse n o c) e h = absurd (refused-is-not h)
+
+  pub written-planned-reads-back : (f : List ℕ) → writtenPlanned d plan ceiling room ≡ pass f → ReadsBack f d
+  written-planned-reads-back f h = written-planned-placed f h .reads

@@ -13,6 +13,8 @@ use Rattle.meaning.specs.Limit.{manifestLimit, endLimit}
 use Rattle.meaning.specs.Check.{Check, pass, refuse, _>>_, _unless_}
 use Rattle.meaning.specs.Text.{same}
 use Rattle.meaning.specs.Read.{Span, bytesAt}
+use Rattle.meaning.specs.Layouts.{current}
+use Rattle.meaning.specs.Frame.{Reading, reading}
 use Rattle.meaning.specs.Asked.{AskedObject, AskedComponent, askedComponent, asked}
 use Rattle.meaning.specs.Sound.{owners, inside, componentSound, rowsSound}
 use Rattle.meaning.specs.Placement.{placement, lastEnd}
@@ -25,10 +27,10 @@ use Rattle.readback.specs.Every.{Every}
 use Rattle.readback.specs.Follows.{sum}
 use Rattle.readback.specs.Judged.{judged}
 use Rattle.readback.specs.Fine.{Fits, Brief}
-use Rattle.readback.specs.Back.{ReadsBack}
+use Rattle.readback.specs.Back.{offsetsIn, ReadsBack, ReadsBackAt}
 use Rattle.readback.proofs.EveryPart.{every-all, false-not, and-right}
 use Rattle.readback.proofs.Placed.{length-bound}
-use Rattle.readback.proofs.ReadBack.{refused-is-not, written-plain-is, written-plain-reads-back, written-planned-is, written-planned-reads-back}
+use Rattle.readback.proofs.ReadBack.{refused-is-not, written-plain-is, written-plain-placed, written-planned-is, written-planned-placed}
 use Rattle.readback.proofs.SoundIsFine.{each-row-length, component-tests, tests, sound-is-fine}
 
 -- ---- the blobs are those of the component rows, in row order
@@ -98,6 +100,10 @@ pub rows-counted : (rows : List ℕ) (objects components : ℕ) (attributes : Sp
 unfolding asked
 rows-counted rows objects components attributes = each-row-length askedComponent componentWidth components (drop (objectWidth * objects) rows)
 
+-- the offsets of whatever was read
+read-offsets : {file : List ℕ} {d : Described} {offsets : List ℕ} → ReadsBackAt file d offsets → (r : Reading) → reading current file ≡ pass r → offsetsIn (r .model .objects) ≡ offsets
+read-offsets b r e = ap (λ (r : Reading). offsetsIn (r .model .objects)) (passed-same (sym e ∙ b .reads .is)) ∙ b .placed
+
 -- the file of an accepted writing
 pub record Accepted (sound : Bool) (whole file : List ℕ) (room : ℕ) : Type 0 where
   pub rows : sound ≡ true
@@ -146,13 +152,17 @@ module _ (rows : List ℕ) (fit : Every Fits rows) (few : Brief rows) (buffer : 
       go true e = written-plain-is of-rows room (sound-is-fine buffer small rows fit few objects components attributes e)
       go false e = refl
 
-  pub written-reads-back : (room : ℕ) (file : List ℕ) → written rows objects components attributes buffer room ≡ pass file → ReadsBack file of-rows
+  -- and the offsets that are read back are 01's placement of the blobs
+  pub written-placed : (room : ℕ) (file : List ℕ) → written rows objects components attributes buffer room ≡ pass file → ReadsBackAt file of-rows offsets
   unfolding written
-  written-reads-back room file = go (rowsSound buffer rows objects components attributes) refl
+  written-placed room file = go (rowsSound buffer rows objects components attributes) refl
     where
-      go : (b : Bool) → rowsSound buffer rows objects components attributes ≡ b → ((ROW unless b) >> writtenPlain of-rows room) ≡ pass file → ReadsBack file of-rows
-      go true e h = written-plain-reads-back of-rows room (sound-is-fine buffer small rows fit few objects components attributes e) file h
+      go : (b : Bool) → rowsSound buffer rows objects components attributes ≡ b → ((ROW unless b) >> writtenPlain of-rows room) ≡ pass file → ReadsBackAt file of-rows offsets
+      go true e h = written-plain-placed of-rows room (sound-is-fine buffer small rows fit few objects components attributes e) file h
       go false e h = absurd (refused-is-not h)
+
+  pub written-reads-back : (room : ℕ) (file : List ℕ) → written rows objects components attributes buffer room ≡ pass file → ReadsBack file of-rows
+  written-reads-back room file h = written-placed room file h .reads
 
   -- ROW, PLAN, BIG, the reader's refusal, ROOM
   abbrev answer-by : List ℕ → ℕ → ℕ → Check (List ℕ)
@@ -169,13 +179,17 @@ module _ (rows : List ℕ) (fit : Every Fits rows) (few : Brief rows) (buffer : 
       go true e = written-planned-is of-rows plan ceiling room (sound-is-fine buffer small rows fit few objects components attributes e)
       go false e = refl
 
-  pub written-by-reads-back : (plan : List ℕ) (ceiling room : ℕ) (file : List ℕ) → writtenBy rows objects components attributes buffer plan ceiling room ≡ pass file → ReadsBack file of-rows
+  -- and the offsets that are read back are the plan
+  pub written-by-placed : (plan : List ℕ) (ceiling room : ℕ) (file : List ℕ) → writtenBy rows objects components attributes buffer plan ceiling room ≡ pass file → ReadsBackAt file of-rows plan
   unfolding writtenBy
-  written-by-reads-back plan ceiling room file = go (rowsSound buffer rows objects components attributes) refl
+  written-by-placed plan ceiling room file = go (rowsSound buffer rows objects components attributes) refl
     where
-      go : (b : Bool) → rowsSound buffer rows objects components attributes ≡ b → ((ROW unless b) >> writtenPlanned of-rows plan ceiling room) ≡ pass file → ReadsBack file of-rows
-      go true e h = written-planned-reads-back of-rows plan ceiling room (sound-is-fine buffer small rows fit few objects components attributes e) file h
+      go : (b : Bool) → rowsSound buffer rows objects components attributes ≡ b → ((ROW unless b) >> writtenPlanned of-rows plan ceiling room) ≡ pass file → ReadsBackAt file of-rows plan
+      go true e h = written-planned-placed of-rows plan ceiling room (sound-is-fine buffer small rows fit few objects components attributes e) file h
       go false e h = absurd (refused-is-not h)
+
+  pub written-by-reads-back : (plan : List ℕ) (ceiling room : ℕ) (file : List ℕ) → writtenBy rows objects components attributes buffer plan ceiling room ≡ pass file → ReadsBack file of-rows
+  written-by-reads-back plan ceiling room file h = written-by-placed plan ceiling room file h .reads
 
   pub written-file : (room : ℕ) (file : List ℕ) → written rows objects components attributes buffer room ≡ pass file
       → Accepted (rowsSound buffer rows objects components attributes) (fileOf of-rows offsets) file room
@@ -189,6 +203,16 @@ module _ (rows : List ℕ) (fit : Every Fits rows) (few : Brief rows) (buffer : 
       let k₃ = unless-passes ROOM (leb (length F) room) (pass F) (then-passes (judged of-rows) roomy (k₂ .1)) in
       let e : F ≡ file = passed-same (k₃ .1) in
       record { rows = k₀ .0; is = sym e; fits = subst (λ (f : List ℕ). length f ≤ room) e (leb-true (length F) room (k₃ .0)) }
+
+  -- whatever the reader's answer to the file of a plan holds, its components' offsets are the plan, one for each row
+  pub offsets-by-plan : (plan : List ℕ) (ceiling room : ℕ) (file : List ℕ) → writtenBy rows objects components attributes buffer plan ceiling room ≡ pass file
+      → (r : Reading) → reading current file ≡ pass r → offsetsIn (r .model .objects) ≡ plan
+  offsets-by-plan plan ceiling room file h r e = read-offsets (written-by-placed plan ceiling room file h) r e
+
+  -- and those of a file without a plan are 01's placement of what the rows give as lengths
+  pub offsets-by-rule : (room : ℕ) (file : List ℕ) → written rows objects components attributes buffer room ≡ pass file
+      → (r : Reading) → reading current file ≡ pass r → offsetsIn (r .model .objects) ≡ placement (map (λ c. c .blob .size) component-rows)
+  offsets-by-rule room file h r e = read-offsets (written-placed room file h) r e ∙ ap placement (lengths-of-rows (written-file room file h .rows))
 
   -- the bound of document 01
   pub written-bound : (room : ℕ) (file : List ℕ) → written rows objects components attributes buffer room ≡ pass file
