@@ -8,7 +8,7 @@ pub struct Spot {
     pub left: usize,
 }
 
-pub fn spot(number: u64, left: usize) -> Spot
+pub fn at(number: u64, left: usize) -> Spot
     ensures { λ r. ⌜ r ≡ is.spot number left ⌝ }
 {
     Spot {
