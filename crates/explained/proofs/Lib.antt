@@ -11,4 +11,5 @@ pub mod TruthWhole
 pub mod Promise
 pub mod Jump
 pub mod Natural
+pub mod Stages
 pub mod Cases

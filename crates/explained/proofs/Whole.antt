@@ -217,13 +217,13 @@ module _ (L : Layout) {P : Type 0} where
 
 -- ---------------------------------------------------------------- the file
 
-agree-read : {A : Type 0} (end : ℕ) (o : Outcome A) → Agree (readSteps end o) (checked o)
+pub agree-read : {A : Type 0} (end : ℕ) (o : Outcome A) → Agree (readSteps end o) (checked o)
 unfolding readSteps checked
 agree-read end (got a s) = agree-nothing a
 agree-read end (refused n s) = record { same = refl }
 
 module _ (L : Layout) where
-  agree-frame : (file : List ℕ) → Agree (frameSteps L file) (frame L file)
+  pub agree-frame : (file : List ℕ) → Agree (frameSteps L file) (frame L file)
   unfolding frameSteps frame
   agree-frame file =
       agree-then (agree-at SHORT _ (leb (L .least) (length file)))
