@@ -1,0 +1,3 @@
+-- The laws of met.
+pub mod Deeper
+pub mod Honest

@@ -1,0 +1,2 @@
+-- The definitions that the laws of met cite.
+pub mod Met
