@@ -1,0 +1,3 @@
+-- The laws of unread.
+pub mod OfFrame
+pub mod Stopped

@@ -1,0 +1,2 @@
+-- The definitions that the contracts of unread cite.
+pub mod Unread
