@@ -1,0 +1,1 @@
+-- The laws of cursor: none beside the functions' own.

@@ -1,0 +1,2 @@
+-- The definitions that the contracts of cursor cite.
+pub mod Item
