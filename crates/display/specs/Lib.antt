@@ -1,0 +1,2 @@
+-- The panel's text by the model.
+pub mod Display
