@@ -1,0 +1,1 @@
+// No code: a file of either layout, compared with what its import is written as.
