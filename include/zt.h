@@ -307,6 +307,7 @@ zt_written zt_write(const uint64_t *rows, size_t numbers, uint64_t objects, uint
  * if each is a multiple of 64 and at least 64, no two blobs that aren't empty share a byte, and every end is at most `ceiling`, itself at most 2^40. The
  * manifest follows the greatest end (8 if there is no row); bytes in no blob are 0. Refused in this order: ZT_ROW; ZT_PLAN with the row where the object's
  * index stands (a ceiling above 2^40 is row 0, offsets left over the count of rows); ZT_BIG; what zt_read would refuse; ZT_ROOM.
+ * Whatever reads the file gets the plan's offsets back, one for each row, in row order.
  * A plan that rises takes one pass over the rows; any other may take the square of their number, since nothing is lent to sort in.
  */
 zt_written zt_write_planned(const uint64_t *rows, size_t numbers, uint64_t objects, uint64_t components, uint64_t attributes_place, uint64_t attributes_length,
