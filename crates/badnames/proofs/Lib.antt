@@ -1,0 +1,4 @@
+-- Laws behind the proofs of badnames.
+pub mod Firsts
+pub mod Naming
+pub mod Noting

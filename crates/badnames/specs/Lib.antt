@@ -1,0 +1,2 @@
+-- The definitions that the contracts of badnames cite.
+pub mod Keys

@@ -1,0 +1,140 @@
+// The first check that breaks in a map of names, and where (document 02, Request 08): its kind, its keys, UTF-8, count, repeats.
+use naming::Tally;
+use spot::Spot;
+use spot::at;
+use walk::Entry;
+use walk::Opening;
+ghost use mathlib.Core.Path.{_≡_};
+ghost use mathlib.Core.Bool.{cond};
+ghost use Prim.Native.Nat.{_≤_};
+ghost use lib.ListN.{length};
+ghost use Rattle.walk.proofs.Turns.{Modes};
+ghost use Rattle.badnames.specs.Keys as is;
+
+// The tally of a map's keys; the bytes left at the first that isn't whole text, and at the first that isn't UTF-8, where the tally says that there is one.
+pub struct Keys {
+    pub tally: Tally,
+    pub key: usize,
+    pub text: usize,
+}
+
+// What is held, once one is found; until then the key at hand, which has `left` bytes left.
+fn kept(found: bool, held: usize, left: usize) -> usize
+    ensures { λ r. ⌜ r ≡ cond found held left ⌝ }
+{
+    if found {
+        return held;
+    }
+    left
+}
+
+// Entries that begin s, counted as `walk::map` says, whose keys and values have `levels` levels left. Their names are noted in left and size.
+fn entries(
+    s: &[u8],
+    levels: u64,
+    mode: u64,
+    count: u64,
+    left: &mut [usize],
+    size: &mut [usize],
+) -> Keys
+    requires { ⌜ (length (now size) ≡ length (now left)) × Modes mode count ⌝ }
+    ensures { λ r. ⌜ (length (now (left .exit)) ≡ length (now (left .entry))) × is.Walked levels mode count (now (s .entry)) (now (left .exit)) (now (size .exit)) r ⌝ }
+{
+    let mut at = 0;
+    let mut due = count;
+    let mut key = 0;
+    let mut text = 0;
+    let mut tally = Tally {
+        count: 0,
+        odd: false,
+        bad: false,
+    };
+    loop {
+        match walk::past_key(&s[at..], mode, due, levels) {
+            Entry::End(_) => {
+                return Keys {
+                    tally: tally,
+                    key: key,
+                    text: text,
+                };
+            }
+            Entry::Value(k) => {
+                let v = at + k;
+                let e = cbor::skip(&s[v..], levels);
+                if s.len() - v < e {
+                    return Keys {
+                        tally: tally,
+                        key: key,
+                        text: text,
+                    };
+                }
+                key = kept(tally.odd, key, s.len() - at);
+                text = kept(tally.bad, text, s.len() - at);
+                tally = naming::note(&s[at..], tally, left, size);
+                at = v + e;
+                due -= 2;
+            }
+        }
+    }
+}
+
+// The second copy of a name, of n that are noted, in the map that begins s and has its entries `from` bytes on; none where all differ.
+fn repeated(
+    s: &[u8],
+    from: usize,
+    levels: u64,
+    n: usize,
+    left: &[usize],
+    size: &[usize],
+    ix: &mut [u16],
+) -> Spot
+    requires { ⌜ (from ≤ length (now s)) × (n ≤ length (now ix)) × (n ≤ 65536) ⌝ }
+    ensures { λ r. ⌜ is.Repeated (now (s .entry)) from levels n (now (left .entry)) (now (size .entry)) r ⌝ }
+{
+    if names::no_twice(&s[from..], &left[0..], &size[0..], n, ix) {
+        return at(0, 0);
+    }
+    let k = copies::copy(&s[from..], &left[0..], &size[0..], n, ix);
+    let e = entry::entry(&s[0..], levels, k);
+    at(11, e.key)
+}
+
+// Keys, UTF-8, count, repeats, of the map that begins s and has its entries `from` bytes on.
+fn judged(
+    s: &[u8],
+    from: usize,
+    levels: u64,
+    keys: Keys,
+    left: &[usize],
+    size: &[usize],
+    ix: &mut [u16],
+) -> Spot
+    requires { ⌜ (from ≤ length (now s)) × (length (now left) ≤ length (now ix)) × (length (now left) ≤ 65536) ⌝ }
+    ensures { λ r. ⌜ is.Judged (now (s .entry)) from levels keys (now (left .entry)) (now (size .entry)) r ⌝ }
+{
+    if keys.tally.odd {
+        return at(9, keys.key);
+    }
+    if keys.tally.bad {
+        return at(10, keys.text);
+    }
+    let n = keys.tally.count;
+    if left.len() < n {
+        return at(15, s.len());
+    }
+    repeated(&s[0..], from, levels, n, &left[0..], &size[0..], ix)
+}
+
+// The map that begins s, whose keys and values have `levels` levels left. It may have as many names as left, size and ix have room for.
+pub fn named(s: &[u8], levels: u64, left: &mut [usize], size: &mut [usize], ix: &mut [u16]) -> Spot
+    requires { ⌜ (length (now size) ≡ length (now left)) × (length (now left) ≤ length (now ix)) × (length (now left) ≤ 65536) ⌝ }
+    ensures { λ r. ⌜ is.NamesAt levels (now (s .entry)) (length (now (left .entry))) r ⌝ }
+{
+    match walk::map(&s[0..]) {
+        Opening::NotOpen => at(8, s.len()),
+        Opening::Opened(mode, count, from) => {
+            let keys = entries(&s[from..], levels, mode, count, left, size);
+            judged(&s[0..], from, levels, keys, &left[0..], &size[0..], ix)
+        }
+    }
+}

@@ -1,0 +1,2 @@
+-- The definitions that the contract of copies cites.
+pub mod Copy
