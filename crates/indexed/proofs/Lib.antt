@@ -1,0 +1,3 @@
+-- The laws of indexed.
+pub mod Chained
+pub mod Named

@@ -1,0 +1,2 @@
+-- The definitions that the laws of indexed cite.
+pub mod Entry
