@@ -2,3 +2,4 @@
 pub mod Firsts
 pub mod Values
 pub mod Entries
+pub mod Maps

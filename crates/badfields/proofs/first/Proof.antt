@@ -4,10 +4,6 @@ use Rattle.keys.specs.Odd.{slotsAt}
 use borrow.Author.Needs.{needs}
 use Rattle.badfields.proofs.first.Statement.{statement}
 use Rattle.badfields.proofs.first.Tie as tie
-use Rattle.badfields.proofs.first.Reads as reads
-use Rattle.badfields.proofs.first.Lts as lts
-use Rattle.keys.proofs.entries.Reads as entries-reads
-use Rattle.spot.proofs.at.Reads as at-reads
 
 pub first-spec : {M : Type 1} → statement M
 first-spec =
@@ -19,10 +15,24 @@ first-spec =
     (λ c κs. search needs)
     (λ c κs. search needs)
     (λ c. search needs)
-    (λ c. laws.odd-key (slotsAt ((c .before .before .before .before .before .before .before .before .before .before .args .layout)) ((c .before .before .before .before .before .before .before .before .before .before .args .level))) ((c .before .before .before .before .before .before .before .before .before .before .args .left)) ((c .before .before .before .before .before .before .before .before .before .before .args .mode)) ((c .before .before .before .before .before .before .before .before .before .before .args .count)) ((c .before .before .before .before .before .before .before .before .before .before .args .s .now)) _ _ ((c .before .before .before .before .before .entries .ensures)) _ ((c .before .if1 .taken)) ((c .at .ensures)))
+    (λ c.
+    let c1 = c .before in
+    let c5 = c1 .before .before .before .before in
+    let c10 = c5 .before .before .before .before .before in
+    laws.odd-key (slotsAt (c10 .args .layout) (c10 .args .level)) (c10 .args .left) (c10 .args .mode) (c10 .args .count) (c10 .args .s .now) _ _ (c5 .entries .ensures) _ (c1 .if1 .taken) (c .at .ensures))
     (λ c κs. search needs)
     (λ c. search needs)
-    (λ c. laws.again (slotsAt ((c .before .before .before .before .before .before .before .before .before .before .before .before .args .layout)) ((c .before .before .before .before .before .before .before .before .before .before .before .before .args .level))) ((c .before .before .before .before .before .before .before .before .before .before .before .before .args .left)) ((c .before .before .before .before .before .before .before .before .before .before .before .before .args .mode)) ((c .before .before .before .before .before .before .before .before .before .before .before .before .args .count)) ((c .before .before .before .before .before .before .before .before .before .before .before .before .args .s .now)) _ _ ((c .before .before .before .before .before .before .before .entries .ensures)) _ ((c .before .before .before .if1 .left)) ((c .before .if2 .taken)) ((c .at2 .ensures)))
+    (λ c.
+    let c1 = c .before in
+    let c3 = c1 .before .before in
+    let c7 = c3 .before .before .before .before in
+    let c12 = c7 .before .before .before .before .before in
+    laws.again (slotsAt (c12 .args .layout) (c12 .args .level)) (c12 .args .left) (c12 .args .mode) (c12 .args .count) (c12 .args .s .now) _ _ (c7 .entries .ensures) _ (c3 .if1 .left) (c1 .if2 .taken) (c .at2 .ensures))
     (λ c κs. search needs)
     (λ c. search needs)
-    (λ c. laws.all-known (slotsAt ((c .before .before .before .before .before .before .before .before .before .before .before .before .args .layout)) ((c .before .before .before .before .before .before .before .before .before .before .before .before .args .level))) ((c .before .before .before .before .before .before .before .before .before .before .before .before .args .left)) ((c .before .before .before .before .before .before .before .before .before .before .before .before .args .mode)) ((c .before .before .before .before .before .before .before .before .before .before .before .before .args .count)) ((c .before .before .before .before .before .before .before .before .before .before .before .before .args .s .now)) _ _ ((c .before .before .before .before .before .before .before .entries .ensures)) _ ((c .before .before .before .if1 .left)) ((c .before .if2 .left)) ((c .at3 .ensures))))
+    (λ c.
+    let c1 = c .before in
+    let c3 = c1 .before .before in
+    let c7 = c3 .before .before .before .before in
+    let c12 = c7 .before .before .before .before .before in
+    laws.all-known (slotsAt (c12 .args .layout) (c12 .args .level)) (c12 .args .left) (c12 .args .mode) (c12 .args .count) (c12 .args .s .now) _ _ (c7 .entries .ensures) _ (c3 .if1 .left) (c1 .if2 .left) (c .at3 .ensures)))

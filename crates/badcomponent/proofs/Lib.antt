@@ -1,0 +1,4 @@
+-- Laws behind the proofs of badcomponent, a branch each.
+pub mod Stretch
+pub mod Storage
+pub mod Whole

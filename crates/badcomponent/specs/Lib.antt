@@ -1,0 +1,2 @@
+-- The definitions that the contracts of badcomponent cite.
+pub mod Steps
