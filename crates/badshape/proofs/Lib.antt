@@ -1,0 +1,2 @@
+-- Laws behind the proof of badshape.
+pub mod Elements

@@ -1,0 +1,2 @@
+-- The definition that the contract of badshape cites.
+pub mod Steps
