@@ -22,7 +22,7 @@ use Rattle.explained.specs.Step.{Step, first}
 use Rattle.explained.specs.Notes.{mapStep}
 use Rattle.explained.specs.Order.{manifestSteps}
 use Rattle.explained.proofs.Natural.{first-steps-map}
-use Rattle.met.specs.Met.{Tail, Passed, Met, met}
+use Rattle.met.specs.Met.{Tail, Passed, Met, met, StandsIn}
 use Rattle.met.proofs.Deeper.{deeper}
 
 module _ {P Q : Type 0} (f : P → Q) where
@@ -187,15 +187,11 @@ module _ (m : List ℕ) where
       go (refused n q) f z ih = absurd (never-got z)
 
   -- a check of the tree is one of a tree whose items all stand in m
-  pub record StandsIn (s : Step Ends) : Type 0 where
-    pub it : Step (Met m)
-    pub is : s ≡ mapStep (met m) it
-
-  pub first-stands : (L : Layout) (start : ℕ) (t : Node Ends) (r : List ℕ) → Reads depthLimit m t r → (s : Step Ends) → first (manifestSteps L start t) ≡ some s → StandsIn s
+  pub first-stands : (L : Layout) (start : ℕ) (t : Node Ends) (r : List ℕ) → Reads depthLimit m t r → (s : Step Ends) → first (manifestSteps L start t) ≡ some s → StandsIn m s
   first-stands L start t r e s h =
       let l = item-lifts depthLimit (omega arith) m t r (record { front = []; split = refl }) e in
       go (first (manifestSteps L start (l .it))) (sym (first-steps-map (met m) L start (l .it)) ∙ ap (λ u. first (manifestSteps L start u)) (l .is) ∙ h)
     where
-      go : (o : Option (Step (Met m))) → mapOption (mapStep (met m)) o ≡ some s → StandsIn s
+      go : (o : Option (Step (Met m))) → mapOption (mapStep (met m)) o ≡ some s → StandsIn m s
       go none e = absurd (let z : _≡_ {A = ℕ} 0 1 = cc in omega arith)
       go (some u) e = record { it = u; is = cc }

@@ -6,6 +6,8 @@ use Rattle.meaning.specs.Tree.{Node}
 use Rattle.meaning.specs.Read.{got, item, noNote}
 use Rattle.meaning.specs.Limit.{depthLimit}
 use Rattle.walk.specs.Reading.{Ends}
+use Rattle.explained.specs.Step.{Step}
+use Rattle.explained.specs.Notes.{mapStep}
 
 -- the bytes m end with s
 pub record Tail (m s : List ℕ) : Type 0 where
@@ -25,3 +27,8 @@ pub record Met (m : List ℕ) : Type 0 where
 
 abbrev pub met : (m : List ℕ) → Met m → Ends
 met m p = p .at
+
+-- a check that looks at such items only
+pub record StandsIn (m : List ℕ) (s : Step Ends) : Type 0 where
+  pub it : Step (Met m)
+  pub is : s ≡ mapStep (met m) it

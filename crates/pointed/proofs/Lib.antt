@@ -1,0 +1,2 @@
+-- The laws of pointed.
+pub mod Spans

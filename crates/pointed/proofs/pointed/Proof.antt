@@ -1,0 +1,24 @@
+-- `pointed::pointed` meets its contract.
+use Rattle.pointed.proofs.Spans as spans
+use borrow.Author.Needs.{needs}
+use Rattle.pointed.proofs.pointed.Statement.{statement}
+use Rattle.pointed.proofs.pointed.Tie as tie
+
+pub pointed-spec : {M : Type 1} → statement M
+pointed-spec =
+    tie.close
+    (tie.spec
+    (λ c. search needs)
+    (λ c. search needs)
+    (λ c. search needs)
+    (λ c κs. search needs)
+    (λ c. search needs)
+    (λ c. search needs)
+    (λ c. search needs)
+    (λ c κs. search needs)
+    (λ c. search needs)
+    (λ c. search needs)
+    (λ c. search needs)
+    (λ c κs. search needs)
+    (λ c κs. search needs)
+    (λ c. let a = c .before .before .before .before .before .before .before .before .args in λ s k. spans.is-explained (a .m .now) (a .end) (a .n) (a .o) (a .c) (a .object) (a .role) (a .left) s k _ _ (c .before .before .before .before .before .spelt-at .ensures) (c .before .before .before .spelt-at2 .ensures) _ _ (c .place-of .ensures) (c .before .size .ensures)))

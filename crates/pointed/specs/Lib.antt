@@ -1,0 +1,2 @@
+-- The definitions that the contracts of pointed cite.
+pub mod Pointed
