@@ -1,0 +1,101 @@
+-- The whole root: no map; or its keys and repeats, and then its values. s is lent whole to `walk::map`, which answered x.
+use Prim.Native.Nat.{ℕ, _+_, _-_, _≤_, _<_}
+use mathlib.Core.List.{List, [], _∷_, _++_}
+use mathlib.Core.Option.{Option, none, some}
+use mathlib.Core.Path.{_≡_, refl, ap, sym, _∙_, subst}
+use native.Mathlib.Omega.{arith}
+use lib.ListN.{length, getD, drop, replicate, length-drop}
+use lib.Seq.{drop-drop}
+use borrow.Rule.Slice.PartAt.{part-to-end}
+use Rattle.meaning.specs.Tree.{Node, Pair, noteOf}
+use Rattle.meaning.specs.Check.{pass, fault}
+use Rattle.meaning.specs.Refusal.{KIND}
+use Rattle.meaning.specs.Kind.{kind, table, aTable, asTable}
+use Rattle.meaning.specs.Layouts.{Layout, slot, layoutOf}
+use Rattle.meaning.specs.Field.{field}
+use Rattle.walk.specs.Reading.{Ends, Reads, foldl}
+use Rattle.walk.specs.Places.{MapIs, Mapped}
+use Rattle.walk.specs.declared.Opening.{Opening}
+use Rattle.walk.specs.declared.Opening.the-variants.{NotOpen, Opened}
+use Rattle.walk.proofs.Passed.{Here}
+use Rattle.walk.proofs.ReadSays.{note-of}
+use Rattle.walk.proofs.Opens as opens
+use Rattle.fields.specs.Slots.{marks, Holds}
+use Rattle.fields.proofs.Standing.{field-stands}
+use Rattle.explained.specs.Fields.{objectsField}
+use Rattle.explained.specs.Step.{first}
+use Rattle.explained.specs.Order.{tableSteps, fieldSteps}
+use Rattle.keys.specs.Odd.{slotsAt}
+use Rattle.keys.proofs.Parts.{of-root}
+use Rattle.badfields.specs.Fields.{entrySteps, FirstIs}
+use Rattle.badfields.proofs.Entries.{entries-numbered}
+use Rattle.badfields.proofs.Firsts.{shown-here, shown-past}
+use Rattle.spot.specs.Shown.{spot, shown}
+use Rattle.spot.specs.declared.Spot.{Spot}
+use Rattle.badroot.specs.Opening.{valueSteps, openingSteps, Stood, ValuesIs, RootIs, ObjectsAt}
+
+-- what stands in a part that runs to the end stands in the whole
+holds-whole : (d : ℕ) (c : List ℕ) (a : ℕ) → a ≤ length c → (left : ℕ) (o : Option (Node Ends)) → Holds d (drop a c) left o → Holds d c left o
+holds-whole d c a l left none h = h
+holds-whole d c a l left (some t) (some-left, x) =
+    let w : left ≤ length (drop a c) = x .within in
+    let n = length-drop a c in
+    let z : a + (length (drop a c) - left) ≡ length c - left = omega arith in
+    (some-left, record { rest = x .rest; within = omega arith; left-is = x .left-is; reads = subst (λ u. Reads d u t (x .rest)) (drop-drop (length (drop a c) - left) a c ∙ ap (λ i. drop i c) z) (x .reads) })
+
+opening-first : (L : Layout) (t : Node Ends) (ps : List (Pair Ends)) → kind t ≡ table ps → first (openingSteps L t) ≡ first (entrySteps (L .root) ps ++ valueSteps L t ps)
+unfolding openingSteps fieldSteps tableSteps aTable asTable
+opening-first L t ps e = rw e refl
+
+pub six-places : (layout : ℕ) → replicate {A = ℕ} 6 0 ≡ replicate (length (slotsAt layout 0) + 3) 0
+six-places layout = ap (λ (n : ℕ). replicate {A = ℕ} (n + 3) 0) (sym (ap length (of-root 0 refl layout) ∙ layoutOf layout .rootPlaces))
+
+module _ (layout : ℕ) (s : List ℕ) (x : Opening) (h : MapIs (Here s 0) x) where
+  abbrev L : Layout
+  L = layoutOf layout
+
+  module _ (e : x ≡ NotOpen) where
+    pub no-root : {r : Spot} → r ≡ spot KIND (length s) → RootIs L s r
+    unfolding openingSteps fieldSteps tableSteps shown
+    no-root is t q reads = is ∙ sym ((rw (opens.opening s x h NotOpen e 31 t q reads) refl) ∙ ap (λ (y : Ends). spot KIND (length (y .start))) (note-of 32 s t q reads))
+
+    pub nothing-stands : ObjectsAt L s 0
+    unfolding aTable asTable
+    nothing-stands t q reads ps is =
+        let z : pass ps ≡ fault KIND = (rw is refl) ∙ opens.opening s x h NotOpen e 31 t q reads in
+        absurd (let y : _≡_ {A = ℕ} 0 1 = cc in omega arith)
+
+  module _ (mode count size : ℕ) (is : x ≡ Opened mode count size) (p : List ℕ) (k : Spot) (asked : FirstIs (slotsAt layout 0) 31 mode count (Here s size) p k) where
+    firsts : FirstIs (L .root) 31 mode count (drop size s) p k
+    firsts = subst (λ u. FirstIs u 31 mode count (drop size s) p k) (of-root 0 refl layout) (subst (λ u. FirstIs (slotsAt layout 0) 31 mode count u p k) (part-to-end s size) asked)
+
+    module _ (t : Node Ends) (q : List ℕ) (reads : Reads 32 s t q) where
+      mapped : Mapped 31 mode count (drop size s) t
+      mapped = opens.opened s x h mode count size is .trees 31 t q reads
+
+      entries-shown : k ≡ shown (first (entrySteps (L .root) (mapped .pairs)))
+      entries-shown = firsts (mapped .pairs) (mapped .last) (mapped .due) .1
+
+      stood : Stood L (drop size s) p (mapped .pairs)
+      stood i l =
+          let n = L .rootPlaces in
+          field-stands (L .root) (length (L .root)) refl 31 (drop size s) (mapped .pairs) (mapped .last) (mapped .due .chain) p (firsts (mapped .pairs) (mapped .last) (mapped .due) .0) (L .rootApart) i (omega (arith, n, l))
+
+    pub objects-stand : (left : ℕ) → left ≡ getD p 2 0 → ObjectsAt L s left
+    objects-stand left e t q reads ps kt =
+        let m = mapped t q reads in
+        let y : m .pairs ≡ ps = let z : table (m .pairs) ≡ table ps = sym (m .kind-is) ∙ kt in cc in
+        let f = subst (λ ps. Holds 31 (drop size s) (getD p 2 0) (field (objectsField L) ps)) y (stood t q reads 2 (omega arith)) in
+        holds-whole 31 s size (opens.size-inside s x h mode count size is) left (field (objectsField L) ps) (subst (λ l. Holds 31 (drop size s) l (field (objectsField L) ps)) (sym e) f)
+
+    pub keys-break : (k .number ≡ 0 → ⊥) → RootIs L s k
+    keys-break n t q reads =
+        let m = mapped t q reads in
+        shown-here (entrySteps (L .root) (m .pairs)) k (entries-shown t q reads) (valueSteps L t (m .pairs)) n ∙ ap shown (sym (opening-first L t (m .pairs) (m .kind-is)))
+
+    pub keys-pass : {r : Spot} → k .number ≡ 0 → ValuesIs (Here s size) p (length s) r → RootIs L s r
+    keys-pass {r} n values t q reads =
+        let m = mapped t q reads in
+        let v : ValuesIs (drop size s) p (length s) r = subst (λ u. ValuesIs u p (length s) r) (part-to-end s size) values in
+        v L t (m .pairs) (ap (λ (y : Ends). length (y .start)) (note-of 32 s t q reads)) (stood t q reads)
+        ∙ ap shown (sym (opening-first L t (m .pairs) (m .kind-is) ∙ shown-past (entrySteps (L .root) (m .pairs)) k (entries-shown t q reads) (entries-numbered (L .root) (m .pairs)) n (valueSteps L t (m .pairs))))
