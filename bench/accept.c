@@ -13,12 +13,24 @@ static bool accepted(const void *x) {
     return zt_accept(z->file.bytes, z->file.length) == ZT_ACCEPTED;
 }
 
+#ifdef WITH_BEFORE
+uint64_t before_accept(const uint8_t *file, size_t length); /* zt_accept of an older library */
+
+static bool accepted_before(const void *x) {
+    const zt_file *z = x;
+    return before_accept(z->file.bytes, z->file.length) == ZT_ACCEPTED;
+}
+#endif
+
 const program acceptance_check = {"zt_accept", accepted};
 static const program extract = {"C floor", c_floor}, strict = {"C strict, UTF-8", c_item_utf8};
 
 static void beside(const char *what, zt_file z) {
     compare(what, acceptance_check, extract, &z, OBJECTS, z.manifest.length, 1.3);
     compare("", acceptance_check, strict, &z, OBJECTS, z.manifest.length, 0);
+#ifdef WITH_BEFORE
+    compare("", acceptance_check, (program){"zt_accept, before", accepted_before}, &z, OBJECTS, z.manifest.length, 1.05);
+#endif
 #ifdef WITH_LIBCBOR
     compare("", acceptance_check, (program){"libcbor, tokens", libcbor_tokens}, &z, OBJECTS, z.manifest.length, 1);
 #endif

@@ -9,4 +9,7 @@ void leaves(void);
 void acceptance(void);
 void reading(void);
 void writing(void);
+void finding(void);
+void changes(void);
+void merging(void);
 #endif

@@ -9,6 +9,12 @@ typedef struct {
     size_t length;
 } input;
 
+/* Two files of so many objects with one blob of so many bytes each, laid alike. */
+typedef struct {
+    input first, second;
+    size_t objects, blob;
+} two_files;
+
 /* Names in one buffer: for each, the bytes left at its start, and its length. */
 typedef struct {
     input in;

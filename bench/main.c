@@ -11,4 +11,7 @@ int main(void) {
     acceptance();
     reading();
     writing();
+    finding();
+    changes();
+    merging();
 }

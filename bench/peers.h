@@ -17,6 +17,11 @@ bool c_utf8_bytes(const void *input); /* the same, a byte at a time */
 bool c_utf8_words(const void *input); /* the same, the best plain C that we can write; both for -O2 */
 bool c_names(const void *input); /* a job over names: sorted, none twice */
 
+/* Jobs over two files, and over the bytes of f32 numbers; for -O2. */
+bool c_equal(const void *files); /* the same bytes */
+bool c_apart(const void *files); /* each blob's first byte that differs, and how many do: all of them */
+bool c_span(const uint8_t *p, size_t length); /* the smallest and the largest number, NaNs counted */
+
 /* For the floor: the end of the item at p, 0 on a fault; and whether n bytes at p are UTF-8. */
 const uint8_t *c_skip(const uint8_t *p, const uint8_t *e, int depth);
 bool strict_utf8(const uint8_t *p, size_t n);

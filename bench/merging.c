@@ -1,0 +1,50 @@
+/* Two files in one: beside two readings and memcpy of the blobs, and beside two readings where there is next to nothing to copy. */
+#include "bench.h"
+#include "described.h"
+#include "timing.h"
+#include "zt.h"
+#include <stdlib.h>
+#include <string.h>
+
+enum { OBJECTS = 512, BLOB = 1 << 17, BLOBS = 2 * OBJECTS * BLOB, ROOM = 2 * ZT_NUMBERS(OBJECTS, OBJECTS), OUT = BLOBS + (1 << 20) };
+
+typedef struct {
+    zt_file first, second;
+    size_t blobs; /* bytes of both files' blobs */
+    uint8_t *out;
+} job_of_merging;
+
+static uint64_t rows[ROOM];
+
+static bool merged(const void *x) {
+    const job_of_merging *m = x;
+    return zt_merge(ZT_LAYOUT_1_2, m->first.file.bytes, m->first.file.length, ZT_LAYOUT_1_2, m->second.file.bytes, m->second.file.length, rows, ROOM, m->out, OUT).number == ZT_ACCEPTED;
+}
+
+static bool read_both(const job_of_merging *m) {
+    return zt_read(m->first.file.bytes, m->first.file.length, rows, ROOM).number == ZT_ACCEPTED && zt_read(m->second.file.bytes, m->second.file.length, rows, ROOM).number == ZT_ACCEPTED;
+}
+
+static bool read_and_copied(const void *x) {
+    const job_of_merging *m = x;
+    memcpy(m->out + 64, m->first.file.bytes + 64, m->blobs / 2);
+    memcpy(m->out + 64 + m->blobs / 2, m->second.file.bytes + 64, m->blobs / 2);
+    return read_both(m);
+}
+
+static void beside(const char *what, size_t blob, double units, uint8_t *out) {
+    job_of_merging m = {large_model(OBJECTS, blob, ZT_U8, 'a', 0), large_model(OBJECTS, blob, ZT_U8, 'A', 1), 2 * OBJECTS * blob, out};
+    compare(what, (program){"zt_merge", merged}, (program){"zt_read x 2, memcpy", read_and_copied}, &m, units, m.blobs, 0);
+    free(m.first.file.bytes);
+    free(m.second.file.bytes);
+}
+
+void merging(void) {
+    uint8_t *out = malloc(OUT);
+    if (!out) exit(2);
+    heading("merging two files of 512 objects", "per byte");
+    beside("64 MiB each", BLOB, BLOBS, out);
+    heading("merging two files of 512 objects", "per object");
+    beside("64 bytes an object", 64, 2 * OBJECTS, out);
+    free(out);
+}
