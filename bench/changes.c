@@ -27,7 +27,8 @@ static bool changed(const void *x) {
 }
 
 void changes(void) {
-    zt_file first = large_model(OBJECTS, BLOB, ZT_U8, 'a', 0), again = large_model(OBJECTS, BLOB, ZT_U8, 'a', 0), other = large_model(OBJECTS, BLOB, ZT_U8, 'a', 1);
+    zt_file first = large_model(OBJECTS, BLOB, ZT_U8, 'a', 0), again = large_model(OBJECTS, BLOB, ZT_U8, 'a', 0);
+    zt_file other = large_model(OBJECTS, BLOB, ZT_U8, 'a', 1);
     two_files equal = {first.file, again.file, OBJECTS, BLOB}, apart = {first.file, other.file, OBJECTS, BLOB};
     heading("what changed between two files of 64 MiB", "per byte");
     compare("nothing", (program){"zt_diff", unchanged}, (program){"memcmp", c_equal}, &equal, BLOBS, BLOBS, 0);

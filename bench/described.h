@@ -14,6 +14,7 @@ typedef struct {
 described describe(size_t objects, size_t blob, uint64_t dtype, char letter, uint8_t salt);
 void forget(described d);
 
-zt_file file_of(described d);                                                                      /* whose manifest isn't looked for */
+/* The file that is written of it, and of rows that are forgotten then; its manifest isn't looked for. */
+zt_file file_of(described d);
 zt_file large_model(size_t objects, size_t blob, uint64_t dtype, char letter, uint8_t salt);
 #endif

@@ -18,18 +18,17 @@ static uint64_t rows[ROOM];
 
 static bool merged(const void *x) {
     const job_of_merging *m = x;
-    return zt_merge(ZT_LAYOUT_1_2, m->first.file.bytes, m->first.file.length, ZT_LAYOUT_1_2, m->second.file.bytes, m->second.file.length, rows, ROOM, m->out, OUT).number == ZT_ACCEPTED;
+    const input *a = &m->first.file, *b = &m->second.file;
+    return zt_merge(ZT_LAYOUT_1_2, a->bytes, a->length, ZT_LAYOUT_1_2, b->bytes, b->length, rows, ROOM, m->out, OUT).number == ZT_ACCEPTED;
 }
 
-static bool read_both(const job_of_merging *m) {
-    return zt_read(m->first.file.bytes, m->first.file.length, rows, ROOM).number == ZT_ACCEPTED && zt_read(m->second.file.bytes, m->second.file.length, rows, ROOM).number == ZT_ACCEPTED;
-}
+static bool filled(input file) { return zt_read(file.bytes, file.length, rows, ROOM).number == ZT_ACCEPTED; }
 
 static bool read_and_copied(const void *x) {
     const job_of_merging *m = x;
     memcpy(m->out + 64, m->first.file.bytes + 64, m->blobs / 2);
     memcpy(m->out + 64 + m->blobs / 2, m->second.file.bytes + 64, m->blobs / 2);
-    return read_both(m);
+    return filled(m->first.file) && filled(m->second.file);
 }
 
 static void beside(const char *what, size_t blob, double units, uint8_t *out) {

@@ -22,7 +22,8 @@ static bool written(const void *x) {
 }
 
 static bool planned(const job_of_writing *w, const uint64_t *plan) {
-    return zt_write_planned(w->model.rows, ROWS, OBJECTS, OBJECTS, 0, 0, w->model.buffer, w->model.filled, plan, OBJECTS, (uint64_t)1 << 40, w->out, OUT).number == ZT_ACCEPTED;
+    const described *m = &w->model;
+    return zt_write_planned(m->rows, ROWS, OBJECTS, OBJECTS, 0, 0, m->buffer, m->filled, plan, OBJECTS, (uint64_t)1 << 40, w->out, OUT).number == ZT_ACCEPTED;
 }
 static bool planned_rising(const void *x) { return planned(x, ((const job_of_writing *)x)->rising); }
 static bool planned_falling(const void *x) { return planned(x, ((const job_of_writing *)x)->falling); }
