@@ -2,31 +2,11 @@
 use sizes::piece;
 use weigh::Weighed;
 ghost use mathlib.Core.Path.{_≡_};
-ghost use Prim.Native.Nat.{_+_, _*_, _<_, _≤_};
-ghost use lib.ListN.{length};
-ghost use Rattle.readback.specs.Lent.{Held};
 ghost use Rattle.sizes.specs.Size.{capped};
 ghost use Rattle.merge.specs.Checked.{attributesSize, CheckedIs};
 
 // 2^40.
 const LAST: u64 = 1_099_511_627_776;
-
-// A byte is below 256: said of each, since a slice's own facts are its length's alone.
-fn below(b: u8) -> bool
-    ensures { λ r. ⌜ b < 256 ⌝ }
-{
-    true
-}
-
-fn held(s: &[u8])
-    ensures { λ r. ⌜ Held (now (s .entry)) ⌝ }
-{
-    let mut i = 0;
-    while i < s.len() {
-        below(s[i]);
-        i += 1;
-    }
-}
 
 // The bytes of the kept attributes with their key: the first's if it has any, else the second's.
 fn attributes(place: u64, size: u64, other: u64, length: u64) -> u64
@@ -49,8 +29,8 @@ pub enum Verdict {
 pub fn checked(one: u64, first: &[u8], two: u64, second: &[u8]) -> Verdict
     ensures { λ r. ⌜ CheckedIs one (now (first .entry)) two (now (second .entry)) r ⌝ }
 {
-    held(first);
-    held(second);
+    lent::held(first);
+    lent::held(second);
     let mut names = [0u64; 2048];
     match weigh::file(one, first, 8, 0, 0, &mut names) {
         Weighed::No(n, o, c) => Verdict::No(n, 1, o, c),

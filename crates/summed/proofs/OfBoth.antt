@@ -8,20 +8,19 @@ use lib.ListN.{length, length-append}
 use Rattle.meaning.specs.Limit.{endLimit}
 use Rattle.meaning.specs.Read.{Span}
 use Rattle.meaning.specs.Model.{Object}
-use Rattle.meaning.specs.Layouts.{magic}
 use Rattle.meaning.specs.Described.{Described, blobs}
 use Rattle.meaning.specs.Placement.{placement, lastEnd}
-use Rattle.meaning.specs.Manifest.{Keyed, mapBytes, manifestBytes}
+use Rattle.meaning.specs.Manifest.{Keyed, manifestBytes}
 use Rattle.endian.proofs.Which.{lt-or}
-use Rattle.rows.specs.Running.{begun, reached, objectsFrom}
-use Rattle.rows.proofs.Running.{reached-above, reached-joined, last-is-reached, offsets-by-rule}
+use Rattle.rows.specs.Running.{reached, objectsFrom}
+use Rattle.rows.proofs.Running.{reached-above, reached-joined}
 use Rattle.sizes.specs.Size.{cappedEnd, headSize}
-use Rattle.sizes.proofs.Lengths.{entriesSize, fieldSize, map-length, manifest-bytes}
-use Rattle.layout.proofs.Meant as meant
+use Rattle.sizes.proofs.Lengths.{entriesSize, fieldSize}
 use Rattle.joint.proofs.Meant.{objects-both, lengths-both}
 use Rattle.merging.specs.Merge.{orElse, merged}
 use Rattle.window.specs.Sums.{blobsIn, allBlobs, entrySizes}
 use Rattle.window.specs.Summed.{Sum}
+use Rattle.totals.proofs.OfSum as of-sum
 
 blobs-on : (os ps : List (Object Span)) → allBlobs (os ++ ps) ≡ allBlobs os ++ allBlobs ps
 unfolding allBlobs
@@ -70,9 +69,6 @@ module _ (a b : Described) (os ps : List (Object Span)) (la : map length (blobs 
   unfolding merged
   lengths = lengths-both (a .objects) (b .objects) ∙ ap₂ (λ (x y : List ℕ). x ++ y) la lb ∙ sym (blobs-on os ps)
 
-  pub last-end : lastEnd (placement (map length (blobs d))) (map length (blobs d)) ≡ reached [] 8 (allBlobs (os ++ ps))
-  last-end = last-is-reached (map length (blobs d)) ∙ ap (reached [] 8) lengths
-
   entries : entriesSize (objectsFrom [] 8 (d .objects)) ≡ entrySizes 8 (os ++ ps)
   unfolding merged
   entries =
@@ -80,12 +76,10 @@ module _ (a b : Described) (os ps : List (Object Span)) (la : map length (blobs 
       ap entriesSize (objects-both 8 (a .objects) (b .objects)) ∙ entries-sum (objectsFrom [] 8 (a .objects)) (objectsFrom [] (reached [] 8 (map length (blobs a))) (b .objects))
       ∙ ap₂ (λ (x y : ℕ). x + y) (ea 8) (eb (reached [] 8 (map length (blobs a))) ∙ ap (λ (k : ℕ). entrySizes k ps) t) ∙ sym (entries-on 8 os ps)
 
+  pub last-end : lastEnd (placement (map length (blobs d))) (map length (blobs d)) ≡ reached [] 8 (allBlobs (os ++ ps))
+  last-end = of-sum.last-end d (os ++ ps) lengths entries
+
   pub manifest-long : (n k : ℕ) → length (a .objects) ≡ n → length (b .objects) ≡ k
       → length (manifestBytes d (placement (map length (blobs d)))) ≡ 23 + fieldSize 11 (orElse (a .attributes) (b .attributes)) + (headSize (n + k) + entrySizes 8 (os ++ ps))
-  unfolding begun magic merged
-  manifest-long n k an bk =
-      let o : length (objectsFrom [] 8 (d .objects)) ≡ n + k = meant.objects-counted [] [] 8 (d .objects) ∙ length-append (a .objects) (b .objects) ∙ ap₂ (λ (x y : ℕ). x + y) an bk in
-      let m : length (mapBytes (objectsFrom [] 8 (d .objects))) ≡ headSize (n + k) + entrySizes 8 (os ++ ps) =
-      map-length (objectsFrom [] 8 (d .objects)) ∙ ap₂ (λ (x y : ℕ). x + y) (ap headSize o) entries in
-      ap (λ (offsets : List ℕ). length (manifestBytes d offsets)) (sym (offsets-by-rule (map length (blobs d)))) ∙ manifest-bytes [] d
-      ∙ ap (λ (x : ℕ). 23 + fieldSize 11 (orElse (a .attributes) (b .attributes)) + x) m
+  unfolding merged
+  manifest-long n k an bk = of-sum.manifest-long d (os ++ ps) lengths entries (n + k) (length-append (a .objects) (b .objects) ∙ ap₂ (λ (x y : ℕ). x + y) an bk)

@@ -1,76 +1,32 @@
--- What an accepted file's objects add up to is what the writer's definitions say of the file's description.
-use Prim.Native.Nat.{ℕ, suc, _+_, _*_, _≤_}
-use mathlib.Core.List.{List, [], _∷_, _++_, map}
+-- What an accepted file's objects add up to is what the writer's definitions say of the file's description: its model stands in it.
+use Prim.Native.Nat.{ℕ, _≤_}
+use mathlib.Core.List.{List, [], _∷_, map}
 use mathlib.Core.Bool.{true}
-use mathlib.Core.Path.{_≡_, refl, sym, ap, _∙_}
-use lib.ListN.{length, drop, length-map}
-use lib.Seq.{take-at, drop-at}
-use Rattle.meaning.specs.Columns.{objectWidth, componentWidth}
-use Rattle.meaning.specs.Limit.{rankLimit, objectLimit}
+use mathlib.Core.Path.{_≡_}
+use lib.ListN.{length}
+use Rattle.meaning.specs.Limit.{objectLimit}
 use Rattle.meaning.specs.Check.{pass}
 use Rattle.meaning.specs.Read.{Span}
-use Rattle.meaning.specs.Model.{Component, Object, Model}
+use Rattle.meaning.specs.Model.{Object, Model}
 use Rattle.meaning.specs.Layouts.{Layout}
 use Rattle.meaning.specs.Frame.{Reading, reading}
-use Rattle.meaning.specs.Rows.{rows, componentCount, attributesSpan}
-use Rattle.meaning.specs.Asked.{AskedComponent, Asked, askedComponent, asked, presentAt}
-use Rattle.meaning.specs.Sound.{inside, rowsSound}
-use Rattle.meaning.specs.Described.{Described, blobs, described, readObject, describedBy}
+use Rattle.meaning.specs.Rows.{attributesSpan}
+use Rattle.meaning.specs.Asked.{presentAt}
+use Rattle.meaning.specs.Sound.{inside}
+use Rattle.meaning.specs.Described.{Described, blobs, describedBy}
 use Rattle.readback.specs.Every.{Every}
 use Rattle.readback.specs.Lent.{Held}
-use Rattle.readback.specs.Spelled.{SpelledObject, Spelled, askedOf, askedOfObject, askedOfAll, askedOfModel}
-use Rattle.readback.proofs.RowsOfModel.{rows-asked}
-use Rattle.rows.specs.Running.{offsetAt, stepped, reached, objectsFrom, blobSizes}
-use Rattle.rows.proofs.EachRow.{how-many}
-use Rattle.rows.proofs.Whole.{sound-attributes, sound-objects, sound-components}
-use Rattle.rows.proofs.SoundRow.{attributes-inside}
-use Rattle.rows.proofs.Describes as describes
-use Rattle.sizes.specs.Size.{componentSize, componentsSize, objectsSize}
+use Rattle.readback.specs.Spelled.{SpelledObject, Spelled}
+use Rattle.rows.specs.Running.{objectsFrom}
 use Rattle.sizes.proofs.Lengths.{entriesSize}
-use Rattle.sizes.proofs.Exact.{objects-length, short-rows}
 use Rattle.shown.specs.Accepted.{Framing}
 use Rattle.roundtrip.specs.Sized.{SizedObject, Sized}
 use Rattle.roundtrip.proofs.If.{passed-so}
 use Rattle.roundtrip.proofs.JudgedSized.{reading-sized}
 use Rattle.roundtrip.proofs.AcceptedSpelled.{accepted-spelled}
-use Rattle.roundtrip.proofs.WrittenAgain as again
-use Rattle.window.specs.Sums.{blobsIn, allBlobs, entrySize, entrySizes}
+use Rattle.window.specs.Sums.{allBlobs, entrySizes}
 use Rattle.window.specs.Summed.{InWindow}
-
--- ---- a model's rows by name
-
-sizes-of : (i : ℕ) (cs : List (Component Span)) → blobSizes (map (askedOf i) cs) ≡ map (λ c. c .length) cs
-unfolding askedOf
-sizes-of i [] = refl
-sizes-of i (c ∷ cs) = ap (λ (r : List ℕ). c .length ∷ r) (sizes-of i cs)
-
-map-both : {A B : Type 0} (f : A → B) (xs ys : List A) → map f (xs ++ ys) ≡ map f xs ++ map f ys
-map-both f [] ys = refl
-map-both {A} {B} f (x ∷ xs) ys = ap (λ (r : List B). f x ∷ r) (map-both f xs ys)
-
-all-sizes : (i : ℕ) (os : List (Object Span)) → blobSizes (askedOfAll i os) ≡ allBlobs os
-unfolding askedOfAll allBlobs
-all-sizes i [] = refl
-all-sizes i (o ∷ os) =
-    map-both (λ (c : AskedComponent). c .blob .size) (map (askedOf i) (o .components)) (askedOfAll (suc i) os)
-    ∙ ap (λ (r : List ℕ). r ++ blobSizes (askedOfAll (suc i) os)) (sizes-of i (o .components)) ∙ ap (λ (r : List ℕ). blobsIn o ++ r) (all-sizes (suc i) os)
-
--- the owner doesn't count
-any-owner : (n i : ℕ) (cs : List (Component Span)) → componentsSize [] n (map (askedOf i) cs) ≡ componentsSize [] n (map (askedOf 0) cs)
-unfolding componentsSize componentSize askedOf
-any-owner n i [] = refl
-any-owner n i (c ∷ cs) = ap (λ (r : ℕ). componentSize (offsetAt [] n) (askedOf i c) + r) (any-owner (stepped [] n (c .length)) i cs)
-
-all-entries : (n i : ℕ) (os : List (Object Span)) → objectsSize [] n (map askedOfObject os) (askedOfAll i os) ≡ entrySizes n os
-unfolding objectsSize askedOfAll askedOfObject entrySizes entrySize
-all-entries n i [] = refl
-all-entries n i (o ∷ os) =
-    let cs : List AskedComponent = map (askedOf i) (o .components) in
-    let z : length cs ≡ length (o .components) = length-map (o .components) (askedOf i) in
-    rw (take-at cs (askedOfAll (suc i) os) (length (o .components)) z, drop-at cs (askedOfAll (suc i) os) (length (o .components)) z, sizes-of i (o .components), any-owner n i (o .components), all-entries (reached [] n (blobsIn o)) (suc i) os)
-    refl
-
--- ---- an accepted file
+use Rattle.totals.proofs.OfModel as of-model
 
 module _ (L : Layout) (framing : Framing L) (file : List ℕ) (held : Held file) (r : Reading) (is : reading L file ≡ pass r) where
   abbrev m : Model Span
@@ -92,50 +48,14 @@ module _ (L : Layout) (framing : Framing L) (file : List ℕ) (held : Held file)
   pub few : length (m .objects) ≤ objectLimit
   few = let s : Sized m = passed-so (reading-sized L file (held .bytes)) is in s .count
 
-  abbrev T : List ℕ
-  T = rows m ++ []
-
-  abbrev n : ℕ
-  n = length (m .objects)
-
-  abbrev c : ℕ
-  c = componentCount (m .objects)
-
-  abbrev A : Span
-  A = attributesSpan (m .attributes)
-
-  sound : rowsSound file T n c A ≡ true
-  sound = again.rows-sound L framing file r is []
-
-  ranks : (os : List (Object Span)) → Every (SpelledObject file) os → Every (λ o. length (o .shape) ≤ rankLimit) os
-  ranks [] h = tt
-  ranks (o ∷ os) (h, hs) = (h .rank, ranks os hs)
-
-  asks : asked T n c A ≡ askedOfModel m
-  asks = rows-asked m [] (ranks (m .objects) (spelled .objects))
-
-  says : described file (asked T n c A) ≡ d
-  says = again.rows-described L framing file r is []
-
   pub lengths-are : map length (blobs d) ≡ allBlobs (m .objects)
-  unfolding asked askedOfModel
-  lengths-are =
-      ap (λ (d : Described). map length (blobs d)) (sym says) ∙ describes.blob-lengths file T n c A sound
-      ∙ ap (λ (a : Asked). blobSizes (a .components)) asks ∙ all-sizes 0 (m .objects)
+  lengths-are = of-model.lengths-are file m spelled
 
   pub entries-are : (p : ℕ) → entriesSize (objectsFrom [] p (d .objects)) ≡ entrySizes p (m .objects)
-  unfolding asked askedOfModel described
-  entries-are p =
-      let os = sound-objects file T n c A sound in
-      ap (λ (d : Described). entriesSize (objectsFrom [] p (d .objects))) (sym says)
-      ∙ objects-length [] file p (asked T n c A .objects) (asked T n c A .components)
-      (describes.rows-counted file T n c A sound ∙ sym (how-many askedComponent componentWidth c (drop (objectWidth * n) T))) os (short-rows [] file n T os) (sound-components file T n c A sound)
-      ∙ ap (λ (a : Asked). objectsSize [] p (a .objects) (a .components)) asks ∙ all-entries p 0 (m .objects)
+  entries-are = of-model.entries-are file m spelled
 
-  pub objects-counted : length (d .objects) ≡ n
-  unfolding describedBy
-  objects-counted = length-map (m .objects) (readObject file)
+  pub objects-counted : length (d .objects) ≡ length (m .objects)
+  objects-counted = of-model.objects-counted file m spelled
 
-  pub attributes-there : (d .attributes ≡ presentAt file A) × (inside file A ≡ true)
-  unfolding described asked
-  attributes-there = (ap (λ (d : Described). d .attributes) (sym says), attributes-inside file 31 A (sound-attributes file T n c A sound))
+  pub attributes-there : (d .attributes ≡ presentAt file (attributesSpan (m .attributes))) × (inside file (attributesSpan (m .attributes)) ≡ true)
+  attributes-there = of-model.attributes-there file m spelled

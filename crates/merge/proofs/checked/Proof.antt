@@ -9,7 +9,7 @@ use Rattle.merge.proofs.checked.Tie as tie
 use Rattle.merge.proofs.checked.Reads as reads
 use Rattle.merge.proofs.checked.Lts as lts
 use Rattle.merge.proofs.attributes.Reads as attributes-reads
-use Rattle.merge.proofs.held.Reads as held-reads
+use Rattle.lent.proofs.held.Reads as held-reads
 use Rattle.sizes.proofs.piece.capped.Reads as capped-reads
 use Rattle.sizes.proofs.piece.head.Reads as head-reads
 use Rattle.unshared.proofs.unshared.Reads as unshared-reads

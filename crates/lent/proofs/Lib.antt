@@ -1,0 +1,2 @@
+-- Laws behind what is said of lent bytes.
+pub mod Bytes
