@@ -116,7 +116,7 @@ components-snoc i (x ∷ os) o =
     ap (λ (r : List ℕ). rowsOf i (x .components) ++ r) (components-snoc (suc i) os o ∙ ap (λ (k : ℕ). componentRows (suc i) os ++ rowsOf k (o .components)) e)
     ∙ sym (append-assoc (rowsOf i (x .components)) (componentRows (suc i) os) (rowsOf (i + suc (length os)) (o .components)))
 
-objects-length : (os : List (Object Span)) → length (objectRows os) ≡ objectWidth * length os
+pub objects-length : (os : List (Object Span)) → length (objectRows os) ≡ objectWidth * length os
 unfolding objectRows
 objects-length [] = refl
 objects-length (o ∷ os) = length-append (objectRow o) (objectRows os) ∙ ap₂ (λ (a b : ℕ). a + b) (object-length o) (objects-length os) ∙ (omega arith)

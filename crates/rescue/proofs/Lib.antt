@@ -1,0 +1,2 @@
+-- Laws behind the answer before ROOM.
+pub mod Checking

@@ -1,0 +1,20 @@
+-- `rescue::measured` meets its contract: a law for each need.
+use Rattle.rescue.proofs.Checking as checking
+use borrow.Author.Needs.{needs}
+use Rattle.rescue.proofs.measured.Statement.{statement}
+use Rattle.rescue.proofs.measured.Tie as tie
+use Rattle.rescue.proofs.measured.Reads as reads
+use Rattle.rescue.proofs.measured.Lts as lts
+use Rattle.sieve.proofs.sift.Reads as sift-reads
+
+pub measured-spec : {M : Type 1} → statement M
+measured-spec =
+    tie.close
+    (tie.spec
+    (λ c. search needs)
+    (λ c. search needs)
+    (λ c. search needs)
+    (λ c. search needs)
+    (λ c. search needs)
+    (λ c κs. search needs)
+    (λ c. let a = (c .before .before .before .before .before .before .before .args) in let s = (c .before .before .sift) in (checking.measured-so (a .layout) (a .s .now) (a .start) (a .end) (s .ensures .0), s .ensures .1)))

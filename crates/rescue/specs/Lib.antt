@@ -1,0 +1,2 @@
+-- What is answered of a rescue before ROOM.
+pub mod Checked

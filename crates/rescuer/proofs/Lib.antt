@@ -1,0 +1,2 @@
+-- Laws behind the rescue.
+pub mod Laying
