@@ -1,0 +1,2 @@
+-- The definitions that the contracts of badrules cite.
+pub mod Blame

@@ -1,0 +1,2 @@
+-- The definitions that the contracts of badvalues cite.
+pub mod Steps
