@@ -1,9 +1,8 @@
 -- From what the walk over a root answered to what is answered of the manifest; then from the frame on.
 use Prim.Native.Nat.{ℕ, _+_, _-_, _≤_, _<_}
 use native.Mathlib.Omega.{arith}
-use mathlib.Core.List.{List, []}
+use mathlib.Core.List.{List}
 use mathlib.Core.Bool.{false}
-use mathlib.Core.Option.{some}
 use mathlib.Core.Path.{_≡_, refl, sym, ap, ap₂, _∙_, subst}
 use lib.ListN.{length, take, drop, length-drop}
 use lib.Seq.{length-take-le, take-all, take-take, take-add, drop-drop, drop-at}
@@ -30,7 +29,7 @@ use Rattle.opening.specs.declared.Told.{Told}
 use Rattle.opening.specs.declared.Told.the-variants as names-are
 use Rattle.opening.specs.declared.Found.{Found}
 use Rattle.opening.specs.declared.Found.the-variants as found
-use Rattle.opening.specs.Opened.{manifestSifted, spanned, Opens, NamesAre, OpensAt, behind, between, Cases, FoundIs}
+use Rattle.opening.specs.Opened.{manifestSifted, spanned, Opens, NamesAre, OpensAt, behind, between, FoundIs}
 use Rattle.opening.proofs.Filling as filling
 use Rattle.opening.proofs.Filling.{Filling}
 use Rattle.opening.proofs.Naming as naming

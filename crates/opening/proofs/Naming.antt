@@ -4,7 +4,7 @@ use native.Mathlib.Omega.{arith}
 use mathlib.Core.List.{List, [], _∷_, map}
 use mathlib.Core.Bool.{false}
 use mathlib.Core.Option.{Option, none, some}
-use mathlib.Core.Path.{_≡_, refl, sym, ap, ap₂, _∙_, subst}
+use mathlib.Core.Path.{_≡_, refl, sym, ap, _∙_}
 use lib.ListN.{length, drop}
 use lib.Dec.{leb}
 use Rattle.meaning.specs.Refusal.{KEY, TWICE}
@@ -14,7 +14,7 @@ use Rattle.meaning.specs.Text.{all}
 use Rattle.meaning.specs.Check.{Check, pass, refuse, _>>=_, _>>_, _unless_, inObject, required, optional, each}
 use Rattle.meaning.specs.Read.{Span}
 use Rattle.meaning.specs.Model.{RootFields, Named, Object, Model}
-use Rattle.meaning.specs.Notes.{mapCheck, mapOption, mapNamed, mapObject}
+use Rattle.meaning.specs.Notes.{mapCheck, mapNamed, mapObject}
 use Rattle.meaning.specs.Kind as kinds
 use Rattle.meaning.specs.Kind.{kind, table, aTable, asTable}
 use Rattle.meaning.specs.Layouts.{Layout, slot, somes, objectsAt}
@@ -30,7 +30,7 @@ use Rattle.fields.proofs.Standing.{field-found-stands}
 use Rattle.components.proofs.Typed.{passed, passed-on, pass-same}
 use Rattle.components.proofs.Lettered.{pairs-chained}
 use Rattle.objects.specs.Found.{passedOver, judging, objectsBy}
-use Rattle.root.specs.Verdict.{judgeBy, ObjectsAt}
+use Rattle.root.specs.Verdict.{judgeBy}
 use Rattle.root.proofs.Walks.{holds-whole}
 use Rattle.table.specs.Spans.{spanOf}
 use Rattle.rescuing.specs.Sift.{Dropped, Opened, opened, kept, dropped, verdicts}

@@ -1,7 +1,7 @@
 -- What is answered of a file that is judged up to its objects' names: the refusal, or what a rescue keeps and drops of it, by trees that carry the bytes left at each item, and where they are read.
-use Prim.Native.Nat.{ℕ, _+_, _-_, _≤_}
+use Prim.Native.Nat.{ℕ, _-_, _≤_}
 use mathlib.Core.List.{List, map}
-use mathlib.Core.Option.{Option, some}
+use mathlib.Core.Option.{some}
 use mathlib.Core.Path.{_≡_}
 use lib.ListN.{take, drop}
 use Rattle.meaning.specs.Limit.{objectLimit}

@@ -17,7 +17,6 @@ use Rattle.meaning.specs.Judge.{object}
 use Rattle.meaning.specs.Layouts.{Layout, layoutOf}
 use Rattle.meaning.specs.Rows.{componentCount, attributesSpan}
 use Rattle.meaning.specs.Described.{Described, blobs, describedBy}
-use Rattle.meaning.specs.Write.{writtenPlain}
 use Rattle.readback.specs.Every.{Every}
 use Rattle.readback.specs.Lent.{Held}
 use Rattle.readback.specs.Spelled.{SpelledObject, Spelled}

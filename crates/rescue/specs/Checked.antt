@@ -10,7 +10,7 @@ use Rattle.meaning.specs.Model.{Named, Object}
 use Rattle.meaning.specs.Field.{names}
 use Rattle.meaning.specs.Layouts.{layoutOf}
 use Rattle.meaning.specs.Rows.{componentCount}
-use Rattle.meaning.specs.Described.{Described, describedBy}
+use Rattle.meaning.specs.Described.{describedBy}
 use Rattle.meaning.specs.Write.{writtenPlain}
 use Rattle.readback.specs.Every.{Every}
 use Rattle.readback.specs.Lent.{Held}

@@ -1,11 +1,11 @@
 -- From what is known before ROOM to the rescued file: the kept objects' rows and the dropped ones' entries, the file that the writer makes of the rows, and the tests of room.
-use Prim.Native.Nat.{ℕ, _+_, _-_, _*_, _≤_, _<_}
+use Prim.Native.Nat.{ℕ, _+_, _*_, _≤_, _<_}
 use native.Mathlib.Omega.{arith}
 use native.Mathlib.Nat.{zero-add}
-use mathlib.Core.List.{List, [], _++_, map}
-use mathlib.Core.Bool.{Bool, true, false, cond, _&&_}
+use mathlib.Core.List.{List, _++_}
+use mathlib.Core.Bool.{Bool, true, false, _&&_}
 use mathlib.Core.Path.{_≡_, refl, sym, ap, ap₂, _∙_, subst}
-use lib.ListN.{length, take, drop, length-append, length-map, replicate}
+use lib.ListN.{length, drop, length-map, replicate}
 use lib.Seq.{sets, sets-eq, length-sets}
 use lib.Dec.{leb}
 use borrow.Author.Tests.{le-leb, lt-leb, leb-true}
@@ -16,9 +16,9 @@ use Rattle.meaning.specs.Check.{Check, pass}
 use Rattle.meaning.specs.Read.{Span}
 use Rattle.meaning.specs.Model.{Object, Model}
 use Rattle.meaning.specs.Layouts.{layoutOf}
-use Rattle.meaning.specs.Rows.{rows, objectRows, componentRows, componentCount, roomFor, attributesSpan}
+use Rattle.meaning.specs.Rows.{rows, objectRows, componentRows, componentCount, roomFor}
 use Rattle.meaning.specs.Described.{Described, describedBy}
-use Rattle.meaning.specs.Write.{written, writtenPlain, outputAfter}
+use Rattle.meaning.specs.Write.{written, outputAfter}
 use Rattle.readback.proofs.RowsOfModel.{rows-length}
 use Rattle.walk.specs.Reading.{Ends}
 use Rattle.walk.proofs.Passed.{Here}
@@ -31,10 +31,9 @@ use Rattle.meaning.specs.Notes.{mapObject}
 use Rattle.roundtrip.specs.Again.{plainFile}
 use Rattle.writer.specs.Told.{Answered}
 use Rattle.writer.specs.declared.Written.{Written}
-use Rattle.window.specs.Summed.{spans}
-use Rattle.rescuing.specs.Sift.{Dropped, kept, dropped, verdicts, sifted}
+use Rattle.rescuing.specs.Sift.{Dropped, kept, dropped, verdicts}
 use Rattle.rescuing.specs.Rescue.{Rescue, done, refused, short, entryWidth, entries, rescue, rescueAnswer, rescueList, rescueOutput, rescueRows}
-use Rattle.rescuing.proofs.RescueAnswers.{roomed, kept-rows}
+use Rattle.rescuing.proofs.RescueAnswers.{kept-rows}
 use Rattle.sieve.specs.declared.Sieve.{Sieve}
 use Rattle.sieve.specs.Sieved.{SieveOf, Sifted}
 use Rattle.sieve.proofs.Sieving.{entries-length, objects-length}
@@ -42,7 +41,6 @@ use Rattle.opening.specs.Opened.{between}
 use Rattle.rescue.specs.Checked.{Ready, Cases, CheckedIs}
 use Rattle.rescue.specs.declared.Verdict.{Verdict}
 use Rattle.rescue.specs.declared.Verdict.the-variants.{No, Yes}
-use Rattle.rescuer.specs.declared.Rescued.{Rescued}
 use Rattle.rescuer.specs.Told.{answer, answered, Enough}
 
 -- ---- which case it was
@@ -143,17 +141,8 @@ module _ {layout : ℕ} {file : List ℕ} {start end first place size k j c long
   abbrev ks : List (Check (Object Ends))
   ks = verdicts (layoutOf layout) start (y .opens .named)
 
-  pub few-kept : k ≤ 1024
-  few-kept = y .few .0
-
   pub few-dropped : j ≤ 1024
   few-dropped = y .few .1
-
-  pub few-components : c ≤ 16384
-  few-components = y .few .2
-
-  pub inside : (first ≤ end) × (end ≤ length file)
-  inside = (y .opens .ordered .1, y .opens .ordered .2)
 
   needs : roomFor m ≡ objectWidth * k + componentWidth * c
   unfolding roomFor
