@@ -12,4 +12,5 @@ void writing(void);
 void finding(void);
 void changes(void);
 void merging(void);
+void rescuing(void);
 #endif

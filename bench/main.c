@@ -14,4 +14,5 @@ int main(void) {
     finding();
     changes();
     merging();
+    rescuing();
 }

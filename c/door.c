@@ -376,6 +376,52 @@ static void two_in_one(void) {
     SAME(zt_merge(ZT_LAYOUT_1_2, out, i, ZT_LAYOUT_1_0, first, FIRST, lent, BOTH, both, length).number, ZT_ACCEPTED);
 }
 
+/* What is sound of the file of layout 1.0, whole and with one tensor refused; and each of the answer's fields. */
+static void what_is_sound(void) {
+    static const uint64_t gone[ZT_DROPPED_WIDTH] = {1, ZT_LENGTH, 2};
+    static uint64_t lent[LAID + 1], list[ZT_DROPPED_WIDTH + 1];
+    static uint8_t sound[4096];
+    zt_rescued r;
+    zt_answer a;
+    uint64_t i, length;
+    SAME(ZT_DROPPED_WIDTH, 3), SAME(ZT_DROPPED_OBJECT, 0), SAME(ZT_DROPPED_NUMBER, 1), SAME(ZT_DROPPED_COMPONENT, 2);
+    lay_first();
+    memset(lent, 0xA5, sizeof lent), memset(list, 0xA5, sizeof list), memset(sound, 0xA5, sizeof sound);
+    r = zt_rescue(ZT_LAYOUT_1_0, first, FIRST, lent, LAID, list, 0, sound, sizeof sound);
+    SAME(r.number, ZT_ACCEPTED), SAME(r.object, 0), SAME(r.component, 0), SAME(r.kept, TENSORS), SAME(r.dropped, 0);
+    a = zt_read_as(ZT_LAYOUT_1_0, first, FIRST, table, LAID);
+    SAME(r.length, zt_write(table, LAID, TENSORS, PIECES, a.place, a.size, first, FIRST, out, sizeof out).length);
+    SAME(memcmp(sound, out, r.length), 0), SAME(sound[r.length], 0xA5);
+    for (i = 0; i < LAID; i++) SAME(lent[i], 0);
+    SAME(lent[LAID], 0xA5A5A5A5A5A5A5A5u), SAME(list[0], 0xA5A5A5A5A5A5A5A5u);
+
+    /* the second tensor is a byte short; the first is kept, with the root's attributes */
+    first[FIRST - 9] = 23;
+    memset(lent, 0xA5, sizeof lent), memset(sound, 0xA5, sizeof sound);
+    r = zt_rescue(ZT_LAYOUT_1_0, first, FIRST, lent, ZT_NUMBERS(1, 1), list, ZT_DROPPED_WIDTH, sound, sizeof sound);
+    SAME(r.number, ZT_ACCEPTED), SAME(r.object, 0), SAME(r.component, 0), SAME(r.kept, 1), SAME(r.dropped, 1);
+    for (i = 0; i < ZT_DROPPED_WIDTH; i++) SAME(list[i], gone[i]);
+    SAME(list[ZT_DROPPED_WIDTH], 0xA5A5A5A5A5A5A5A5u), SAME(sound[r.length], 0xA5);
+    for (i = 0; i < ZT_NUMBERS(1, 1); i++) SAME(lent[i], 0);
+    SAME(lent[ZT_NUMBERS(1, 1)], 0xA5A5A5A5A5A5A5A5u);
+    length = r.length;
+    a = zt_read(sound, length, table, LAID);
+    SAME(a.number, ZT_ACCEPTED), SAME(a.objects, 1), SAME(a.components, 1), SAME(a.size, 4), SAME(sound[table[ZT_OBJECT_NAME]], 'm');
+
+    /* each room one short, with what would have been answered; a file that is refused, with its rows made zeros all the same */
+    list[0] = 7, sound[0] = 7;
+    r = zt_rescue(ZT_LAYOUT_1_0, first, FIRST, lent, ZT_NUMBERS(1, 1) - 1, list, ZT_DROPPED_WIDTH, sound, length);
+    SAME(r.number, ZT_ROOM), SAME(r.object, 0), SAME(r.component, 0), SAME(r.kept, 1), SAME(r.dropped, 1), SAME(r.length, length);
+    r = zt_rescue(ZT_LAYOUT_1_0, first, FIRST, lent, ZT_NUMBERS(1, 1), list, ZT_DROPPED_WIDTH - 1, sound, length);
+    SAME(r.number, ZT_ROOM), SAME(r.dropped, 1), SAME(r.length, length);
+    r = zt_rescue(ZT_LAYOUT_1_0, first, FIRST, lent, ZT_NUMBERS(1, 1), list, ZT_DROPPED_WIDTH, sound, length - 1);
+    SAME(r.number, ZT_ROOM), SAME(r.kept, 1), SAME(r.length, length), SAME(list[0], 7), SAME(sound[0], 7);
+    lent[0] = 7;
+    r = zt_rescue(ZT_LAYOUT_1_2, first, FIRST, lent, LAID, list, ZT_DROPPED_WIDTH, sound, sizeof sound);
+    SAME(r.number, ZT_FOOTER), SAME(r.object, 0), SAME(r.component, 0), SAME(r.kept, 0), SAME(r.dropped, 0), SAME(r.length, 0);
+    SAME(lent[0], 0), SAME(list[0], 7), SAME(sound[0], 7);
+}
+
 int main(void) {
     numbers();
     columns();
@@ -385,5 +431,6 @@ int main(void) {
     two_engines();
     what_changed();
     two_in_one();
+    what_is_sound();
     return wrong;
 }

@@ -1,5 +1,5 @@
 /*
- * How much stack the calls of zt.h take on the files named: each is judged, read, listed, written anew, loaded for two engines, compared with itself, and merged with itself and with no objects, in either layout, in a thread whose stack was
+ * How much stack the calls of zt.h take on the files named: each is judged, read, listed, written anew, loaded for two engines, compared with itself, merged with itself and with no objects, and rescued, in either layout, in a thread whose stack was
  * painted before, and what is no longer paint was used. Prints the deepest use; it must stay within what zt.h says.
  */
 #include "read_file.h"
@@ -10,7 +10,7 @@
 #include <string.h>
 #include <sys/mman.h>
 
-enum { STACK = 1 << 17, ROOM = ZT_TABLE_MOST, TEXT = 1 << 24 };
+enum { STACK = 1 << 17, ROOM = ZT_TABLE_MOST, SMALL = ZT_NUMBERS(64, 64), TEXT = 1 << 24 };
 
 static uint64_t table[ROOM], shared[ZT_SHARED], work[2 * ROOM];
 static uint8_t text[TEXT], out[2 * TEXT];
@@ -57,6 +57,7 @@ static void *judge(void *given) {
         all_of(t->file, a);
         for_engines(layout, t->file);
         in_one(layout, t->file, needed);
+        zt_rescue(layout, t->file.at, t->file.length, table, needed ? needed : SMALL, work, ZT_DROPPED_WIDTH * ZT_OBJECTS_MOST, out, sizeof out);
         zt_diff(layout, t->file.at, t->file.length, layout, t->file.at, t->file.length, work, 2 * needed, table, ROOM);
     }
     return NULL;

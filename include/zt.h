@@ -327,6 +327,26 @@ typedef struct {
 zt_merged zt_merge(uint64_t first_layout, const uint8_t *first, size_t first_length, uint64_t second_layout, const uint8_t *second, size_t second_length,
                    uint64_t *rows, size_t rows_room, uint8_t *out, size_t out_room);
 
+/* Numbers of an entry of zt_rescue's list, and which is which. */
+#define ZT_DROPPED_WIDTH 3
+#define ZT_DROPPED_OBJECT 0
+#define ZT_DROPPED_NUMBER 1
+#define ZT_DROPPED_COMPONENT 2
+
+/* What zt_rescue answers: ZT_ACCEPTED, or ZT_ROOM, with how many objects are kept and dropped and the rescued file's length; or a refusal, with object and component 0, and zeros. */
+typedef struct {
+    uint64_t number, object, component, kept, dropped, length;
+} zt_rescued;
+
+/*
+ * What is sound of a file of a layout, into one of 1.2.0 (document 02, Request 14): the objects that pass their own checks, in order, and the root attributes, as zt_write writes them. Each other
+ * object gets an entry of ZT_DROPPED_WIDTH numbers in the list, in order: its index in the file, and the number and component that zt_read_as would have given had it come first.
+ * Refused are what zt_read_as refuses up to the objects' names, repeats included; then what is kept, with ZT_COUNT (2^40 bytes) or ZT_BIG; last ZT_ROOM, for rows under ZT_NUMBERS of the kept objects and
+ * components (ZT_TABLE_MOST always serve), a list under ZT_DROPPED_WIDTH times the dropped ones, or an output under the file. List and output are untouched on refusal and beyond what is put
+ * there; the whole of the lent rows ends as zeros, whatever the answer. `rows`, `list` and `out` must overlap neither each other nor the file.
+ */
+zt_rescued zt_rescue(uint64_t layout, const uint8_t *file, size_t length, uint64_t *rows, size_t rows_room, uint64_t *list, size_t list_room, uint8_t *out, size_t out_room);
+
 /*
  * Two engines and one table (document 02, Request 11). `shared` holds a table of 65,536 numbers, then eight numbers of state for each engine; zeros at first, and `numbers` is
  * ZT_SHARED. Engine 0's rows stand at the table's beginning, engine 1's at its end, so what is free is one piece, and no call of one engine reads or writes the other's rows or

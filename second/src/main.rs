@@ -1,9 +1,10 @@
-//! `second list PATH…`, `second judge PATH…`, `second generate SEED COUNT DIR`, `second generate-1.0 SEED COUNT DIR`,
+//! `second list PATH…`, `second judge PATH…`, `second explain LAYOUT PATH…`, `second generate SEED COUNT DIR`, `second generate-1.0 SEED COUNT DIR`,
 //! `second cases DIR`, `second table SEED EACH`, `second vectors CRATE`.
 
 use second::antt;
 use second::appendix;
 use second::cases;
+use second::explain::sentence_text;
 use second::generate::nth_file_as;
 use second::layout::Layout;
 use second::listing::{escaped, program_text};
@@ -16,6 +17,7 @@ use std::process::ExitCode;
 
 const USAGE: &str = "usage: second list PATH…
        second judge PATH…
+       second explain LAYOUT PATH…
        second generate SEED COUNT DIR
        second generate-1.0 SEED COUNT DIR
        second cases DIR
@@ -43,6 +45,14 @@ fn run(arguments: &[&str]) -> io::Result<()> {
         }),
         ["judge", paths @ ..] if !paths.is_empty() => {
             for_each(paths, |_, file| format!("{}\n", judgement(Layout::Current, file)).into_bytes())
+        }
+        ["explain", layout, paths @ ..] if !paths.is_empty() => {
+            let layout = number(layout)?;
+            for_each(paths, |path, file| {
+                let mut text = named(path, paths.len() > 1);
+                text.extend(sentence_text(layout, file, u64::MAX));
+                text
+            })
         }
         ["generate", seed, count, directory] => generate(Layout::Current, seed, count, directory),
         ["generate-1.0", seed, count, directory] => generate(Layout::First, seed, count, directory),

@@ -5,6 +5,7 @@ use finding::table::Found;
 use merger::Merged;
 use panel::Listed;
 use reader::into::Answer;
+use rescuer::Rescued;
 use sharing::Held;
 use summary::Panel;
 use view::Extent;
@@ -27,6 +28,8 @@ ghost use Rattle.summary.specs.Panel as panelled;
 ghost use Rattle.comparing.specs.Told as comparison;
 ghost use Rattle.merging.specs.Merge as merging;
 ghost use Rattle.merger.specs.Told as joining;
+ghost use Rattle.rescuing.specs.Rescue as rescuing;
+ghost use Rattle.rescuer.specs.Told as rescued;
 ghost use Rattle.engines.specs.Calls as calls;
 ghost use Rattle.sharing.specs.Told as said;
 ghost use Rattle.writer.specs.Told.{Answered};
@@ -206,6 +209,24 @@ pub extern "C" fn zt_merge(
     ensures cleared { λ r. ⌜ now (rows .exit) ≡ merging.mergeRows (now (rows .entry)) ⌝ }
 {
     merger::merge(one, first, two, second, rows, out)
+}
+
+// What is sound of a file of a layout, into one of 1.2.0, put into a lent output: 0, or ROOM, with how many objects are kept and dropped and the file's length; or a refusal. What is dropped is put into a
+// lent list. The lent rows end as zeros.
+#[no_mangle]
+pub extern "C" fn zt_rescue(
+    layout: u64,
+    file: &[u8],
+    rows: &mut [u64],
+    list: &mut [u64],
+    out: &mut [u8],
+) -> Rescued
+    ensures answer { λ r. ⌜ r ≡ rescued.answered (rescuing.rescue (layoutOf layout) (now (file .entry)) (length (now (rows .entry))) (length (now (list .entry))) (length (now (out .entry)))) ⌝ }
+    ensures listed { λ r. ⌜ now (list .exit) ≡ rescuing.rescueList (now (list .entry)) (rescuing.rescue (layoutOf layout) (now (file .entry)) (length (now (rows .entry))) (length (now (list .entry))) (length (now (out .entry)))) ⌝ }
+    ensures output { λ r. ⌜ now (out .exit) ≡ rescuing.rescueOutput (now (out .entry)) (rescuing.rescue (layoutOf layout) (now (file .entry)) (length (now (rows .entry))) (length (now (list .entry))) (length (now (out .entry)))) ⌝ }
+    ensures cleared { λ r. ⌜ now (rows .exit) ≡ rescuing.rescueRows (now (rows .entry)) ⌝ }
+{
+    rescuer::rescue(layout, file, rows, list, out)
 }
 
 // Two engines and one table, whose numbers and states are lent to every call. A file of a layout, loaded for an engine: INDEX, BUSY, the reader's refusal, ROOM; or what reading answers. The

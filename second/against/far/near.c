@@ -239,3 +239,6 @@ zt_merged zt_merge(uint64_t first_layout, const uint8_t *first, size_t first_len
     STRUCT(zt_merged, zt_merge, NUMBER(first_layout), LENT(first, first_length), NUMBER(second_layout), LENT(second, second_length), WRITTEN(rows, rows_room),
            WRITTEN(out, out_room))
 }
+zt_rescued zt_rescue(uint64_t layout, const uint8_t *file, size_t length, uint64_t *rows, size_t rows_room, uint64_t *list, size_t list_room, uint8_t *out, size_t out_room) {
+    STRUCT(zt_rescued, zt_rescue, NUMBER(layout), LENT(file, length), WRITTEN(rows, rows_room), WRITTEN(list, list_room), WRITTEN(out, out_room))
+}

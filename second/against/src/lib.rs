@@ -290,9 +290,32 @@ pub struct Merged {
     pub length: u64,
 }
 
+/// What rescuing answers: a refusal, or how many objects are kept and dropped, and the rescued file's length.
+#[repr(C)]
+#[derive(Debug, PartialEq, Eq)]
+pub struct Rescued {
+    pub number: u64,
+    pub object: u64,
+    pub component: u64,
+    pub kept: u64,
+    pub dropped: u64,
+    pub length: u64,
+}
+
 /// Declared as `include/zt.h` has them.
 mod zt {
     extern "C" {
+        pub fn zt_rescue(
+            layout: u64,
+            file: *const u8,
+            length: usize,
+            rows: *mut u64,
+            rows_room: usize,
+            list: *mut u64,
+            list_room: usize,
+            out: *mut u8,
+            out_room: usize,
+        ) -> super::Rescued;
         pub fn zt_merge(
             first_layout: u64,
             first: *const u8,
@@ -568,6 +591,24 @@ pub fn merge(one: u64, first: &[u8], two: u64, second: &[u8], rows: &mut [u64], 
             second.len(),
             rows.as_mut_ptr(),
             rows.len(),
+            out.as_mut_ptr(),
+            out.len(),
+        )
+    }
+}
+
+/// What is sound of a file of a layout, into another.
+pub fn rescue(layout: u64, file: &[u8], rows: &mut [u64], list: &mut [u64], out: &mut [u8]) -> Rescued {
+    // SAFETY: each pointer and length are a slice's, and the slices don't overlap.
+    unsafe {
+        zt::zt_rescue(
+            layout,
+            file.as_ptr(),
+            file.len(),
+            rows.as_mut_ptr(),
+            rows.len(),
+            list.as_mut_ptr(),
+            list.len(),
             out.as_mut_ptr(),
             out.len(),
         )
