@@ -1,0 +1,116 @@
+-- What each function answers, from what those that it calls answered.
+use Prim.Native.Nat.{ℕ, _+_, _-_, _*_, _≤_, _<_}
+use native.Mathlib.Omega.{arith}
+use mathlib.Core.List.{List, []}
+use mathlib.Core.Bool.{true, false}
+use mathlib.Core.Option.{none, some}
+use mathlib.Core.Path.{_≡_, refl, sym, ap, _∙_, subst}
+use lib.ListN.{length, take, drop}
+use lib.Dec.{leb}
+use borrow.Author.Tests.{le-leb, lt-leb}
+use borrow.Rule.Slice.PartAt.{part-to-end}
+use Rattle.meaning.specs.Check.{refuse}
+use Rattle.meaning.specs.Refusal.{ROOM}
+use Rattle.meaning.specs.Columns.{objectWidth, componentWidth}
+use Rattle.meaning.specs.Notes.{mapOption}
+use Rattle.meaning.specs.Layouts.{Layout, layoutOf}
+use Rattle.meaning.specs.Frame.{frame}
+use Rattle.meaning.specs.Rows.{optionalSpan}
+use Rattle.cbor.specs.Ending.{FAULT, code, itemEnd}
+use Rattle.fields.proofs.Texts.{Here}
+use Rattle.frame.specs.Told as framing
+use Rattle.frame.specs.declared.Framed.{Framed}
+use Rattle.frame.specs.declared.Framed.the-variants.{No as NoFrame, At}
+use Rattle.table.specs.Spans.{spanOf}
+use Rattle.reader.specs.Verdict as reader
+use Rattle.reader.specs.declared.Told.{Told}
+use Rattle.reader.specs.declared.Told.the-variants.{No, Yes}
+use Rattle.explained.specs.Fields.{Sided}
+use Rattle.explained.specs.Notes.{mapStep}
+use Rattle.explained.specs.Explain as explain
+use Rattle.explained.specs.Explain.{span}
+use Rattle.explained.proofs.Stages.{alone}
+use Rattle.spot.specs.declared.Spot.{Spot}
+use Rattle.entry.specs.declared.Places.{Places}
+use Rattle.entry.specs.Nth.{EntryIs}
+use Rattle.unread.specs.Unread.{Unframed, Unread}
+use Rattle.badroot.specs.Opening.{RootIs, ObjectsAt}
+use Rattle.pointed.specs.Pointed.{Pointed}
+use Rattle.sentence.specs.declared.Explanation.{Explanation}
+use Rattle.explaining.specs.Judged as is
+use Rattle.explaining.proofs.Within as within
+use Rattle.explaining.proofs.Words as words
+use Rattle.explaining.proofs.Reading as reading
+
+module _ (L : Layout) (m : List ℕ) (start end n o c : ℕ) (r : Explanation) where
+  pub of-object : Sided L → (objects from : ℕ) → from ≡ length m - objects → (e : Places) → EntryIs 30 (Here m from) o e → (v : ℕ) → v ≡ length m - e .value
+      → (sp : Spot) (key : ℕ) → is.OwnedIs L (Here m v) start n c sp key → Pointed (Here m 0) end n o c (e .key) key (sp .left) r → is.InsideIs L m start end n o c objects r
+  of-object sided objects from from-is e found v v-is sp key owned point t q reads refused op stand =
+      let b = within.owner L m start t q reads n o c refused op in
+      let y = within.own L m start t q reads n o c refused op in
+      let s = within.value-stands L m start t q reads n o c refused op objects stand from from-is e found v v-is in
+      let x = within.value-read L m start t q reads n o c refused op objects stand from from-is e found v v-is in
+      let w = owned (b .it) (s .rest) (b .ofIt) x (b .refuses) (y .step) (y .is) in
+      let k = within.met-inside L m start t q reads n o c refused op objects stand from from-is e found v v-is key (sp .left) (words.component-word L m t q reads start n o c sided refused) (w .0) (w .1) in
+      let z = within.why L m start t q reads n o c refused in
+      subst (λ u. Pointed u end n o c (e .key) key (sp .left) r) (part-to-end m 0) point (z .this) k ∙ ap (λ f. explain.explanation (mapOption (mapStep (spanOf end)) f) 0) (sym (z .shown))
+
+  module _ (sp : Spot) (root : RootIs L (Here m 0) sp) where
+    pub past-the-root : sp .number ≡ 0 → (objects : ℕ) → ObjectsAt L (Here m 0) objects → is.InsideIs L (Here m 0) start end n o c objects r → is.JudgedIs L m start end n o c r
+    past-the-root z objects stand inside =
+        subst (λ u. is.JudgedIs L u start end n o c r) (part-to-end m 0)
+        (λ t q reads refused. inside t q reads refused (within.past-opening L (Here m 0) start t q reads n o c refused sp (root t q reads) z) stand)
+
+    pub in-the-root : (sp .number ≡ 0 → ⊥) → Pointed (Here m 0) end n o c 0 0 (sp .left) r → is.JudgedIs L m start end n o c r
+    in-the-root nz point =
+        subst (λ u. is.JudgedIs L u start end n o c r) (part-to-end m 0)
+        (λ t q reads refused.
+        let z = within.why L (Here m 0) start t q reads n o c refused in
+        point (z .this) (within.met-opening L (Here m 0) start t q reads n o c refused sp (root t q reads) nz) ∙ ap (λ f. explain.explanation (mapOption (mapStep (spanOf end)) f) 0) (sym (z .shown)))
+
+  module _ (long : length m < FAULT) (e : ℕ) (asked : e ≡ code (itemEnd 32 (Here m 0))) where
+    pub by-its-tree : e ≡ length m → is.JudgedIs L (Here m 0) start end n o c r → is.RefusedIs L m start end n o c r
+    by-its-tree l judged told file f room =
+        let x = reading.filled L m start end long e asked l in
+        subst (λ u. is.JudgedIs L u start end n o c r) (part-to-end m 0) judged (x .tree) [] (x .reads) (reading.tree-refused L m start end long e asked n o c told l)
+        ∙ reading.explained-tree L m start end long e asked n o c told l file f room
+
+    pub by-its-bytes : (e ≡ length m → ⊥) → Unread (Here m 0) end n r → is.RefusedIs L m start end n o c r
+    by-its-bytes ne unread told file f room =
+        reading.explained-stop L m start end long e asked n o c told ne (is.explanation r) (subst (λ u. Unread u end n r) (part-to-end m 0) unread) file f room
+
+module _ (L : Layout) (m : List ℕ) (start end room : ℕ) (x : Told) (asked : (end : ℕ) → reader.ManifestIs L end start (Here m 0) x) where
+  pub no-manifest : (r : Explanation) (n o c : ℕ) → x ≡ No n o c → is.RefusedIs L (Here m 0) start end n o c r → is.ManifestIs L m start end room r
+  no-manifest r n o c e refused =
+      subst (λ u. is.ManifestIs L u start end room r) (part-to-end m 0) (λ file f. refused (subst (reader.ManifestIs L end start (Here m 0)) e (asked end)) file f room)
+
+  module _ (objects components left at : ℕ) (e : x ≡ Yes objects components left at) where
+    accepted : reader.Accepted L end start m objects components left at
+    accepted = subst (λ u. reader.Accepted L end start u objects components left at) (part-to-end m 0) (subst (reader.ManifestIs L end start (Here m 0)) e (asked end))
+
+    pub counted : (objects ≤ 1024) × (components ≤ 16384)
+    counted = (reading.few-objects L m start end objects components left at accepted, reading.few-components L m start end objects components left at accepted)
+
+    pub a-manifest : (r : Explanation) → is.explanation r ≡ is.sound objects components room → is.ManifestIs L m start end room r
+    a-manifest r h file f = h ∙ reading.explained-sound L m start end objects components left at accepted file f room
+
+module _ (objects components room : ℕ) where
+  abbrev needed : ℕ
+  needed = objectWidth * objects + componentWidth * components
+
+  pub too-little : room < needed → explain.explanation (some (alone ROOM (span 0 0))) needed ≡ is.sound objects components room
+  unfolding is.sound
+  too-little l = rw (lt-leb needed room l) refl
+
+  pub enough : needed ≤ room → (x : explain.Explanation) → x ≡ explain.explanation (some (alone 0 (span 0 0))) 0 → x ≡ is.sound objects components room
+  unfolding is.sound explain.explanation optionalSpan
+  enough l x h = h ∙ (rw (le-leb needed room l) refl)
+
+module _ (layout : ℕ) (file : List ℕ) (room : ℕ) (x : Framed) (asked : frame (layoutOf layout) (Here file 0) ≡ framing.told x) (r : Explanation) where
+  pub no-frame : (n : ℕ) → x ≡ NoFrame n → Unframed layout (Here file 0) n r → is.ExplainedIs layout file room r
+  no-frame n e h = subst (λ u. is.ExplainedIs layout u room r) (part-to-end file 0) (h (asked ∙ ap framing.told e) room)
+
+  pub a-frame : (start size : ℕ) → x ≡ At start size → is.ManifestIs (layoutOf layout) (take (start + size - start) (drop start file)) start (start + size) room r → is.ExplainedIs layout file room r
+  a-frame start size e h =
+      let z : start + size - start ≡ size = omega arith in
+      h file (record { size = size; frames = ap (frame (layoutOf layout)) (sym (part-to-end file 0)) ∙ asked ∙ ap framing.told e; ends = refl; is = ap (λ (i : ℕ). take i (drop start file)) z })

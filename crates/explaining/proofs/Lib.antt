@@ -1,0 +1,6 @@
+-- The laws of explaining.
+pub mod Bare
+pub mod Within
+pub mod Words
+pub mod Reading
+pub mod Answers

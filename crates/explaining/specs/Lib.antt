@@ -1,0 +1,2 @@
+-- The definitions that the contracts of explain cite.
+pub mod Judged
