@@ -856,6 +856,91 @@ def try_merges_that_are_refused():
     expect((content("kept.zt"), os.path.exists(os.path.join(WORK, "none-new.zt"))), (b"old", False))
     troubled(b"kept.zt: File too large", "merge", "left.zt", "none.zt", "-o", "kept.zt", preexec_fn=small_files)
     troubled(b"no/where.zt: No such file or directory", "merge", "left.zt", "none.zt", "-o", "no/where.zt")
+
+
+def bad_objects():
+    """Objects, and of each the refusal that it gets, its component, and why, as the sentence has it; none of those that are sound."""
+    part = sample.component
+    return [
+        ("first", sample.thing([3], "dense", [("data", part("f32", 64, 12))]), None),
+        ("bad length", sample.thing([3], "dense", [("more", part("u8", 64, 1)), ("data", part("f32", 64, 8))]), (23, 1, "length rule broken")),
+        ("kept", sample.thing([], "any", [("a", part("u8", 64, 12))], attributes=sample.Pairs([("k", 1)])), None),
+        ("\n\\", sample.thing([3], "dense", [("data", part("f33", 64, 12))]), (16, 0, "not one of the 13 dtypes")),
+        ("", sample.thing([], "any", [("a", part("u8", 64, 12)), ("b", part("u8", 65, 0))]), (19, 1, "offset not a multiple of 64")),
+        ("no", sample.thing([], "any", [("a", part("u8", 64, 12)), ("a", part("u8", 64, 0))]), (11, 0, "a known field or a name repeated")),
+        ("far", sample.thing([], "any", [("a", part("u8", 1 << 20, 12))]), (20, 0, "offset under 64, or offset + length over the manifest start")),
+        ("deep", sample.thing([1] * 9, "any", []), (15, 0, "over 1024 objects, 16 components an object or rank 8")),
+        ("last", sample.thing([], "any", []), None),
+    ]
+
+
+def rescued(path, *words):
+    """Status, and what is said on standard error; rescued.zt has what was kept, as the writer has it."""
+    status, said, trouble = zt("rescue", path, "-o", "rescued.zt", *words)
+    expect(said, b"")
+    if status < 2:
+        expect(done("check", "rescued.zt"), b"rescued.zt: sound\n", path)
+        expect(done("copy", "rescued.zt", "-o", "-"), content("rescued.zt"), path)
+    return status, trouble.decode().splitlines()
+
+
+def dropped_lines(path, things):
+    known = refusals()
+    lines = [f"zt: {path}: dropped object {shown(name)}: {why[0]} {known[why[0]][0]}, component {why[1]}: {why[2]}" for name, _, why in things if why]
+    return lines + [f"zt: {path}: objects kept {len(things) - len(lines)}, dropped {len(lines)}"]
+
+
+def try_rescue():
+    things = bad_objects()
+    put("bad.zt", sample.file([thing[:2] for thing in things], b"twelve bytes", author="unknown", attributes=sample.Pairs([("r", 2)])))
+    put("good.zt", sample.file([thing[:2] for thing in things if not thing[2]], b"twelve bytes", attributes=sample.Pairs([("r", 2)])))
+    expect(rescued("bad.zt"), (1, dropped_lines("bad.zt", things)))
+    expect(described("rescued.zt"), described("good.zt"))
+    expect(zt("rescue", "-", "-o", "-", input=content("bad.zt"))[:2], (1, content("rescued.zt")))
+    expect(rescued("rescued.zt"), (0, []), "a file may take its own place; nothing is dropped twice")
+    # All of them bad: what is left is the file's attributes.
+    put("bad.zt", sample.file([thing[:2] for thing in things if thing[2]], b"twelve bytes"))
+    expect(rescued("bad.zt"), (1, dropped_lines("bad.zt", [thing for thing in things if thing[2]])))
+    expect(told("list", "--json", "rescued.zt")["objects"], [])
+    # As many as there may be, in a map without a length, so that names are found by steps.
+    entries = [(f"o {i}", sample.thing([], "any", [("c", sample.component("u8", 64 + i % 2, 0))])) for i in range(1024)]
+    text = sample.item(sample.Pairs([("version", "1.2.0"), ("objects", sample.Pairs())]))[:-1]
+    text += b"\xbf" + b"".join(sample.item(part) for pair in entries for part in pair) + b"\xff"
+    put("open.zt", sample.MAGIC + bytes(56) + sample.behind(text))
+    why = (19, 0, "offset not a multiple of 64")
+    expect(rescued("open.zt"), (1, dropped_lines("open.zt", [(name, thing, why if i % 2 else None) for i, (name, thing) in enumerate(entries)])))
+
+
+def try_rescue_of_many():
+    """Of sound files everything; of others the first that is dropped is the one that the reader refuses, in the words of the sentence, or nothing is written."""
+    for about, layout in ((files, "1.2.0"), (first_files, "1.0")):
+        left_out = [b"fields unknown"] if layout == "1.0" else []
+        for path in sound_files(10, about):
+            status, lines = rescued(path, "--layout", layout)
+            expect((status, len(lines)), (0, len(left_out)), path)
+            expect(described("rescued.zt"), described(path, "--layout", layout), path)
+        bad = [(path, numbers) for path, numbers in about if numbers[0] >= 8]
+        seen = set()
+        for path, (number, owner, part) in bad[:: max(1, len(bad) // 120)]:
+            sentence = subprocess.run([SECOND, "explain", "1" if layout == "1.0" else "0", path], cwd=WORK, capture_output=True, check=True).stdout.decode().rstrip("\n")
+            status, lines = rescued(path, "--layout", layout)
+            named = re.fullmatch(r"refused (\d+ [A-Z]+): (.*?); object ([!-~]*?)(; component .*)?; bytes .*", sentence)
+            expect((status, lines[0]), (1, f"zt: {path}: dropped object {named[3]}: {named[1]}, component {part}: {named[2]}") if named else (2, lines[0]), path)
+            seen.add((number, status))
+        expect(len([number for number, status in seen if status == 1]) > 8, True, seen)
+
+
+def try_rescues_that_are_refused():
+    put("kept.zt", b"old")
+    put("short.zt", b"ZTEN1000")
+    put("twice.zt", sample.file([("a", sample.thing([], "any", [])), ("a", sample.thing([], "any", []))]))
+    for output in ("kept.zt", "none-new.zt", "-"):
+        troubled(b"short.zt: refused 1 SHORT, object 0, component 0: file under 24 bytes", "rescue", "short.zt", "-o", output)
+        troubled(b"twice.zt: refused 11 TWICE, object 0, component 0: a known field or a name repeated", "rescue", "twice.zt", "-o", output)
+        troubled(b"first.zt: refused 3 FOOTER, object 0, component 0: last 8 wrong" + AS_FIRST, "rescue", "first.zt", "-o", output)
+        troubled(b"no.zt: No such file or directory", "rescue", "no.zt", "-o", output)
+    expect((content("kept.zt"), os.path.exists(os.path.join(WORK, "none-new.zt"))), (b"old", False))
+    troubled(b"kept.zt: File too large", "rescue", "good.zt", "-o", "kept.zt", preexec_fn=small_files)
     expect(content("kept.zt"), b"old")
     nothing_left(WORK)
 
@@ -1124,7 +1209,7 @@ def try_an_interrupted_copy():
 
 def try_usage():
     commands = done("--commands").decode().split()
-    expect(commands, ["check", "list", "show", "map", "panel", "get", "copy", "import", "plan", "diff", "merge"])
+    expect(commands, ["check", "list", "show", "map", "panel", "get", "copy", "import", "plan", "diff", "merge", "rescue"])
     everything = done("--help").decode()
     for command in commands:
         expect(everything.count(f"zt {command} "), 1)
@@ -1142,6 +1227,7 @@ def try_usage():
     troubled(b"x: no layout: there are 1.0 and 1.2.0; zt diff --help says how it is called", "diff", "known.zt", "known.zt", "--second-layout=x")
     troubled(b"diff: an operand is missing; zt diff --help says how it is called", "diff", "known.zt")
     troubled(b"merge: -o NEW is missing; zt merge --help says how it is called", "merge", "known.zt", "known.zt")
+    troubled(b"rescue: -o NEW is missing; zt rescue --help says how it is called", "rescue", "known.zt")
     troubled(b"1.1: no layout: there are 1.0 and 1.2.0; zt list --help says how it is called", "list", "--layout", "1.1", "known.zt")
     troubled(b"--layout: no layout: there are 1.0 and 1.2.0; zt list --help says how it is called", "list", "known.zt", "--layout")
     troubled(b"--layout: no such option; zt copy --help says how it is called", "copy", "known.zt", "--layout", "1.0", "-o", "x")

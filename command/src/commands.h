@@ -14,4 +14,5 @@ int import_file(const arguments *given);
 int plan_file(const arguments *given);
 int diff_files(const arguments *given);
 int merge_files(const arguments *given);
+int rescue_file(const arguments *given);
 #endif

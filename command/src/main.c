@@ -26,6 +26,8 @@ static const command commands[] = {
      TAKES_LAYOUTS, 2, 2, diff_files},
     {"merge", "FIRST SECOND", "the first file's objects, then the second's, written as one file",
      TAKES_OUTPUT | NEEDS_OUTPUT | TAKES_LAYOUTS, 2, 2, merge_files},
+    {"rescue", "BAD", "the sound objects of a file written anew, and a line for each that is dropped",
+     TAKES_OUTPUT | NEEDS_OUTPUT | TAKES_LAYOUT, 1, 1, rescue_file},
 };
 enum { COMMANDS = sizeof commands / sizeof *commands };
 
@@ -37,13 +39,13 @@ static int print_help(void) {
         print_words(&out, "\n");
     }
     print_words(&out, "zt --help, zt COMMAND --help, zt --version\n\n"
-                      "FILE, FIRST, SECOND and PLAN may be - for standard input. --json prints JSON; --escaped takes names as listings print\n"
-                      "them; -o NEW writes a file, which appears whole or not at all, - for standard output; --layout 1.0 reads files of\n"
-                      "older boxes, 1.2.0 those of today, as without it, --first-layout and --second-layout one of two files; --page is the\n"
-                      "bytes of a flash page, --ceiling the byte where components must have ended, 2^40 without it; -- ends options. Names\n"
-                      "and paths are printed with bytes outside 33 to 126, and the backslash, as \\ and two hex digits.\n"
-                      "Status: 0 sound or done, 1 refused, 2 usage, trouble with a file, or no room. 1 is of diff a difference, where a\n"
-                      "refusal is 2.\n");
+                      "FILE, FIRST, SECOND, BAD and PLAN may be - for standard input. --json prints JSON; --escaped takes names as listings\n"
+                      "print them; -o NEW writes a file, which appears whole or not at all, - for standard output; --layout 1.0 reads files\n"
+                      "of older boxes, 1.2.0 those of today, as without it, --first-layout and --second-layout one of two files; --page is\n"
+                      "the bytes of a flash page, --ceiling the byte where components must have ended, 2^40 without it; -- ends options.\n"
+                      "Names and paths are printed with bytes outside 33 to 126, and the backslash, as \\ and two hex digits.\n"
+                      "Status: 0 sound or done, 1 refused, 2 usage, trouble with a file, or no room. 1 is of diff a difference and of rescue\n"
+                      "an object dropped, where a refusal is 2.\n");
     return DONE;
 }
 

@@ -43,6 +43,18 @@ int say_refused(const char *path, fault what) {
     return REFUSED;
 }
 
+const char *why_of(uint64_t number) {
+    switch (number) {
+    case ZT_KIND: return "known value of another kind, or chunked text in a known place";
+    case ZT_KEY: return "a key or name isn't whole text";
+    case ZT_TEXT: return "name, format, type or digest isn't UTF-8";
+    case ZT_COUNT: return "over 1024 objects, 16 components an object or rank 8";
+    case ZT_DTYPE: return "not one of the 13 dtypes";
+    case ZT_ENCODING: return "present and not raw";
+    default: return zt_refusal_words(number);
+    }
+}
+
 void json_verdict(const char *path, fault what) {
     char words[256];
     json_key(1, "", "file");

@@ -16,6 +16,9 @@ void print_refused(stream *to, fault what);
 /* The same of a file, on standard error; answers REFUSED. */
 int say_refused(const char *path, fault what);
 
+/* Why an object is refused, ZT_KIND to ZT_LENGTH, in the words of zt_sentence. */
+const char *why_of(uint64_t number);
+
 /* The first members of every JSON answer about a file: its path, and whether it is sound, else why not. */
 void json_verdict(const char *path, fault what);
 #endif

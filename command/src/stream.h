@@ -4,8 +4,8 @@
 #include <stddef.h>
 #include <stdint.h>
 
-/* The command's exit status: the worst of what happened. What 1 says where files are compared has a name of its own. */
-enum status { DONE = 0, REFUSED = 1, DIFFERENT = 1, TROUBLE = 2 };
+/* The command's exit status: the worst of what happened. What 1 says where files are compared, and where objects are dropped, has names of its own. */
+enum status { DONE = 0, REFUSED = 1, DIFFERENT = 1, DROPPED = 1, TROUBLE = 2 };
 
 typedef struct {
     int descriptor;
