@@ -1,4 +1,4 @@
-/* The table beside the acceptance check, the listing beside the table, and two engines' loading and dropping beside reading and memset. */
+/* The table beside the acceptance check, the listing beside the table, two engines' loading and dropping beside reading and memset, and their listing and views beside those of a table. */
 #include "bench.h"
 #include "inputs.h"
 #include "timing.h"
@@ -53,6 +53,36 @@ static bool dropped(const void *x) {
     return zt_drop(shared, ZT_SHARED, 0) == ZT_ACCEPTED;
 }
 
+/* Of the rows that the engine holds. */
+static bool listed_for_engine(const void *x) {
+    const zt_file *z = x;
+    return zt_engine_list(shared, ZT_SHARED, 0, z->file.bytes, z->file.length, lines, TEXT).number == ZT_ACCEPTED;
+}
+
+/* Every component, one after the other. */
+static bool viewed_for_engine(const void *x) {
+    const zt_file *z = x;
+    uint64_t refused = 0;
+    for (uint64_t i = 0; i < OBJECTS; i++) refused |= zt_engine_view(shared, ZT_SHARED, 0, z->file.bytes, z->file.length, i).number;
+    return refused == 0;
+}
+
+static bool viewed(const void *x) {
+    const zt_file *z = x;
+    uint64_t refused = 0;
+    for (uint64_t i = 0; i < OBJECTS; i++)
+        refused |= zt_view(z->file.bytes, z->file.length, table, ROOM, counts.objects, counts.components, i).number;
+    return refused == 0;
+}
+
+/* As many questions as there are components. */
+static bool held(const void *x) {
+    (void)x;
+    uint64_t components = 0;
+    for (uint64_t i = 0; i < OBJECTS; i++) components += zt_holds(shared, ZT_SHARED, 0).components;
+    return components == (uint64_t)OBJECTS * OBJECTS;
+}
+
 static bool set_to_zeros(const void *x) {
     (void)x;
     memset(zeroed, 0, NUMBERS * sizeof *zeroed);
@@ -62,6 +92,8 @@ static bool set_to_zeros(const void *x) {
 
 static const program load = {"zt_load", loaded}, drop = {"zt_drop", dropped}, clearing = {"memset", set_to_zeros};
 static const program table_read = {"zt_read", filled}, list = {"zt_list", listed};
+static const program engine_list = {"zt_engine_list", listed_for_engine}, engine_view = {"zt_engine_view", viewed_for_engine};
+static const program view = {"zt_view", viewed}, hold = {"zt_holds", held};
 static const program first_read = {"zt_read_as, 1.0", first_filled}, first_check = {"zt_accept_as, 1.0", first_accepted};
 
 static void beside(const char *what, zt_file z) {
@@ -80,6 +112,9 @@ void reading(void) {
     zt_file shared_model = model(OBJECTS, 0);
     compare("a model, loaded for an engine", load, table_read, &shared_model, OBJECTS, shared_model.manifest.length, 1.2);
     memcpy(loaded_state, shared + STATE, sizeof loaded_state);
+    compare("its listing", engine_list, list, &shared_model, OBJECTS, shared_model.manifest.length, 1.2);
+    compare("its components, viewed", engine_view, view, &shared_model, OBJECTS, NUMBERS * sizeof *shared, 3);
+    compare("where its rows stand, asked", hold, view, &shared_model, OBJECTS, NUMBERS * sizeof *shared, 3);
     compare("its rows, dropped", drop, clearing, &shared_model, OBJECTS, NUMBERS * sizeof *shared, 2);
     free(shared_model.file.bytes);
 }
