@@ -1,7 +1,8 @@
 /*
  * Radenvyth's reading and writing of .zt files (zTensor 1.2.0, and 1.0 to be read), for C99 and C++: the acceptance check, the table, the view, the listing,
- * and the writer. Link libzt.a or libzt.so, libraries for x86-64 Linux. examples/firmware and examples/maker are whole programs over it, zt(3) is its manual
- * page; this is the shortest program, which refuses to judge what doesn't fit:
+ * and the writer; findings, account and panel; what changed, merging and rescue; two engines with one table. Link libzt.a or libzt.so, libraries for
+ * x86-64 Linux. examples/firmware and examples/maker are whole programs over it, zt(3) is its manual page; this is the shortest program, which refuses to
+ * judge what doesn't fit:
  *
  *     #include "zt.h"
  *     #include <stdio.h>
@@ -142,9 +143,9 @@ enum zt_dtype {
 
 /*
  * Of every call here: it ends and answers, whatever the bytes, numbers and counts are. Only what is lent is touched: file[0] to file[length - 1], which
- * need no alignment, and a table or text as far as its room. A pointer may be null where its length or room is 0, and must point to that many bytes or
- * numbers else. What is lent to be written must not overlap what is read. No memory is allocated, nothing is kept from one call to the next, and calls may
- * run at the same time, also on the same file.
+ * need no alignment, and a table, text, list, working room or output as far as its room; numbers are aligned as uint64_t asks. A pointer may be null where
+ * its length or room is 0, and must point to that many bytes or numbers else. What is lent to be written must not overlap what is read. No memory is
+ * allocated, nothing is kept from one call to the next, and calls may run at the same time, also on the same file.
  *
  * What is lent must not change during a call, by another thread or process, and the file not between zt_read and the calls that go by its table. A mapped
  * file that someone cuts ends the caller with SIGBUS: lock it, copy it, or have files replaced by rename only, as the command zt does
