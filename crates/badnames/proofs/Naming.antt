@@ -43,7 +43,7 @@ not-words : {C : Type 0} (b : Bool) {w : Word Ends} → cond {A = Kind Ends} b n
 not-words true e = absurd (let z : _≡_ {A = ℕ} 0 1 = cc in omega arith)
 not-words false e = absurd (let z : _≡_ {A = ℕ} 0 1 = cc in omega arith)
 
-word-noted : (t : Node Ends) (w : Word Ends) → kind t ≡ words w → w .note ≡ noteOf t
+pub word-noted : (t : Node Ends) (w : Word Ends) → kind t ≡ words w → w .note ≡ noteOf t
 unfolding kind
 word-noted (uint p n) w e = absurd (let z : _≡_ {A = ℕ} 0 1 = cc in omega arith)
 word-noted (nint p n) w e = absurd (let z : _≡_ {A = ℕ} 0 1 = cc in omega arith)

@@ -22,12 +22,12 @@ use Rattle.explained.specs.Step.{Step, first, given, passes}
 use Rattle.explained.specs.Order.{ofRole, roleSteps, plainSteps, lengthSteps, denseSteps, csrSteps, cooSteps, groupSteps, formatSteps}
 use Rattle.badfields.proofs.Firsts.{Each, no-more, and-so, each-first, each-++, each-found}
 use Rattle.badrules.specs.Blame.{notPlain, there, odd, ofCsr, blames}
-use Rattle.badrules.proofs.Rules.{nameAt}
+use Rattle.badrules.proofs.Rules.{role-within, nameAt}
 
 module _ {P : Type 0} (L : Layout) (shapeNote mapNote : P) (shape : List ℕ) (ns : List (Named P)) (cs : List Part) (this : Step P) where
   -- what is shown: the component of an index role, or the map
   abbrev pub Shows : Bool → Step P → Type 0
-  Shows true x = (x .place ≡ getD (map (λ n. noteOf (n .value)) ns) (x .component) mapNote) × (x .componentName ≡ nameAt L shapeNote mapNote shape ns cs (x .component))
+  Shows true x = (x .place ≡ getD (map (λ n. noteOf (n .value)) ns) (x .component) mapNote) × (x .componentName ≡ nameAt L shapeNote mapNote shape ns cs (x .component)) × (x .component < length cs)
   Shows false x = (x .place ≡ mapNote) × (x .componentName ≡ none)
 
   -- a check that isn't ROLE, or shows the map
@@ -66,10 +66,10 @@ module _ {P : Type 0} (L : Layout) (shapeNote mapNote : P) (shape : List ℕ) (n
     missing x h e = let y : x ≡ this = cc in subst (Shows false) y h
 
     -- an index role, then what follows
-    index : (i : Role) (rest : List (Step P)) (b : Bool) → (plain (i .part) ≡ true → first rest ≡ some this → Shows b this)
+    index : (i : Role) → i .index < length cs → (rest : List (Step P)) (b : Bool) → (plain (i .part) ≡ true → first rest ≡ some this → Shows b this)
         → first (plainSteps L shapeNote mapNote shape ns cs i ++ rest) ≡ some this → Shows (cond (not (plain (i .part))) true b) this
     unfolding plainSteps ofRole
-    index i rest b h e = go (plain (i .part)) refl e
+    index i inside rest b h e = go (plain (i .part)) refl e
       where
         go : (p : Bool) → plain (i .part) ≡ p → cond p (first rest) (some (steps.inComponent (i .index) (nameAt L shapeNote mapNote shape ns cs (i .index))
             (record { number = 22; object = 0; component = 0; objectName = none; componentName = none; place = getD (map (λ n. noteOf (n .value)) ns) (i .index) mapNote; right = plain (i .part) }))) ≡ some this
@@ -77,44 +77,48 @@ module _ {P : Type 0} (L : Layout) (shapeNote mapNote : P) (shape : List ℕ) (n
         go true k f = h k f
         go false k f = let y : steps.inComponent (i .index) (nameAt L shapeNote mapNote shape ns cs (i .index))
             (record { number = 22; object = 0; component = 0; objectName = none; componentName = none; place = getD (map (λ n. noteOf (n .value)) ns) (i .index) mapNote; right = plain (i .part) }) ≡ this = cc in
-            subst (Shows true) y (refl, refl)
+            subst (Shows true) y (refl, refl, inside)
 
     -- a role: missing, or what follows with it
     abbrev asked : Check Role → (Role → List (Step P)) → List (Step P)
     asked c rest = steps._at_unless_ 22 mapNote (passes c) ++ steps._>>=_ (given c) rest
 
+    -- a role's component is one of them
+    abbrev Inside : Check Role → Type 0
+    Inside c = (r : Role) → c ≡ pass r → r .index < length cs
+
     both : (b : Bool) → cond (not b) true false ≡ not b
     both true = refl
     both false = refl
 
-    of-csr : (rank : Bool) (v i p : Check Role) (rest : Role → Role → Role → List (Step P)) → ((a b c : Role) → Each Length (rest a b c))
+    of-csr : (rank : Bool) (v i p : Check Role) → Inside i → Inside p → (rest : Role → Role → Role → List (Step P)) → ((a b c : Role) → Each Length (rest a b c))
         → first (steps._at_unless_ 21 shapeNote rank ++ asked v (λ a. asked i (λ b. plainSteps L shapeNote mapNote shape ns cs b
         ++ asked p (λ c. plainSteps L shapeNote mapNote shape ns cs c ++ rest a b c)))) ≡ some this
         → Shows (cond (passes v) (cond (notPlain i) true (cond (passes i) (notPlain p) false)) false) this
-    of-csr false v i p rest h e = other (cond (passes v) (cond (notPlain i) true (cond (passes i) (notPlain p) false)) false) _ (λ z. omega (arith, z)) e
-    of-csr true (refuse n o c) i p rest h e = missing _ (refl, refl) e
-    of-csr true (pass a) (refuse n o c) p rest h e = missing _ (refl, refl) e
-    of-csr true (pass a) (pass b) p rest h e = index b _ (cond true (notPlain p) false) (λ _ f. last p f) e
+    of-csr false v i p hi hp rest h e = other (cond (passes v) (cond (notPlain i) true (cond (passes i) (notPlain p) false)) false) _ (λ z. omega (arith, z)) e
+    of-csr true (refuse n o c) i p hi hp rest h e = missing _ (refl, refl) e
+    of-csr true (pass a) (refuse n o c) p hi hp rest h e = missing _ (refl, refl) e
+    of-csr true (pass a) (pass b) p hi hp rest h e = index b (hi b refl) _ (cond true (notPlain p) false) (λ _ f. last p hp f) e
       where
-        last : (p : Check Role) → first (asked p (λ c. plainSteps L shapeNote mapNote shape ns cs c ++ rest a b c)) ≡ some this → Shows (notPlain p) this
-        last (refuse n o c) f = missing _ (refl, refl) f
-        last (pass c) f = subst (λ i. Shows i this) (both (plain (c .part))) (index c (rest a b c) false (λ _ g. no-length false (rest a b c) (h a b c) g) f)
+        last : (p : Check Role) → Inside p → first (asked p (λ c. plainSteps L shapeNote mapNote shape ns cs c ++ rest a b c)) ≡ some this → Shows (notPlain p) this
+        last (refuse n o c) k f = missing _ (refl, refl) f
+        last (pass c) k f = subst (λ i. Shows i this) (both (plain (c .part))) (index c (k c refl) (rest a b c) false (λ _ g. no-length false (rest a b c) (h a b c) g) f)
 
-    of-coo : (v i : Check Role) (rest : Role → Role → List (Step P)) → ((a b : Role) → Each Length (rest a b))
+    of-coo : (v i : Check Role) → Inside i → (rest : Role → Role → List (Step P)) → ((a b : Role) → Each Length (rest a b))
         → first (asked v (λ a. asked i (λ b. plainSteps L shapeNote mapNote shape ns cs b ++ rest a b))) ≡ some this → Shows (cond (passes v) (notPlain i) false) this
-    of-coo (refuse n o c) i rest h e = missing _ (refl, refl) e
-    of-coo (pass a) (refuse n o c) rest h e = missing _ (refl, refl) e
-    of-coo (pass a) (pass b) rest h e = subst (λ i. Shows i this) (both (plain (b .part))) (index b (rest a b) false (λ _ g. no-length false (rest a b) (h a b) g) e)
+    of-coo (refuse n o c) i hi rest h e = missing _ (refl, refl) e
+    of-coo (pass a) (refuse n o c) hi rest h e = missing _ (refl, refl) e
+    of-coo (pass a) (pass b) hi rest h e = subst (λ i. Shows i this) (both (plain (b .part))) (index b (hi b refl) (rest a b) false (λ _ g. no-length false (rest a b) (h a b) g) e)
 
     csr-shows : first (csrSteps L shapeNote mapNote shape ns cs) ≡ some this
         → Shows (cond (passes (role (ascii "values") 0 cs)) (cond (notPlain (role (ascii "indices") 0 cs)) true (cond (passes (role (ascii "indices") 0 cs)) (notPlain (role (ascii "indptr") 0 cs)) false)) false) this
     unfolding csrSteps roleSteps
-    csr-shows e = of-csr (eqb (length shape) 2) (role (ascii "values") 0 cs) (role (ascii "indices") 0 cs) (role (ascii "indptr") 0 cs) _
+    csr-shows e = of-csr (eqb (length shape) 2) (role (ascii "values") 0 cs) (role (ascii "indices") 0 cs) (role (ascii "indptr") 0 cs) (role-within (ascii "indices") cs) (role-within (ascii "indptr") cs) _
         (λ values indices indptr. each-++ (lengths values _) (each-found (given (whole values)) _ λ n. each-++ (lengths indices _) (lengths indptr _))) e
 
     coo-shows : first (cooSteps L shapeNote mapNote shape ns cs) ≡ some this → Shows (cond (passes (role (ascii "values") 0 cs)) (notPlain (role (ascii "coords") 0 cs)) false) this
     unfolding cooSteps roleSteps
-    coo-shows e = of-coo (role (ascii "values") 0 cs) (role (ascii "coords") 0 cs) _ (λ values coords. each-++ (lengths values _) (each-found (given (whole values)) _ λ n. lengths coords _)) e
+    coo-shows e = of-coo (role (ascii "values") 0 cs) (role (ascii "coords") 0 cs) (role-within (ascii "coords") cs) _ (λ values coords. each-++ (lengths values _) (each-found (given (whole values)) _ λ n. lengths coords _)) e
 
     dense-shows : first (denseSteps L shapeNote mapNote shape ns cs) ≡ some this → Shows false this
     unfolding denseSteps

@@ -1,0 +1,2 @@
+-- The definitions that the contracts of badobject cite.
+pub mod Owner

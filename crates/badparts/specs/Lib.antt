@@ -1,0 +1,2 @@
+-- The definitions that the contracts of badparts cite.
+pub mod Parts
