@@ -1,0 +1,2 @@
+-- The laws of explain.
+pub mod Owning

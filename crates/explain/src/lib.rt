@@ -1,0 +1,106 @@
+// Why a file was refused (document 02, Request 08): a second walk over it, to the first check of document 01's order that breaks.
+use fields::place_of;
+use frame::Framed;
+use pointed::pointed;
+use reader::Told;
+use sentence::Explanation;
+use unread::alone;
+ghost use mathlib.Core.Path.{_≡_};
+ghost use Prim.Native.Nat.{_≤_, _<_};
+ghost use lib.ListN.{length};
+ghost use Rattle.meaning.specs.Layouts.{layoutOf};
+ghost use Rattle.explaining.specs.Judged as is;
+
+// The levels that a manifest has, and that the names and the values of its objects have.
+const LEVELS: u64 = 32;
+
+const OBJECTS: u64 = 30;
+
+// An object of the manifest m, the one with the index o, that is refused with the number n for its component c. The objects stand where `objects` bytes are left.
+fn inside(
+    layout: u64,
+    m: &[u8],
+    start: u64,
+    end: usize,
+    n: u64,
+    o: u64,
+    c: u64,
+    objects: usize,
+) -> Explanation
+    ensures { λ r. ⌜ is.InsideIs (layoutOf layout) (now (m .entry)) start end n o c objects r ⌝ }
+{
+    let from = place_of(m.len(), objects);
+    let e = entry::entry(&m[from..], OBJECTS, o as usize);
+    let v = place_of(m.len(), e.value);
+    let w = badobject::object(layout, &m[v..], start, n, c as usize);
+    pointed(&m[0..], end, n, o, c, e.key, w.key, w.spot.left)
+}
+
+// The manifest m, which begins at `start` and ends at `end`: what it says is refused with the number n, for the object o and the component c.
+fn judged(layout: u64, m: &[u8], start: u64, end: usize, n: u64, o: u64, c: u64) -> Explanation
+    ensures { λ r. ⌜ is.JudgedIs (layoutOf layout) (now (m .entry)) start end n o c r ⌝ }
+{
+    let r = badroot::root(layout, &m[0..]);
+    let spot = r.spot;
+    if spot.number == 0 {
+        return inside(layout, &m[0..], start, end, n, o, c, r.objects);
+    }
+    pointed(&m[0..], end, n, o, c, 0, 0, spot.left)
+}
+
+// A manifest that is refused: as it is read, or for what it says.
+fn refused(layout: u64, m: &[u8], start: u64, end: usize, n: u64, o: u64, c: u64) -> Explanation
+    ensures { λ r. ⌜ is.RefusedIs (layoutOf layout) (now (m .entry)) start end n o c r ⌝ }
+{
+    let e = cbor::skip(&m[0..], LEVELS);
+    if e == m.len() {
+        return judged(layout, &m[0..], start, end, n, o, c);
+    }
+    unread::unread(n, &m[0..], end)
+}
+
+// A file that is sound, with so many objects and components, to a table of `room` numbers.
+fn sound(objects: usize, components: usize, room: u64) -> Explanation
+    requires { ⌜ (objects ≤ 1024) × (components ≤ 16384) ⌝ }
+    ensures { λ r. ⌜ is.explanation r ≡ is.sound objects components room ⌝ }
+{
+    let needed = (columns::OBJECT * objects + columns::COMPONENT * components) as u64;
+    if room < needed {
+        return Explanation {
+            number: 24,
+            object: 0,
+            component: 0,
+            objectname: 0,
+            objectsize: 0,
+            componentname: 0,
+            componentsize: 0,
+            place: 0,
+            length: 0,
+            room: needed,
+        };
+    }
+    alone(0, 0, 0)
+}
+
+// The manifest m, which begins at `start` and ends at `end`.
+fn manifest(layout: u64, m: &[u8], start: u64, end: usize, room: u64) -> Explanation
+    ensures { λ r. ⌜ is.ManifestIs (layoutOf layout) (now (m .entry)) start end room r ⌝ }
+{
+    match reader::manifest(layout, &m[0..], start) {
+        Told::No(n, o, c) => refused(layout, &m[0..], start, end, n, o, c),
+        Told::Yes(objects, components, _, _) => sound(objects, components, room),
+    }
+}
+
+// A file of this layout, to a table of `room` numbers, none of which is lent.
+pub fn explain(layout: u64, file: &[u8], room: u64) -> Explanation
+    ensures { λ r. ⌜ is.ExplainedIs layout (now (file .entry)) room r ⌝ }
+{
+    match frame::frame(layout, &file[0..]) {
+        Framed::No(n) => unread::framed(layout, n, &file[0..]),
+        Framed::At(start, size) => {
+            let end = start + size;
+            manifest(layout, &file[start..end], start as u64, end, room)
+        }
+    }
+}
