@@ -1,7 +1,7 @@
 #!/usr/bin/env python3
-"""Request 08's code that isn't proved yet, held against the second program: the contracts are left out, and what is left is compiled as Rust for this machine.
+"""Request 08's explainer, held against the second program before it has a call for C: the contracts are left out, and what is left is compiled as Rust for this machine.
 
-  wip/08-try.py FILES      from the repository's root, with wip/08-explain.patch applied: FILES generated files of each layout, sound and damaged, each for two rooms, numbers and sentence
+  wip/08-try.py FILES      from the repository's root: FILES generated files of each layout, sound and damaged, each for two rooms, numbers and sentence
 """
 import os
 import re
@@ -9,11 +9,7 @@ import subprocess
 import sys
 
 OUT = "target/08-try"
-LAWS = {"meaning", "cases", "explained", "readback"}
-NAMED = {
-    "spots": "cbor walk fields text names naming component components object lengths entry keys",
-    "explain": "fields frame reader sentence spots stop entry table cbor walk columns",
-}
+LAWS = {"meaning", "cases", "explained", "readback", "met", "indexed", "explaining"}
 TEST = """
 use second::generate::Generator;
 use second::layout::Layout;
@@ -61,7 +57,6 @@ def crates():
         if ":" in line and not line.startswith("#"):
             name, named = line.strip().split(":")
             deps[name] = named.split()
-    deps.update({name: named.split() for name, named in NAMED.items()})
     return {name: [d for d in named if d in deps and d not in LAWS] for name, named in deps.items() if name not in LAWS}
 
 
