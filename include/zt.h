@@ -348,6 +348,26 @@ typedef struct {
  */
 zt_rescued zt_rescue(uint64_t layout, const uint8_t *file, size_t length, uint64_t *rows, size_t rows_room, uint64_t *list, size_t list_room, uint8_t *out, size_t out_room);
 
+/* What zt_explain answers; see there. */
+typedef struct {
+    uint64_t number, object, component;
+    uint64_t object_name, object_name_length, component_name, component_name_length; /* the text's bytes, as in rows; 0 and 0 if not given */
+    uint64_t place, length;                                                          /* the span at fault */
+    uint64_t room;                                                                   /* with ZT_ROOM: numbers needed */
+} zt_explanation;
+
+/*
+ * Why a file of a layout is refused (document 02, Request 08): zt_read_as's number, object and component for a table of `room` numbers, none of which is lent; the names that they belong to; and the bytes at
+ * fault, from the file's start, of a value or key the whole item. All 0 for a file that is accepted with room enough.
+ */
+zt_explanation zt_explain(uint64_t layout, const uint8_t *file, size_t length, uint64_t room);
+
+/*
+ * The same as one line of text: `refused N WORD: WHY`, the object's and the component's names as zt_list shows them, the bytes at fault or the numbers needed, and a newline; `accepted` and a newline for a file
+ * that is accepted with room enough. 0 and the line's length, also for a file that is refused; ZT_ROOM, 0 and an untouched text where it doesn't fit. Bytes beyond the line stay.
+ */
+zt_text zt_sentence(uint64_t layout, const uint8_t *file, size_t length, uint64_t room, uint8_t *text, size_t text_room);
+
 /*
  * Two engines and one table (document 02, Request 11). `shared` holds a table of 65,536 numbers, then eight numbers of state for each engine; zeros at first, and `numbers` is
  * ZT_SHARED. Engine 0's rows stand at the table's beginning, engine 1's at its end, so what is free is one piece, and no call of one engine reads or writes the other's rows or

@@ -1,6 +1,7 @@
 // Why a file was refused (document 02, Request 08): a second walk over it, to the first check of document 01's order that breaks.
 use fields::place_of;
 use frame::Framed;
+use panel::Listed;
 use pointed::pointed;
 use reader::Told;
 use sentence::Explanation;
@@ -8,7 +9,10 @@ use unread::alone;
 ghost use mathlib.Core.Path.{_≡_};
 ghost use Prim.Native.Nat.{_≤_, _<_};
 ghost use lib.ListN.{length};
+ghost use Rattle.meaning.specs.Check.{pass};
 ghost use Rattle.meaning.specs.Layouts.{layoutOf};
+ghost use Rattle.panel.specs.Told.{told, textAfter};
+ghost use Rattle.explained.specs.Sentence.{sentence};
 ghost use Rattle.explaining.specs.Judged as is;
 
 // The levels that a manifest has, and that the names and the values of its objects have.
@@ -103,4 +107,13 @@ pub fn explain(layout: u64, file: &[u8], room: u64) -> Explanation
             manifest(layout, &file[start..end], start as u64, end, room)
         }
     }
+}
+
+// The same as a sentence, one line put into a lent text.
+pub fn say(layout: u64, file: &[u8], room: u64, text: &mut [u8]) -> Listed
+    ensures answer { λ r. ⌜ r ≡ told (pass (sentence (layoutOf layout) (now (file .entry)) room)) (length (now (text .entry))) ⌝ }
+    ensures written { λ r. ⌜ now (text .exit) ≡ textAfter (pass (sentence (layoutOf layout) (now (file .entry)) room)) (now (text .entry)) ⌝ }
+{
+    let e = explain(layout, &file[0..], room);
+    sentence::say(layout, file, e, text)
 }

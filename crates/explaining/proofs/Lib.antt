@@ -4,3 +4,5 @@ pub mod Within
 pub mod Words
 pub mod Reading
 pub mod Answers
+pub mod Inside
+pub mod Saying

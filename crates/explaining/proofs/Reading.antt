@@ -69,7 +69,7 @@ module _ (L : Layout) (m : List ℕ) (start end : ℕ) where
     unfolding root
     root-is = ap (λ (i : ℕ). manifest (spanTo i) (take (f .size) (drop start file))) (f .ends) ∙ ap (manifest (spanTo end)) (sym (f .is))
 
-    reading-is : reading L file ≡ manifestReading L end start m
+    pub reading-is : reading L file ≡ manifestReading L end start m
     unfolding reading
     reading-is =
         (rw (f .frames) refl)
@@ -126,11 +126,11 @@ module _ (L : Layout) (m : List ℕ) (start end : ℕ) where
             ∙ ap (λ s. explain.explanation s 0) (first-steps-map spans L start tree))
 
       -- it doesn't: the reading stops
-      record Stopped : Type 0 where
+      pub record Stopped : Type 0 where
         pub left : List ℕ
         pub is : manifest (spanTo end) m ≡ refused n left
 
-      stopped : (e ≡ length m → ⊥) → Stopped
+      pub stopped : (e ≡ length m → ⊥) → Stopped
       unfolding checked closed
       stopped ne = go (item ends 32 m) refl
         where
@@ -145,14 +145,17 @@ module _ (L : Layout) (m : List ℕ) (start end : ℕ) where
           go (got t (b ∷ r)) h = number-is CBOR (b ∷ r) (read-so (got t (b ∷ r)) h)
           go (refused k q) h = number-is k q (read-so (refused k q) h)
 
+      pub explained-head : (ne : e ≡ length m → ⊥) (file : List ℕ) → Framed L file m start end → (room : ℕ)
+          → explain.explain L file room ≡ explain.explanation (some (alone n (headSpan end (stopped ne .left)))) 0
+      explained-head ne file f room =
+          let s = stopped ne in
+          stages.unread L file room (at file f) (f .frames) n (s .left) (root-is file f ∙ s .is)
+          ∙ ap (λ (i : ℕ). explain.explanation (some (alone n (headSpan i (s .left)))) 0) (f .ends)
+
       pub explained-stop : (e ≡ length m → ⊥) → (x : explain.Explanation)
           → ((q : List ℕ) → manifest (spanTo end) m ≡ refused n q → x ≡ explain.explanation (some (alone n (headSpan end q))) 0)
           → (file : List ℕ) → Framed L file m start end → (room : ℕ) → x ≡ explain.explain L file room
-      explained-stop ne x h file f room =
-          let s = stopped ne in
-          h (s .left) (s .is)
-          ∙ ap (λ (i : ℕ). explain.explanation (some (alone n (headSpan i (s .left)))) 0) (sym (f .ends))
-          ∙ sym (stages.unread L file room (at file f) (f .frames) n (s .left) (root-is file f ∙ s .is))
+      explained-stop ne x h file f room = let s = stopped ne in h (s .left) (s .is) ∙ sym (explained-head ne file f room)
 
   -- it is accepted
   module _ (objects components left place : ℕ) (a : Accepted L end start m objects components left place) where

@@ -1,5 +1,5 @@
 -- A file that its frame refuses: the check that breaks, and the bytes that are shown.
-use Prim.Native.Nat.{ℕ, _+_, _-_}
+use Prim.Native.Nat.{ℕ, _+_, _-_, _≤_}
 use native.Mathlib.Omega.{arith}
 use mathlib.Core.List.{List, [], _++_}
 use mathlib.Core.Bool.{Bool, true, false, cond, _&&_}
@@ -7,7 +7,7 @@ use mathlib.Core.Option.{Option, some}
 use mathlib.Core.Path.{_≡_, refl, sym, ap, _∙_}
 use lib.ListN.{length, take, drop}
 use lib.Dec.{eqb, leb}
-use borrow.Author.Tests.{ne-eqb}
+use borrow.Author.Tests.{ne-eqb, leb-true}
 use Rattle.meaning.specs.Check.{Check, pass, refuse, fault, _>>_, _unless_}
 use Rattle.meaning.specs.Text.{same}
 use Rattle.meaning.specs.Refusal.{SHORT, HEADER, FOOTER, BIG, FIT}
@@ -16,7 +16,7 @@ use Rattle.meaning.specs.Read.{Span}
 use Rattle.meaning.specs.Layouts.{Layout, magic, current, old, layoutOf}
 use Rattle.meaning.specs.Frame.{Frame, frame, little}
 use Rattle.meaning.proofs.WhichLayout.{by-layout, is-old}
-use Rattle.frame.proofs.Frames.{old-footed}
+use Rattle.frame.proofs.Frames.{old-footed, size-back}
 use Rattle.explained.specs.Step.{Step, first, _at_unless_}
 use Rattle.explained.specs.Explain.{span, frameSteps, explain, explanation}
 use Rattle.explained.proofs.Stages.{alone, unframed}
@@ -32,7 +32,7 @@ module _ (layout : ℕ) (file : List ℕ) where
   size = little (take 8 (drop (n - L .sizeBack) file))
 
   -- what is shown for the number of a check
-  unfoldable shownFor : ℕ → Span
+  unfoldable pub shownFor : ℕ → Span
   shownFor k = cond (eqb k SHORT) (span 0 n) (cond (eqb k HEADER) (span 0 8) (cond (eqb k FOOTER) (span (n - 8) 8) (span (n - L .sizeBack) 8)))
 
   -- a footer that is wrong is one of eight bytes
@@ -46,23 +46,52 @@ module _ (layout : ℕ) (file : List ℕ) where
   abbrev here : Frame
   here = record { start = n - L .sizeBack - size; size = size }
 
-  broken : (k : ℕ) → frame L file ≡ fault k → first (frameSteps L file) ≡ some (alone k (shownFor k))
+  -- the layouts' numbers: eight bytes of size, and a footer no longer than what follows the manifest
+  backs : (8 ≤ L .sizeBack) × (length (L .footer) ≤ L .sizeBack)
+  unfolding old current magic
+  backs = by-layout (λ i K. (8 ≤ K .sizeBack) × (length (K .footer) ≤ K .sizeBack)) layout (λ e. (omega arith, omega arith)) (λ e. (omega arith, omega arith))
+
+  -- the frame's checks, one after the other: the first that breaks and what is shown for it, which lies inside the file; or a manifest inside it
+  pub data Fate (x : Check Frame) (f : Option (Step Span)) : Type 0 where
+    refuses : (k : ℕ) → x ≡ fault k → f ≡ some (alone k (shownFor k)) → shownFor k .place + shownFor k .size ≤ n → Fate x f
+    passes : (m : Frame) → x ≡ pass m → L .least ≤ n → m .size ≤ manifestLimit → m .start + m .size ≤ n → Fate x f
+
+  pub fate : Fate (frame L file) (first (frameSteps L file))
   unfolding frame frameSteps shownFor
-  broken k e = go (leb (L .least) n) (same magic (take 8 file)) (same (L .footer) (drop (n - length (L .footer)) file)) refl (leb size manifestLimit) (leb 1 size && leb size (n - L .least)) e
+  fate =
+      go (leb (L .least) n) refl (same magic (take 8 file)) (same (L .footer) (drop (n - length (L .footer)) file)) refl (leb size manifestLimit) refl (leb 1 size) (leb size (n - L .least)) refl
     where
-      go : (x₁ x₂ x₃ : Bool) → same (L .footer) (drop (n - length (L .footer)) file) ≡ x₃ → (x₄ x₅ : Bool)
-          → ((SHORT unless x₁) >> ((HEADER unless x₂) >> ((FOOTER unless x₃) >> ((BIG unless x₄) >> ((FIT unless x₅) >> pass here))))) ≡ fault k
-          → first ((SHORT at span 0 n unless x₁) ++ ((HEADER at span 0 8 unless x₂) ++ ((FOOTER at span (n - length (L .footer)) (length (L .footer)) unless x₃)
-          ++ ((BIG at span (n - L .sizeBack) 8 unless x₄) ++ (FIT at span (n - L .sizeBack) 8 unless x₅))))) ≡ some (alone k (shownFor k))
-      go false x₂ x₃ c x₄ x₅ e = let z : SHORT ≡ k = cc in rw (← z) refl
-      go true false x₃ c x₄ x₅ e = let z : HEADER ≡ k = cc in rw (← z) refl
-      go true true false c x₄ x₅ e = let z : FOOTER ≡ k = cc in rw (← z, footed c) refl
-      go true true true c false x₅ e = let z : BIG ≡ k = cc in rw (← z) refl
-      go true true true c true false e = let z : FIT ≡ k = cc in rw (← z) refl
-      go true true true c true true e = absurd (let z : _≡_ {A = ℕ} 0 1 = cc in omega arith)
+      go : (x₁ : Bool) → leb (L .least) n ≡ x₁ → (x₂ x₃ : Bool) → same (L .footer) (drop (n - length (L .footer)) file) ≡ x₃ → (x₄ : Bool) → leb size manifestLimit ≡ x₄
+          → (x₅ x₆ : Bool) → leb size (n - L .least) ≡ x₆
+          → Fate ((SHORT unless x₁) >> ((HEADER unless x₂) >> ((FOOTER unless x₃) >> ((BIG unless x₄) >> ((FIT unless (x₅ && x₆)) >> pass here)))))
+          (first ((SHORT at span 0 n unless x₁) ++ ((HEADER at span 0 8 unless x₂) ++ ((FOOTER at span (n - length (L .footer)) (length (L .footer)) unless x₃)
+          ++ ((BIG at span (n - L .sizeBack) 8 unless x₄) ++ (FIT at span (n - L .sizeBack) 8 unless (x₅ && x₆)))))))
+      go false a x₂ x₃ c x₄ d x₅ x₆ b = refuses SHORT refl refl (omega arith)
+      go true a false x₃ c x₄ d x₅ x₆ b = let l : L .least ≤ n = leb-true _ _ a in let z = size-back layout in refuses HEADER refl refl (omega (arith, l, z))
+      go true a true false c x₄ d x₅ x₆ b =
+          let l : L .least ≤ n = leb-true _ _ a in
+          let z = size-back layout in
+          let y = backs .1 in
+          let e = footed c in
+          refuses FOOTER refl (rw e refl) (omega (arith, l, z, y, e))
+      go true a true true c false d x₅ x₆ b = let l : L .least ≤ n = leb-true _ _ a in let z = size-back layout in let y = backs .0 in refuses BIG refl refl (omega (arith, l, z, y))
+      go true a true true c true d false x₆ b = let l : L .least ≤ n = leb-true _ _ a in let z = size-back layout in let y = backs .0 in refuses FIT refl refl (omega (arith, l, z, y))
+      go true a true true c true d true false b = let l : L .least ≤ n = leb-true _ _ a in let z = size-back layout in let y = backs .0 in refuses FIT refl refl (omega (arith, l, z, y))
+      go true a true true c true d true true b =
+          let l : L .least ≤ n = leb-true _ _ a in
+          let y : size ≤ n - L .least = leb-true _ _ b in
+          let z = size-back layout in
+          passes here refl l (leb-true _ _ d) (omega (arith, l, y, z))
+
+  broken : (k : ℕ) → frame L file ≡ fault k → first (frameSteps L file) ≡ some (alone k (shownFor k))
+  broken k e = go fate
+    where
+      go : Fate (frame L file) (first (frameSteps L file)) → first (frameSteps L file) ≡ some (alone k (shownFor k))
+      go (refuses j h f w) = let g : fault {A = Frame} j ≡ fault k = sym h ∙ e in let z : j ≡ k = cc in f ∙ ap (λ (i : ℕ). some (alone i (shownFor i))) z
+      go (passes m h l few w) = absurd (let g : pass m ≡ fault k = sym h ∙ e in let z : _≡_ {A = ℕ} 0 1 = cc in omega arith)
 
   module _ (k : ℕ) where
-    refused-with : frame L file ≡ fault k → (room : ℕ) → explain L file room ≡ explanation (some (alone k (shownFor k))) 0
+    pub refused-with : frame L file ≡ fault k → (room : ℕ) → explain L file room ≡ explanation (some (alone k (shownFor k))) 0
     refused-with e room = unframed L file room k e ∙ ap (λ s. explanation s 0) (broken k e)
 
     -- by the tests of the number

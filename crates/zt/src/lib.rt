@@ -6,12 +6,14 @@ use merger::Merged;
 use panel::Listed;
 use reader::into::Answer;
 use rescuer::Rescued;
+use sentence::Explanation;
 use sharing::Held;
 use summary::Panel;
 use view::Extent;
 use writer::Written;
 ghost use mathlib.Core.Path.{_≡_};
 ghost use lib.ListN.{length, replicate};
+ghost use Rattle.meaning.specs.Check.{pass};
 ghost use Rattle.meaning.specs.Frame.{reading};
 ghost use Rattle.meaning.specs.Rows.{readInto, tableAfter};
 ghost use Rattle.meaning.specs.View.{viewed};
@@ -30,6 +32,9 @@ ghost use Rattle.merging.specs.Merge as merging;
 ghost use Rattle.merger.specs.Told as joining;
 ghost use Rattle.rescuing.specs.Rescue as rescuing;
 ghost use Rattle.rescuer.specs.Told as rescued;
+ghost use Rattle.explained.specs.Explain as why;
+ghost use Rattle.explained.specs.Sentence as line;
+ghost use Rattle.sentence.specs.Given.{explanation};
 ghost use Rattle.engines.specs.Calls as calls;
 ghost use Rattle.sharing.specs.Told as said;
 ghost use Rattle.writer.specs.Told.{Answered};
@@ -227,6 +232,24 @@ pub extern "C" fn zt_rescue(
     ensures cleared { λ r. ⌜ now (rows .exit) ≡ rescuing.rescueRows (now (rows .entry)) ⌝ }
 {
     rescuer::rescue(layout, file, rows, list, out)
+}
+
+// Why a file of a layout is refused, to a table of `room` numbers, none of which is lent: number, object and component, the places and lengths of their names and of what is at fault, and with ROOM the
+// numbers needed. All 0 for a file that is accepted.
+#[no_mangle]
+pub extern "C" fn zt_explain(layout: u64, file: &[u8], room: u64) -> Explanation
+    ensures { λ r. ⌜ explanation r ≡ why.explain (layoutOf layout) (now (file .entry)) room ⌝ }
+{
+    explain::explain(layout, file, room)
+}
+
+// The same as a sentence, one line put into a lent text: 0 and its length, also for a file that is refused; or ROOM and 0.
+#[no_mangle]
+pub extern "C" fn zt_sentence(layout: u64, file: &[u8], room: u64, text: &mut [u8]) -> Listed
+    ensures answer { λ r. ⌜ r ≡ listing.told (pass (line.sentence (layoutOf layout) (now (file .entry)) room)) (length (now (text .entry))) ⌝ }
+    ensures written { λ r. ⌜ now (text .exit) ≡ listing.textAfter (pass (line.sentence (layoutOf layout) (now (file .entry)) room)) (now (text .entry)) ⌝ }
+{
+    explain::say(layout, file, room, text)
 }
 
 // Two engines and one table, whose numbers and states are lent to every call. A file of a layout, loaded for an engine: INDEX, BUSY, the reader's refusal, ROOM; or what reading answers. The
