@@ -4,7 +4,7 @@ _zt() {
   if [ "$COMP_CWORD" -eq 1 ]; then
     mapfile -t COMPREPLY < <(compgen -W "$(zt --commands 2>/dev/null) --help --version" -- "$word")
   elif [ "${word:0:1}" = - ]; then
-    mapfile -t COMPREPLY < <(compgen -W '--json --layout --first-layout --second-layout --escaped --plan --page --ceiling --output --help' -- "$word")
+    mapfile -t COMPREPLY < <(compgen -W '--json --layout --first-layout --second-layout --room --escaped --plan --page --ceiling --output --help' -- "$word")
   else
     compopt -o filenames
     mapfile -t COMPREPLY < <(compgen -f -- "$word")

@@ -945,6 +945,160 @@ def try_rescues_that_are_refused():
     nothing_left(WORK)
 
 
+def explained(paths, *words):
+    """Status, and of each file its sentence and the lines below it."""
+    status, said, trouble = zt("explain", *words, *paths)
+    expect(trouble, b"")
+    found = []
+    lines = iter(said.decode().splitlines())
+    for line in lines:
+        if line.startswith("  "):
+            found[-1][1].append(line[2:])
+        else:
+            expect(line, f"{paths[len(found)]}:")
+            found.append((next(lines), []))
+    expect(len(found), len(paths))
+    return status, found
+
+
+def try_sentences_against_the_second_program():
+    known = refusals()
+    for layout, about in (("1.2.0", files), ("1.0", first_files)):
+        paths = [path for path, _ in about]
+        theirs = subprocess.run([SECOND, "explain", "1" if layout == "1.0" else "0", *paths], cwd=WORK, capture_output=True, check=True).stdout.decode().splitlines()
+        status, found = explained(paths, "--layout", layout)
+        expect(status, 1)
+        expect([sentence for sentence, _ in found], theirs[1::2])
+        for (sentence, below), (path, (number, *_)) in zip(found, about):
+            expect(sentence.split(":")[0], f"refused {number} {known[number][0]}" if number else "accepted", path)
+            shown_span(path, sentence, below)
+            is_broken(number, sentence, below)
+
+
+def shown_span(path, sentence, below):
+    """The first line below has the span's bytes, 32 at most."""
+    span = re.search(r"; bytes (\d+) to (\d+)$", sentence)
+    if not span:
+        expect([line for line in below if line.startswith("bytes")], [], path)
+        return
+    bytes_of = content(path)[int(span[1]) : int(span[2]) + 1]
+    expect(below[0], "bytes " + bytes_of[:32].hex(" ") + (" .." if len(bytes_of) > 32 else ""), path)
+
+
+# The line of numbers of each refusal that compares some, and whether they break its rule.
+COMPARED = {
+    1: (r"length (\d+); asked: at least (\d+)", lambda found, least: found < least),
+    4: (r"manifest size (\d+); asked: at most (16777216)", lambda found, most: found > most),
+    5: (r"manifest size (\d+); asked: at least 1, at most (\d+)", lambda found, most: found == 0 or found > most),
+    15: (r"(?:objects|tensors|components|rank) (\d+); asked: at most (1024|16|8)", lambda found, most: found > most),
+    19: (r"offset (\d+); asked: a multiple of (64)", lambda found, by: found % by != 0),
+    20: (
+        r"offset (\d+), length (\d+), end (?:\d+|above 2\^64 - 1); asked: offset at least 64, end at most (\d+), the manifest start",
+        lambda offset, length, start: offset < 64 or offset + length > start,
+    ),
+    21: (r"rank (\d+); asked: (2)", lambda found, asked: found != asked),
+}
+
+
+def is_broken(number, sentence, below):
+    if number == 23:
+        line = below[1]
+        found = re.fullmatch(r"length (\d+); asked: (?:(a multiple of )?(\d+)|a number that 64 bits don't hold)", line)
+        expect(found is not None, True, line)
+        if found[3]:
+            expect(int(found[1]) % int(found[3]) != 0 if found[2] else found[1] != found[3], True, line)
+    if number in COMPARED:
+        form, breaks = COMPARED[number]
+        found = [match for line in below if (match := re.fullmatch(form, line))]
+        expect(len(found), 1, (sentence, below))
+        expect(breaks(*map(int, found[0].groups())), True, below)
+
+
+def one_object(shape, form, parts, **more):
+    return sample.file([("ear", sample.thing(shape, form, parts))], bytes(256), **more)
+
+
+EXPLAINED = [
+    (lambda: one_object([3], "dense", [("data", sample.component("f32", 64, 8))]), "23 LENGTH", ["length 8; asked: 12"]),
+    (lambda: one_object([3], "dense", [("data", sample.component("f32", 64, 8, type="complex64"))]), "23 LENGTH", ["length 8; asked: 24"]),
+    (lambda: one_object([3], "dense", [("data", sample.component("f32", 64, 7, type="odd"))]), "23 LENGTH", ["length 7; asked: a multiple of 4"]),
+    (lambda: one_object([1 << 32, 1 << 32, 3], "dense", [("data", sample.component("u8", 64, 0))]), "23 LENGTH", ["length 0; asked: a number that 64 bits don't hold"]),
+    (lambda: one_object([1 << 63, 0, 1 << 63], "dense", [("data", sample.component("u8", 64, 1))]), "23 LENGTH", ["length 1; asked: 0"]),
+    (lambda: sparse(3, 24, 24), "23 LENGTH", ["length 3; asked: a multiple of 2"]),
+    (lambda: sparse(6, 16, 24), "23 LENGTH", ["length 16; asked: 24"]),
+    (lambda: sparse(6, 24, 32), "23 LENGTH", ["length 32; asked: 24"]),
+    (lambda: one_object([2, 9, 4], "sparse_coo", [("coords", sample.component("u64", 64, 64)), ("values", sample.component("f16", 64, 6))]), "23 LENGTH", ["length 64; asked: 72"]),
+    (lambda: one_object([2], "any", [("a b", sample.component("u8", 65, 8))]), "19 ALIGN", ["offset 65; asked: a multiple of 64"]),
+    (lambda: one_object([2], "any", [("", sample.component("u8", 256, 65))]), "20 BOUNDS", ["offset 256, length 65, end 321; asked: offset at least 64, end at most 320, the manifest start"]),
+    (lambda: one_object([2], "any", [("", sample.component("u8", 0, 4))]), "20 BOUNDS", ["offset 0, length 4, end 4; asked: offset at least 64, end at most 320, the manifest start"]),
+    (lambda: one_object([2], "any", [("", sample.component("u8", 64, (1 << 64) - 1))]), "20 BOUNDS", ["offset 64, length 18446744073709551615, end above 2^64 - 1; asked: offset at least 64, end at most 320, the manifest start"]),
+    (lambda: one_object([2] * 9, "any", []), "15 COUNT", ["rank 9; asked: at most 8"]),
+    (lambda: one_object([], "any", [(str(i), sample.component("u8", 64, 0)) for i in range(17)]), "15 COUNT", ["components 17; asked: at most 16"]),
+    (lambda: sample.file([(str(i), sample.thing([], "any", [])) for i in range(1025)]), "15 COUNT", ["objects 1025; asked: at most 1024"]),
+    (lambda: one_object([2, 2, 2], "sparse_csr", []), "21 RANK", ["rank 3; asked: 2"]),
+    (lambda: one_object("2", "any", []), "8 KIND", ["found text"]),
+    (lambda: one_object([2], "any", [("a", sample.component(7, 64, 0))]), "8 KIND", ["found an unsigned integer"]),
+    (lambda: one_object([2], "any", [("a", sample.component("f33\n", 64, 0))]), "16 DTYPE", ["text f33\\0a"]),
+    (lambda: one_object([2], "any", [("a", sample.component("x" * 65, 64, 0))]), "16 DTYPE", ["text " + "x" * 64 + " .."]),
+    (lambda: one_object([2], "any", [("a", sample.component("float32", 64, 0))]), "16 DTYPE", ["text float32", "hint: that is a dtype's name in layout 1.0"]),
+    (lambda: one_object([2], "any", [("a", sample.component("u8", 64, 0, encoding="zstd"))]), "17 ENCODING", ["text zstd"]),
+    (lambda: sample.MAGIC + sample.behind(sample.item(sample.Pairs([("version", "2.0"), ("objects", sample.Pairs())]))), "14 MAJOR", ["text 2.0"]),
+    (
+        lambda: sample.MAGIC + sample.behind(sample.item(sample.Pairs([("version", "1.0"), ("tensors", sample.Pairs())]))),
+        "12 MISSING",
+        ["hint: the root has the fields of layout 1.0 in a frame that isn't that layout's"],
+    ),
+    (lambda: b"GGUF\3\0\0\0" + bytes(100), "2 HEADER", ["hint: it begins as a GGUF file does"]),
+    (lambda: struct.pack("<Q", 14) + b'{"w": "x"}    ' + bytes(40), "2 HEADER", ["hint: it begins as a safetensors file does"]),
+    (lambda: struct.pack("<Q", 99) + b'{"w": "x"}    ' + bytes(40), "2 HEADER", []),
+    (lambda: sample.named("w")[:-20], "3 FOOTER", ["hint: it begins as a .zt file does, and doesn't end as one: perhaps it was cut short"]),
+    (lambda: sample.named("w")[:20], "1 SHORT", ["length 20; asked: at least 24", "hint: it begins as a .zt file does, and doesn't end as one: perhaps it was cut short"]),
+    (first_sample, "3 FOOTER", ["hint: it is sound as layout 1.0; --layout says which is meant"]),
+    (lambda: first_sample().replace(b"float32", b"float33"), "3 FOOTER", ["hint: its frame is that of layout 1.0; --layout says which is meant"]),
+]
+
+
+def sparse(values, indices, indptr):
+    return one_object([2, 9], "sparse_csr", [("values", sample.component("f16", 64, values)), ("indices", sample.component("u64", 64, indices)), ("indptr", sample.component("u64", 64, indptr))])
+
+
+def try_what_stands_below_a_sentence():
+    for make, which, wanted in EXPLAINED:
+        put("explained.zt", make())
+        status, said, trouble = zt("explain", "explained.zt")
+        sentence, *below = said.decode().splitlines()
+        expect((status, trouble, sentence.split(":")[0]), (1, b"", "refused " + which))
+        expect([line[2:] for line in below if not line.startswith("  bytes ")], wanted, sentence)
+    put("first-explained.zt", first_sample().replace(b"float16", b"float32"))
+    lines = zt("explain", "--layout", "1.0", "first-explained.zt")[1].decode().splitlines()
+    expect((lines[0].split(";")[0], lines[2]), ("refused 23 LENGTH: length rule broken", "  length 6; asked: a multiple of 4"))
+    put("first-explained.zt", first_sample().replace(b"float16", b"f16-no!"))
+    expect(zt("explain", "--layout", "1.0", "first-explained.zt")[1].decode().splitlines()[2:], ["  text f16-no!"])
+    expect(zt("explain", "--layout", "1.0", "known.zt")[1].decode().splitlines()[-1], "  hint: it is sound as layout 1.2.0; --layout says which is meant")
+
+
+def try_explain():
+    put("short.zt", b"ZTEN1000")
+    put("no-number.zt", one_object([2], "any", [("a b", sample.component("u8", 65, 8))]))
+    expect(done("explain", "known.zt"), b"accepted\n")
+    expect(done("explain", "-", input=content("known.zt")), b"accepted\n")
+    line = b"refused 19 ALIGN: offset not a multiple of 64; object ear; component a\\20b; bytes 401 to 402\n  bytes 18 41\n  offset 65; asked: a multiple of 64\n"
+    expect(zt("explain", "no-number.zt"), (1, line, b""))
+    status, said, trouble = zt("explain", "known.zt", "no.zt", "no-number.zt", "short.zt")
+    expect((status, trouble), (2, b"zt: no.zt: No such file or directory\n"))
+    expect(said.startswith(b"known.zt:\naccepted\nno-number.zt:\n" + line + b"short.zt:\nrefused 1 SHORT: "), True)
+    # The answer to a table of so many numbers.
+    expect(zt("explain", "--room", "27", "known.zt"), (1, b"refused 24 ROOM: lent table too short; 28 numbers needed\n  room 27; asked: at least 28\n", b""))
+    expect(done("explain", "--room=28", "known.zt"), b"accepted\n")
+    for value in ("", "x", "-1", "18446744073709551616"):
+        words = (value or "--room").encode() + b": no room: it is a decimal number of a table's numbers; zt explain --help says how it is called"
+        troubled(words, "explain", "known.zt", "--room", value)
+    for odd in ODD:
+        put("odd.zt", sample.file([(odd, sample.thing([3], "any", [(odd, sample.component("f32", 65, 12))]))], b"twelve bytes"))
+        sentence = zt("explain", "odd.zt")[1].decode().splitlines()[0]
+        expect(re.sub("; bytes .*", "", sentence), f"refused 19 ALIGN: offset not a multiple of 64; object {shown(odd)}; component {shown(odd)}")
+
+
 def try_outputs_that_cannot_be():
     os.mkdir(os.path.join(WORK, "folder"))
     troubled(b"folder: Is a directory", "copy", "known.zt", "-o", "folder")
@@ -977,7 +1131,7 @@ def try_full_disk():
 
 
 EVERY = (
-    *([command, "known.zt"] for command in ("check", "list", "show", "map", "panel")),
+    *([command, "known.zt"] for command in ("check", "explain", "list", "show", "map", "panel")),
     ["get", "known.zt", "w", "data"],
     ["copy", "known.zt", "-o", "-"],
     ["plan", "known.zt", "--page", "64"],
@@ -1209,7 +1363,7 @@ def try_an_interrupted_copy():
 
 def try_usage():
     commands = done("--commands").decode().split()
-    expect(commands, ["check", "list", "show", "map", "panel", "get", "copy", "import", "plan", "diff", "merge", "rescue"])
+    expect(commands, ["check", "explain", "list", "show", "map", "panel", "get", "copy", "import", "plan", "diff", "merge", "rescue"])
     everything = done("--help").decode()
     for command in commands:
         expect(everything.count(f"zt {command} "), 1)

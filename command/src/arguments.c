@@ -13,6 +13,7 @@ void print_usage(const command *of) {
     if (of->options & TAKES_LAYOUT) print_words(&out, " [--layout 1.0]");
     if (of->options & TAKES_LAYOUTS) print_words(&out, " [--layout 1.0] [--first-layout 1.0] [--second-layout 1.0]");
     if (of->options & TAKES_ESCAPED) print_words(&out, " [--escaped]");
+    if (of->options & TAKES_ROOM) print_words(&out, " [--room N]");
     if (of->options & TAKES_PLAN) print_words(&out, " [--plan PLAN [--ceiling N]]");
     if (of->options & NEEDS_PAGE) print_words(&out, " --page N [--ceiling N]");
     if (of->options & TAKES_OUTPUT) print_words(&out, of->options & NEEDS_OUTPUT ? " -o NEW" : " [-o NEW]");
@@ -83,6 +84,10 @@ static mistake page_read(arguments *into, const char *named) {
     return (mistake){named, "no page: it is a decimal number of bytes, a multiple of 64, 1099511627776 (2^40) at most"};
 }
 
+static mistake room_read(arguments *into, const char *named) {
+    return (mistake){named, decimal_read(&into->room, named, strlen(named)) == DECIMAL ? NULL : "no room: it is a decimal number of a table's numbers"};
+}
+
 /* One option; answers how many words it takes, 0 if it is none of this command's, and keeps what is wrong with its value. */
 static int option_read(arguments *into, const command *of, const char *word, const char *next, mistake *wrong) {
     const char *value;
@@ -94,6 +99,7 @@ static int option_read(arguments *into, const command *of, const char *word, con
     else if ((layouts = layouts_read(into, of, word, next, wrong))) taken = layouts;
     else if (of->options & TAKES_PLAN && (value = value_of("--plan", word, next, &taken))) into->plan = value;
     else if (of->options & NEEDS_PAGE && (value = value_of("--page", word, next, &taken))) *wrong = page_read(into, value);
+    else if (of->options & TAKES_ROOM && (value = value_of("--room", word, next, &taken))) *wrong = room_read(into, value);
     else if (planned && (value = value_of("--ceiling", word, next, &taken))) *wrong = ceiling_read(into, value);
     else taken = 0;
     if (wrong->words && !*wrong->word) wrong->word = word;
@@ -114,7 +120,7 @@ static int arguments_fit(const arguments *given, const command *of) {
 
 int arguments_read(arguments *into, const command *of, int count, const char **words) {
     int ended = 0, at = 0;
-    *into = (arguments){.operands = words, .ceiling = CEILING_MOST};
+    *into = (arguments){.operands = words, .ceiling = CEILING_MOST, .room = ZT_TABLE_MOST};
     while (at < count) {
         const char *word = words[at];
         mistake wrong = {NULL, NULL};

@@ -5,7 +5,8 @@
 
 /* The options there are; a command names those that it takes. */
 enum option {
-    TAKES_JSON = 1, TAKES_OUTPUT = 2, NEEDS_OUTPUT = 4, TAKES_ESCAPED = 8, TAKES_LAYOUT = 16, TAKES_PLAN = 32, NEEDS_PAGE = 64, TAKES_LAYOUTS = 256
+    TAKES_JSON = 1, TAKES_OUTPUT = 2, NEEDS_OUTPUT = 4, TAKES_ESCAPED = 8, TAKES_LAYOUT = 16, TAKES_PLAN = 32, NEEDS_PAGE = 64, TAKES_ROOM = 128,
+    TAKES_LAYOUTS = 256
 };
 
 /* The highest ceiling of a plan, document 02's, and what divides every offset. */
@@ -19,6 +20,7 @@ typedef struct {
     uint64_t second_layout;
     uint64_t ceiling;          /* CEILING_MOST unless one was given: then it is `ceiled` */
     uint64_t page;             /* 0 if none was given */
+    uint64_t room;             /* ZT_TABLE_MOST, in which every file's table has room, if none was given */
     int count;
     const char **operands;
 } arguments;

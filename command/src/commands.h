@@ -4,6 +4,7 @@
 #include "arguments.h"
 
 int check_files(const arguments *given);
+int explain_files(const arguments *given);
 int list_file(const arguments *given);
 int show_file(const arguments *given);
 int map_file(const arguments *given);

@@ -57,7 +57,7 @@ static const uint8_t *behind(const uint8_t *from, const uint8_t *to, int depth) 
 
 int item_at(item *into, const uint8_t *from, const uint8_t *to) { return head_at(into, from, to) && (into->to = behind(from, to, DEPTH)) != NULL; }
 
-static uint64_t little(const uint8_t *at) {
+uint64_t little(const uint8_t *at) {
     uint64_t number = 0;
     for (int i = 7; i >= 0; i--) number = number << 8 | at[i];
     return number;
@@ -78,7 +78,24 @@ int item_in(item *into, const item *of, const uint8_t *at) {
     return (of->major == ARRAY || of->major == MAP) && at < end && item_at(into, at, end);
 }
 
-static int is_text(const item *of, const char *words) {
+int element_at(item *into, const item *of, uint64_t index) {
+    const uint8_t *at = of->content;
+    for (uint64_t i = 0; item_in(into, of, at); i++) {
+        if (i == index) return 1;
+        at = into->to;
+    }
+    return 0;
+}
+
+uint64_t elements(const item *of) {
+    item held;
+    uint64_t count = 0;
+    if (!of->open) return of->major == MAP ? 2 * of->argument : of->argument;
+    for (const uint8_t *at = of->content; item_in(&held, of, at); at = held.to) count++;
+    return count;
+}
+
+int is_text(const item *of, const char *words) {
     size_t length = strlen(words);
     return of->major == TEXT && !of->open && of->argument == length && memcmp(of->content, words, length) == 0;
 }
@@ -91,4 +108,17 @@ int field_at(item *into, const item *of, const char *name) {
         at = into->to;
     }
     return 0;
+}
+
+int holders_of(item holders[HOLDERS], const item *root, const uint8_t *at) {
+    holders[ROOT] = *root;
+    for (int i = OBJECTS; i < HOLDERS; i++) {
+        const uint8_t *from = holders[i - 1].content;
+        do {
+            if (!item_in(holders + i, holders + i - 1, from)) return 0;
+            from = holders[i].to;
+        } while (from <= at);
+        if (holders[i].major != MAP) return 0;
+    }
+    return 1;
 }

@@ -11,6 +11,8 @@
 
 static const command commands[] = {
     {"check", "FILE..", "whether each file is sound, a line a file", TAKES_JSON | TAKES_LAYOUT, 1, 0, check_files},
+    {"explain", "FILE..", "why each file is refused, as a sentence; below it, for people, the bytes and numbers at fault, and hints",
+     TAKES_LAYOUT | TAKES_ROOM, 1, 0, explain_files},
     {"list", "FILE", "the listing: objects and their components", TAKES_JSON | TAKES_LAYOUT, 1, 1, list_file},
     {"show", "FILE", "formats, shapes, dtypes, types, places, digests, in columns", TAKES_JSON | TAKES_LAYOUT, 1, 1, show_file},
     {"map", "FILE", "a bar of the file's bytes, and what they belong to", TAKES_JSON | TAKES_LAYOUT, 1, 1, map_file},
@@ -42,8 +44,9 @@ static int print_help(void) {
                       "FILE, FIRST, SECOND, BAD and PLAN may be - for standard input. --json prints JSON; --escaped takes names as listings\n"
                       "print them; -o NEW writes a file, which appears whole or not at all, - for standard output; --layout 1.0 reads files\n"
                       "of older boxes, 1.2.0 those of today, as without it, --first-layout and --second-layout one of two files; --page is\n"
-                      "the bytes of a flash page, --ceiling the byte where components must have ended, 2^40 without it; -- ends options.\n"
-                      "Names and paths are printed with bytes outside 33 to 126, and the backslash, as \\ and two hex digits.\n"
+                      "the bytes of a flash page, --ceiling the byte where components must have ended, 2^40 without it; --room explains the\n"
+                      "answer to a table of so many numbers; -- ends options. Names and paths are printed with bytes outside 33 to 126, and\n"
+                      "the backslash, as \\ and two hex digits.\n"
                       "Status: 0 sound or done, 1 refused, 2 usage, trouble with a file, or no room. 1 is of diff a difference and of rescue\n"
                       "an object dropped, where a refusal is 2.\n");
     return DONE;
