@@ -117,6 +117,14 @@ static void accepted(void) {
     SAME(t.number, ZT_ROOM), SAME(t.length, 0);
 }
 
+/* Spoils the dtype of the fifth component, the second of the third object, in the file that was read into the table: where it stands. */
+static uint64_t spoil_dtype(void) {
+    uint64_t at = table[ZT_NUMBERS(OBJECTS, 4) + ZT_COMPONENT_NAME];
+    while (memcmp(out + at, "\x62i8", 3) != 0) at++;
+    out[at + 2] = '9';
+    return at;
+}
+
 /* Refusals whose number, object and component all differ, and are not 0. */
 static void refused(void) {
     zt_written w;
@@ -136,11 +144,7 @@ static void refused(void) {
     fill(rows);
     length = zt_write(rows, NUMBERS, OBJECTS, COMPONENTS, ROOT, ROOT_LENGTH, buffer, sizeof buffer - 1, out, sizeof out).length;
     zt_read(out, length, table, NUMBERS);
-    {
-        uint64_t at = table[ZT_NUMBERS(OBJECTS, 4) + ZT_COMPONENT_NAME];
-        while (memcmp(out + at, "\x62i8", 3) != 0) at++;
-        out[at + 2] = '9';
-    }
+    spoil_dtype();
     memset(table, 0xA5, sizeof table);
     a = zt_read(out, length, table, NUMBERS);
     SAME(a.number, ZT_DTYPE), SAME(a.object, 2), SAME(a.component, 1);
@@ -422,6 +426,49 @@ static void what_is_sound(void) {
     SAME(lent[0], 0), SAME(list[0], 7), SAME(sound[0], 7);
 }
 
+/* Why a file is refused, in numbers that are all different, and as a line; the same for another layout, and for too little room. */
+static void why_refused(void) {
+    zt_explanation e;
+    zt_text t;
+    char line[128];
+    uint64_t length, object_name, component_name, at;
+    size_t said;
+    fill(rows);
+    /* longer names for the third object and its second component: Cabcd and efg_ */
+    rows[ZT_NUMBERS(2, 0) + ZT_OBJECT_NAME_LENGTH] = 5, rows[ZT_NUMBERS(OBJECTS, 4) + ZT_COMPONENT_NAME_LENGTH] = 4;
+    length = zt_write(rows, NUMBERS, OBJECTS, COMPONENTS, ROOT, ROOT_LENGTH, buffer, sizeof buffer - 1, out, sizeof out).length;
+    zt_read(out, length, table, NUMBERS);
+    object_name = table[ZT_NUMBERS(2, 0) + ZT_OBJECT_NAME], component_name = table[ZT_NUMBERS(OBJECTS, 4) + ZT_COMPONENT_NAME];
+
+    /* sound, with room enough, one number short, and as a file of layout 1.0, whose size would be the footer */
+    e = zt_explain(ZT_LAYOUT_1_2, out, length, NUMBERS);
+    SAME(e.number, ZT_ACCEPTED), SAME(e.object, 0), SAME(e.component, 0), SAME(e.object_name, 0), SAME(e.object_name_length, 0);
+    SAME(e.component_name, 0), SAME(e.component_name_length, 0), SAME(e.place, 0), SAME(e.length, 0), SAME(e.room, 0);
+    e = zt_explain(ZT_LAYOUT_1_2, out, length, NUMBERS - 1);
+    SAME(e.number, ZT_ROOM), SAME(e.place, 0), SAME(e.length, 0), SAME(e.room, NUMBERS);
+    e = zt_explain(ZT_LAYOUT_1_0, out, length, NUMBERS);
+    SAME(e.number, ZT_BIG), SAME(e.place, length - 8), SAME(e.length, 8), SAME(e.room, 0);
+    SAME(zt_explain(ZT_LAYOUT_1_2, out, length - 1, NUMBERS).number, ZT_FOOTER);
+    t = zt_sentence(ZT_LAYOUT_1_2, out, length, NUMBERS, text, sizeof text);
+    SAME(t.number, ZT_ACCEPTED), SAME(t.length, 9), SAME(memcmp(text, "accepted\n", 9), 0);
+    t = zt_sentence(ZT_LAYOUT_1_2, out, length, NUMBERS - 1, text, sizeof text);
+    SAME(t.number, ZT_ACCEPTED), SAME(t.length, 58), SAME(memcmp(text, "refused 24 ROOM: lent table too short; 132 numbers needed\n", 58), 0);
+    SAME(zt_sentence(ZT_LAYOUT_1_0, out, length, NUMBERS, text, sizeof text).number, ZT_ACCEPTED), SAME(memcmp(text, "refused 4 BIG: ", 15), 0);
+    SAME(zt_sentence(ZT_LAYOUT_1_2, out, length - 1, NUMBERS, text, sizeof text).number, ZT_ACCEPTED), SAME(memcmp(text, "refused 3 FOOTER: ", 18), 0);
+
+    at = spoil_dtype();
+    e = zt_explain(ZT_LAYOUT_1_2, out, length, 0);
+    SAME(e.number, ZT_DTYPE), SAME(e.object, 2), SAME(e.component, 1), SAME(e.object_name, object_name), SAME(e.object_name_length, 5);
+    SAME(e.component_name, component_name), SAME(e.component_name_length, 4), SAME(e.place, at), SAME(e.length, 3), SAME(e.room, 0);
+    sprintf(line, "refused 16 DTYPE: not one of the 13 dtypes; object Cabcd; component efg_; bytes %d to %d\n", (int)at, (int)at + 2);
+    said = strlen(line);
+    memset(text, 0xA5, sizeof text);
+    t = zt_sentence(ZT_LAYOUT_1_2, out, length, 0, text, said - 1);
+    SAME(t.number, ZT_ROOM), SAME(t.length, 0), SAME(text[0], 0xA5);
+    t = zt_sentence(ZT_LAYOUT_1_2, out, length, 0, text, said);
+    SAME(t.number, ZT_ACCEPTED), SAME(t.length, said), SAME(memcmp(text, line, said), 0), SAME(text[said], 0xA5);
+}
+
 int main(void) {
     numbers();
     columns();
@@ -432,5 +479,6 @@ int main(void) {
     what_changed();
     two_in_one();
     what_is_sound();
+    why_refused();
     return wrong;
 }

@@ -1,5 +1,5 @@
 /*
- * How much stack the calls of zt.h take on the files named: each is judged, read, listed, written anew, loaded for two engines, compared with itself, merged with itself and with no objects, and rescued, in either layout, in a thread whose stack was
+ * How much stack the calls of zt.h take on the files named: each is judged, read, listed, written anew, loaded for two engines, compared with itself, merged with itself and with no objects, rescued, and explained, in either layout, in a thread whose stack was
  * painted before, and what is no longer paint was used. Prints the deepest use; it must stay within what zt.h says.
  */
 #include "read_file.h"
@@ -58,6 +58,8 @@ static void *judge(void *given) {
         for_engines(layout, t->file);
         in_one(layout, t->file, needed);
         zt_rescue(layout, t->file.at, t->file.length, table, needed ? needed : SMALL, work, ZT_DROPPED_WIDTH * ZT_OBJECTS_MOST, out, sizeof out);
+        zt_explain(layout, t->file.at, t->file.length, ROOM);
+        zt_sentence(layout, t->file.at, t->file.length, ROOM, text, TEXT);
         zt_diff(layout, t->file.at, t->file.length, layout, t->file.at, t->file.length, work, 2 * needed, table, ROOM);
     }
     return NULL;

@@ -1,8 +1,8 @@
 /*
  * Radenvyth's reading and writing of .zt files (zTensor 1.2.0, and 1.0 to be read), for C99 and C++: the acceptance check, the table, the view, the listing,
- * and the writer; findings, account and panel; what changed, merging and rescue; two engines with one table. Link libzt.a or libzt.so, libraries for
- * x86-64 Linux. examples/firmware and examples/maker are whole programs over it, zt(3) is its manual page; this is the shortest program, which refuses to
- * judge what doesn't fit:
+ * and the writer; findings, account and panel; what changed, merging and rescue; why a file is refused; two engines with one table. Link libzt.a or
+ * libzt.so, libraries for x86-64 Linux. examples/firmware and examples/maker are whole programs over it, zt(3) is its manual page; this is the shortest
+ * program, which refuses to judge what doesn't fit:
  *
  *     #include "zt.h"
  *     #include <stdio.h>
@@ -235,7 +235,7 @@ typedef struct {
  */
 zt_bytes zt_account(uint64_t layout, const uint8_t *file, size_t length, uint64_t *work, size_t room);
 
-/* ZT_ACCEPTED and a listing's length; or ZT_INDEX or ZT_ROOM, and 0. */
+/* ZT_ACCEPTED and the length of a listing or a sentence; or ZT_INDEX or ZT_ROOM, and 0. */
 typedef struct {
     uint64_t number, length;
 } zt_text;
@@ -365,6 +365,7 @@ zt_explanation zt_explain(uint64_t layout, const uint8_t *file, size_t length, u
 /*
  * The same as one line of text: `refused N WORD: WHY`, the object's and the component's names as zt_list shows them, the bytes at fault or the numbers needed, and a newline; `accepted` and a newline for a file
  * that is accepted with room enough. 0 and the line's length, also for a file that is refused; ZT_ROOM, 0 and an untouched text where it doesn't fit. Bytes beyond the line stay.
+ * A line has at most 256 bytes and 3 for each byte of the two names, whose lengths zt_explain answers: worked out from the words, not proved.
  */
 zt_text zt_sentence(uint64_t layout, const uint8_t *file, size_t length, uint64_t room, uint8_t *text, size_t text_room);
 
