@@ -1404,7 +1404,7 @@ def try_completion():
     put("bin/zt", f'#!/bin/sh\nexec "{ZT[0]}" "{ZT[1]}" "$@"\n'.encode())
     os.chmod(os.path.join(WORK, "bin/zt"), 0o755)
     path = {**os.environ, "PATH": f"{WORK}/bin:{os.environ['PATH']}"}
-    for words, wanted in ((["zt", "c"], b"check copy\n"), (["zt", "list", "--j"], b"--json\n"), (["zt", "plan", "--p"], b"--plan --page\n"), (["zt", "list", "quie"], b"quiet.zt\n")):
+    for words, wanted in ((["zt", "c"], b"check copy\n"), (["zt", "list", "--j"], b"--json\n"), (["zt", "plan", "--p"], b"--plan --page\n"), (["zt", "explain", "--r"], b"--room\n"), (["zt", "list", "quie"], b"quiet.zt\n")):
         script = '. "$0"; COMP_WORDS=("$@"); COMP_CWORD=$(($# - 1)); _zt; echo "${COMPREPLY[*]}"'
         completion = ["bash", "-c", script, os.path.join(HERE, "command/completion.bash"), *words]
         expect(subprocess.run(completion, cwd=WORK, env=path, stdout=subprocess.PIPE, stderr=subprocess.DEVNULL, check=True).stdout, wanted)
