@@ -28,6 +28,7 @@ pub mod merge;
 pub mod planned;
 pub mod probes;
 pub mod refusal;
+pub mod repair;
 pub mod rescue;
 pub mod row_probes;
 pub mod rows;

@@ -13,9 +13,9 @@
     CALL(leaf_judge, 2) CALL(leaf_frame, 3) CALL(leaf_accept, 3) CALL(zt_accept, 1) CALL(zt_read, 8) CALL(zt_view, 3) CALL(zt_list, 2) CALL(zt_write, 4) \
     CALL(zt_accept_as, 1) CALL(zt_read_as, 8) CALL(zt_find, 5) CALL(zt_account, 7) CALL(zt_panel, 4) CALL(leaf_float, 1) CALL(zt_write_planned, 4)              \
     CALL(zt_load, 8) CALL(zt_drop, 1) CALL(zt_holds, 8) CALL(zt_engine_view, 3) CALL(zt_engine_list, 2) CALL(zt_diff, 5) CALL(zt_merge, 5)                            \
-    CALL(zt_rescue, 6)
+    CALL(zt_rescue, 6) CALL(zt_explain, 10) CALL(zt_sentence, 2)
 
-enum { ARGUMENTS = 13, WORDS = 8, SHARED = 1 << 27 };
+enum { ARGUMENTS = 13, WORDS = 10, SHARED = 1 << 27 };
 
 typedef struct {
     uint64_t call;                /* its place among CALLS */

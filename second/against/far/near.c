@@ -242,3 +242,9 @@ zt_merged zt_merge(uint64_t first_layout, const uint8_t *first, size_t first_len
 zt_rescued zt_rescue(uint64_t layout, const uint8_t *file, size_t length, uint64_t *rows, size_t rows_room, uint64_t *list, size_t list_room, uint8_t *out, size_t out_room) {
     STRUCT(zt_rescued, zt_rescue, NUMBER(layout), LENT(file, length), WRITTEN(rows, rows_room), WRITTEN(list, list_room), WRITTEN(out, out_room))
 }
+zt_explanation zt_explain(uint64_t layout, const uint8_t *file, size_t length, uint64_t room) {
+    STRUCT(zt_explanation, zt_explain, NUMBER(layout), LENT(file, length), NUMBER(room))
+}
+zt_text zt_sentence(uint64_t layout, const uint8_t *file, size_t length, uint64_t room, uint8_t *text, size_t text_room) {
+    STRUCT(zt_text, zt_sentence, NUMBER(layout), LENT(file, length), NUMBER(room), WRITTEN(text, text_room))
+}

@@ -1,6 +1,7 @@
 //! What the second program answers, in the shapes of the calls for C.
 
-use crate::{Answer, Listed, Written};
+use crate::{Answer, Explained, Listed, Written};
+use second::explain;
 use second::generate::{PlannedSet, RowSet};
 use second::refusal::{INDEX, ROOM};
 use second::rows;
@@ -26,7 +27,7 @@ fn shaped(a: rows::Answer) -> Answer {
     }
 }
 
-/// The answer for the second program's listing, which is put into `held` if that has room for it.
+/// The answer for the second program's listing or sentence, which is put into `held` if that has room for it.
 pub fn list(text: Option<&[u8]>, held: &mut [u8]) -> Listed {
     let refused = |number: u8| Listed { number: number.into(), length: 0 };
     match text {
@@ -36,6 +37,22 @@ pub fn list(text: Option<&[u8]>, held: &mut [u8]) -> Listed {
             held[..text.len()].copy_from_slice(text);
             Listed { number: 0, length: text.len() as u64 }
         }
+    }
+}
+
+pub fn explain(layout: u64, file: &[u8], room: u64) -> Explained {
+    let why = explain::explain(layout, file, room);
+    Explained {
+        number: why.number,
+        object: why.object,
+        component: why.component,
+        object_name: why.object_name.place,
+        object_name_length: why.object_name.length,
+        component_name: why.component_name.place,
+        component_name_length: why.component_name.length,
+        place: why.span.place,
+        length: why.span.length,
+        room: why.room,
     }
 }
 

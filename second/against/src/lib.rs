@@ -236,7 +236,7 @@ pub struct Panelled {
     pub length: u64,
 }
 
-/// 0 and a listing's length; or INDEX or ROOM, and 0.
+/// 0 and a listing's or a sentence's length; or INDEX or ROOM, and 0.
 #[repr(C)]
 #[derive(Debug, PartialEq, Eq)]
 pub struct Listed {
@@ -302,9 +302,34 @@ pub struct Rescued {
     pub length: u64,
 }
 
+/// What explaining answers: the reading's refusal, the names that it belongs to, the span at fault, and with ROOM how many numbers are needed.
+#[repr(C)]
+#[derive(Debug, PartialEq, Eq)]
+pub struct Explained {
+    pub number: u64,
+    pub object: u64,
+    pub component: u64,
+    pub object_name: u64,
+    pub object_name_length: u64,
+    pub component_name: u64,
+    pub component_name_length: u64,
+    pub place: u64,
+    pub length: u64,
+    pub room: u64,
+}
+
 /// Declared as `include/zt.h` has them.
 mod zt {
     extern "C" {
+        pub fn zt_explain(layout: u64, file: *const u8, length: usize, room: u64) -> super::Explained;
+        pub fn zt_sentence(
+            layout: u64,
+            file: *const u8,
+            length: usize,
+            room: u64,
+            text: *mut u8,
+            text_room: usize,
+        ) -> super::Listed;
         pub fn zt_rescue(
             layout: u64,
             file: *const u8,
@@ -613,6 +638,18 @@ pub fn rescue(layout: u64, file: &[u8], rows: &mut [u64], list: &mut [u64], out:
             out.len(),
         )
     }
+}
+
+/// Why a file of a layout is refused, for a table of so many numbers.
+pub fn explain(layout: u64, file: &[u8], room: u64) -> Explained {
+    // SAFETY: the pointer and the length are a slice's.
+    unsafe { zt::zt_explain(layout, file.as_ptr(), file.len(), room) }
+}
+
+/// The same as one line of text.
+pub fn sentence(layout: u64, file: &[u8], room: u64, text: &mut [u8]) -> Listed {
+    // SAFETY: each pointer and length are a slice's, and the slices don't overlap.
+    unsafe { zt::zt_sentence(layout, file.as_ptr(), file.len(), room, text.as_mut_ptr(), text.len()) }
 }
 
 /// The calls of two engines that share their numbers.
