@@ -58,7 +58,7 @@ static void *judge(void *given) {
         for_engines(layout, t->file);
         in_one(layout, t->file, needed);
         zt_rescue(layout, t->file.at, t->file.length, table, needed ? needed : SMALL, work, ZT_DROPPED_WIDTH * ZT_OBJECTS_MOST, out, sizeof out);
-        zt_explain(layout, t->file.at, t->file.length, ROOM);
+        zt_explain(layout, t->file.at, t->file.length, 0);
         zt_sentence(layout, t->file.at, t->file.length, ROOM, text, TEXT);
         zt_diff(layout, t->file.at, t->file.length, layout, t->file.at, t->file.length, work, 2 * needed, table, ROOM);
     }

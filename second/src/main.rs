@@ -9,6 +9,7 @@ use second::generate::nth_file_as;
 use second::layout::Layout;
 use second::listing::{escaped, program_text};
 use second::probes;
+use second::sweep;
 use second::vectors;
 use std::fs;
 use std::io::{self, Write};
@@ -58,7 +59,7 @@ fn run(arguments: &[&str]) -> io::Result<()> {
         ["generate-1.0", seed, count, directory] => generate(Layout::First, seed, count, directory),
         ["cases", directory] => {
             let cases = cases::all().into_iter().chain(appendix::files());
-            let files = cases.map(|case| case.file).chain(probes::files());
+            let files = cases.map(|case| case.file).chain(probes::files()).chain(sweep::many_names());
             write_files(Layout::Current, Path::new(directory), files)
         }
         ["table", seed, each] => {
