@@ -1,8 +1,9 @@
 //! Both programs on one input: their answers, and all that they write or must leave, are the same.
 
 use crate::input::{decode, Question};
-use against::{beside, Answer};
+use against::{beside, Answer, Listed};
 use second::columns::numbers;
+use second::explain::sentence_text;
 use second::generate::RowSet;
 use second::layout::Layout;
 use second::refusal::DEEP;
@@ -19,7 +20,7 @@ pub fn input(bytes: &[u8]) {
     }
 }
 
-/// Acceptance, the table with ample room and with room near the exact one, the listing: the refusal's number.
+/// Acceptance, the table with ample room and with room near the exact one, why for both, the listing: the refusal's number.
 fn reading(layout: Layout, file: &[u8], near: isize) -> u64 {
     // Ample: the known keys of an object and of a component are longer than their rows.
     let (answer, table) = read(layout, file, file.len());
@@ -28,7 +29,11 @@ fn reading(layout: Layout, file: &[u8], near: isize) -> u64 {
         assert_eq!(against::box_accept(file), answer.number, "zt_accept");
     }
     let exact = numbers(answer.objects as usize, answer.components as usize);
-    read(layout, file, exact.saturating_add_signed(near));
+    let close = exact.saturating_add_signed(near);
+    read(layout, file, close);
+    for room in [file.len(), close] {
+        explaining(layout.number(), file, room as u64, near);
+    }
     if answer.number == 0 {
         listing(file, &table[..exact], &answer, near);
     }
@@ -56,11 +61,23 @@ fn spoiled(mut answer: Answer) -> Answer {
 fn listing(file: &[u8], table: &[u64], answer: &Answer, near: isize) {
     let (objects, components) = (answer.objects, answer.components);
     let text = second::listing::listing(file, table, objects, components);
-    let exact = text.as_ref().map_or(0, Vec::len);
+    let proved = |held: &mut [u8]| against::list(file, table, objects, components, held);
+    printing("zt_list", text.as_deref(), near, proved);
+}
+
+/// The explanation for a table of this room, and the sentence.
+fn explaining(layout: u64, file: &[u8], room: u64, near: isize) {
+    let (proved, second) = (against::explain(layout, file, room), beside::explain(layout, file, room));
+    assert_eq!(proved, second, "zt_explain with room {room}, and the second program");
+    let text = sentence_text(layout, file, room);
+    printing("zt_sentence", Some(&text), near, |held| against::sentence(layout, file, room, held));
+}
+
+/// A call that puts this text, or refuses, with ample room and with room near the exact one.
+fn printing(call: &str, text: Option<&[u8]>, near: isize, proved: impl Fn(&mut [u8]) -> Listed) {
+    let exact = text.map_or(0, <[u8]>::len);
     for room in [exact + BEYOND, exact.saturating_add_signed(near)] {
-        let proved = |held: &mut [u8]| against::list(file, table, objects, components, held);
-        let second = |held: &mut [u8]| beside::list(text.as_deref(), held);
-        agreed("zt_list", unlike(room), proved, second);
+        agreed(call, unlike(room), &proved, |held| beside::list(text, held));
     }
 }
 
