@@ -3,10 +3,9 @@
 #include "peers.h"
 #include "timing.h"
 #include "zt.h"
-#include <stdio.h>
 #include <stdlib.h>
 
-enum { OBJECTS = 1000, LARGE = 1 << 24, SMALL = 1 << 20, LONG = 16384 };
+enum { OBJECTS = 1000, LARGE = 1 << 24, SMALL = 1 << 20 };
 
 static bool accepted(const void *x) {
     const zt_file *z = x;
@@ -60,23 +59,16 @@ static void in_both_layouts(void) {
     free(b.first.file.bytes);
 }
 
-/* Manifests of so many bytes or a little fewer. */
-static zt_file one_byte_items(size_t size) { return with_value(flat(size - 64)); }
-static zt_file nesting(size_t size) { return with_value(nested(size - 64, 2)); }
-static zt_file by_names(size_t size, size_t at) { return named(long_names(size / (LONG + 64), LONG, at)); }
-static zt_file starts(size_t size) { return by_names(size, 0); }
-static zt_file middles(size_t size) { return by_names(size, LONG / 2); }
-static zt_file ends(size_t size) { return by_names(size, LONG - 6); }
-static zt_file components(size_t size) { return packed(size / LONG, LONG / 16 - 64); }
-
-/* A large file, and how much longer it takes than a small one of its kind. */
-static void grown(const char *what, zt_file make(size_t size)) {
-    zt_file large = make(LARGE), small = make(SMALL);
-    double bytes = (double)large.manifest.length, more = bytes / (double)small.manifest.length;
-    compare(what, acceptance_check, strict, &large, bytes, large.manifest.length, 4);
-    compare("", acceptance_check, extract, &large, bytes, large.manifest.length, 0);
-    double longer = growth(acceptance_check, &large, &small);
-    printf("    %.2f times the bytes of the same in 1 MiB, %.2f times the time: %.2f for each byte\n", more, longer, longer / more);
+void grown(large_kind kind, bool spoiled, program ours, program other) {
+    zt_file large = kind.make(LARGE), small = kind.make(SMALL);
+    double bytes = (double)large.manifest.length;
+    if (spoiled) {
+        kind.spoil(&large);
+        kind.spoil(&small);
+    }
+    compare(kind.what, ours, strict, &large, bytes, large.manifest.length, 4);
+    compare("", ours, other, &large, bytes, large.manifest.length, 0);
+    grows(ours, &large, &small, bytes / (double)small.manifest.length);
     free(large.file.bytes);
     free(small.file.bytes);
 }
@@ -88,10 +80,5 @@ void acceptance(void) {
     in_both_layouts();
 
     heading("acceptance of 16 MiB", "per byte");
-    grown("items of one byte", one_byte_items);
-    grown("nesting down to depth 32", nesting);
-    grown("names of 16 KB", starts);
-    grown("names of 16 KB that differ in the middle", middles);
-    grown("names of 16 KB that differ at the end", ends);
-    grown("1,024 objects of 16 components", components);
+    for (int i = 0; i < LARGE_KINDS; i++) grown(large_kinds[i], false, acceptance_check, extract);
 }

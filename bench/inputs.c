@@ -1,9 +1,10 @@
 #include "inputs.h"
+#include <stdbool.h>
 #include <stdio.h>
 #include <stdlib.h>
 #include <string.h>
 
-enum { ROOM = 18 << 20 };
+enum { ROOM = 18 << 20, LONG = 16384 };
 
 static input empty(void) {
     input in = {malloc(ROOM), 0};
@@ -292,3 +293,39 @@ names long_names(size_t count, size_t length, size_t at) {
     }
     return finish(n);
 }
+
+static zt_file one_byte_items(size_t size) { return with_value(flat(size - 64)); }
+static zt_file nesting(size_t size) { return with_value(nested(size - 64, 2)); }
+static zt_file by_names(size_t size, size_t at) { return named(long_names(size / (LONG + 64), LONG, at)); }
+static zt_file starts(size_t size) { return by_names(size, 0); }
+static zt_file middles(size_t size) { return by_names(size, LONG / 2); }
+static zt_file ends(size_t size) { return by_names(size, LONG - 6); }
+static zt_file components(size_t size) { return packed(size / LONG, LONG / 16 - 64); }
+
+/* The place after the first or the last copy of these bytes in a manifest. */
+static uint8_t *after(const zt_file *z, const char *bytes, size_t length, bool last) {
+    uint8_t *found = NULL;
+    for (size_t at = 0; at + length <= z->manifest.length && (last || !found); at++)
+        if (!memcmp(z->manifest.bytes + at, bytes, length)) found = z->manifest.bytes + at + length;
+    if (!found) abort();
+    return found;
+}
+
+void spoil_dtype(zt_file *z) { after(z, "\x65" "dtype", 6, true)[1] = '?'; }
+
+static void spoil_version(zt_file *z) { after(z, "\x67version", 8, false)[1] = '?'; }
+
+/* The last name is the first. */
+static void spoil_names(zt_file *z) {
+    static const char head[] = {0x79, LONG >> 8, LONG & 255};
+    memcpy(after(z, head, sizeof head, true), after(z, head, sizeof head, false), LONG);
+}
+
+const large_kind large_kinds[LARGE_KINDS] = {
+    {"items of one byte", one_byte_items, spoil_version},
+    {"nesting down to depth 32", nesting, spoil_version},
+    {"names of 16 KB", starts, spoil_names},
+    {"names of 16 KB that differ in the middle", middles, spoil_names},
+    {"names of 16 KB that differ at the end", ends, spoil_names},
+    {"1,024 objects of 16 components", components, spoil_dtype},
+};

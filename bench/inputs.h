@@ -38,4 +38,16 @@ zt_file first_model(size_t objects);                 /* the same objects in layo
 zt_file with_value(input value);                     /* that has this item in an unknown field */
 zt_file named(names n);                              /* of objects without components, by these names */
 zt_file packed(size_t objects, size_t digest);       /* of objects with 16 components, each with a digest so long */
+
+/* The last dtype of a file of either layout becomes none of the 13. */
+void spoil_dtype(zt_file *z);
+
+/* Kinds of files whose manifests have so many bytes or a little fewer: as they are accepted, and spoiled so that they are refused but stay sound CBOR. */
+typedef struct {
+    const char *what;
+    zt_file (*make)(size_t size);
+    void (*spoil)(zt_file *z);
+} large_kind;
+enum { LARGE_KINDS = 6 };
+extern const large_kind large_kinds[LARGE_KINDS];
 #endif

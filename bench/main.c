@@ -15,4 +15,5 @@ int main(void) {
     changes();
     merging();
     rescuing();
+    explaining();
 }

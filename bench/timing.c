@@ -73,8 +73,9 @@ void compare(const char *what, program ours, program peer, const void *input, do
     putchar('\n');
 }
 
-double growth(program p, const void *large, const void *small) {
+void grows(program p, const void *large, const void *small, double more) {
     contender a = entered(p, large), b = entered(p, small);
     in_turns(&a, &b);
-    return a.best / b.best;
+    double longer = a.best / b.best;
+    printf("    %.2f times the bytes of the same in 1 MiB, %.2f times the time: %.2f for each byte\n", more, longer, longer / more);
 }

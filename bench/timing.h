@@ -21,6 +21,6 @@ void heading(const char *what, const char *unit);
  */
 void compare(const char *what, program ours, program peer, const void *input, double units, size_t bytes, double target);
 
-/* How many times as long a program takes on one input as on another. */
-double growth(program p, const void *large, const void *small);
+/* One line: how many times as long a program takes on one input as on another, which has 1 MiB and is `more` times shorter. */
+void grows(program p, const void *large, const void *small, double more);
 #endif
