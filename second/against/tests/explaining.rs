@@ -11,7 +11,7 @@ use against::tally::{hex, rounds, seed, Tally};
 use against::{beside, Listed};
 use second::compose::{component, data, dense, named, object, root, set};
 use second::encode::Item;
-use second::explain::{self as beside_it, Explanation, Said};
+use second::explain::{Explanation, Said};
 use second::frame::{self, SIZE_LIMIT};
 use second::generate::Generator;
 use second::layout::Layout;
@@ -86,7 +86,7 @@ fn shown(layout: u64, file: &[u8], room: u64) -> String {
 /// Both explanations, which are the same, and the reader's refusal for a table of that room; names and span lie in the file.
 fn explained(tally: &mut Tally, layout: u64, file: &[u8], room: u64) -> Explanation {
     let said = explain(layout, file, room);
-    let told = beside_it::explain(layout, file, room);
+    let told = second::explain::explain(layout, file, room);
     tally.compare(rule(layout, &told), said, told, || shown(layout, file, room));
     let read = against::read_as(layout, file, &mut vec![0; room as usize]);
     assert_eq!((said.number, said.object, said.component), (read.number, read.object, read.component));
@@ -123,7 +123,7 @@ fn one_line(text: &[u8], why: &Explanation) {
 /// The explanations, and the sentences in a text that is exact.
 fn both(tally: &mut Tally, layout: u64, file: &[u8], room: u64) -> Explanation {
     let why = explained(tally, layout, file, room);
-    let text = beside_it::sentence_text(layout, file, room);
+    let text = second::explain::sentence_text(layout, file, room);
     lent(layout, file, room, &text, text.len());
     one_line(&text, &why);
     why
@@ -131,11 +131,12 @@ fn both(tally: &mut Tally, layout: u64, file: &[u8], room: u64) -> Explanation {
 
 /// The same, and the sentences in a text that is one short and one that is longer.
 fn every_text(tally: &mut Tally, layout: u64, file: &[u8], room: u64) -> Explanation {
-    let text = beside_it::sentence_text(layout, file, room);
+    let why = both(tally, layout, file, room);
+    let text = second::explain::sentence_text(layout, file, room);
     for bytes in [text.len() - 1, text.len() + BEYOND] {
         lent(layout, file, room, &text, bytes);
     }
-    both(tally, layout, file, room)
+    why
 }
 
 /// A table of no room, and where that is ROOM one of one number short, one of exact and one of ample room; last a room that no table has. The explanation for that.
