@@ -103,10 +103,10 @@ fn ruled(
 ) -> Owned
     ensures { λ r. ⌜ is.RuledIs layout format code (now (s .entry)) start a n c r ⌝ }
 {
-    if n == 21 {
+    if n == numbers::RANK {
         return told(spot::at(21, a), 0);
     }
-    if n == 22 {
+    if n == numbers::ROLE {
         return role(layout, format, code, &s[0..], start, c);
     }
     at_length(layout, &s[0..], c)

@@ -43,7 +43,7 @@ fn refusal(layout: u64, first: &[u8], other: u64, second: &[u8]) -> Changes
         };
     }
     Changes {
-        number: 24,
+        number: numbers::ROOM,
         file: 0,
         object: 0,
         component: 0,
@@ -78,7 +78,7 @@ fn compared(
     let entries = k as u64 / 8;
     if list.len() < k {
         return Changes {
-            number: 24,
+            number: numbers::ROOM,
             file: 0,
             object: 0,
             component: 0,

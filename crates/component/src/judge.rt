@@ -44,19 +44,19 @@ fn known(layout: u64, p: &[usize]) -> Fine
     ensures { λ r. ⌜ r ≡ is.known layout (now (p .entry)) ⌝ }
 {
     if p[8] != 0 {
-        return Fine::No(9);
+        return Fine::No(numbers::KEY);
     }
     if p[9] != 0 {
-        return Fine::No(11);
+        return Fine::No(numbers::TWICE);
     }
     if lacks_dtype(layout, p[0]) {
-        return Fine::No(12);
+        return Fine::No(numbers::MISSING);
     }
     if p[2] == 0 {
-        return Fine::No(12);
+        return Fine::No(numbers::MISSING);
     }
     if p[3] == 0 {
-        return Fine::No(12);
+        return Fine::No(numbers::MISSING);
     }
     Fine::Yes
 }
@@ -79,9 +79,9 @@ fn extent(s: &[u8], a: usize, b: usize) -> Stretch
     ensures { λ r. ⌜ is.ExtentAt (now (s .entry)) a b r ⌝ }
 {
     match number_at(&s[0..], a) {
-        Numeral::NoNumber => Stretch::No(8),
+        Numeral::NoNumber => Stretch::No(numbers::KIND),
         Numeral::Number(o) => match number_at(&s[0..], b) {
-            Numeral::NoNumber => Stretch::No(8),
+            Numeral::NoNumber => Stretch::No(numbers::KIND),
             Numeral::Number(l) => Stretch::Yes(o, l),
         },
     }

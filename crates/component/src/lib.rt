@@ -34,7 +34,7 @@ pub fn component(layout: u64, above: u64, c: &[u8], start: u64) -> Whole
     match walk::map(&c[0..]) {
         Opening::NotOpen => Whole {
             end: cbor::skip(&c[0..], 28),
-            verdict: Judged::No(8),
+            verdict: Judged::No(numbers::KIND),
         },
         Opening::Opened(mode, count, size) => {
             let e = entries(layout, &c[size..], mode, count, &mut p);

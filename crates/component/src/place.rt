@@ -19,7 +19,7 @@ pub fn dtype_at(layout: u64, s: &[u8], left: usize, above: u64) -> Coded
         if above < 13 {
             return Coded::Yes(above);
         }
-        return Coded::No(12);
+        return Coded::No(numbers::MISSING);
     }
     let at = place_of(s.len(), left);
     dtype_of(layout, &s[at..])
@@ -73,7 +73,7 @@ pub fn unpacked(s: &[u8], left: usize) -> Fine
         return Fine::Yes;
     }
     match walk::number(&s[at..]) {
-        Numeral::NoNumber => Fine::No(8),
+        Numeral::NoNumber => Fine::No(numbers::KIND),
         Numeral::Number(_) => Fine::Yes,
     }
 }

@@ -26,14 +26,14 @@ pub fn dtype_of(layout: u64, s: &[u8]) -> Coded
     ensures { λ r. ⌜ is.DtypeIs (layoutOf layout) (now (s .entry)) r ⌝ }
 {
     match walk::text(&s[0..]) {
-        Letters::NoText => Coded::No(8),
+        Letters::NoText => Coded::No(numbers::KIND),
         Letters::Text(at, n) => {
             let e = at + n;
             let code = types::dtype_code(layout, &s[at..e]);
             if code < 13 {
                 return Coded::Yes(code);
             }
-            Coded::No(16)
+            Coded::No(numbers::DTYPE)
         }
     }
 }
@@ -43,13 +43,13 @@ pub fn raw_of(s: &[u8]) -> Fine
     ensures { λ r. ⌜ is.RawIs (now (s .entry)) r ⌝ }
 {
     match walk::text(&s[0..]) {
-        Letters::NoText => Fine::No(8),
+        Letters::NoText => Fine::No(numbers::KIND),
         Letters::Text(at, n) => {
             let e = at + n;
             if types::is_raw(&s[at..e]) {
                 return Fine::Yes;
             }
-            Fine::No(17)
+            Fine::No(numbers::ENCODING)
         }
     }
 }
@@ -59,13 +59,13 @@ pub fn text_of(s: &[u8]) -> Spot
     ensures { λ r. ⌜ is.TextIs (now (s .entry)) r ⌝ }
 {
     match walk::text(&s[0..]) {
-        Letters::NoText => Spot::No(8),
+        Letters::NoText => Spot::No(numbers::KIND),
         Letters::Text(at, n) => {
             let e = at + n;
             if text::utf8(&s[at..e]) {
                 return Spot::Yes(s.len());
             }
-            Spot::No(10)
+            Spot::No(numbers::TEXT)
         }
     }
 }
@@ -75,16 +75,16 @@ pub fn type_of(s: &[u8], code: u64) -> Spot
     ensures { λ r. ⌜ is.TypeIs (now (s .entry)) code r ⌝ }
 {
     match walk::text(&s[0..]) {
-        Letters::NoText => Spot::No(8),
+        Letters::NoText => Spot::No(numbers::KIND),
         Letters::Text(at, n) => {
             let e = at + n;
             if text::utf8(&s[at..e]) {
                 if types::type_fits(&s[at..e], code) {
                     return Spot::Yes(s.len());
                 }
-                return Spot::No(18);
+                return Spot::No(numbers::TYPE);
             }
-            Spot::No(10)
+            Spot::No(numbers::TEXT)
         }
     }
 }

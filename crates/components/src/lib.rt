@@ -175,7 +175,7 @@ pub fn components(
     match walk::map(&c[0..]) {
         Opening::NotOpen => Whole {
             end: cbor::skip(&c[0..], 29),
-            found: Found::No(8, 0),
+            found: Found::No(numbers::KIND, 0),
         },
         Opening::Opened(mode, count, from) => {
             let w = entries(

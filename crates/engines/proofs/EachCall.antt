@@ -8,10 +8,10 @@ use lib.Dec.{eqb, leb}
 use lib.ListN.{length, take, drop, getD, replicate, length-append, length-replicate}
 use borrow.Author.Tests.{le-leb, lt-leb}
 use Rattle.meaning.specs.Check.{Check, pass, refuse, _>>=_, _>>_, _unless_}
-use Rattle.meaning.specs.Refusal.{INDEX, ROOM}
+use Rattle.meaning.specs.Refusal.{INDEX, ROOM, BUSY}
 use Rattle.meaning.specs.Frame.{Reading}
 use Rattle.engines.specs.Shared.{Who, first, second, whoOf, Engine, flagOf, heldOf, nothing, Shared, own, other, closed, partOf, opened}
-use Rattle.engines.specs.Calls.{BUSY, Call, load, drops, holds, view, list, Said, took, readingAs, needed, engineOf, loading, told, taken, given, after, answered, closedAfter, leaves}
+use Rattle.engines.specs.Calls.{Call, load, drops, holds, view, list, Said, took, readingAs, needed, engineOf, loading, told, taken, given, after, answered, closedAfter, leaves}
 use Rattle.engines.specs.Runs.{numberOf}
 use Rattle.engines.proofs.Kept.{OkEngine, Ok, after-ok}
 use Rattle.engines.proofs.Opens.{Opened, opened-closed, closed-opens, part-is}

@@ -5,7 +5,7 @@ use mathlib.Core.Bool.{Bool, true, false, cond, not}
 use lib.ListN.{length, take, drop, getD, replicate}
 use lib.Dec.{eqb, leb}
 use Rattle.meaning.specs.Check.{Check, pass, refuse, _>>=_, _>>_, _unless_}
-use Rattle.meaning.specs.Refusal.{INDEX, ROOM}
+use Rattle.meaning.specs.Refusal.{INDEX, ROOM, BUSY}
 use Rattle.meaning.specs.Read.{Span}
 use Rattle.meaning.specs.Frame.{Reading, reading}
 use Rattle.meaning.specs.Layouts.{layoutOf}
@@ -13,9 +13,6 @@ use Rattle.meaning.specs.Rows.{rows, roomFor, componentCount, attributesSpan}
 use Rattle.meaning.specs.View.{viewed}
 use Rattle.panel.specs.Lines.{listed}
 use Rattle.engines.specs.Shared.{Who, first, second, whoOf, Engine, flagOf, heldOf, objectsOf, componentsOf, nothing, Shared, own, closed, opened}
-
-abbrev pub BUSY : ℕ
-BUSY = 28
 
 pub data Call : Type 0 where
   -- layout and file

@@ -71,7 +71,7 @@ fn sound(objects: usize, components: usize, room: u64) -> Explanation
     let needed = (columns::OBJECT * objects + columns::COMPONENT * components) as u64;
     if room < needed {
         return Explanation {
-            number: 24,
+            number: numbers::ROOM,
             object: 0,
             component: 0,
             objectname: 0,

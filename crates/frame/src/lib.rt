@@ -42,24 +42,24 @@ pub fn frame(layout: u64, file: &[u8]) -> Framed
     let n = file.len();
     let back = size_back(layout);
     if n < back + 8 {
-        return Framed::No(1);
+        return Framed::No(numbers::SHORT);
     }
     if !text::is_magic(&file[0..8]) {
-        return Framed::No(2);
+        return Framed::No(numbers::HEADER);
     }
     if !footed(layout, &file[0..]) {
-        return Framed::No(3);
+        return Framed::No(numbers::FOOTER);
     }
     let at = n - back;
     let size = text::little(&file[at..at + 8]);
-    if 16_777_216 < size {
-        return Framed::No(4);
+    if numbers::MANIFEST_MOST < size {
+        return Framed::No(numbers::BIG);
     }
     if size == 0 {
-        return Framed::No(5);
+        return Framed::No(numbers::FIT);
     }
     if ((at - 8) as u64) < size {
-        return Framed::No(5);
+        return Framed::No(numbers::FIT);
     }
     Framed::At(at - size as usize, size as usize)
 }

@@ -110,16 +110,16 @@ pub fn place(start: u64, offset: u64, length: u64) -> u64
     ensures { λ r. ⌜ r ≡ number (placed start offset length) ⌝ }
 {
     if offset % 64 != 0 {
-        return 19;
+        return numbers::ALIGN;
     }
     if offset < 64 {
-        return 20;
+        return numbers::BOUNDS;
     }
     if MOST - offset < length {
-        return 20;
+        return numbers::BOUNDS;
     }
     if start < offset + length {
-        return 20;
+        return numbers::BOUNDS;
     }
     0
 }

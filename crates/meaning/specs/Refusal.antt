@@ -82,3 +82,7 @@ INDEX = 26
 -- document 02, Request 02
 abbrev pub PLAN : ℕ
 PLAN = 27
+
+-- Request 11
+abbrev pub BUSY : ℕ
+BUSY = 28

@@ -5,9 +5,6 @@ ghost use mathlib.Core.Path.{_≡_};
 ghost use Rattle.sizes.specs.Size.{capped};
 ghost use Rattle.merge.specs.Checked.{attributesSize, CheckedIs};
 
-// 2^40.
-const LAST: u64 = 1_099_511_627_776;
-
 // The bytes of the kept attributes with their key: the first's if it has any, else the second's.
 fn attributes(place: u64, size: u64, other: u64, length: u64) -> u64
     ensures { λ r. ⌜ r ≡ capped (attributesSize place size other length) ⌝ }
@@ -39,20 +36,20 @@ pub fn checked(one: u64, first: &[u8], two: u64, second: &[u8]) -> Verdict
             match weigh::file(two, second, turn, before, from, &mut names) {
                 Weighed::No(x, o, y) => Verdict::No(x, 2, o, y),
                 Weighed::Yes(k, d, other, length, end, total) => {
-                    if LAST < end {
-                        return Verdict::No(15, 0, 0, 0);
+                    if numbers::END_MOST < end {
+                        return Verdict::No(numbers::COUNT, 0, 0, 0);
                     }
                     let m = piece::capped(
                         23 + attributes(place, size, other, length) + piece::head(n + k) + total,
                     );
-                    if piece::LIMIT < m {
-                        return Verdict::No(4, 0, 0, 0);
+                    if numbers::MANIFEST_MOST < m {
+                        return Verdict::No(numbers::BIG, 0, 0, 0);
                     }
-                    if 1024 < n + k {
-                        return Verdict::No(15, 0, 0, 0);
+                    if numbers::OBJECTS_MOST < n + k {
+                        return Verdict::No(numbers::COUNT, 0, 0, 0);
                     }
                     if !unshared::unshared(first, second, &names, n as usize, k as usize) {
-                        return Verdict::No(11, 0, 0, 0);
+                        return Verdict::No(numbers::TWICE, 0, 0, 0);
                     }
                     Verdict::Yes(n, c, place, size, turn, k, d, other, length, end + m + 16)
                 }

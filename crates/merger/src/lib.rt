@@ -119,7 +119,7 @@ pub fn merge(
             if !fits(rows.len(), out.len(), n + k, c + d, long) {
                 account::clear(rows);
                 return Merged {
-                    number: 24,
+                    number: numbers::ROOM,
                     file: 0,
                     object: 0,
                     component: 0,

@@ -67,16 +67,16 @@ pub fn judge(m: &[u8], t: Tally, left: &[usize], size: &[usize], ix: &mut [u16])
     ensures { λ r. ⌜ spec.Judged (now (m .entry)) t (now (left .entry)) (now (size .entry)) r ⌝ }
 {
     if t.odd {
-        return Named::No(9);
+        return Named::No(numbers::KEY);
     }
     if t.bad {
-        return Named::No(10);
+        return Named::No(numbers::TEXT);
     }
     if left.len() < t.count {
-        return Named::No(15);
+        return Named::No(numbers::COUNT);
     }
     if names::no_twice(&m[0..], &left[0..], &size[0..], t.count, ix) {
         return Named::Yes;
     }
-    Named::No(11)
+    Named::No(numbers::TWICE)
 }

@@ -34,22 +34,22 @@ fn known(layout: u64, p: &[usize]) -> Fine
     ensures { λ r. ⌜ r ≡ is.known layout (now (p .entry)) ⌝ }
 {
     if p[6] != 0 {
-        return Fine::No(9);
+        return Fine::No(numbers::KEY);
     }
     if p[7] != 0 {
-        return Fine::No(11);
+        return Fine::No(numbers::TWICE);
     }
     if lacks_dtype(layout, p[0]) {
-        return Fine::No(12);
+        return Fine::No(numbers::MISSING);
     }
     if p[1] == 0 {
-        return Fine::No(12);
+        return Fine::No(numbers::MISSING);
     }
     if p[2] == 0 {
-        return Fine::No(12);
+        return Fine::No(numbers::MISSING);
     }
     if p[4] == 0 {
-        return Fine::No(12);
+        return Fine::No(numbers::MISSING);
     }
     Fine::Yes
 }
@@ -64,7 +64,7 @@ fn described(s: &[u8], a: usize, b: usize) -> Coded
             if fields::attributes(&s[0..], b) {
                 return Coded::Yes(code);
             }
-            Coded::No(8)
+            Coded::No(numbers::KIND)
         }
     }
 }
@@ -75,10 +75,10 @@ fn ruled(code: u64, dims: &[u64], rank: usize, rows: &[u64], m: usize) -> Judged
     ensures { λ r. ⌜ is.RuledIs code (now (dims .entry)) rank (now (rows .entry)) m r ⌝ }
 {
     if dims.len() < rank {
-        return Judged::No(15, 0);
+        return Judged::No(numbers::COUNT, 0);
     }
     if 16 < m {
-        return Judged::No(15, 0);
+        return Judged::No(numbers::COUNT, 0);
     }
     let e = 4 * m;
     match formats::judge(code, &dims[0..rank], &rows[0..e]) {

@@ -33,7 +33,7 @@ pub fn object(layout: u64, s: &[u8], start: u64) -> Whole
     match walk::map(&s[0..]) {
         Opening::NotOpen => Whole {
             end: cbor::skip(&s[0..], 30),
-            verdict: Judged::No(8, 0),
+            verdict: Judged::No(numbers::KIND, 0),
         },
         Opening::Opened(mode, count, size) => {
             let w = entries(layout, &s[size..], start, mode, count, &mut p, &mut rows);

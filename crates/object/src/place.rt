@@ -27,13 +27,13 @@ fn format_of(s: &[u8]) -> Coded
     ensures { λ r. ⌜ is.FormatIs (now (s .entry)) r ⌝ }
 {
     match walk::text(&s[0..]) {
-        Letters::NoText => Coded::No(8),
+        Letters::NoText => Coded::No(numbers::KIND),
         Letters::Text(at, n) => {
             let e = at + n;
             if text::utf8(&s[at..e]) {
                 return Coded::Yes(types::format_code(&s[at..e]));
             }
-            Coded::No(10)
+            Coded::No(numbers::TEXT)
         }
     }
 }
@@ -51,14 +51,14 @@ fn tensor_of(layout: u64, s: &[u8]) -> Coded
     ensures { λ r. ⌜ is.TensorIs (layoutOf layout) (now (s .entry)) r ⌝ }
 {
     match walk::text(&s[0..]) {
-        Letters::NoText => Coded::No(8),
+        Letters::NoText => Coded::No(numbers::KIND),
         Letters::Text(at, n) => {
             let e = at + n;
             let code = types::dtype_code(layout, &s[at..e]);
             if code < 13 {
                 return Coded::Yes(code);
             }
-            Coded::No(16)
+            Coded::No(numbers::DTYPE)
         }
     }
 }

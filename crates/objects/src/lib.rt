@@ -158,7 +158,7 @@ pub fn objects(layout: u64, c: &[u8], start: u64, deep: bool) -> Whole
     match walk::map(&c[0..]) {
         Opening::NotOpen => Whole {
             end: cbor::skip(&c[0..], 31),
-            found: Found::No(8, 0, 0),
+            found: Found::No(numbers::KIND, 0, 0),
         },
         Opening::Opened(mode, count, from) => {
             let w = entries(

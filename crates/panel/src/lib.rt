@@ -39,7 +39,7 @@ pub fn list(file: &[u8], table: &[u64], objects: u64, components: u64, text: &mu
         );
         if text.len() < n {
             return Listed {
-                number: 24,
+                number: numbers::ROOM,
                 length: 0,
             };
         }
@@ -50,7 +50,7 @@ pub fn list(file: &[u8], table: &[u64], objects: u64, components: u64, text: &mu
         };
     }
     Listed {
-        number: 26,
+        number: numbers::INDEX,
         length: 0,
     }
 }
@@ -104,7 +104,7 @@ pub fn summary(
         );
         if text.len() < n {
             return Listed {
-                number: 24,
+                number: numbers::ROOM,
                 length: 0,
             };
         }
@@ -125,7 +125,7 @@ pub fn summary(
         };
     }
     Listed {
-        number: 26,
+        number: numbers::INDEX,
         length: 0,
     }
 }
@@ -139,7 +139,7 @@ pub fn refusal(number: u64, object: u64, component: u64, text: &mut [u8]) -> Lis
     let n = lines::refused(number, object, component, &mut scrap);
     if text.len() < n {
         return Listed {
-            number: 24,
+            number: numbers::ROOM,
             length: 0,
         };
     }
@@ -157,7 +157,7 @@ pub fn words(said: &[u8], text: &mut [u8]) -> Listed
 {
     if text.len() < said.len() {
         return Listed {
-            number: 24,
+            number: numbers::ROOM,
             length: 0,
         };
     }

@@ -12,8 +12,6 @@ ghost use Rattle.meaning.specs.Plan as is;
 ghost use Rattle.plan.specs.Earlier.{earlier, Earlier};
 ghost use Rattle.plan.specs.Earlier as told;
 
-const LAST: u64 = 1_099_511_627_776;
-
 // The row of a refusal; or the greatest end, 8 if there is no row.
 pub enum Judged {
     No(u64),
@@ -103,8 +101,8 @@ pub fn verdict(plan: &[u64], rows: &[u64], n: usize, ceiling: u64) -> Judged
     requires { ⌜ componentWidth * n ≤ length (now rows) ⌝ }
     ensures { λ r. ⌜ told.Judges (now (plan .entry)) (now (rows .entry)) n ceiling r ⌝ }
 {
-    if LAST < ceiling {
-        return Judged::No(0);
+    if numbers::END_MOST < ceiling {
+        return Judged::No(numbers::x);
     }
     let mut i = 0;
     let mut end = 8;

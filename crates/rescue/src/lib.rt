@@ -5,9 +5,6 @@ use sizes::piece;
 ghost use Rattle.sieve.specs.Sieved.{Bounded};
 ghost use Rattle.rescue.specs.Checked.{Measured, CheckedIs};
 
-// 2^40.
-const LAST: u64 = 1_099_511_627_776;
-
 // A refusal with its object and component. Or where the manifest begins and ends, where the map of its objects begins, and place and length of the root's attributes; how many objects are kept and dropped,
 // how many components are kept; and how long the rescued file is.
 pub enum Verdict {
@@ -42,13 +39,13 @@ pub fn checked(layout: u64, file: &[u8]) -> Verdict
         Found::No(n, o, c) => Verdict::No(n, o, c),
         Found::Yes(start, end, first, place, size) => {
             let z = measured(layout, &file[first..end], start as u64, end);
-            if LAST < z.place {
-                return Verdict::No(15, 0, 0);
+            if numbers::END_MOST < z.place {
+                return Verdict::No(numbers::COUNT, 0, 0);
             }
             let head = piece::head(z.kept as u64);
             let m = piece::capped(23 + piece::attributes(place, size) + head + z.total);
-            if piece::LIMIT < m {
-                return Verdict::No(4, 0, 0);
+            if numbers::MANIFEST_MOST < m {
+                return Verdict::No(numbers::BIG, 0, 0);
             }
             let long = z.place + m + 16;
             Verdict::Yes(

@@ -19,13 +19,13 @@ fn known(p: &[usize]) -> Fine
     ensures { λ r. ⌜ r ≡ is.known (now (p .entry)) ⌝ }
 {
     if p[4] != 0 {
-        return Fine::No(9);
+        return Fine::No(numbers::KEY);
     }
     if p[5] != 0 {
-        return Fine::No(11);
+        return Fine::No(numbers::TWICE);
     }
     if p[0] == 0 {
-        return Fine::No(12);
+        return Fine::No(numbers::MISSING);
     }
     Fine::Yes
 }
@@ -35,16 +35,16 @@ fn version(s: &[u8]) -> Fine
     ensures { λ r. ⌜ is.VersionIs (now (s .entry)) r ⌝ }
 {
     match walk::text(&s[0..]) {
-        Letters::NoText => Fine::No(8),
+        Letters::NoText => Fine::No(numbers::KIND),
         Letters::Text(at, n) => {
             let e = at + n;
             if text::version_shape(&s[at..e]) {
                 if text::major_one(&s[at..e]) {
                     return Fine::Yes;
                 }
-                return Fine::No(14);
+                return Fine::No(numbers::MAJOR);
             }
-            Fine::No(13)
+            Fine::No(numbers::VERSION)
         }
     }
 }
@@ -62,10 +62,10 @@ fn told(map: bool, left: usize, objects: usize, found: Found) -> Judged
     ensures { λ r. ⌜ r ≡ is.told map left objects found ⌝ }
 {
     if !map {
-        return Judged::No(8, 0, 0);
+        return Judged::No(numbers::KIND, 0, 0);
     }
     if objects == 0 {
-        return Judged::No(12, 0, 0);
+        return Judged::No(numbers::MISSING, 0, 0);
     }
     match found {
         Found::No(n, o, c) => Judged::No(n, o, c),

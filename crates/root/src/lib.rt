@@ -33,7 +33,7 @@ fn judged_root(layout: u64, s: &[u8], start: u64, deep: bool) -> Whole
     match walk::map(&s[0..]) {
         Opening::NotOpen => Whole {
             end: cbor::skip(&s[0..], 32),
-            verdict: Judged::No(8, 0, 0),
+            verdict: Judged::No(numbers::KIND, 0, 0),
             objects: 0,
         },
         Opening::Opened(mode, count, size) => {

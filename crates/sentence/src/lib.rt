@@ -73,14 +73,14 @@ const BEGINS: [usize; 28] = [
 fn listed(layout: u64, number: u64) -> usize
     ensures { λ r. ⌜ r ≡ is.listed layout number ⌝ }
 {
-    if 24 < number {
+    if numbers::ROOM < number {
         return 0;
     }
     if layout == 1 {
-        if number == 1 {
+        if number == numbers::SHORT {
             return 25;
         }
-        if number == 5 {
+        if number == numbers::FIT {
             return 26;
         }
     }
@@ -123,7 +123,7 @@ fn bounds(number: u64, place: u64, size: u64, room: u64, out: &mut [u8], at: usi
     requires { ⌜ place + size < 18446744073709551616 ⌝ }
     ensures { λ r. ⌜ Wrote (is.bounds number place size room) at (now (out .entry)) (now (out .exit)) r ⌝ }
 {
-    if number == 24 {
+    if number == numbers::ROOM {
         let a = word(out, at, b";");
         let b = blank_number(out, a, room);
         return word(out, b, b" numbers needed");
@@ -183,7 +183,7 @@ pub fn say(layout: u64, file: &[u8], e: Explanation, text: &mut [u8]) -> Listed
     let n = line(layout, &file[0..], e, &mut scrap);
     if text.len() < n {
         return Listed {
-            number: 24,
+            number: numbers::ROOM,
             length: 0,
         };
     }

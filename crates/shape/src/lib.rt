@@ -28,24 +28,24 @@ pub fn shape(s: &[u8], left: u64, dims: &mut [u64]) -> Shaped
     ensures { λ r. ⌜ spec.ShapeRead left (now (s .entry)) (now (dims .exit)) r ⌝ }
 {
     let Opening::Opened(mode, count, size) = walk::list(&s[0..]) else {
-        return Shaped::No(8);
+        return Shaped::No(numbers::KIND);
     };
     let mut at = size;
     let mut rank = 0;
     while walk::more(&s[at..], mode, count, rank) {
         let Numeral::Number(n) = walk::number(&s[at..]) else {
-            return Shaped::No(8);
+            return Shaped::No(numbers::KIND);
         };
         put(dims, rank, n);
         let k = cbor::skip(&s[at..], left);
         if s.len() - at < k {
-            return Shaped::No(8);
+            return Shaped::No(numbers::KIND);
         }
         at += k;
         rank += 1;
     }
-    if 8 < rank {
-        return Shaped::No(15);
+    if numbers::RANK_MOST < rank {
+        return Shaped::No(numbers::COUNT);
     }
     Shaped::Yes(rank)
 }

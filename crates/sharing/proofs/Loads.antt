@@ -9,7 +9,7 @@ use lib.ListN.{length, take, drop, replicate}
 use lib.Seq.{sets, length-sets}
 use borrow.Author.Tests.{leb-true, eq-eqb, ne-eqb}
 use Rattle.meaning.specs.Check.{Check, pass, refuse, _>>=_, _>>_, _unless_}
-use Rattle.meaning.specs.Refusal.{ROOM}
+use Rattle.meaning.specs.Refusal.{ROOM, BUSY}
 use Rattle.meaning.specs.Columns.{objectWidth, componentWidth}
 use Rattle.meaning.specs.Frame.{Reading, reading}
 use Rattle.meaning.specs.Layouts.{Layout, layoutOf}
@@ -19,7 +19,7 @@ use Rattle.reader.specs.Answer as read
 use Rattle.reader.specs.declared.into.Answer.{Answer}
 use Rattle.shown.proofs.AfterReading.{read-zero}
 use Rattle.engines.specs.Shared.{Who, first, second, Engine, flagOf, heldOf, Shared, own, closed, opened}
-use Rattle.engines.specs.Calls.{BUSY, Call, load, Said, took, readingAs, needed, layoutNumber, engineOf, loading, told, taken, after, answered, leaves}
+use Rattle.engines.specs.Calls.{Call, load, Said, took, readingAs, needed, layoutNumber, engineOf, loading, told, taken, after, answered, leaves}
 use Rattle.engines.specs.Runs.{numberOf}
 use Rattle.sharing.specs.Told as is
 use Rattle.sharing.specs.Told.{rowsAt, laid, stateWith}

@@ -17,10 +17,6 @@ ghost use Rattle.reader.specs.Answer as read;
 ghost use Rattle.engines.specs.Calls.{load, drops, holds, view, list, layoutNumber, answered, leaves};
 ghost use Rattle.sharing.specs.Told as is;
 
-const INDEX: u64 = 26;
-
-const BUSY: u64 = 28;
-
 // Where an engine's rows stand in the table, and what was answered when they were loaded; all 0 if nothing is loaded.
 #[repr(C)]
 pub struct Held {
@@ -134,8 +130,8 @@ pub fn load(shared: &mut [u64], engine: u64, layout: u64, file: &[u8]) -> Answer
     ensures left { λ r. ⌜ now (shared .exit) ≡ leaves 65536 engine (load layout (now (file .entry))) (now (shared .entry)) ⌝ }
 {
     match states::standing(&shared[0..], engine) {
-        Place::Nowhere => refused(INDEX),
-        Place::Loaded(_, _, _, _) => refused(BUSY),
+        Place::Nowhere => refused(numbers::INDEX),
+        Place::Loaded(_, _, _, _) => refused(numbers::BUSY),
         Place::Idle(free) => {
             let a = lay(shared, engine, free, layout, &file[0..]);
             if 0 < a.number {
@@ -181,7 +177,7 @@ pub fn release(shared: &mut [u64], engine: u64) -> u64
     ensures left { λ r. ⌜ now (shared .exit) ≡ leaves 65536 engine drops (now (shared .entry)) ⌝ }
 {
     match states::standing(&shared[0..], engine) {
-        Place::Nowhere => INDEX,
+        Place::Nowhere => numbers::INDEX,
         Place::Idle(_) => 0,
         Place::Loaded(place, numbers, _, _) => {
             clear(shared, place, numbers);
@@ -197,12 +193,12 @@ pub fn view(shared: &[u64], engine: u64, file: &[u8], index: u64) -> Extent
 {
     match states::standing(&shared[0..], engine) {
         Place::Nowhere => Extent {
-            number: INDEX,
+            number: numbers::INDEX,
             offset: 0,
             length: 0,
         },
         Place::Idle(_) => Extent {
-            number: INDEX,
+            number: numbers::INDEX,
             offset: 0,
             length: 0,
         },
@@ -220,11 +216,11 @@ pub fn list(shared: &[u64], engine: u64, file: &[u8], text: &mut [u8]) -> Listed
 {
     match states::standing(&shared[0..], engine) {
         Place::Nowhere => Listed {
-            number: INDEX,
+            number: numbers::INDEX,
             length: 0,
         },
         Place::Idle(_) => Listed {
-            number: INDEX,
+            number: numbers::INDEX,
             length: 0,
         },
         Place::Loaded(place, numbers, objects, components) => {
@@ -270,7 +266,7 @@ pub fn holds(shared: &[u64], engine: u64) -> Held
     ensures { λ r. ⌜ r ≡ is.held (answered 65536 engine holds (now (shared .entry))) ⌝ }
 {
     match states::standing(&shared[0..], engine) {
-        Place::Nowhere => nothing_held(INDEX),
+        Place::Nowhere => nothing_held(numbers::INDEX),
         Place::Idle(_) => nothing_held(0),
         Place::Loaded(place, _, _, _) => {
             if engine == 0 {

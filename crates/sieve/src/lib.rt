@@ -34,7 +34,7 @@ struct Turn {
 fn more(n: usize) -> usize
     ensures { λ r. ⌜ r ≡ is.more n ⌝ }
 {
-    if n < 1024 {
+    if n < numbers::OBJECTS_MOST {
         return n + 1;
     }
     n

@@ -6,18 +6,16 @@ ghost use Rattle.meaning.specs.Columns.{objectWidth, rankColumn, shapeColumn};
 ghost use Rattle.meaning.specs.Types.{storageOf};
 ghost use Rattle.sizes.specs.Size as is;
 
-pub const LIMIT: u64 = 16_777_216;
-
 // The length of each storage's name: a hexadecimal digit for each code, the lowest for 0.
 const NAMES: u64 = 0x4_2333_2333_4333;
 
 pub fn capped(n: u64) -> u64
     ensures { λ r. ⌜ r ≡ is.capped n ⌝ }
 {
-    if n <= LIMIT {
+    if n <= numbers::MANIFEST_MOST {
         return n;
     }
-    LIMIT + 1
+    numbers::MANIFEST_MOST + 1
 }
 
 pub fn head(n: u64) -> u64
@@ -41,8 +39,8 @@ pub fn head(n: u64) -> u64
 pub fn text(n: u64) -> u64
     ensures { λ r. ⌜ r ≡ is.capped (is.textSize n) ⌝ }
 {
-    if LIMIT < n {
-        return LIMIT + 1;
+    if numbers::MANIFEST_MOST < n {
+        return numbers::MANIFEST_MOST + 1;
     }
     capped(head(n) + n)
 }
@@ -65,8 +63,8 @@ pub fn attributes(place: u64, size: u64) -> u64
     if rows::absent(place, size) {
         return 0;
     }
-    if LIMIT < size {
-        return LIMIT + 1;
+    if numbers::MANIFEST_MOST < size {
+        return numbers::MANIFEST_MOST + 1;
     }
     capped(11 + size)
 }

@@ -12,8 +12,6 @@ ghost use Rattle.rows.specs.Running.{blobSizes};
 ghost use Rattle.rows.specs.Running as is;
 ghost use Rattle.sizes.specs.Size.{cappedEnd};
 
-const LAST: u64 = 1_099_511_627_776;
-
 // The least multiple of 64 not below a place.
 pub fn aligned(n: u64) -> u64
     requires { ⌜ n ≤ endLimit ⌝ }
@@ -34,8 +32,8 @@ pub fn end(rows: &[u64], n: u64, start: u64) -> u64
     while 0 < left {
         let offset = aligned(place);
         let size = rows[at + LENGTH];
-        if LAST - offset < size {
-            return LAST + 1;
+        if numbers::END_MOST - offset < size {
+            return numbers::END_MOST + 1;
         }
         place = offset + size;
         at += columns::COMPONENT;

@@ -8,10 +8,10 @@ use lib.Dec.{eqb, leb}
 use lib.ListN.{length, take, drop, getD, replicate, length-append}
 use lib.Seq.{take-at, drop-at}
 use Rattle.meaning.specs.Check.{Check, pass, refuse, _>>=_, _>>_, _unless_}
-use Rattle.meaning.specs.Refusal.{INDEX}
+use Rattle.meaning.specs.Refusal.{INDEX, BUSY}
 use Rattle.meaning.specs.Text.{all}
 use Rattle.engines.specs.Shared.{Who, first, second, whoOf, Engine, flagOf, heldOf, objectsOf, componentsOf, stateSound, nothing, Shared, own, closed, partOf, usable, apart, opened}
-use Rattle.engines.specs.Calls.{BUSY, Call, load, drops, holds, view, list, Said, placeOf, loading, told, given, after, answered, leaves}
+use Rattle.engines.specs.Calls.{Call, load, drops, holds, view, list, Said, placeOf, loading, told, given, after, answered, leaves}
 use Rattle.engines.specs.Runs.{numberOf}
 use Rattle.states.specs.Places.{standsBy, stands, standing}
 use Rattle.states.specs.declared.Place.{Place}

@@ -30,14 +30,14 @@ pub fn framed(layout: u64, n: u64, file: &[u8]) -> Explanation
     ensures { λ r. ⌜ is.Unframed layout (now (file .entry)) n r ⌝ }
 {
     let length = file.len();
-    if n == 1 {
-        return alone(1, 0, length as u64);
+    if n == numbers::SHORT {
+        return alone(numbers::SHORT, 0, length as u64);
     }
-    if n == 2 {
-        return alone(2, 0, 8);
+    if n == numbers::HEADER {
+        return alone(numbers::HEADER, 0, 8);
     }
-    if n == 3 {
-        return alone(3, place_of(length, 8) as u64, 8);
+    if n == numbers::FOOTER {
+        return alone(numbers::FOOTER, place_of(length, 8) as u64, 8);
     }
     let back = frame::size_back(layout);
     alone(n, place_of(length, back) as u64, 8)

@@ -5,8 +5,6 @@ ghost use lib.ListN.{length, take, drop};
 ghost use Rattle.meaning.specs.View as meaning;
 ghost use Rattle.view.specs.Told.{told, found, within};
 
-const INDEX: u64 = 26;
-
 // 0, and where a component lies and how long it is; or INDEX, 0 and 0.
 #[repr(C)]
 pub struct Extent {
@@ -46,14 +44,14 @@ fn inside(n: usize, place: u64, size: u64) -> Extent
     let room = n as u64;
     if room < place {
         return Extent {
-            number: INDEX,
+            number: numbers::INDEX,
             offset: 0,
             length: 0,
         };
     }
     if room - place < size {
         return Extent {
-            number: INDEX,
+            number: numbers::INDEX,
             offset: 0,
             length: 0,
         };
@@ -71,7 +69,7 @@ pub fn range(file: &[u8], table: &[u64], objects: u64, components: u64, index: u
 {
     match row_of(table.len(), objects, components, index) {
         Row::Nowhere => Extent {
-            number: INDEX,
+            number: numbers::INDEX,
             offset: 0,
             length: 0,
         },

@@ -16,9 +16,6 @@ ghost use Rattle.meaning.specs.Limit.{manifestLimit, endLimit};
 ghost use Rattle.walk.proofs.Turns.{Modes};
 ghost use Rattle.window.specs.Summed.{Added, AllSummed, Measured};
 
-// 2^40.
-const LAST: u64 = 1_099_511_627_776;
-
 // Where the last blob ends, or 2^40 + 1; and how many bytes the objects' entries take, or the limit and 1.
 pub struct Sum {
     pub place: u64,
@@ -45,14 +42,14 @@ pub fn add(t: &[u64], place: u64, total: u64) -> Sum
             total: total,
         };
     }
-    if LAST < place {
+    if numbers::END_MOST < place {
         return Sum {
             place: place,
             total: total,
         };
     }
     let next = placing::end(&t[columns::OBJECT..], count, place);
-    if LAST < next {
+    if numbers::END_MOST < next {
         return Sum {
             place: next,
             total: total,

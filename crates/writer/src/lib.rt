@@ -70,15 +70,15 @@ fn measured(
 {
     all_below(rows);
     if !sound(rows, objects, components, place, size, buffer) {
-        return Sized::No(25, 0);
+        return Sized::No(numbers::ROW, 0);
     }
     let end = sizes::last_end(rows, objects, components);
-    if 1099511627776 < end {
-        return Sized::No(15, 0);
+    if numbers::END_MOST < end {
+        return Sized::No(numbers::COUNT, 0);
     }
     let manifest = sizes::manifest(&rows[0..0], rows, objects, components, place, size);
-    if 16777216 < manifest {
-        return Sized::No(4, 0);
+    if numbers::MANIFEST_MOST < manifest {
+        return Sized::No(numbers::BIG, 0);
     }
     Sized::Yes(end, manifest)
 }
@@ -100,15 +100,15 @@ fn measured_by(
 {
     all_below(rows);
     if !sound(rows, objects, components, place, size, buffer) {
-        return Sized::No(25, 0);
+        return Sized::No(numbers::ROW, 0);
     }
     let first = (columns::OBJECT_64 * objects) as usize;
     match plan::verdict(plan, &rows[first..], components as usize, ceiling) {
-        Judged::No(row) => Sized::No(27, row),
+        Judged::No(row) => Sized::No(numbers::PLAN, row),
         Judged::Yes(end) => {
             let manifest = sizes::manifest(plan, rows, objects, components, place, size);
-            if 16777216 < manifest {
-                return Sized::No(4, 0);
+            if numbers::MANIFEST_MOST < manifest {
+                return Sized::No(numbers::BIG, 0);
             }
             Sized::Yes(end, manifest)
         }
