@@ -24,7 +24,7 @@ fn described(s: &[u8], a: usize, b: usize, code: u64) -> Valued
             if fields::attributes(&s[0..], b) {
                 return Valued::Sound(code, format);
             }
-            Valued::Odd(8, b)
+            Valued::Odd(numbers::KIND, b)
         }
     }
 }

@@ -148,7 +148,9 @@ swept-is (o ∷ e ∷ s) low r n u v = by (ltb (from r o) e) refl (swept-is s o 
         let last : count (covered (o ∷ e ∷ s)) m (r + (from r o - r) + (e - from r o)) ≡ swept e s =
         ap (count (covered (o ∷ e ∷ s)) m) at-e ∙ further ∙ sym w in
         let whole : count (covered (o ∷ e ∷ s)) n r ≡ count (covered (o ∷ e ∷ s)) (from r o - r + (e - from r o + m)) r = ap (λ (k : ℕ). count (covered (o ∷ e ∷ s)) k r) q in
-        sym (whole ∙ parts ∙ ap (λ (k : ℕ). k + count (covered (o ∷ e ∷ s)) (e - from r o + m) (r + (from r o - r))) before ∙ (let z : 0 + count (covered (o ∷ e ∷ s)) (e - from r o + m) (r + (from r o - r)) ≡ count (covered (o ∷ e ∷ s)) (e - from r o + m) (r + (from r o - r)) = omega arith in z) ∙ halves ∙ ap (λ (k : ℕ). k + count (covered (o ∷ e ∷ s)) m (r + (from r o - r) + (e - from r o))) there ∙ ap (λ (k : ℕ). e - from r o + k) last)
+        sym (whole ∙ parts ∙ ap (λ (k : ℕ). k + count (covered (o ∷ e ∷ s)) (e - from r o + m) (r + (from r o - r))) before ∙
+        (let z : 0 + count (covered (o ∷ e ∷ s)) (e - from r o + m) (r + (from r o - r)) ≡ count (covered (o ∷ e ∷ s)) (e - from r o + m) (r + (from r o - r)) = omega arith in z) ∙ halves ∙ ap
+        (λ (k : ℕ). k + count (covered (o ∷ e ∷ s)) m (r + (from r o - r) + (e - from r o))) there ∙ ap (λ (k : ℕ). e - from r o + k) last)
 
     by : (b : Bool) → ltb (from r o) e ≡ b → swept r s ≡ count (covered s) n r → ((m : ℕ) → r + n ≡ e + m → swept e s ≡ count (covered s) m e)
         → cond b (e - from r o + swept e s) (swept r s) ≡ count (covered (o ∷ e ∷ s)) n r

@@ -131,7 +131,7 @@ pub fn object(row: &[u64], rows: &[u64], buffer: &[u8]) -> Ruled
 {
     let format = part(buffer, row[FORMAT], row[FORMAT_LENGTH]);
     if !text::utf8(format) {
-        return Ruled::Wrong(10, 0);
+        return Ruled::Wrong(numbers::TEXT, 0);
     }
     let n = row[COUNT] as usize;
     let mut left = [0usize; 16];

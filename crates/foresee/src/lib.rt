@@ -81,11 +81,11 @@ pub fn verdict(
     ensures { λ r. ⌜ judged (described (now (buffer .entry)) (asked (now (rows .entry)) objects components (record { place = place; size = size }))) ≡ is.foretold r ⌝ }
 {
     if depth::deep(buffer, place, size, 31) {
-        return Foreseen::Fault(7, 0, 0);
+        return Foreseen::Fault(numbers::DEEP, 0, 0);
     }
     let n = objects as usize;
     if depth::any_deep(rows, n, buffer) {
-        return Foreseen::Fault(7, 0, 0);
+        return Foreseen::Fault(numbers::DEEP, 0, 0);
     }
     let from = columns::OBJECT * n;
     judge(rows, n, &rows[from..], components as usize, buffer)

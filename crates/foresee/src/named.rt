@@ -61,13 +61,13 @@ pub fn names(
     ensures { λ r. ⌜ judgedNames (length (now (left .entry))) (namesOf (now (buffer .entry)) width n (now (rows .entry))) ≡ told r ⌝ }
 {
     if !note(rows, width, n, buffer, left, size) {
-        return Held::Wrong(10);
+        return Held::Wrong(numbers::TEXT);
     }
     if left.len() < n {
-        return Held::Wrong(15);
+        return Held::Wrong(numbers::COUNT);
     }
     if names::no_twice(buffer, left, size, n, ix) {
         return Held::Right;
     }
-    Held::Wrong(11)
+    Held::Wrong(numbers::TWICE)
 }

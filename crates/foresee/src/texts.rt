@@ -29,12 +29,12 @@ fn logical(buffer: &[u8], place: u64, size: u64, code: u64) -> Held
     }
     let t = part(buffer, place, size);
     if !text::utf8(t) {
-        return Held::Wrong(10);
+        return Held::Wrong(numbers::TEXT);
     }
     if types::type_fits(t, code) {
         return Held::Right;
     }
-    Held::Wrong(18)
+    Held::Wrong(numbers::TYPE)
 }
 
 // A digest, or none.
@@ -48,7 +48,7 @@ fn digest(buffer: &[u8], place: u64, size: u64) -> Held
     if text::utf8(t) {
         return Held::Right;
     }
-    Held::Wrong(10)
+    Held::Wrong(numbers::TEXT)
 }
 
 // The component whose row these numbers begin with.

@@ -103,12 +103,12 @@ fn dense(shape: &[u64], parts: &[u64]) -> Ruled
     ensures { λ r. ⌜ ((cs : List format.Part) → now (parts .entry) ≡ partRows cs → format.dense (now (shape .entry)) cs ≡ told r) ⌝ }
 {
     match role_of(&parts[0..], 0) {
-        Filled::Absent => Ruled::Wrong(22, 0),
+        Filled::Absent => Ruled::Wrong(numbers::ROLE, 0),
         Filled::At(i, unit, _, size) => {
             if dense_fits(&shape[0..], unit, size) {
                 return Ruled::Right;
             }
-            Ruled::Wrong(23, i)
+            Ruled::Wrong(numbers::LENGTH, i)
         }
     }
 }
@@ -127,13 +127,13 @@ fn csr_lengths(
     ensures { λ r. ⌜ csrLengths rows v unit size x indices y pointers ≡ told r ⌝ }
 {
     if !values_fit(unit, size) {
-        return Ruled::Wrong(23, v);
+        return Ruled::Wrong(numbers::LENGTH, v);
     }
     if !indices_fit(unit, size, indices) {
-        return Ruled::Wrong(23, x);
+        return Ruled::Wrong(numbers::LENGTH, x);
     }
     if !lengths::pointer_length(pointers, rows) {
-        return Ruled::Wrong(23, y);
+        return Ruled::Wrong(numbers::LENGTH, y);
     }
     Ruled::Right
 }
@@ -143,14 +143,14 @@ fn sparse_csr(shape: &[u64], parts: &[u64]) -> Ruled
     ensures { λ r. ⌜ ((cs : List format.Part) → now (parts .entry) ≡ partRows cs → format.sparseCsr (now (shape .entry)) cs ≡ told r) ⌝ }
 {
     if shape.len() != 2 {
-        return Ruled::Wrong(21, 0);
+        return Ruled::Wrong(numbers::RANK, 0);
     }
     match role_of(&parts[0..], 1) {
-        Filled::Absent => Ruled::Wrong(22, 0),
+        Filled::Absent => Ruled::Wrong(numbers::ROLE, 0),
         Filled::At(v, unit, _, size) => match index_role(&parts[0..], 2) {
-            Indexed::Odd(j) => Ruled::Wrong(22, j),
+            Indexed::Odd(j) => Ruled::Wrong(numbers::ROLE, j),
             Indexed::Plain(x, indices) => match index_role(&parts[0..], 3) {
-                Indexed::Odd(j) => Ruled::Wrong(22, j),
+                Indexed::Odd(j) => Ruled::Wrong(numbers::ROLE, j),
                 Indexed::Plain(y, pointers) => csr_lengths(
                     shape[0],
                     v,
@@ -171,10 +171,10 @@ fn coo_lengths(rank: u64, v: usize, unit: u64, size: u64, x: usize, coords: u64)
     ensures { λ r. ⌜ cooLengths rank v unit size x coords ≡ told r ⌝ }
 {
     if !values_fit(unit, size) {
-        return Ruled::Wrong(23, v);
+        return Ruled::Wrong(numbers::LENGTH, v);
     }
     if !coords_fit(unit, size, rank, coords) {
-        return Ruled::Wrong(23, x);
+        return Ruled::Wrong(numbers::LENGTH, x);
     }
     Ruled::Right
 }
@@ -184,9 +184,9 @@ fn sparse_coo(shape: &[u64], parts: &[u64]) -> Ruled
     ensures { λ r. ⌜ ((cs : List format.Part) → now (parts .entry) ≡ partRows cs → format.sparseCoo (now (shape .entry)) cs ≡ told r) ⌝ }
 {
     match role_of(&parts[0..], 1) {
-        Filled::Absent => Ruled::Wrong(22, 0),
+        Filled::Absent => Ruled::Wrong(numbers::ROLE, 0),
         Filled::At(v, unit, _, size) => match index_role(&parts[0..], 4) {
-            Indexed::Odd(j) => Ruled::Wrong(22, j),
+            Indexed::Odd(j) => Ruled::Wrong(numbers::ROLE, j),
             Indexed::Plain(x, coords) => coo_lengths(shape.len() as u64, v, unit, size, x, coords),
         },
     }
@@ -208,13 +208,13 @@ fn quantized_group(parts: &[u64]) -> Ruled
     ensures { λ r. ⌜ ((shape : List ℕ) (cs : List format.Part) → now (parts .entry) ≡ partRows cs → format.quantizedGroup shape cs ≡ told r) ⌝ }
 {
     if !has_role(&parts[0..], 5) {
-        return Ruled::Wrong(22, 0);
+        return Ruled::Wrong(numbers::ROLE, 0);
     }
     if !has_role(&parts[0..], 6) {
-        return Ruled::Wrong(22, 0);
+        return Ruled::Wrong(numbers::ROLE, 0);
     }
     if !has_role(&parts[0..], 7) {
-        return Ruled::Wrong(22, 0);
+        return Ruled::Wrong(numbers::ROLE, 0);
     }
     Ruled::Right
 }

@@ -45,7 +45,7 @@ pub fn checked(one: u64, first: &[u8], two: u64, second: &[u8]) -> Verdict
                     if numbers::MANIFEST_MOST < m {
                         return Verdict::No(numbers::BIG, 0, 0, 0);
                     }
-                    if numbers::OBJECTS_MOST < n + k {
+                    if numbers::OBJECTS_MOST_64 < n + k {
                         return Verdict::No(numbers::COUNT, 0, 0, 0);
                     }
                     if !unshared::unshared(first, second, &names, n as usize, k as usize) {

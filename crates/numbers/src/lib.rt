@@ -60,9 +60,9 @@ pub const MANIFEST_MOST: u64 = 16_777_216;
 
 pub const END_MOST: u64 = 1_099_511_627_776;
 
-// Objects of a file, components of an object, and dimensions.
+// Objects of a file, the same for counts of 64 bits, and dimensions of an object.
 pub const OBJECTS_MOST: usize = 1_024;
 
-pub const COMPONENTS_MOST: usize = 16;
+pub const OBJECTS_MOST_64: u64 = OBJECTS_MOST as u64;
 
 pub const RANK_MOST: usize = 8;

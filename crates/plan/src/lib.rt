@@ -102,7 +102,7 @@ pub fn verdict(plan: &[u64], rows: &[u64], n: usize, ceiling: u64) -> Judged
     ensures { λ r. ⌜ told.Judges (now (plan .entry)) (now (rows .entry)) n ceiling r ⌝ }
 {
     if numbers::END_MOST < ceiling {
-        return Judged::No(numbers::x);
+        return Judged::No(0);
     }
     let mut i = 0;
     let mut end = 8;

@@ -80,7 +80,7 @@ fn fill(layout: u64, m: &[u8], start: usize, last: bool, t: &mut [u64]) -> Answe
         Told::No(n, o, c) => refused(n, o, c),
         Told::Yes(objects, components, left, at) => {
             if !fits(t.len(), objects, components) {
-                return refused(24, 0, 0);
+                return refused(numbers::ROOM, 0, 0);
             }
             let end = start + m.len();
             let place = place_of(m.len(), at);

@@ -135,7 +135,7 @@ fn fill(
         Foreseen::Fault(n, o, c) => refused(n, o as u64, c as u64),
         Foreseen::Fine => {
             if (out.len() as u64) < end + manifest + 16 {
-                return refused(24, 0, 0);
+                return refused(numbers::ROOM, 0, 0);
             }
             let n = layout::file(plan, rows, objects, components, place, size, buffer, out);
             Written {

@@ -15,7 +15,10 @@ inside-spec =
     (λ c κs. search needs)
     (λ c. search needs)
     (λ c. search needs)
-    (λ c. answering.front-long ((c .before .before .before .before .before .before .pre)) ((c .before .before .before .gather .ensures)))
-    (λ c κs. (answering.front-begin ((c .before .before .before .before .before .before .pre)) ((c .before .before .before .gather .ensures)), (answering.front-end ((c .before .before .before .before .before .before .pre)) ((c .before .before .before .gather .ensures)), (c .before .before .before .before .before .before .pre .small))))
+    (λ c. let b3 = c .before .before .before in
+    answering.front-long ((b3 .before .before .before .pre)) ((b3 .gather .ensures)))
+    (λ c κs. let b3 = c .before .before .before in let b6 = b3 .before .before .before in
+    (answering.front-begin ((b6 .pre)) ((b3 .gather .ensures)), (answering.front-end ((b6 .pre)) ((b3 .gather .ensures)), (b6 .pre .small))))
     (λ c. search needs)
-    (λ c. (answering.counted ((c .before .before .before .before .before .before .before .before .before .pre)) ((c .before .before .before .before .before .before .gather .ensures)) ((c .before .before .inside .ensures .0)), answering.still-long ((c .before .before .before .before .before .before .before .before .before .pre)) ((c .before .before .before .before .before .before .gather .ensures)) ((c .before .before .inside .last .0)) ((c .before .before .inside .ensures .1)))))
+    (λ c. let b2 = c .before .before in let b6 = b2 .before .before .before .before in let b9 = b6 .before .before .before in
+    (answering.counted ((b9 .pre)) ((b6 .gather .ensures)) ((b2 .inside .ensures .0)), answering.still-long ((b9 .pre)) ((b6 .gather .ensures)) ((b2 .inside .last .0)) ((b2 .inside .ensures .1)))))

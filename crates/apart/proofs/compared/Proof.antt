@@ -17,7 +17,8 @@ compared-spec =
     (λ c. search needs)
     (λ c. search needs)
     (λ c. search needs)
-    (λ c κs. rw (whole ((c .before .before .before .before .args .x .now)), whole ((c .before .before .before .before .args .y .now))) ((c .before .before .before .before .pre .both)))
+    (λ c κs. let b4 = c .before .before .before .before in let a = b4 .args in
+    rw (whole ((a .x .now)), whole ((a .y .now))) ((b4 .pre .both)))
     (λ c.
     let at7 = c .before .before .before .before .before .before .before in
     counting.none-apart (at7 .args .x .now) (at7 .args .y .now) (at7 .pre) (rw (whole (at7 .args .x .now), whole (at7 .args .y .now)) at (c .before .before .run .ensures)) (c .before .if1 .taken) (c .if2 .taken))

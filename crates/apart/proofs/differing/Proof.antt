@@ -21,7 +21,8 @@ differing-spec =
     (tie.spec
     Inv-loop
     μ-loop
-    (λ c. (omega arith, omega arith, counting.count-begins ((c .before .before .args .x .now)) ((c .before .before .args .y .now)) ((c .before .before .pre .0)) ((c .before .before .pre .1)) ((c .before .before .pre .2))))
+    (λ c. let a = c .before .before .args in
+    (omega arith, omega arith, counting.count-begins ((a .x .now)) ((a .y .now)) ((c .before .before .pre .0)) ((c .before .before .pre .1)) ((c .before .before .pre .2))))
     (λ c. search needs)
     (λ c. search needs)
     (λ c. search needs)
@@ -49,4 +50,5 @@ differing-spec =
     let at5 = c .before .before .before .before .before in
     let at8 = at5 .before .before .before in
     (omega arith, omega (arith, (c .of-eight .ensures .1)), counting.count-eight (at8 .args .x .now) (at8 .args .y .now) (at5 .loop .i) (at5 .loop .inv .2) (rw (whole (at8 .args .x .now), whole (at8 .args .y .now)) at (c .of-eight .ensures .0))))
-    (λ c. counting.counted-all ((c .before .before .before .before .args .x .now)) ((c .before .before .before .before .args .y .now)) ((c .before .before .before .before .args .n)) ((c .before .loop .i)) ((c .before .loop .inv)) (omega arith)))
+    (λ c. let l = c .before .loop in let a = c .before .before .before .before .args in
+    counting.counted-all ((a .x .now)) ((a .y .now)) ((a .n)) ((l .i)) ((l .inv)) (omega arith)))

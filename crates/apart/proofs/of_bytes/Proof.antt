@@ -20,7 +20,8 @@ of-bytes-spec =
     (λ c κs.
     let at5 = c .before .before .before .before .before in
     rw (whole (at5 .args .x .now), whole (at5 .args .y .now)) (counting.rest-first (at5 .args .x .now) (at5 .args .y .now) (omega arith)))
-    (λ c. rw (whole ((c .before .before .before .before .before .before .args .x .now)), whole ((c .before .before .before .before .before .before .args .y .now))) at ((c .compared .ensures)))
+    (λ c. let a = c .before .before .before .before .before .before .args in
+    rw (whole ((a .x .now)), whole ((a .y .now))) at ((c .compared .ensures)))
     (λ c. search needs)
     (λ c. search needs)
     (λ c. search needs)
@@ -31,4 +32,5 @@ of-bytes-spec =
     (λ c κs.
     let at5 = c .before .before .before .before .before in
     rw (whole (at5 .args .x .now), whole (at5 .args .y .now)) (counting.rest-second (at5 .args .x .now) (at5 .args .y .now) (omega arith)))
-    (λ c. rw (whole ((c .before .before .before .before .before .before .args .x .now)), whole ((c .before .before .before .before .before .before .args .y .now))) at ((c .compared2 .ensures))))
+    (λ c. let a = c .before .before .before .before .before .before .args in
+    rw (whole ((a .x .now)), whole ((a .y .now))) at ((c .compared2 .ensures))))

@@ -76,5 +76,25 @@ of-eight-spec =
     let at15 = at12 .before .before .before in
     let at18 = at15 .before .before .before in
     let at21 = at18 .before .before .before in
-    let at31 = at21 .before .before .before .before .before .before .before .before .before .before in
-    (counting.eight-sum (differsAt (at31 .args .x .now) (at31 .args .y .now)) (at31 .args .i) (counting.counted (at31 .args .x .now) (at31 .args .y .now) {p = (at31 .args .i)} (at31 .pre) (omega arith) (at21 .differ .ensures .0)) (counting.counted (at31 .args .x .now) (at31 .args .y .now) {p = (at31 .args .i) + 1} (at31 .pre) (omega arith) (at18 .differ2 .ensures .0)) (counting.counted (at31 .args .x .now) (at31 .args .y .now) {p = (at31 .args .i) + 2} (at31 .pre) (omega arith) (at15 .differ3 .ensures .0)) (counting.counted (at31 .args .x .now) (at31 .args .y .now) {p = (at31 .args .i) + 3} (at31 .pre) (omega arith) (at12 .differ4 .ensures .0)) (counting.counted (at31 .args .x .now) (at31 .args .y .now) {p = (at31 .args .i) + 4} (at31 .pre) (omega arith) (at9 .differ5 .ensures .0)) (counting.counted (at31 .args .x .now) (at31 .args .y .now) {p = (at31 .args .i) + 5} (at31 .pre) (omega arith) (at6 .differ6 .ensures .0)) (counting.counted (at31 .args .x .now) (at31 .args .y .now) {p = (at31 .args .i) + 6} (at31 .pre) (omega arith) (at3 .differ7 .ensures .0)) (counting.counted (at31 .args .x .now) (at31 .args .y .now) {p = (at31 .args .i) + 7} (at31 .pre) (omega arith) (c .differ8 .ensures .0)), omega (arith, (at21 .differ .ensures .1), (at18 .differ2 .ensures .1), (at15 .differ3 .ensures .1), (at12 .differ4 .ensures .1), (at9 .differ5 .ensures .1), (at6 .differ6 .ensures .1), (at3 .differ7 .ensures .1), (c .differ8 .ensures .1)))))
+    let at31 = at21 .before .before .before .before .before .before .before .before .before .before in (
+      counting.eight-sum (differsAt (at31 .args .x .now) (at31 .args .y .now)) (at31 .args .i)
+          (counting.counted (at31 .args .x .now) (at31 .args .y .now) {p = (at31 .args .i)} (at31 .pre) (omega arith) (at21 .differ .ensures .0))
+          (counting.counted (at31 .args .x .now) (at31 .args .y .now) {p = (at31 .args .i) + 1} (at31 .pre) (omega arith) (at18 .differ2 .ensures .0))
+          (counting.counted (at31 .args .x .now) (at31 .args .y .now) {p = (at31 .args .i) + 2} (at31 .pre) (omega arith) (at15 .differ3 .ensures .0))
+          (counting.counted (at31 .args .x .now) (at31 .args .y .now) {p = (at31 .args .i) + 3} (at31 .pre) (omega arith) (at12 .differ4 .ensures .0))
+          (counting.counted (at31 .args .x .now) (at31 .args .y .now) {p = (at31 .args .i) + 4} (at31 .pre) (omega arith) (at9 .differ5 .ensures .0))
+          (counting.counted (at31 .args .x .now) (at31 .args .y .now) {p = (at31 .args .i) + 5} (at31 .pre) (omega arith) (at6 .differ6 .ensures .0))
+          (counting.counted (at31 .args .x .now) (at31 .args .y .now) {p = (at31 .args .i) + 6} (at31 .pre) (omega arith) (at3 .differ7 .ensures .0))
+          (counting.counted (at31 .args .x .now) (at31 .args .y .now) {p = (at31 .args .i) + 7} (at31 .pre) (omega arith) (c .differ8 .ensures .0)),
+      omega (
+        arith,
+        (at21 .differ .ensures .1),
+        (at18 .differ2 .ensures .1),
+        (at15 .differ3 .ensures .1),
+        (at12 .differ4 .ensures .1),
+        (at9 .differ5 .ensures .1),
+        (at6 .differ6 .ensures .1),
+        (at3 .differ7 .ensures .1),
+        (c .differ8 .ensures .1),
+      ),
+    )))

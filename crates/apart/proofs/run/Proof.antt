@@ -26,12 +26,15 @@ run-spec =
     (λ c. search needs)
     (λ c. search needs)
     (λ c. search needs)
-    (λ c κs. rw (whole ((c .before .before .before .before .args .x .now)), whole ((c .before .before .before .before .args .y .now))) ((c .before .before .before .before .pre)))
-    (λ c. ((c .run-of-words .ensures .0), rw (whole ((c .before .before .before .before .before .args .x .now)), whole ((c .before .before .before .before .before .args .y .now))) at ((c .run-of-words .ensures .1))))
+    (λ c κs. let b4 = c .before .before .before .before in let a = b4 .args in
+    rw (whole ((a .x .now)), whole ((a .y .now))) ((b4 .pre)))
+    (λ c. let a = c .before .before .before .before .before .args in
+    ((c .run-of-words .ensures .0), rw (whole ((a .x .now)), whole ((a .y .now))) at ((c .run-of-words .ensures .1))))
     (λ c. omega (arith, (c .before .before .before .before .before .before .before .before .pre .first)))
     (λ c. omega (arith, (c .before .before .before .before .before .before .before .before .before .pre .second)))
     (λ c. record { most = omega arith; agree = (c .before .before .before .before .loop .inv .1); stops = λ l. (c .if1 .taken) })
     (λ c. search needs)
     (λ c. search needs)
-    (λ c. (omega arith, counting.agree-one ((c .before .before .before .before .loop .i)) ((c .before .before .before .before .loop .inv .1)) (omega arith)))
+    (λ c. let l = c .before .before .before .before .loop in
+    (omega arith, counting.agree-one ((l .i)) ((l .inv .1)) (omega arith)))
     (λ c. record { most = (c .before .loop .inv .0); agree = (c .before .loop .inv .1); stops = λ l. absurd (omega arith) }))

@@ -34,8 +34,10 @@ entries-spec =
     (λ c κs. noting.still-due ((c .before .before .before .before .before .pre .1)) ((c .before .loop .inv)))
     (λ c. search needs)
     (λ c. (c .before .before .before .before .loop .inv .room))
-    (λ c. noting.same-sizes ((c .before .before .before .before .before .before .before .before .pre .1)) ((c .before .before .before .before .loop .inv)) ((c .before .before .before .before .before .before .before .before .pre .0)))
-    (λ c. noting.ends ((c .before .before .before .before .before .before .before .before .pre .1)) ((c .before .before .before .before .loop .inv)) ((c .before .before .past-key .ensures)) ((c .enum-told .given .1)))
+    (λ c. let b4 = c .before .before .before .before in let b8 = b4 .before .before .before .before in let l = b4 .loop in
+    noting.same-sizes ((b8 .pre .1)) ((l .inv)) ((b8 .pre .0)))
+    (λ c. let b2 = c .before .before in let b4 = b2 .before .before in let l = b4 .loop in
+    noting.ends ((b4 .before .before .before .before .pre .1)) ((l .inv)) ((b2 .past-key .ensures)) ((c .enum-told .given .1)))
     (λ c. search needs)
     (λ c. let b1 = c .before in let b3 = b1 .before .before in let b5 = b3 .before .before in let b9 = b5 .before .before .before .before in
     omega (arith, noting.value-inside (b9 .pre .1) (b5 .loop .inv) (b3 .past-key .ensures) (b1 .k .given .1)))

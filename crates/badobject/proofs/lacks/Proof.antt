@@ -13,7 +13,8 @@ lacks-spec =
     (λ c. search needs)
     (λ c. whole.lacks-format _ _ (c .before .before .if1 .left) (c .if2 .taken))
     (λ c. search needs)
-    (λ c. whole.lacks-components _ _ (c .before .before .before .before .if1 .left) (c .before .before .if2 .left) (c .if3 .taken))
+    (λ c. let b2 = c .before .before in
+    whole.lacks-components _ _ (b2 .before .before .if1 .left) (b2 .if2 .left) (c .if3 .taken))
     (λ c. search needs)
     (λ c.
     let c1 = c .before in

@@ -15,7 +15,8 @@ values-spec =
     (tie.spec
     (λ c. search needs)
     (λ c κs. search needs)
-    (λ c. valued.versionless ((c .before .before .before .before .before .args .s .now)) ((c .before .before .before .before .before .args .p .now)) ((c .before .before .before .before .before .args .whole)) ((c .before .if1 .taken)) ((c .at .ensures)))
+    (λ c. let a = c .before .before .before .before .before .args in
+    valued.versionless ((a .s .now)) ((a .p .now)) ((a .whole)) ((c .before .if1 .taken)) ((c .at .ensures)))
     (λ c. search needs)
     (λ c κs. search needs)
     (λ c. search needs)

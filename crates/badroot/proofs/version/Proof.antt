@@ -29,7 +29,8 @@ version-spec =
     (λ c κs. search needs)
     (λ c. search needs)
     (λ c. search needs)
-    (λ c. letters-in ((c .before .before .before .before .before .before .before .before .before .args .s .now)) _ ((c .before .before .before .before .before .before .text .ensures .0)) _ _ ((c .before .before .before .before .from .given .1)))
+    (λ c. let b4 = c .before .before .before .before in let b6 = b4 .before .before in let a = b6 .before .before .before .args in
+    letters-in ((a .s .now)) _ ((b6 .text .ensures .0)) _ _ ((b4 .from .given .1)))
     (λ c κs. search needs)
     (λ c κs. search needs)
     (λ c. let b1 = c .before in let b2 = b1 .before in let b4 = b2 .before .before in let b5 = b4 .before in let b8 = b5 .before .before .before in let b10 = b8 .before .before in let b13 = b10 .before .before .before in

@@ -16,12 +16,16 @@ chunk-spec =
     (λ c. majors.chunk-none ((c .before .before .args .s .now)) ((c .before .before .args .major)) (omega arith))
     (λ c. search needs)
     (λ c κs. search needs)
-    (λ c. first.chunk-other ((c .before .before .before .before .before .args .s .now)) ((c .before .before .before .before .before .args .major)) (omega arith) (λ e. omega arith))
+    (λ c. let a = c .before .before .before .before .before .args in
+    first.chunk-other ((a .s .now)) ((a .major)) (omega arith) (λ e. omega arith))
     (λ c κs. search needs)
-    (λ c. first.chunk-open ((c .before .before .before .before .before .before .before .args .s .now)) ((c .before .before .before .before .before .before .before .args .major)) (omega arith) (omega arith) (omega arith))
+    (λ c. let a = c .before .before .before .before .before .before .before .args in
+    first.chunk-open ((a .s .now)) ((a .major)) (omega arith) (omega arith) (omega arith))
     (λ c. search needs)
     (λ c. search needs)
     (λ c. search needs)
     (λ c κs. search needs)
     (λ c κs. search needs)
-    (λ c. (c .string-end .ensures) ∙ ap (λ h. stringEnd (length ((c .before .before .before .before .before .before .before .before .before .before .args .s .now))) (h .size) (h .value)) ((c .before .head .ensures) ∙ ap headOf (part-to-end ((c .before .before .before .before .before .before .before .before .before .before .args .s .now)) 0)) ∙ first.chunk-ends ((c .before .before .before .before .before .before .before .before .before .before .args .s .now)) ((c .before .before .before .before .before .before .before .before .before .before .args .major)) (omega arith) (omega arith) (omega arith) (λ e. omega arith)))
+    (λ c. let a = c .before .before .before .before .before .before .before .before .before .before .args in
+    (c .string-end .ensures) ∙ ap (λ h. stringEnd (length ((a .s .now))) (h .size) (h .value)) ((c .before .head .ensures) ∙ ap headOf (part-to-end ((a .s .now)) 0)) ∙ first.chunk-ends ((a .s .now))
+    ((a .major)) (omega arith) (omega arith) (omega arith) (λ e. omega arith)))

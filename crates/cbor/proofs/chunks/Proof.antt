@@ -30,14 +30,21 @@ chunks-spec =
     (λ c. (omega arith, sym (shift-zero (ending ((c .before .args .s .now)) (toBreak (chunk ((c .before .args .major))) ((c .before .args .s .now)))))))
     (λ c. search needs)
     (λ c. search needs)
-    (λ c. let m = (c .before .before .before .before .before .args .major) in loops.until-here (chunk m) (chunk-exact m) (chunk-hungry m) (chunks-exact m) ((c .before .before .before .before .before .args .s .now)) (omega arith) ((c .before .before .before .loop .at)) ((c .before .before .before .loop .inv .0)) ((c .before .before .before .loop .inv .1)) (omega arith) (omega arith))
+    (λ c. let l = c .before .before .before .loop in let a = c .before .before .before .before .before .args in
+    let m = (a .major) in loops.until-here (chunk m) (chunk-exact m) (chunk-hungry m) (chunks-exact m) ((a .s .now)) (omega arith) ((l .at)) ((l .inv .0)) ((l .inv .1)) (omega arith) (omega arith))
     (λ c. search needs)
     (λ c. search needs)
     (λ c. search needs)
     (λ c κs. search needs)
     (λ c. search needs)
-    (λ c. let m = (c .before .before .before .before .before .before .before .before .args .major) in let s = (c .before .before .before .before .before .before .before .before .args .s .now) in let at = (c .before .before .before .before .before .before .loop .at) in loops.until-stops (chunk m) (chunk-exact m) (chunk-hungry m) (chunks-exact m) s (omega arith) at ((c .before .before .before .before .before .before .loop .inv .0)) ((c .before .before .before .before .before .before .loop .inv .1)) (omega arith) (λ e. omega arith) ((c .before .chunk .result)) ((c .before .chunk .ensures) ∙ ap (λ x. code (ending x (chunk m x))) (part-to-end s at)) (omega arith))
+    (λ c. let l = c .before .before .before .before .before .before .loop in let a = c .before .before .before .before .before .before .before .before .args in
+    let m = (a .major) in let s = (a .s .now) in let at = (l .at) in loops.until-stops (chunk m) (chunk-exact m) (chunk-hungry m) (chunks-exact m) s (omega arith) at ((l .inv .0)) ((l .inv .1))
+    (omega arith) (λ e. omega arith) ((c .before .chunk .result)) ((c .before .chunk .ensures) ∙ ap (λ x. code (ending x (chunk m x))) (part-to-end s at)) (omega arith))
     (λ c. search needs)
-    (λ c. let m = (c .before .before .before .before .before .before .before .before .args .major) in let s = (c .before .before .before .before .before .before .before .before .args .s .now) in let at = (c .before .before .before .before .before .before .loop .at) in omega (arith, loops.takes-a-byte (chunk m) (chunk-exact m) (chunk-hungry m) s (omega arith) at ((c .before .before .before .before .before .before .loop .inv .0)) ((c .before .chunk .result)) ((c .before .chunk .ensures) ∙ ap (λ x. code (ending x (chunk m x))) (part-to-end s at)) (omega arith)))
-    (λ c. let m = (c .before .before .before .before .before .before .before .before .args .major) in let s = (c .before .before .before .before .before .before .before .before .args .s .now) in let at = (c .before .before .before .before .before .before .loop .at) in (omega arith, loops.until-goes-on (chunk m) (chunk-exact m) (chunk-hungry m) (chunks-exact m) s (omega arith) at ((c .before .before .before .before .before .before .loop .inv .0)) ((c .before .before .before .before .before .before .loop .inv .1)) (omega arith) (λ e. omega arith) ((c .before .chunk .result)) ((c .before .chunk .ensures) ∙ ap (λ x. code (ending x (chunk m x))) (part-to-end s at)) (omega arith)))
-    (λ c. let m = (c .before .before .before .args .major) in loops.until-missing (chunk m) (chunk-exact m) (chunk-hungry m) (chunks-exact m) ((c .before .before .before .args .s .now)) (omega arith) ((c .before .loop .at)) ((c .before .loop .inv .0)) ((c .before .loop .inv .1)) (omega arith)))
+    (λ c. let l = c .before .before .before .before .before .before .loop in let a = c .before .before .before .before .before .before .before .before .args in
+    let m = (a .major) in let s = (a .s .now) in let at = (l .at) in omega
+    (arith, loops.takes-a-byte (chunk m) (chunk-exact m) (chunk-hungry m) s (omega arith) at ((l .inv .0)) ((c .before .chunk .result)) ((c .before .chunk .ensures) ∙ ap (λ x. code (ending x (chunk m x))) (part-to-end s at)) (omega arith)))
+    (λ c. let l = c .before .before .before .before .before .before .loop in let a = c .before .before .before .before .before .before .before .before .args in
+    let m = (a .major) in let s = (a .s .now) in let at = (l .at) in (omega arith, loops.until-goes-on (chunk m) (chunk-exact m) (chunk-hungry m) (chunks-exact m) s (omega arith) at ((l .inv .0)) ((l .inv .1)) (omega arith) (λ e. omega arith) ((c .before .chunk .result)) ((c .before .chunk .ensures) ∙ ap (λ x. code (ending x (chunk m x))) (part-to-end s at)) (omega arith)))
+    (λ c. let l = c .before .loop in let a = c .before .before .before .args in
+    let m = (a .major) in loops.until-missing (chunk m) (chunk-exact m) (chunk-hungry m) (chunks-exact m) ((a .s .now)) (omega arith) ((l .at)) ((l .inv .0)) ((l .inv .1)) (omega arith)))

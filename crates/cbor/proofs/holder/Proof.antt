@@ -15,22 +15,36 @@ holder-spec =
     tie.close
     (tie.spec
     (λ c κs. search needs)
-    (λ c. subst (HolderIs ((c .before .before .before .args .s .now))) (sym ((c .held .ensures))) (majors.never-holds ((c .before .before .before .args .s .now)) (omega arith) (λ d q. rest.never-empty (suc d) ((c .before .before .before .args .s .now)) (omega arith))))
+    (λ c. let a = c .before .before .before .args in
+    subst (HolderIs ((a .s .now))) (sym ((c .held .ensures))) (majors.never-holds ((a .s .now)) (omega arith) (λ d q. rest.never-empty (suc d) ((a .s .now)) (omega arith))))
     (λ c. search needs)
     (λ c κs. search needs)
-    (λ c. subst (HolderIs ((c .before .before .before .before .before .args .s .now))) (sym ((c .held2 .ensures))) (majors.never-holds ((c .before .before .before .before .before .args .s .now)) (omega arith) (λ d q. first.open-tag-refused ((c .before .before .before .before .before .args .s .now)) (omega arith) (omega arith) (omega arith) (omega arith) (omega arith) d)))
+    (λ c. let a = c .before .before .before .before .before .args in
+    subst (HolderIs ((a .s .now))) (sym ((c .held2 .ensures)))
+    (majors.never-holds ((a .s .now)) (omega arith) (λ d q. first.open-tag-refused ((a .s .now)) (omega arith) (omega arith) (omega arith) (omega arith) (omega arith) d)))
     (λ c. search needs)
     (λ c. search needs)
     (λ c. search needs)
     (λ c κs. search needs)
     (λ c κs. search needs)
-    (λ c. subst (HolderIs ((c .before .before .before .before .before .before .before .before .args .s .now))) (sym ((c .held3 .ensures) ∙ ap (λ h. held (h .size) 1 0) ((c .before .before .head .ensures) ∙ ap headOf (part-to-end ((c .before .before .before .before .before .before .before .before .args .s .now)) 0)))) (first.tag-holds ((c .before .before .before .before .before .before .before .before .args .s .now)) (omega arith) (omega arith) (omega arith) (λ e. omega arith)))
+    (λ c. let a = c .before .before .before .before .before .before .before .before .args in
+    subst (HolderIs ((a .s .now))) (sym ((c .held3 .ensures) ∙ ap (λ h. held (h .size) 1 0) ((c .before .before .head .ensures) ∙ ap headOf (part-to-end ((a .s .now)) 0))))
+    (first.tag-holds ((a .s .now)) (omega arith) (omega arith) (omega arith) (λ e. omega arith)))
     (λ c κs. search needs)
-    (λ c. subst (HolderIs ((c .before .before .before .before .before .before .before .before .before .before .args .s .now))) (sym ((c .held4 .ensures) ∙ ap (λ h. held (h .size) (h .value) 1) ((c .before .before .before .before .head .ensures) ∙ ap headOf (part-to-end ((c .before .before .before .before .before .before .before .before .before .before .args .s .now)) 0)))) (first.open-array-holds ((c .before .before .before .before .before .before .before .before .before .before .args .s .now)) (omega arith) (omega arith) (omega arith)))
+    (λ c. let a = c .before .before .before .before .before .before .before .before .before .before .args in
+    subst (HolderIs ((a .s .now))) (sym ((c .held4 .ensures) ∙ ap (λ h. held (h .size) (h .value) 1) ((c .before .before .before .before .head .ensures) ∙ ap headOf (part-to-end ((a .s .now)) 0))))
+    (first.open-array-holds ((a .s .now)) (omega arith) (omega arith) (omega arith)))
     (λ c κs. search needs)
-    (λ c. subst (HolderIs ((c .before .before .before .before .before .before .before .before .before .before .args .s .now))) (sym ((c .held5 .ensures) ∙ ap (λ h. held (h .size) (h .value) 0) ((c .before .before .before .before .head .ensures) ∙ ap headOf (part-to-end ((c .before .before .before .before .before .before .before .before .before .before .args .s .now)) 0)))) (first.array-holds ((c .before .before .before .before .before .before .before .before .before .before .args .s .now)) (omega arith) (omega arith) (omega arith) (λ e. omega arith)))
+    (λ c. let a = c .before .before .before .before .before .before .before .before .before .before .args in
+    subst (HolderIs ((a .s .now))) (sym ((c .held5 .ensures) ∙ ap (λ h. held (h .size) (h .value) 0) ((c .before .before .before .before .head .ensures) ∙ ap headOf (part-to-end ((a .s .now)) 0))))
+    (first.array-holds ((a .s .now)) (omega arith) (omega arith) (omega arith) (λ e. omega arith)))
     (λ c κs. search needs)
-    (λ c. subst (HolderIs ((c .before .before .before .before .before .before .before .before .before .before .args .s .now))) (sym ((c .held6 .ensures) ∙ ap (λ h. held (h .size) (h .value) 2) ((c .before .before .before .before .head .ensures) ∙ ap headOf (part-to-end ((c .before .before .before .before .before .before .before .before .before .before .args .s .now)) 0)))) (first.open-map-holds ((c .before .before .before .before .before .before .before .before .before .before .args .s .now)) (omega arith) (omega arith) (omega arith)))
+    (λ c. let a = c .before .before .before .before .before .before .before .before .before .before .args in
+    subst (HolderIs ((a .s .now))) (sym ((c .held6 .ensures) ∙ ap (λ h. held (h .size) (h .value) 2) ((c .before .before .before .before .head .ensures) ∙ ap headOf (part-to-end ((a .s .now)) 0))))
+    (first.open-map-holds ((a .s .now)) (omega arith) (omega arith) (omega arith)))
     (λ c κs. search needs)
     (λ c κs. search needs)
-    (λ c. subst (HolderIs ((c .before .before .before .before .before .before .before .before .before .before .before .args .s .now))) (sym ((c .held7 .ensures) ∙ ap (λ n. held ((c .before .before .before .before .before .head .result .size)) n 0) ((c .before .doubled .ensures)) ∙ ap (λ h. held (h .size) (doubled (h .value)) 0) ((c .before .before .before .before .before .head .ensures) ∙ ap headOf (part-to-end ((c .before .before .before .before .before .before .before .before .before .before .before .args .s .now)) 0)))) (first.map-holds ((c .before .before .before .before .before .before .before .before .before .before .before .args .s .now)) (omega arith) (omega arith) (omega arith) (omega arith) (λ e. omega arith))))
+    (λ c. let a = c .before .before .before .before .before .before .before .before .before .before .before .args in
+    subst (HolderIs ((a .s .now)))
+    (sym ((c .held7 .ensures) ∙ ap (λ n. held ((c .before .before .before .before .before .head .result .size)) n 0) ((c .before .doubled .ensures)) ∙ ap (λ h. held (h .size) (doubled (h .value)) 0) ((c .before .before .before .before .before .head .ensures) ∙ ap headOf (part-to-end ((a .s .now)) 0))))
+    (first.map-holds ((a .s .now)) (omega arith) (omega arith) (omega arith) (omega arith) (λ e. omega arith))))

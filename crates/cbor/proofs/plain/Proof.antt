@@ -24,7 +24,8 @@ plain-spec =
     (λ c κs. search needs)
     (λ c. λ d h. subst (λ p. StringIs p ((c .string .result))) (part-to-end ((c .before .before .before .before .before .before .before .args .s .now)) 0) ((c .string .ensures)) d (omega arith) (omega arith))
     (λ c κs. search needs)
-    (λ c. λ d h. first.scalar-open ((c .before .before .before .before .before .before .args .s .now)) d (omega arith) (first.scalar (getD ((c .before .before .before .before .before .before .args .s .now)) 0 0) h (λ x y. ⊎-elim (λ w. omega arith) (λ w. omega arith) ((c .before .before .if2 .came)))) (omega arith))
+    (λ c. let a = c .before .before .before .before .before .before .args in
+    λ d h. first.scalar-open ((a .s .now)) d (omega arith) (first.scalar (getD ((a .s .now)) 0 0) h (λ x y. ⊎-elim (λ w. omega arith) (λ w. omega arith) ((c .before .before .if2 .came)))) (omega arith))
     (λ c. search needs)
     (λ c. search needs)
     (λ c. search needs)

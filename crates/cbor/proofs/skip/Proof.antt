@@ -23,9 +23,12 @@ skip-spec =
     (λ c κs. search needs)
     (λ c. search needs)
     (λ c κs. search needs)
-    (λ c. ((c .string-end .ensures)) ∙ first.short-text ((c .before .before .before .before .before .before .before .before .args .left)) ((c .before .before .before .before .before .before .before .before .args .s .now)) ((c .before .before .if4 .taken)) (omega arith) (omega arith) ((c .before .before .before .before .if2 .taken)) ((c .before .before .before .if3 .taken)) _ ((c .before .low-of .ensures)))
+    (λ c. let a = c .before .before .before .before .before .before .before .before .args in
+    ((c .string-end .ensures)) ∙ first.short-text ((a .left)) ((a .s .now)) ((c .before .before .if4 .taken)) (omega arith) (omega arith) ((c .before .before .before .before .if2 .taken))
+    ((c .before .before .before .if3 .taken)) _ ((c .before .low-of .ensures)))
     (λ c. search needs)
     (λ c. search needs)
     (λ c. search needs)
     (λ c κs. search needs)
-    (λ c. let s = ((c .before .before .before .before .before .before .args .s .now)) in ((c .skip-value .ensures)) ∙ ap (λ x. code (itemEnd ((c .before .before .before .before .before .before .args .left)) x)) (part-to-end s 0)))
+    (λ c. let a = c .before .before .before .before .before .before .args in
+    let s = ((a .s .now)) in ((c .skip-value .ensures)) ∙ ap (λ x. code (itemEnd ((a .left)) x)) (part-to-end s 0)))

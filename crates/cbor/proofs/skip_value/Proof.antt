@@ -23,13 +23,17 @@ skip-value-spec =
     (λ c. search needs)
     (λ c κs. search needs)
     (λ c κs. search needs)
-    (λ c. ((c .string-end .ensures)) ∙ first.number-ends ((c .before .before .before .before .before .before .before .args .left)) ((c .before .before .before .before .before .before .before .args .s .now)) ((c .before .before .before .if2 .taken)) (omega arith) ((c .before .before .if3 .taken)) _ ((c .before .number-size .ensures)))
+    (λ c. let a = c .before .before .before .before .before .before .before .args in
+    ((c .string-end .ensures)) ∙ first.number-ends ((a .left)) ((a .s .now)) ((c .before .before .before .if2 .taken)) (omega arith) ((c .before .before .if3 .taken)) _ ((c .before .number-size .ensures)))
     (λ c. search needs)
     (λ c κs. search needs)
     (λ c κs. search needs)
-    (λ c. ((c .string-end2 .ensures)) ∙ first.byte-text ((c .before .before .before .before .before .before .before .before .before .before .args .left)) ((c .before .before .before .before .before .before .before .before .before .before .args .s .now)) ((c .before .before .before .before .before .before .if2 .taken)) (omega arith) (omega arith) ((c .before .before .before .before .if4 .taken)) _ ((c .before .wide .ensures .0)))
+    (λ c. let a = c .before .before .before .before .before .before .before .before .before .before .args in
+    ((c .string-end2 .ensures)) ∙ first.byte-text ((a .left)) ((a .s .now)) ((c .before .before .before .before .before .before .if2 .taken)) (omega arith) (omega arith)
+    ((c .before .before .before .before .if4 .taken)) _ ((c .before .wide .ensures .0)))
     (λ c. search needs)
     (λ c. search needs)
     (λ c. search needs)
     (λ c κs. λ h. absurd (omega arith))
-    (λ c. let s = ((c .before .before .before .before .before .before .args .s .now)) in ((c .items .ensures)) ∙ ap (λ x. code (rest 0 1 ((c .before .before .before .before .before .before .args .left)) x)) (part-to-end s 0) ∙ ap code (due.one-due ((c .before .before .before .before .before .before .args .left)) s)))
+    (λ c. let a = c .before .before .before .before .before .before .args in
+    let s = ((a .s .now)) in ((c .items .ensures)) ∙ ap (λ x. code (rest 0 1 ((a .left)) x)) (part-to-end s 0) ∙ ap code (due.one-due ((a .left)) s)))

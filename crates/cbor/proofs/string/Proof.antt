@@ -26,12 +26,20 @@ string-spec =
     (λ c κs. search needs)
     (λ c κs. search needs)
     (λ c. search needs)
-    (λ c. λ d x y. let s = (c .before .before .before .before .before .before .before .before .before .args .s .now) in loops.later-fails s (omega arith) 1 (omega arith) (ending (drop 1 s) (toBreak (chunk (getD s 0 0 / 32)) (drop 1 s))) (fine-ending (drop 1 s) (toBreak (chunk (getD s 0 0 / 32)) (drop 1 s))) ((c .before .chunks .result)) ((c .before .chunks .ensures) ∙ ap (λ p. code (ending p (toBreak (chunk ((c .before .before .major-of .result))) p))) (part-to-end s 1) ∙ ap (λ m. code (ending (drop 1 s) (toBreak (chunk m) (drop 1 s)))) ((c .before .before .major-of .ensures))) (omega arith) ∙ ap code (sym (first.string-opens s d (omega arith) x y (omega arith))))
+    (λ c. λ d x y. let s = (c .before .before .before .before .before .before .before .before .before .args .s .now) in loops.later-fails s (omega arith) 1 (omega arith)
+    (ending (drop 1 s) (toBreak (chunk (getD s 0 0 / 32)) (drop 1 s))) (fine-ending (drop 1 s) (toBreak (chunk (getD s 0 0 / 32)) (drop 1 s))) ((c .before .chunks .result))
+    ((c .before .chunks .ensures) ∙ ap (λ p. code (ending p (toBreak (chunk ((c .before .before .major-of .result))) p))) (part-to-end s 1) ∙ ap (λ m. code (ending (drop 1 s) (toBreak (chunk m) (drop 1 s))))
+    ((c .before .before .major-of .ensures))) (omega arith) ∙ ap code (sym (first.string-opens s d (omega arith) x y (omega arith))))
     (λ c. omega arith)
-    (λ c. λ d x y. let s = (c .before .before .before .before .before .before .before .before .before .args .s .now) in let z : (c .before .chunks .result) + 1 ≡ 1 + (c .before .chunks .result) = omega arith in z ∙ loops.later-ends s (omega arith) 1 (omega arith) (ending (drop 1 s) (toBreak (chunk (getD s 0 0 / 32)) (drop 1 s))) (fine-ending (drop 1 s) (toBreak (chunk (getD s 0 0 / 32)) (drop 1 s))) ((c .before .chunks .result)) ((c .before .chunks .ensures) ∙ ap (λ p. code (ending p (toBreak (chunk ((c .before .before .major-of .result))) p))) (part-to-end s 1) ∙ ap (λ m. code (ending (drop 1 s) (toBreak (chunk m) (drop 1 s)))) ((c .before .before .major-of .ensures))) (omega arith) ∙ ap code (sym (first.string-opens s d (omega arith) x y (omega arith))))
+    (λ c. λ d x y. let s = (c .before .before .before .before .before .before .before .before .before .args .s .now) in let z : (c .before .chunks .result) + 1 ≡ 1 + (c .before .chunks .result) = omega arith in z ∙
+    loops.later-ends s (omega arith) 1 (omega arith) (ending (drop 1 s) (toBreak (chunk (getD s 0 0 / 32)) (drop 1 s))) (fine-ending (drop 1 s) (toBreak (chunk (getD s 0 0 / 32)) (drop 1 s))) ((c .before .chunks .result))
+    ((c .before .chunks .ensures) ∙ ap (λ p. code (ending p (toBreak (chunk ((c .before .before .major-of .result))) p))) (part-to-end s 1) ∙ ap (λ m. code (ending (drop 1 s) (toBreak (chunk m) (drop 1 s))))
+    ((c .before .before .major-of .ensures))) (omega arith) ∙ ap code (sym (first.string-opens s d (omega arith) x y (omega arith))))
     (λ c. search needs)
     (λ c. search needs)
     (λ c. search needs)
     (λ c κs. search needs)
     (λ c κs. search needs)
-    (λ c. λ d x y. (c .string-end .ensures) ∙ ap (λ h. stringEnd (length ((c .before .before .before .before .before .before .before .before .args .s .now))) (h .size) (h .value)) ((c .before .head .ensures) ∙ ap headOf (part-to-end ((c .before .before .before .before .before .before .before .before .args .s .now)) 0)) ∙ first.string-ends ((c .before .before .before .before .before .before .before .before .args .s .now)) d (omega arith) x y (omega arith) (λ e. omega arith)))
+    (λ c. let a = c .before .before .before .before .before .before .before .before .args in
+    λ d x y. (c .string-end .ensures) ∙ ap (λ h. stringEnd (length ((a .s .now))) (h .size) (h .value)) ((c .before .head .ensures) ∙ ap headOf (part-to-end ((a .s .now)) 0)) ∙ first.string-ends
+    ((a .s .now)) d (omega arith) x y (omega arith) (λ e. omega arith)))

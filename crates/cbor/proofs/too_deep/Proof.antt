@@ -11,4 +11,8 @@ use Rattle.cbor.proofs.too_deep.Tie as tie
 pub too-deep-spec : {M : Type 1} → statement M
 too-deep-spec =
     tie.close
-    (tie.spec (λ c. answers.nothing-due ((c .before .before .args .mode)) ((c .before .before .args .count)) 0 ((c .before .before .args .s .now)) ((c .before .before .pre)) (omega arith)) (λ c. ap code (sym (rest.rest-ends-early 0 ((c .before .before .before .args .mode)) ((c .before .before .before .args .count)) ((c .before .before .before .args .s .now)) (omega arith) (omega arith)))) (λ c. search needs) (λ c κs. search needs) (λ c. (c .broken .ensures) ∙ ap code (passing.shift-zero _ ∙ sym (rest.rest-breaks 0 ((c .before .before .before .before .before .before .args .mode)) ((c .before .before .before .before .before .before .args .count)) ((c .before .before .before .before .before .before .args .s .now)) (omega arith) (omega arith) (omega arith)))) (λ c. ap code (sym (rest.rest-stops 0 ((c .before .before .before .before .before .args .mode)) ((c .before .before .before .before .before .args .count)) ((c .before .before .before .before .before .args .s .now)) 7 (omega arith) (omega arith) (λ e. omega arith) (rest.never-deep ((c .before .before .before .before .before .args .s .now)) (omega arith) (λ e. omega arith))))))
+    (tie.spec (λ c. let a = c .before .before .args in
+    answers.nothing-due ((a .mode)) ((a .count)) 0 ((a .s .now)) ((c .before .before .pre)) (omega arith)) (λ c. let a = c .before .before .before .args in
+    ap code (sym (rest.rest-ends-early 0 ((a .mode)) ((a .count)) ((a .s .now)) (omega arith) (omega arith)))) (λ c. search needs) (λ c κs. search needs) (λ c. let a = c .before .before .before .before .before .before .args in
+    (c .broken .ensures) ∙ ap code (passing.shift-zero _ ∙ sym (rest.rest-breaks 0 ((a .mode)) ((a .count)) ((a .s .now)) (omega arith) (omega arith) (omega arith)))) (λ c. let a = c .before .before .before .before .before .args in
+    ap code (sym (rest.rest-stops 0 ((a .mode)) ((a .count)) ((a .s .now)) 7 (omega arith) (omega arith) (λ e. omega arith) (rest.never-deep ((a .s .now)) (omega arith) (λ e. omega arith))))))

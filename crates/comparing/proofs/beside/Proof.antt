@@ -24,6 +24,8 @@ beside-spec =
     (λ c. search needs)
     (λ c. search needs)
     (λ c. search needs)
-    (λ c κs. answering.lent-parts ((c .before .before .before .before .before .before .before .before .before .args .first .now)) ((c .before .before .before .before .before .before .before .before .before .args .second .now)) ((c .before .before .before .before .before .before .before .before .before .args .work .now)) ((c .before .before .before .before .before .before .before .before .before .args .room)) ((c .before .before .before .before .before .before .before .before .before .args .m)) ((c .before .before .before .before .before .before .before .before .before .args .n)) ((c .before .before .before .before .before .before .before .before .before .pre .0)) ((c .before .before .before .before .before .before .before .before .before .pre .1)) ((c .before .before .before .before .before .before .before .before .before .pre .2)))
+    (λ c κs. let b9 = c .before .before .before .before .before .before .before .before .before in let a = b9 .args in
+    answering.lent-parts ((a .first .now)) ((a .second .now)) ((a .work .now)) ((a .room)) ((a .m)) ((a .n)) ((b9 .pre .0)) ((b9 .pre .1)) ((b9 .pre .2)))
     (λ c. search needs)
-    (λ c. answering.lent-answered ((c .before .before .before .before .before .before .before .before .before .before .before .before .args .first .now)) ((c .before .before .before .before .before .before .before .before .before .before .before .before .args .second .now)) ((c .before .before .before .before .before .before .before .before .before .before .before .before .args .work .now)) ((c .before .before .before .before .before .before .before .before .before .before .before .before .args .room)) ((c .before .before .before .before .before .before .before .before .before .before .before .before .args .m)) ((c .before .before .before .before .before .before .before .before .before .before .before .before .args .n)) ((c .before .before .before .before .before .before .before .before .before .before .before .before .pre .0)) ((c .before .before .before .before .before .before .before .before .before .before .before .before .args .list .now)) ((c .before .before .compared .ensures))))
+    (λ c. let b2 = c .before .before in let b12 = b2 .before .before .before .before .before .before .before .before .before .before in let a = b12 .args in
+    answering.lent-answered ((a .first .now)) ((a .second .now)) ((a .work .now)) ((a .room)) ((a .m)) ((a .n)) ((b12 .pre .0)) ((a .list .now)) ((b2 .compared .ensures))))

@@ -25,8 +25,11 @@ compared-spec =
     (λ c. search needs)
     (λ c. search needs)
     (λ c. search needs)
-    (λ c κs. answering.lent-tables ((c .before .before .before .before .before .before .before .before .before .before .args .first .now)) ((c .before .before .before .before .before .before .before .before .before .before .args .a .now)) ((c .before .before .before .before .before .before .before .before .before .before .args .m)) ((c .before .before .before .before .before .before .before .before .before .before .args .second .now)) ((c .before .before .before .before .before .before .before .before .before .before .args .b .now)) ((c .before .before .before .before .before .before .before .before .before .before .args .n)) ((c .before .before .before .before .before .before .before .before .before .before .pre .0)) ((c .before .before .before .before .before .before .before .before .before .before .pre .1)))
-    (λ c. answering.too-long _ ((c .before .before .before .before .before .before .before .before .before .before .before .before .before .args .list .now)) _ (bound.numbers-few ((c .before .before .before .before .before .before .before .before .before .before .before .before .before .args .first .now)) ((c .before .before .before .before .before .before .before .before .before .before .before .before .before .args .a .now)) ((c .before .before .before .before .before .before .before .before .before .before .before .before .before .args .m)) ((c .before .before .before .before .before .before .before .before .before .before .before .before .before .args .second .now)) ((c .before .before .before .before .before .before .before .before .before .before .before .before .before .args .b .now)) ((c .before .before .before .before .before .before .before .before .before .before .before .before .before .args .n)) ((c .before .before .before .before .before .before .before .before .before .before .before .before .before .pre .0)) ((c .before .before .before .before .before .before .before .before .before .before .before .before .before .pre .1))) (answering.lent-wrote ((c .before .before .before .before .before .before .before .before .before .before .before .before .before .args .first .now)) ((c .before .before .before .before .before .before .before .before .before .before .before .before .before .args .a .now)) ((c .before .before .before .before .before .before .before .before .before .before .before .before .before .args .m)) ((c .before .before .before .before .before .before .before .before .before .before .before .before .before .args .second .now)) ((c .before .before .before .before .before .before .before .before .before .before .before .before .before .args .b .now)) ((c .before .before .before .before .before .before .before .before .before .before .before .before .before .args .n)) ((c .before .before .of-tables .ensures)) .past) ((c .if1 .taken)))
+    (λ c κs. let b10 = c .before .before .before .before .before .before .before .before .before .before in let a = b10 .args in
+    answering.lent-tables ((a .first .now)) ((a .a .now)) ((a .m)) ((a .second .now)) ((a .b .now)) ((a .n)) ((b10 .pre .0)) ((b10 .pre .1)))
+    (λ c. let b2 = c .before .before in let b13 = b2 .before .before .before .before .before .before .before .before .before .before .before in let a = b13 .args in
+    answering.too-long _ ((a .list .now)) _ (bound.numbers-few ((a .first .now)) ((a .a .now)) ((a .m)) ((a .second .now)) ((a .b .now)) ((a .n)) ((b13 .pre .0)) ((b13 .pre .1)))
+    (answering.lent-wrote ((a .first .now)) ((a .a .now)) ((a .m)) ((a .second .now)) ((a .b .now)) ((a .n)) ((b2 .of-tables .ensures)) .past) ((c .if1 .taken)))
     (λ c. search needs)
     (λ c. search needs)
     (λ c. search needs)
@@ -39,6 +42,11 @@ compared-spec =
     (λ c. search needs)
     (λ c. search needs)
     (λ c. search needs)
-    (λ c κs. answering.lent-tables ((c .before .before .before .before .before .before .before .before .before .before .before .before .before .before .before .before .before .before .args .first .now)) ((c .before .before .before .before .before .before .before .before .before .before .before .before .before .before .before .before .before .before .args .a .now)) ((c .before .before .before .before .before .before .before .before .before .before .before .before .before .before .before .before .before .before .args .m)) ((c .before .before .before .before .before .before .before .before .before .before .before .before .before .before .before .before .before .before .args .second .now)) ((c .before .before .before .before .before .before .before .before .before .before .before .before .before .before .before .before .before .before .args .b .now)) ((c .before .before .before .before .before .before .before .before .before .before .before .before .before .before .before .before .before .before .args .n)) ((c .before .before .before .before .before .before .before .before .before .before .before .before .before .before .before .before .before .before .pre .0)) ((c .before .before .before .before .before .before .before .before .before .before .before .before .before .before .before .before .before .before .pre .1)))
+    (λ c κs. let b18 = c .before .before .before .before .before .before .before .before .before .before .before .before .before .before .before .before .before .before in let a = b18 .args in
+    answering.lent-tables ((a .first .now)) ((a .a .now)) ((a .m)) ((a .second .now)) ((a .b .now)) ((a .n)) ((b18 .pre .0)) ((b18 .pre .1)))
     (λ c. search needs)
-    (λ c. answering.listed-whole _ ((c .before .before .before .before .before .before .before .before .before .before .before .before .before .before .before .before .before .before .before .before .before .args .list .now)) _ (bound.numbers-few ((c .before .before .before .before .before .before .before .before .before .before .before .before .before .before .before .before .before .before .before .before .before .args .first .now)) ((c .before .before .before .before .before .before .before .before .before .before .before .before .before .before .before .before .before .before .before .before .before .args .a .now)) ((c .before .before .before .before .before .before .before .before .before .before .before .before .before .before .before .before .before .before .before .before .before .args .m)) ((c .before .before .before .before .before .before .before .before .before .before .before .before .before .before .before .before .before .before .before .before .before .args .second .now)) ((c .before .before .before .before .before .before .before .before .before .before .before .before .before .before .before .before .before .before .before .before .before .args .b .now)) ((c .before .before .before .before .before .before .before .before .before .before .before .before .before .before .before .before .before .before .before .before .before .args .n)) ((c .before .before .before .before .before .before .before .before .before .before .before .before .before .before .before .before .before .before .before .before .before .pre .0)) ((c .before .before .before .before .before .before .before .before .before .before .before .before .before .before .before .before .before .before .before .before .before .pre .1))) (answering.lent-wrote ((c .before .before .before .before .before .before .before .before .before .before .before .before .before .before .before .before .before .before .before .before .before .args .first .now)) ((c .before .before .before .before .before .before .before .before .before .before .before .before .before .before .before .before .before .before .before .before .before .args .a .now)) ((c .before .before .before .before .before .before .before .before .before .before .before .before .before .before .before .before .before .before .before .before .before .args .m)) ((c .before .before .before .before .before .before .before .before .before .before .before .before .before .before .before .before .before .before .before .before .before .args .second .now)) ((c .before .before .before .before .before .before .before .before .before .before .before .before .before .before .before .before .before .before .before .before .before .args .b .now)) ((c .before .before .before .before .before .before .before .before .before .before .before .before .before .before .before .before .before .before .before .before .before .args .n)) ((c .before .before .before .before .before .before .before .before .before .before .of-tables .ensures)) .past) ((c .before .before .before .before .before .before .before .before .if1 .left)) _ _ (answering.lent-wrote ((c .before .before .before .before .before .before .before .before .before .before .before .before .before .before .before .before .before .before .before .before .before .args .first .now)) ((c .before .before .before .before .before .before .before .before .before .before .before .before .before .before .before .before .before .before .before .before .before .args .a .now)) ((c .before .before .before .before .before .before .before .before .before .before .before .before .before .before .before .before .before .before .before .before .before .args .m)) ((c .before .before .before .before .before .before .before .before .before .before .before .before .before .before .before .before .before .before .before .before .before .args .second .now)) ((c .before .before .before .before .before .before .before .before .before .before .before .before .before .before .before .before .before .before .before .before .before .args .b .now)) ((c .before .before .before .before .before .before .before .before .before .before .before .before .before .before .before .before .before .before .before .before .before .args .n)) ((c .before .before .of-tables2 .ensures)))))
+    (λ c. let b2 = c .before .before in let b8 = b2 .before .before .before .before .before .before in let b10 = b8 .before .before in
+    let b21 = b10 .before .before .before .before .before .before .before .before .before .before .before in let a = b21 .args in
+    answering.listed-whole _ ((a .list .now)) _ (bound.numbers-few ((a .first .now)) ((a .a .now)) ((a .m)) ((a .second .now)) ((a .b .now)) ((a .n)) ((b21 .pre .0)) ((b21 .pre .1)))
+    (answering.lent-wrote ((a .first .now)) ((a .a .now)) ((a .m)) ((a .second .now)) ((a .b .now)) ((a .n)) ((b10 .of-tables .ensures)) .past) ((b8 .if1 .left)) _ _
+    (answering.lent-wrote ((a .first .now)) ((a .a .now)) ((a .m)) ((a .second .now)) ((a .b .now)) ((a .n)) ((b2 .of-tables2 .ensures)))))

@@ -23,10 +23,18 @@ refusal-spec =
     (λ c. search needs)
     (λ c. search needs)
     (λ c κs. search needs)
-    (λ c. answering.says-first (reading (layoutOf ((c .before .before .before .before .before .before .args .layout))) ((c .before .before .before .before .before .before .args .first .now))) (reading (layoutOf ((c .before .before .before .before .before .before .args .other))) ((c .before .before .before .before .before .before .args .second .now))) (((c .before .before .accept-as .ensures)) ∙ ap (λ (s : List ℕ). verdict (reading (layoutOf ((c .before .before .before .before .before .before .args .layout))) s)) (whole ((c .before .before .before .before .before .before .args .first .now)))) ((c .if1 .taken)))
+    (λ c. let b2 = c .before .before in let a = b2 .before .before .before .before .args in
+    answering.says-first (reading (layoutOf ((a .layout))) ((a .first .now))) (reading (layoutOf ((a .other))) ((a .second .now)))
+    (((b2 .accept-as .ensures)) ∙ ap (λ (s : List ℕ). verdict (reading (layoutOf ((a .layout))) s)) (whole ((a .first .now)))) ((c .if1 .taken)))
     (λ c. search needs)
     (λ c. search needs)
     (λ c. search needs)
     (λ c κs. search needs)
-    (λ c. answering.says-second (layoutOf ((c .before .before .before .before .before .before .before .before .before .before .args .layout))) (layoutOf ((c .before .before .before .before .before .before .before .before .before .before .args .other))) (size-back ((c .before .before .before .before .before .before .before .before .before .before .args .layout))) (size-back ((c .before .before .before .before .before .before .before .before .before .before .args .other))) ((c .before .before .before .before .before .before .before .before .before .before .args .first .now)) ((c .before .before .before .before .before .before .before .before .before .before .args .second .now)) (((c .before .before .before .before .before .before .accept-as .ensures)) ∙ ap (λ (s : List ℕ). verdict (reading (layoutOf ((c .before .before .before .before .before .before .before .before .before .before .args .layout))) s)) (whole ((c .before .before .before .before .before .before .before .before .before .before .args .first .now)))) ((c .before .before .before .before .if1 .left)) (((c .before .before .accept-as2 .ensures)) ∙ ap (λ (s : List ℕ). verdict (reading (layoutOf ((c .before .before .before .before .before .before .before .before .before .before .args .other))) s)) (whole ((c .before .before .before .before .before .before .before .before .before .before .args .second .now)))) ((c .if2 .taken)))
-    (λ c. answering.says-room (layoutOf ((c .before .before .before .before .before .before .before .before .before .before .args .layout))) (layoutOf ((c .before .before .before .before .before .before .before .before .before .before .args .other))) (size-back ((c .before .before .before .before .before .before .before .before .before .before .args .layout))) (size-back ((c .before .before .before .before .before .before .before .before .before .before .args .other))) ((c .before .before .before .before .before .before .before .before .before .before .args .first .now)) ((c .before .before .before .before .before .before .before .before .before .before .args .second .now)) (((c .before .before .before .before .before .before .accept-as .ensures)) ∙ ap (λ (s : List ℕ). verdict (reading (layoutOf ((c .before .before .before .before .before .before .before .before .before .before .args .layout))) s)) (whole ((c .before .before .before .before .before .before .before .before .before .before .args .first .now)))) ((c .before .before .before .before .if1 .left)) (((c .before .before .accept-as2 .ensures)) ∙ ap (λ (s : List ℕ). verdict (reading (layoutOf ((c .before .before .before .before .before .before .before .before .before .before .args .other))) s)) (whole ((c .before .before .before .before .before .before .before .before .before .before .args .second .now)))) ((c .if2 .left))))
+    (λ c. let b2 = c .before .before in let b4 = b2 .before .before in let b6 = b4 .before .before in let a = b6 .before .before .before .before .args in
+    answering.says-second (layoutOf ((a .layout))) (layoutOf ((a .other))) (size-back ((a .layout))) (size-back ((a .other))) ((a .first .now)) ((a .second .now))
+    (((b6 .accept-as .ensures)) ∙ ap (λ (s : List ℕ). verdict (reading (layoutOf ((a .layout))) s)) (whole ((a .first .now)))) ((b4 .if1 .left))
+    (((b2 .accept-as2 .ensures)) ∙ ap (λ (s : List ℕ). verdict (reading (layoutOf ((a .other))) s)) (whole ((a .second .now)))) ((c .if2 .taken)))
+    (λ c. let b2 = c .before .before in let b4 = b2 .before .before in let b6 = b4 .before .before in let a = b6 .before .before .before .before .args in
+    answering.says-room (layoutOf ((a .layout))) (layoutOf ((a .other))) (size-back ((a .layout))) (size-back ((a .other))) ((a .first .now)) ((a .second .now))
+    (((b6 .accept-as .ensures)) ∙ ap (λ (s : List ℕ). verdict (reading (layoutOf ((a .layout))) s)) (whole ((a .first .now)))) ((b4 .if1 .left))
+    (((b2 .accept-as2 .ensures)) ∙ ap (λ (s : List ℕ). verdict (reading (layoutOf ((a .other))) s)) (whole ((a .second .now)))) ((c .if2 .left))))

@@ -34,41 +34,82 @@ entries-spec =
     (λ c. search needs)
     (λ c. search needs)
     (λ c. search needs)
-    (λ c κs. walked.still-due 28 ((c .before .before .before .before .before .before .args .mode)) ((c .before .before .before .before .before .before .args .count)) ((c .before .before .before .before .before .before .args .s .now)) ((c .before .before .before .before .before .before .pre .3)) ((c .before .loop .inv .3)) ((c .before .loop .at)) ((c .before .loop .due)) _ ((c .before .loop .inv .0)))
+    (λ c κs. let b6 = c .before .before .before .before .before .before in let l = c .before .loop in let a = b6 .args in
+    walked.still-due 28 ((a .mode)) ((a .count)) ((a .s .now)) ((b6 .pre .3)) ((l .inv .3)) ((l .at)) ((l .due)) _ ((l .inv .0)))
     (λ c. search needs)
     (λ c. search needs)
     (λ c. search needs)
     (λ c. search needs)
     (λ c. search needs)
-    (λ c. let z = walked.ends-faulty 28 ((c .before .before .before .before .before .before .before .before .before .before .before .args .mode)) ((c .before .before .before .before .before .before .before .before .before .before .before .args .count)) ((c .before .before .before .before .before .before .before .before .before .before .before .args .s .now)) ((c .before .before .before .before .before .before .before .before .before .before .before .pre .3)) ((c .before .before .before .before .before .before .loop .inv .3)) ((c .before .before .before .before .before .before .loop .at)) ((c .before .before .before .before .before .before .loop .due)) _ ((c .before .before .before .before .before .before .loop .inv .0)) _ ((c .before .before .before .before .past-key .ensures)) _ ((c .before .before .e .given .1)) ((c .if1 .taken)) in (z .0, ((c .before .before .before .before .before .before .loop .inv .1)), ((c .before .before .before .before .before .before .loop .inv .2)), z .1))
+    (λ c. let b2 = c .before .before in let b4 = b2 .before .before in let b6 = b4 .before .before in let b11 = b6 .before .before .before .before .before in let l = b6 .loop in let a = b11 .args in
+    let z = walked.ends-faulty 28 ((a .mode)) ((a .count)) ((a .s .now)) ((b11 .pre .3)) ((l .inv .3)) ((l .at)) ((l .due)) _ ((l .inv .0)) _ ((b4 .past-key .ensures)) _ ((b2 .e .given .1))
+    ((c .if1 .taken)) in (z .0, ((l .inv .1)), ((l .inv .2)), z .1))
     (λ c. search needs)
     (λ c. search needs)
     (λ c. search needs)
     (λ c. search needs)
-    (λ c. let z = walked.ends-inside 28 ((c .before .before .before .before .before .before .before .before .before .before .before .args .mode)) ((c .before .before .before .before .before .before .before .before .before .before .before .args .count)) ((c .before .before .before .before .before .before .before .before .before .before .before .args .s .now)) ((c .before .before .before .before .before .before .before .before .before .before .before .pre .3)) ((c .before .before .before .before .before .before .loop .inv .3)) ((c .before .before .before .before .before .before .loop .at)) ((c .before .before .before .before .before .before .loop .due)) _ ((c .before .before .before .before .before .before .loop .inv .0)) _ ((c .before .before .before .before .past-key .ensures)) _ ((c .before .before .e .given .1)) ((c .if1 .left)) in (z .0, ((c .before .before .before .before .before .before .loop .inv .1)), ((c .before .before .before .before .before .before .loop .inv .2)), z .1))
+    (λ c. let b2 = c .before .before in let b4 = b2 .before .before in let b6 = b4 .before .before in let b11 = b6 .before .before .before .before .before in let l = b6 .loop in let a = b11 .args in
+    let z = walked.ends-inside 28 ((a .mode)) ((a .count)) ((a .s .now)) ((b11 .pre .3)) ((l .inv .3)) ((l .at)) ((l .due)) _ ((l .inv .0)) _ ((b4 .past-key .ensures)) _ ((b2 .e .given .1))
+    ((c .if1 .left)) in (z .0, ((l .inv .1)), ((l .inv .2)), z .1))
     (λ c. search needs)
-    (λ c. omega (arith, walked.value-inside 28 ((c .before .before .before .before .before .before .before .before .before .before .args .mode)) ((c .before .before .before .before .before .before .before .before .before .before .args .count)) ((c .before .before .before .before .before .before .before .before .before .before .args .s .now)) ((c .before .before .before .before .before .before .before .before .before .before .pre .3)) ((c .before .before .before .before .before .loop .inv .3)) ((c .before .before .before .before .before .loop .at)) ((c .before .before .before .before .before .loop .due)) _ ((c .before .before .before .before .before .loop .inv .0)) _ ((c .before .before .before .past-key .ensures)) _ ((c .before .k .given .1))))
-    (λ c. omega (arith, walked.value-inside 28 ((c .before .before .before .before .before .before .before .before .before .before .args .mode)) ((c .before .before .before .before .before .before .before .before .before .before .args .count)) ((c .before .before .before .before .before .before .before .before .before .before .args .s .now)) ((c .before .before .before .before .before .before .before .before .before .before .pre .3)) ((c .before .before .before .before .before .loop .inv .3)) ((c .before .before .before .before .before .loop .at)) ((c .before .before .before .before .before .loop .due)) _ ((c .before .before .before .before .before .loop .inv .0)) _ ((c .before .before .before .past-key .ensures)) _ ((c .before .k .given .1))))
-    (λ c. omega (arith, walked.value-inside 28 ((c .before .before .before .before .before .before .before .before .before .before .args .mode)) ((c .before .before .before .before .before .before .before .before .before .before .args .count)) ((c .before .before .before .before .before .before .before .before .before .before .args .s .now)) ((c .before .before .before .before .before .before .before .before .before .before .pre .3)) ((c .before .before .before .before .before .loop .inv .3)) ((c .before .before .before .before .before .loop .at)) ((c .before .before .before .before .before .loop .due)) _ ((c .before .before .before .before .before .loop .inv .0)) _ ((c .before .before .before .past-key .ensures)) _ ((c .before .k .given .1))))
+    (λ c. let b3 = c .before .before .before in let b5 = b3 .before .before in let b10 = b5 .before .before .before .before .before in let l = b5 .loop in let a = b10 .args in
+    omega (arith, walked.value-inside 28 ((a .mode)) ((a .count)) ((a .s .now)) ((b10 .pre .3)) ((l .inv .3)) ((l .at)) ((l .due)) _ ((l .inv .0)) _ ((b3 .past-key .ensures)) _ ((c .before .k .given .1))))
+    (λ c. let b3 = c .before .before .before in let b5 = b3 .before .before in let b10 = b5 .before .before .before .before .before in let l = b5 .loop in let a = b10 .args in
+    omega (arith, walked.value-inside 28 ((a .mode)) ((a .count)) ((a .s .now)) ((b10 .pre .3)) ((l .inv .3)) ((l .at)) ((l .due)) _ ((l .inv .0)) _ ((b3 .past-key .ensures)) _ ((c .before .k .given .1))))
+    (λ c. let b3 = c .before .before .before in let b5 = b3 .before .before in let b10 = b5 .before .before .before .before .before in let l = b5 .loop in let a = b10 .args in
+    omega (arith, walked.value-inside 28 ((a .mode)) ((a .count)) ((a .s .now)) ((b10 .pre .3)) ((l .inv .3)) ((l .at)) ((l .due)) _ ((l .inv .0)) _ ((b3 .past-key .ensures)) _ ((c .before .k .given .1))))
     (λ c. search needs)
     (λ c κs. search needs)
-    (λ c. omega (arith, walked.value-inside 28 ((c .before .before .before .before .before .before .before .before .before .before .before .before .args .mode)) ((c .before .before .before .before .before .before .before .before .before .before .before .before .args .count)) ((c .before .before .before .before .before .before .before .before .before .before .before .before .args .s .now)) ((c .before .before .before .before .before .before .before .before .before .before .before .before .pre .3)) ((c .before .before .before .before .before .before .before .loop .inv .3)) ((c .before .before .before .before .before .before .before .loop .at)) ((c .before .before .before .before .before .before .before .loop .due)) _ ((c .before .before .before .before .before .before .before .loop .inv .0)) _ ((c .before .before .before .before .before .past-key .ensures)) _ ((c .before .before .before .k .given .1))))
+    (λ c. let b3 = c .before .before .before in let b5 = b3 .before .before in let b7 = b5 .before .before in let b12 = b7 .before .before .before .before .before in let l = b7 .loop in let a = b12 .args in
+    omega (arith, walked.value-inside 28 ((a .mode)) ((a .count)) ((a .s .now)) ((b12 .pre .3)) ((l .inv .3)) ((l .at)) ((l .due)) _ ((l .inv .0)) _ ((b5 .past-key .ensures)) _ ((b3 .k .given .1))))
     (λ c. search needs)
     (λ c. search needs)
     (λ c. search needs)
-    (λ c. let z = walked.value-faulty 28 ((c .before .before .before .before .before .before .before .before .before .before .before .before .before .before .args .mode)) ((c .before .before .before .before .before .before .before .before .before .before .before .before .before .before .args .count)) ((c .before .before .before .before .before .before .before .before .before .before .before .before .before .before .args .s .now)) ((c .before .before .before .before .before .before .before .before .before .before .before .before .before .before .pre .3)) ((c .before .before .before .before .before .before .before .before .before .loop .inv .3)) ((c .before .before .before .before .before .before .before .before .before .loop .at)) ((c .before .before .before .before .before .before .before .before .before .loop .due)) _ ((c .before .before .before .before .before .before .before .before .before .loop .inv .0)) _ ((c .before .before .before .before .before .before .before .past-key .ensures)) _ ((c .before .before .before .before .before .k .given .1)) _ ((c .before .before .component .ensures .0)) ((c .if2 .taken)) _ in (z .0, ((c .before .before .before .before .before .before .before .before .before .loop .inv .1)), ((c .before .before .before .before .before .before .before .before .before .loop .inv .2)), z .1))
+    (λ c. let b2 = c .before .before in let b5 = b2 .before .before .before in let b7 = b5 .before .before in let b9 = b7 .before .before in let b14 = b9 .before .before .before .before .before in
+    let l = b9 .loop in let a = b14 .args in
+    let z = walked.value-faulty 28 ((a .mode)) ((a .count)) ((a .s .now)) ((b14 .pre .3)) ((l .inv .3)) ((l .at)) ((l .due)) _ ((l .inv .0)) _ ((b7 .past-key .ensures)) _ ((b5 .k .given .1)) _
+    ((b2 .component .ensures .0)) ((c .if2 .taken)) _ in (z .0, ((l .inv .1)), ((l .inv .2)), z .1))
     (λ c. search needs)
     (λ c. search needs)
     (λ c. search needs)
-    (λ c. omega (arith, walked.value-inside 28 ((c .before .before .before .before .before .before .before .before .before .before .before .before .before .before .before .args .mode)) ((c .before .before .before .before .before .before .before .before .before .before .before .before .before .before .before .args .count)) ((c .before .before .before .before .before .before .before .before .before .before .before .before .before .before .before .args .s .now)) ((c .before .before .before .before .before .before .before .before .before .before .before .before .before .before .before .pre .3)) ((c .before .before .before .before .before .before .before .before .before .before .loop .inv .3)) ((c .before .before .before .before .before .before .before .before .before .before .loop .at)) ((c .before .before .before .before .before .before .before .before .before .before .loop .due)) _ ((c .before .before .before .before .before .before .before .before .before .before .loop .inv .0)) _ ((c .before .before .before .before .before .before .before .before .past-key .ensures)) _ ((c .before .before .before .before .before .before .k .given .1))))
-    (λ c. omega (arith, walked.value-inside 28 ((c .before .before .before .before .before .before .before .before .before .before .before .before .before .before .before .args .mode)) ((c .before .before .before .before .before .before .before .before .before .before .before .before .before .before .before .args .count)) ((c .before .before .before .before .before .before .before .before .before .before .before .before .before .before .before .args .s .now)) ((c .before .before .before .before .before .before .before .before .before .before .before .before .before .before .before .pre .3)) ((c .before .before .before .before .before .before .before .before .before .before .loop .inv .3)) ((c .before .before .before .before .before .before .before .before .before .before .loop .at)) ((c .before .before .before .before .before .before .before .before .before .before .loop .due)) _ ((c .before .before .before .before .before .before .before .before .before .before .loop .inv .0)) _ ((c .before .before .before .before .before .before .before .before .past-key .ensures)) _ ((c .before .before .before .before .before .before .k .given .1))))
+    (λ c. let b6 = c .before .before .before .before .before .before in let b8 = b6 .before .before in let b10 = b8 .before .before in let b15 = b10 .before .before .before .before .before in
+    let l = b10 .loop in let a = b15 .args in
+    omega (arith, walked.value-inside 28 ((a .mode)) ((a .count)) ((a .s .now)) ((b15 .pre .3)) ((l .inv .3)) ((l .at)) ((l .due)) _ ((l .inv .0)) _ ((b8 .past-key .ensures)) _ ((b6 .k .given .1))))
+    (λ c. let b6 = c .before .before .before .before .before .before in let b8 = b6 .before .before in let b10 = b8 .before .before in let b15 = b10 .before .before .before .before .before in
+    let l = b10 .loop in let a = b15 .args in
+    omega (arith, walked.value-inside 28 ((a .mode)) ((a .count)) ((a .s .now)) ((b15 .pre .3)) ((l .inv .3)) ((l .at)) ((l .due)) _ ((l .inv .0)) _ ((b8 .past-key .ensures)) _ ((b6 .k .given .1))))
     (λ c. search needs)
     (λ c κs. ((c .before .before .before .before .before .before .before .before .before .before .before .before .loop .inv .2)))
     (λ c. search needs)
     (λ c. search needs)
     (λ c. search needs)
-    (λ c κs. let a = ((c .before .before .before .before .before .before .before .before .before .before .before .before .before .before .before .before .before .before .loop .inv .0 .holds .named .counted)) in let b = ((c .before .before .before .before .before .before .before .before .before .before .before .before .before .before .before .before .before .before .loop .inv .0 .few)) in let d = ((c .before .before .before .before .before .before .before .before .before .before .before .before .before .before .before .before .before .before .loop .inv .0 .walking .within)) in omega arith)
-    (λ c. let a = walked.value-inside 28 ((c .before .before .before .before .before .before .before .before .before .before .before .before .before .before .before .before .before .before .before .before .before .before .before .before .before .before .before .before .before .args .mode)) ((c .before .before .before .before .before .before .before .before .before .before .before .before .before .before .before .before .before .before .before .before .before .before .before .before .before .before .before .before .before .args .count)) ((c .before .before .before .before .before .before .before .before .before .before .before .before .before .before .before .before .before .before .before .before .before .before .before .before .before .before .before .before .before .args .s .now)) ((c .before .before .before .before .before .before .before .before .before .before .before .before .before .before .before .before .before .before .before .before .before .before .before .before .before .before .before .before .before .pre .3)) ((c .before .before .before .before .before .before .before .before .before .before .before .before .before .before .before .before .before .before .before .before .before .before .before .before .loop .inv .3)) ((c .before .before .before .before .before .before .before .before .before .before .before .before .before .before .before .before .before .before .before .before .before .before .before .before .loop .at)) ((c .before .before .before .before .before .before .before .before .before .before .before .before .before .before .before .before .before .before .before .before .before .before .before .before .loop .due)) _ ((c .before .before .before .before .before .before .before .before .before .before .before .before .before .before .before .before .before .before .before .before .before .before .before .before .loop .inv .0)) _ ((c .before .before .before .before .before .before .before .before .before .before .before .before .before .before .before .before .before .before .before .before .before .before .past-key .ensures)) _ ((c .before .before .before .before .before .before .before .before .before .before .before .before .before .before .before .before .before .before .before .before .k .given .1)) in let b = ((c .before .before .before .before .before .before .before .before .before .before .before .before .before .before .before .if2 .left)) in let d = ((c .before .before .before .before .before .before .before .before .before .before .before .before .before .before .before .before .before .before .before .before .before .before .before .before .loop .inv .3)) in omega arith)
-    (λ c. omega (arith, walked.two-due 28 ((c .before .before .before .before .before .before .before .before .before .before .before .before .before .before .before .before .before .before .before .before .before .before .before .before .before .before .before .before .before .args .mode)) ((c .before .before .before .before .before .before .before .before .before .before .before .before .before .before .before .before .before .before .before .before .before .before .before .before .before .before .before .before .before .args .count)) ((c .before .before .before .before .before .before .before .before .before .before .before .before .before .before .before .before .before .before .before .before .before .before .before .before .before .before .before .before .before .args .s .now)) ((c .before .before .before .before .before .before .before .before .before .before .before .before .before .before .before .before .before .before .before .before .before .before .before .before .before .before .before .before .before .pre .3)) ((c .before .before .before .before .before .before .before .before .before .before .before .before .before .before .before .before .before .before .before .before .before .before .before .before .loop .inv .3)) ((c .before .before .before .before .before .before .before .before .before .before .before .before .before .before .before .before .before .before .before .before .before .before .before .before .loop .at)) ((c .before .before .before .before .before .before .before .before .before .before .before .before .before .before .before .before .before .before .before .before .before .before .before .before .loop .due)) _ ((c .before .before .before .before .before .before .before .before .before .before .before .before .before .before .before .before .before .before .before .before .before .before .before .before .loop .inv .0)) _ ((c .before .before .before .before .before .before .before .before .before .before .before .before .before .before .before .before .before .before .before .before .before .before .past-key .ensures)) _ ((c .before .before .before .before .before .before .before .before .before .before .before .before .before .before .before .before .before .before .before .before .k .given .1)) _ ((c .before .before .before .before .before .before .before .before .before .before .before .before .before .before .before .before .before .component .ensures .0))))
-    (λ c. omega (arith, walked.value-inside 28 ((c .before .before .before .before .before .before .before .before .before .before .before .before .before .before .before .before .before .before .before .before .before .before .before .before .before .before .before .before .before .args .mode)) ((c .before .before .before .before .before .before .before .before .before .before .before .before .before .before .before .before .before .before .before .before .before .before .before .before .before .before .before .before .before .args .count)) ((c .before .before .before .before .before .before .before .before .before .before .before .before .before .before .before .before .before .before .before .before .before .before .before .before .before .before .before .before .before .args .s .now)) ((c .before .before .before .before .before .before .before .before .before .before .before .before .before .before .before .before .before .before .before .before .before .before .before .before .before .before .before .before .before .pre .3)) ((c .before .before .before .before .before .before .before .before .before .before .before .before .before .before .before .before .before .before .before .before .before .before .before .before .loop .inv .3)) ((c .before .before .before .before .before .before .before .before .before .before .before .before .before .before .before .before .before .before .before .before .before .before .before .before .loop .at)) ((c .before .before .before .before .before .before .before .before .before .before .before .before .before .before .before .before .before .before .before .before .before .before .before .before .loop .due)) _ ((c .before .before .before .before .before .before .before .before .before .before .before .before .before .before .before .before .before .before .before .before .before .before .before .before .loop .inv .0)) _ ((c .before .before .before .before .before .before .before .before .before .before .before .before .before .before .before .before .before .before .before .before .before .before .past-key .ensures)) _ ((c .before .before .before .before .before .before .before .before .before .before .before .before .before .before .before .before .before .before .before .before .k .given .1)), walked.goes-on 28 ((c .before .before .before .before .before .before .before .before .before .before .before .before .before .before .before .before .before .before .before .before .before .before .before .before .before .before .before .before .before .args .mode)) ((c .before .before .before .before .before .before .before .before .before .before .before .before .before .before .before .before .before .before .before .before .before .before .before .before .before .before .before .before .before .args .count)) ((c .before .before .before .before .before .before .before .before .before .before .before .before .before .before .before .before .before .before .before .before .before .before .before .before .before .before .before .before .before .args .s .now)) ((c .before .before .before .before .before .before .before .before .before .before .before .before .before .before .before .before .before .before .before .before .before .before .before .before .before .before .before .before .before .pre .3)) ((c .before .before .before .before .before .before .before .before .before .before .before .before .before .before .before .before .before .before .before .before .before .before .before .before .loop .inv .3)) ((c .before .before .before .before .before .before .before .before .before .before .before .before .before .before .before .before .before .before .before .before .before .before .before .before .loop .at)) ((c .before .before .before .before .before .before .before .before .before .before .before .before .before .before .before .before .before .before .before .before .before .before .before .before .loop .due)) _ ((c .before .before .before .before .before .before .before .before .before .before .before .before .before .before .before .before .before .before .before .before .before .before .before .before .loop .inv .0)) _ ((c .before .before .before .before .before .before .before .before .before .before .before .before .before .before .before .before .before .before .before .before .before .before .past-key .ensures)) _ ((c .before .before .before .before .before .before .before .before .before .before .before .before .before .before .before .before .before .before .before .before .k .given .1)) _ ((c .before .before .before .before .before .before .before .before .before .before .before .before .before .before .before .before .before .component .ensures .0)) ((c .before .before .before .before .before .before .before .before .before .before .before .before .before .before .before .if2 .left))))
-    (λ c. (walked.one-more 28 ((c .before .before .before .before .before .before .before .before .before .before .before .before .before .before .before .before .before .before .before .before .before .before .before .before .before .before .before .before .before .args .mode)) ((c .before .before .before .before .before .before .before .before .before .before .before .before .before .before .before .before .before .before .before .before .before .before .before .before .before .before .before .before .before .args .count)) ((c .before .before .before .before .before .before .before .before .before .before .before .before .before .before .before .before .before .before .before .before .before .before .before .before .before .before .before .before .before .args .s .now)) ((c .before .before .before .before .before .before .before .before .before .before .before .before .before .before .before .before .before .before .before .before .before .before .before .before .before .before .before .before .before .pre .3)) ((c .before .before .before .before .before .before .before .before .before .before .before .before .before .before .before .before .before .before .before .before .before .before .before .before .loop .inv .3)) ((c .before .before .before .before .before .before .before .before .before .before .before .before .before .before .before .before .before .before .before .before .before .before .before .before .loop .at)) ((c .before .before .before .before .before .before .before .before .before .before .before .before .before .before .before .before .before .before .before .before .before .before .before .before .loop .due)) _ ((c .before .before .before .before .before .before .before .before .before .before .before .before .before .before .before .before .before .before .before .before .before .before .before .before .loop .inv .0)) _ ((c .before .before .before .before .before .before .before .before .before .before .before .before .before .before .before .before .before .before .before .before .before .before .past-key .ensures)) _ ((c .before .before .before .before .before .before .before .before .before .before .before .before .before .before .before .before .before .before .before .before .k .given .1)) _ ((c .before .before .before .before .before .before .before .before .before .before .before .before .before .before .before .before .before .component .ensures .0)) ((c .before .before .before .before .before .before .before .before .before .before .before .before .before .before .before .if2 .left)) _ (λ done p few key value kept. looping.one-more-kept (offered (c .before .before .before .before .before .before .before .before .before .before .before .before .before .before .before .before .before .before .before .before .before .before .before .before .before .before .before .before .before .args .layout) (c .before .before .before .before .before .before .before .before .before .before .before .before .before .before .before .before .before .before .before .before .before .before .before .before .before .before .before .before .before .args .format) (c .before .before .before .before .before .before .before .before .before .before .before .before .before .before .before .before .before .before .before .before .before .before .before .before .before .before .before .before .before .args .code)) ((c .before .before .before .before .before .before .before .before .before .before .before .before .before .before .before .before .before .before .before .before .before .before .before .before .before .before .before .before .before .args .start)) ((c .before .before .before .before .before .before .before .before .before .before .before .before .before .before .before .before .before .before .before .before .before .before .before .before .before .before .before .before .before .args .s .now)) ((c .before .before .before .before .before .before .before .before .before .before .before .before .before .before .before .before .before .before .before .before .before .before .before .before .loop .at)) _ (walked.value-inside 28 ((c .before .before .before .before .before .before .before .before .before .before .before .before .before .before .before .before .before .before .before .before .before .before .before .before .before .before .before .before .before .args .mode)) ((c .before .before .before .before .before .before .before .before .before .before .before .before .before .before .before .before .before .before .before .before .before .before .before .before .before .before .before .before .before .args .count)) ((c .before .before .before .before .before .before .before .before .before .before .before .before .before .before .before .before .before .before .before .before .before .before .before .before .before .before .before .before .before .args .s .now)) ((c .before .before .before .before .before .before .before .before .before .before .before .before .before .before .before .before .before .before .before .before .before .before .before .before .before .before .before .before .before .pre .3)) ((c .before .before .before .before .before .before .before .before .before .before .before .before .before .before .before .before .before .before .before .before .before .before .before .before .loop .inv .3)) ((c .before .before .before .before .before .before .before .before .before .before .before .before .before .before .before .before .before .before .before .before .before .before .before .before .loop .at)) ((c .before .before .before .before .before .before .before .before .before .before .before .before .before .before .before .before .before .before .before .before .before .before .before .before .loop .due)) _ ((c .before .before .before .before .before .before .before .before .before .before .before .before .before .before .before .before .before .before .before .before .before .before .before .before .loop .inv .0)) _ ((c .before .before .before .before .before .before .before .before .before .before .before .before .before .before .before .before .before .before .before .before .before .before .past-key .ensures)) _ ((c .before .before .before .before .before .before .before .before .before .before .before .before .before .before .before .before .before .before .before .before .k .given .1))) _ _ _ _ _ _ _ _ _ _ _ ((c .before .before .before .before .before .before .before .before .before .before .before .before .before .before .before .before .before .component .ensures .1)) ((c .before .before .before .before .before .before .before .before .before .before .before .keep .ensures .1) _) ((c .before .before .before .before .before .note .ensures)) done p _ _ key value kept), ((c .before .before .before .before .before .note .ensures .0)) ∙ ((c .before .before .before .before .before .before .before .before .before .before .before .before .before .before .before .before .before .before .before .before .before .before .before .before .loop .inv .1)), ((c .before .before .before .before .before .before .before .before .before .before .before .keep .ensures .0)), ((c .before .before .before .before .before .before .before .before .before .before .before .before .before .before .before .before .before .before .before .before .before .before .before .before .loop .inv .3)))))
+    (λ c κs. let l = c .before .before .before .before .before .before .before .before .before .before .before .before .before .before .before .before .before .before .loop in
+    let a = ((l .inv .0 .holds .named .counted)) in let b = ((l .inv .0 .few)) in let d = ((l .inv .0 .walking .within)) in omega arith)
+    (λ c. let l = c .before .before .before .before .before .before .before .before .before .before .before .before .before .before .before .before .before .before .before .before .before .before .before .before .loop in
+    let a′ = c .before .before .before .before .before .before .before .before .before .before .before .before .before .before .before .before .before .before .before .before .before .before .before .before .before .before .before .before .before .args in
+    let a = walked.value-inside 28 ((a′ .mode)) ((a′ .count)) ((a′ .s .now))
+    ((c .before .before .before .before .before .before .before .before .before .before .before .before .before .before .before .before .before .before .before .before .before .before .before .before .before .before .before .before .before .pre .3))
+    ((l .inv .3)) ((l .at)) ((l .due)) _ ((l .inv .0)) _
+    ((c .before .before .before .before .before .before .before .before .before .before .before .before .before .before .before .before .before .before .before .before .before .before .past-key .ensures))
+    _ ((c .before .before .before .before .before .before .before .before .before .before .before .before .before .before .before .before .before .before .before .before .k .given .1)) in let b = ((c .before .before .before .before .before .before .before .before .before .before .before .before .before .before .before .if2 .left))
+    in let d = ((l .inv .3)) in omega arith)
+    (λ c. let b17 = c .before .before .before .before .before .before .before .before .before .before .before .before .before .before .before .before .before in let b20 = b17 .before .before .before in
+    let b22 = b20 .before .before in let b24 = b22 .before .before in let b29 = b24 .before .before .before .before .before in let l = b24 .loop in let a = b29 .args in
+    omega
+    (arith, walked.two-due 28 ((a .mode)) ((a .count)) ((a .s .now)) ((b29 .pre .3)) ((l .inv .3)) ((l .at)) ((l .due)) _ ((l .inv .0)) _ ((b22 .past-key .ensures)) _ ((b20 .k .given .1)) _ ((b17 .component .ensures .0))))
+    (λ c. let b15 = c .before .before .before .before .before .before .before .before .before .before .before .before .before .before .before in let b17 = b15 .before .before in
+    let b20 = b17 .before .before .before in let b22 = b20 .before .before in let b24 = b22 .before .before in let b29 = b24 .before .before .before .before .before in let l = b24 .loop in
+    let a = b29 .args in
+    omega
+    (arith, walked.value-inside 28 ((a .mode)) ((a .count)) ((a .s .now)) ((b29 .pre .3)) ((l .inv .3)) ((l .at)) ((l .due)) _ ((l .inv .0)) _ ((b22 .past-key .ensures)) _ ((b20 .k .given .1)), walked.goes-on 28 ((a .mode)) ((a .count)) ((a .s .now)) ((b29 .pre .3)) ((l .inv .3)) ((l .at)) ((l .due)) _ ((l .inv .0)) _ ((b22 .past-key .ensures)) _ ((b20 .k .given .1)) _ ((b17 .component .ensures .0)) ((b15 .if2 .left))))
+    (λ c. let b5 = c .before .before .before .before .before in let b11 = b5 .before .before .before .before .before .before in let b15 = b11 .before .before .before .before in let b17 = b15 .before .before in
+    let b20 = b17 .before .before .before in let b22 = b20 .before .before in let b24 = b22 .before .before in let b29 = b24 .before .before .before .before .before in let l = b24 .loop in
+    let a = b29 .args in (
+      walked.one-more 28 ((a .mode)) ((a .count)) ((a .s .now)) ((b29 .pre .3)) ((l .inv .3)) ((l .at)) ((l .due)) _ ((l .inv .0)) _ ((b22 .past-key .ensures)) _ ((b20 .k .given .1)) _ ((b17 .component .ensures .0))
+          ((b15 .if2 .left)) _ (λ done p few key value kept. looping.one-more-kept (offered (a .layout) (a .format) (a .code)) ((a .start)) ((a .s .now)) ((l .at)) _
+          (walked.value-inside 28 ((a .mode)) ((a .count)) ((a .s .now)) ((b29 .pre .3)) ((l .inv .3)) ((l .at)) ((l .due)) _ ((l .inv .0)) _ ((b22 .past-key .ensures)) _ ((b20 .k .given .1))) _ _ _ _ _ _ _ _ _ _ _
+          ((b17 .component .ensures .1)) ((b11 .keep .ensures .1) _) ((b5 .note .ensures)) done p _ _ key value kept),
+      ((b5 .note .ensures .0)) ∙ ((l .inv .1)),
+      ((b11 .keep .ensures .0)),
+      ((l .inv .3)),
+    )))

@@ -24,7 +24,8 @@ copy-spec =
     (tie.spec
     Inv-loop
     μ-loop
-    (λ c. (refl, halving.begins (name ((c .before .before .before .before .args .m .now)) ((c .before .before .before .before .args .left .now)) ((c .before .before .before .before .args .size .now))) ((c .before .before .before .before .args .n)) ((c .before .before .before .before .pre .2))))
+    (λ c. let b4 = c .before .before .before .before in let a = b4 .args in
+    (refl, halving.begins (name ((a .m .now)) ((a .left .now)) ((a .size .now))) ((a .n)) ((b4 .pre .2))))
     (λ c. search needs)
     (λ c. search needs)
     (λ c. search needs)

@@ -15,10 +15,13 @@ inside-spec =
     tie.close
     (tie.spec
     (λ c. search needs)
-    (λ c κs. (parting.none-below _ ((c .before .before .args .a .now)) ((c .before .before .pre .0)), omega (arith, (c .before .before .pre .1 .1))))
+    (λ c κs. let b2 = c .before .before in
+    (parting.none-below _ ((b2 .args .a .now)) ((b2 .pre .0)), omega (arith, (b2 .pre .1 .1))))
     (λ c. search needs)
     (λ c. search needs)
     (λ c. search needs)
-    (λ c κs. (parting.whole-ranges _ _ _ ((c .before .before .before .before .before .before .before .pre .1 .0)) ((c .before .before .before .before .order .ensures)), omega (arith, (c .before .before .before .before .before .before .before .pre .1 .1), parting.sweep-most _ _ _ ((c .before .before .before .before .before .before .before .pre .1 .0)) ((c .before .before .before .before .order .ensures)))))
+    (λ c κs. let b4 = c .before .before .before .before in let b7 = b4 .before .before .before in
+    (parting.whole-ranges _ _ _ ((b7 .pre .1 .0)) ((b4 .order .ensures)), omega (arith, (b7 .pre .1 .1), parting.sweep-most _ _ _ ((b7 .pre .1 .0)) ((b4 .order .ensures)))))
     (λ c. (c .before .before .before .before .before .order .ensures .alike .long))
-    (λ c. ((c .sweep .ensures) ∙ parting.sweep-is _ _ _ ((c .before .before .before .before .before .before .before .before .pre .1 .0)) ((c .before .before .before .before .before .order .ensures)), (c .before .before .before .before .before .order .ensures .alike .long))))
+    (λ c. let b5 = c .before .before .before .before .before in
+    ((c .sweep .ensures) ∙ parting.sweep-is _ _ _ ((b5 .before .before .before .pre .1 .0)) ((b5 .order .ensures)), (b5 .order .ensures .alike .long))))

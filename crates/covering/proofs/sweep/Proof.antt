@@ -26,15 +26,20 @@ sweep-spec =
     (λ c. sweeping.sweeping-first _)
     (λ c. omega (arith, sweeping.next ((c .before .before .before .pre .0)) ((c .before .loop .inv)) ((c .loop-test .taken))))
     (λ c. omega (arith, sweeping.next ((c .before .before .before .pre .0)) ((c .before .loop .inv)) ((c .loop-test .taken))))
-    (λ c. omega (arith, sweeping.next ((c .before .before .before .before .pre .0)) ((c .before .before .loop .inv)) ((c .before .loop-test .taken))))
+    (λ c. let b2 = c .before .before in
+    omega (arith, sweeping.next ((b2 .before .before .pre .0)) ((b2 .loop .inv)) ((c .before .loop-test .taken))))
     (λ c. search needs)
     (λ c. search needs)
     (λ c κs. search needs)
-    (λ c. omega (arith, sweeping.next ((c .before .before .before .before .before .before .pre .0)) ((c .before .before .before .before .loop .inv)) ((c .before .before .before .loop-test .taken))))
+    (λ c. let b3 = c .before .before .before in let b4 = b3 .before in let l = b4 .loop in
+    omega (arith, sweeping.next ((b4 .before .before .pre .0)) ((l .inv)) ((b3 .loop-test .taken))))
     (λ c. search needs)
-    (λ c. omega (arith, (c .before .before .before .before .before .before .before .pre .1), sweeping.sum-fits ((c .before .before .before .before .before .before .before .pre .0)) ((c .before .before .before .before .before .loop .inv)) ((c .before .before .before .before .loop-test .taken)) _ ((c .before .from .ensures)) ((c .if1 .taken))))
+    (λ c. let b4 = c .before .before .before .before in let b5 = b4 .before in let b7 = b5 .before .before in let l = b5 .loop in
+    omega (arith, (b7 .pre .1), sweeping.sum-fits ((b7 .pre .0)) ((l .inv)) ((b4 .loop-test .taken)) _ ((c .before .from .ensures)) ((c .if1 .taken))))
     (λ c. omega (arith, (c .before .before .before .before .loop-test .taken)))
-    (λ c. sweeping.sweeping-more ((c .before .before .before .before .before .before .before .pre .0)) ((c .before .before .before .before .before .loop .inv)) ((c .before .before .before .before .loop-test .taken)) _ ((c .before .from .ensures)) ((c .if1 .taken)))
+    (λ c. let b4 = c .before .before .before .before in let b5 = b4 .before in let l = b5 .loop in
+    sweeping.sweeping-more ((b5 .before .before .pre .0)) ((l .inv)) ((b4 .loop-test .taken)) _ ((c .before .from .ensures)) ((c .if1 .taken)))
     (λ c. omega (arith, (c .before .before .before .before .loop-test .taken)))
-    (λ c. sweeping.sweeping-none ((c .before .before .before .before .before .before .before .pre .0)) ((c .before .before .before .before .before .loop .inv)) ((c .before .before .before .before .loop-test .taken)) _ ((c .before .from .ensures)) ((c .if1 .left)))
+    (λ c. let b4 = c .before .before .before .before in let b5 = b4 .before in let l = b5 .loop in
+    sweeping.sweeping-none ((b5 .before .before .pre .0)) ((l .inv)) ((b4 .loop-test .taken)) _ ((c .before .from .ensures)) ((c .if1 .left)))
     (λ c. sweeping.sweeping-done ((c .before .before .before .pre .0)) ((c .before .loop .inv)) ((c .loop-test .left))))

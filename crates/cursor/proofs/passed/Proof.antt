@@ -12,4 +12,5 @@ use Rattle.cursor.proofs.passed.Tie as tie
 pub passed-spec : {M : Type 1} → statement M
 passed-spec =
     tie.close
-    (tie.spec (λ c κs. search needs) (λ c. search needs) (λ c. search needs) (λ c. search needs) (λ c κs. search needs) (λ c. (c .skip .ensures) ∙ ap (λ u. code (itemEnd depthLimit u)) (part-to-end ((c .before .before .before .before .args .s .now)) _ ∙ ap (λ (i : ℕ). drop i ((c .before .before .before .before .args .s .now))) ((c .before .before .place-of .ensures)))))
+    (tie.spec (λ c κs. search needs) (λ c. search needs) (λ c. search needs) (λ c. search needs) (λ c κs. search needs) (λ c. let b2 = c .before .before in let a = b2 .before .before .args in
+    (c .skip .ensures) ∙ ap (λ u. code (itemEnd depthLimit u)) (part-to-end ((a .s .now)) _ ∙ ap (λ (i : ℕ). drop i ((a .s .now))) ((b2 .place-of .ensures)))))

@@ -37,11 +37,13 @@ of-objects-spec =
     (λ c. search needs)
     (λ c. search needs)
     (λ c. search needs)
-    (λ c κs. rw (whole ((c .before .before .before .before .before .before .before .before .before .before .before .before .before .args .a .now))) ((c .before .before .before .before .before .before .before .before .before .before .before .before .before .pre .0)))
+    (λ c κs. let b13 = c .before .before .before .before .before .before .before .before .before .before .before .before .before in let a = b13 .args in
+    rw (whole ((a .a .now))) ((b13 .pre .0)))
     (λ c. search needs)
     (λ c. search needs)
     (λ c. search needs)
-    (λ c κs. rw (whole ((c .before .before .before .before .before .before .before .before .before .before .before .before .before .before .before .args .b .now))) ((c .before .before .before .before .before .before .before .before .before .before .before .before .before .before .before .pre .1)))
+    (λ c κs. let b15 = c .before .before .before .before .before .before .before .before .before .before .before .before .before .before .before in let a = b15 .args in
+    rw (whole ((a .b .now))) ((b15 .pre .1)))
     (λ c κs. search needs)
     (λ c κs. search needs)
     (λ c.

@@ -37,4 +37,5 @@ same-numbers-spec =
     let at4 = c .before .before .before .before in
     let at6 = at4 .before .before in
     (omega arith, (at4 .loop .inv .1) ∙ columns.same-step (at6 .args .x .now) (at6 .args .y .now) (at4 .loop .i) (omega arith) (omega arith) (omega arith)))
-    (λ c. sym ((c .before .loop .inv .1) ∙ columns.same-end ((c .before .before .before .args .x .now)) ((c .before .before .before .args .y .now)) ((c .before .loop .i)) (omega arith) (omega arith))))
+    (λ c. let l = c .before .loop in let a = c .before .before .before .args in
+    sym ((l .inv .1) ∙ columns.same-end ((a .x .now)) ((a .y .now)) ((l .i)) (omega arith) (omega arith))))

@@ -18,7 +18,11 @@ headed-spec =
     (λ c. simp length-set (omega (arith, (c .before .before .pre .1 .fits))))
     (λ c. simp length-set (omega (arith, (c .before .before .pre .1 .fits))))
     (λ c. search needs)
-    (λ c κs. ((c .before .before .before .pre .0 .2), (c .before .before .before .pre .0 .3), rw (laying.part-length _ _, length-set) (omega (arith, (c .before .before .before .pre .1 .fits), numbers.big-length (c .before .before .before .args .w) (c .before .before .before .args .n)))))
+    (λ c κs. let b3 = c .before .before .before in let a = b3 .args in
+    ((b3 .pre .0 .2), (b3 .pre .0 .3), rw (laying.part-length _ _, length-set) (omega (arith, (b3 .pre .1 .fits), numbers.big-length (a .w) (a .n)))))
     (λ c. search needs)
-    (λ c. laying.same-length (laying.lent-after-byte (laying.room-as (numbers.same-initial (c .before .before .before .before .before .before .args .major) (c .before .before .before .before .before .before .args .low) (c .before .before .before .before .before .before .args .w) (c .before .before .before .before .before .before .args .n) (c .before .before .before .before .initial .ensures)) (c .before .before .before .before .before .before .pre .1)) (c .before .before .big .ensures)))
-    (λ c. laying.as-bytes (sym (numbers.same-initial (c .before .before .before .before .before .before .args .major) (c .before .before .before .before .before .before .args .low) (c .before .before .before .before .before .before .args .w) (c .before .before .before .before .before .before .args .n) (c .before .before .before .before .initial .ensures))) (laying.lent-after-byte (laying.room-as (numbers.same-initial (c .before .before .before .before .before .before .args .major) (c .before .before .before .before .before .before .args .low) (c .before .before .before .before .before .before .args .w) (c .before .before .before .before .before .before .args .n) (c .before .before .before .before .initial .ensures)) (c .before .before .before .before .before .before .pre .1)) (c .before .before .big .ensures))))
+    (λ c. let b2 = c .before .before in let b4 = b2 .before .before in let b6 = b4 .before .before in let a = b6 .args in
+    laying.same-length (laying.lent-after-byte (laying.room-as (numbers.same-initial (a .major) (a .low) (a .w) (a .n) (b4 .initial .ensures)) (b6 .pre .1)) (b2 .big .ensures)))
+    (λ c. let b2 = c .before .before in let b4 = b2 .before .before in let b6 = b4 .before .before in let a = b6 .args in
+    laying.as-bytes (sym (numbers.same-initial (a .major) (a .low) (a .w) (a .n) (b4 .initial .ensures)))
+    (laying.lent-after-byte (laying.room-as (numbers.same-initial (a .major) (a .low) (a .w) (a .n) (b4 .initial .ensures)) (b6 .pre .1)) (b2 .big .ensures))))

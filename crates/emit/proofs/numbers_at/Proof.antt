@@ -24,9 +24,11 @@ numbers-at-spec =
     (λ c. (search needs, laying.going _ _ _ (c .before .before .pre)))
     (λ c. search needs)
     (λ c. search needs)
-    (λ c κs. laying.room-one _ (c .before .before .before .loop .inv .1) (laying.number-next numberBytes (c .before .before .before .before .before .before .args .ns .now) (c .before .before .before .loop .i) (c .before .before .loop-test .taken)))
+    (λ c κs. let b2 = c .before .before in let b3 = b2 .before in let l = b3 .loop in let a = b3 .before .before .before .args in
+    laying.room-one _ (l .inv .1) (laying.number-next numberBytes (a .ns .now) (l .i) (b2 .loop-test .taken)))
     (λ c. search needs)
     (λ c. search needs)
-    (λ c. (search needs, laying.go-on (c .before .before .before .before .before .before .loop .inv .1) (laying.number-next numberBytes (c .before .before .before .before .before .before .before .before .before .args .ns .now) (c .before .before .before .before .before .before .loop .i) (c .before .before .before .before .before .loop-test .taken)) (c .before .before .number-at .ensures)))
+    (λ c. let b2 = c .before .before in let b5 = b2 .before .before .before in let b6 = b5 .before in let l = b6 .loop in let a = b6 .before .before .before .args in
+    (search needs, laying.go-on (l .inv .1) (laying.number-next numberBytes (a .ns .now) (l .i) (b5 .loop-test .taken)) (b2 .number-at .ensures)))
     (λ c. laying.same-so-far (c .before .loop .inv .1))
     (λ c. laying.all-laid (c .before .loop .inv .1) (laying.numbers-end numberBytes (c .before .before .before .before .args .ns .now) (c .before .loop .i) (c .loop-test .left))))

@@ -13,7 +13,9 @@ size-at-spec =
     (λ c. search needs)
     (λ c. search needs)
     (λ c. search needs)
-    (λ c κs. rw (laying.part-length (c .before .before .args .at) (c .before .before .args .out .now)) (omega (arith, (c .before .before .pre .fits), numbers.little-length 8 (c .before .before .args .n))))
+    (λ c κs. let b2 = c .before .before in let a = b2 .args in
+    rw (laying.part-length (a .at) (a .out .now)) (omega (arith, (b2 .pre .fits), numbers.little-length 8 (a .n))))
     (λ c. search needs)
     (λ c. search needs)
-    (λ c. laying.lent (c .before .before .before .before .before .pre) (c .before .before .little .ensures)))
+    (λ c. let b2 = c .before .before in
+    laying.lent (b2 .before .before .before .pre) (b2 .little .ensures)))

@@ -14,7 +14,11 @@ zeros-at-spec =
     (λ c. omega (arith, (c .before .pre .fits)))
     (λ c. omega (arith, (c .before .pre .fits)))
     (λ c. search needs)
-    (λ c κs. rw (laying.part-length (c .before .before .args .at) (c .before .before .args .out .now)) (omega (arith, (c .before .before .pre .fits), length-replicate {A = ℕ} (c .before .before .args .n) 0)))
-    (λ c. omega (arith, (laying.lent (c .before .before .before .before .before .pre) (c .before .before .zeros .ensures)) .past, (c .before .before .before .before .before .pre .fits)))
-    (λ c. laying.same-length (laying.lent (c .before .before .before .before .before .pre) (c .before .before .zeros .ensures)))
-    (λ c. laying.lent (c .before .before .before .before .before .pre) (c .before .before .zeros .ensures)))
+    (λ c κs. let b2 = c .before .before in let a = b2 .args in
+    rw (laying.part-length (a .at) (a .out .now)) (omega (arith, (b2 .pre .fits), length-replicate {A = ℕ} (a .n) 0)))
+    (λ c. let b2 = c .before .before in let b5 = b2 .before .before .before in
+    omega (arith, (laying.lent (b5 .pre) (b2 .zeros .ensures)) .past, (b5 .pre .fits)))
+    (λ c. let b2 = c .before .before in
+    laying.same-length (laying.lent (b2 .before .before .before .pre) (b2 .zeros .ensures)))
+    (λ c. let b2 = c .before .before in
+    laying.lent (b2 .before .before .before .pre) (b2 .zeros .ensures)))

@@ -15,4 +15,5 @@ be2-spec =
     (λ c. search needs)
     (λ c κs. search needs)
     (λ c. search needs)
-    (λ c. (omega (arith, laws.word-two ((c .before .before .before .before .before .args .s .now)) ((c .before .before .before .before .before .args .i))), omega arith)))
+    (λ c. let a = c .before .before .before .before .before .args in
+    (omega (arith, laws.word-two ((a .s .now)) ((a .i))), omega arith)))

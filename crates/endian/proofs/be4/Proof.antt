@@ -25,4 +25,5 @@ be4-spec =
     (λ c. search needs)
     (λ c κs. search needs)
     (λ c. search needs)
-    (λ c. (omega (arith, laws.word-four ((c .before .before .before .before .before .before .before .before .before .args .s .now)) ((c .before .before .before .before .before .before .before .before .before .args .i))), omega arith)))
+    (λ c. let a = c .before .before .before .before .before .before .before .before .before .args in
+    (omega (arith, laws.word-four ((a .s .now)) ((a .i))), omega arith)))

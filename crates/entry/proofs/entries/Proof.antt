@@ -43,7 +43,9 @@ part-past-key-end c = search needs
 
 -- src/lib.rt:43:15
 past-key-requires : tie.Need-past-key-requires Inv-loop μ-loop
-past-key-requires c κs = folding.still-due (choosing.seen (c .before .before .before .before .args .index)) (c .before .before .before .before .args .left) (c .before .before .before .before .args .mode) (c .before .before .before .before .args .count) (c .before .before .before .before .args .s .now) choosing.none-seen (c .before .before .before .before .pre) (omega arith) (c .before .loop .at) (c .before .loop .due) _ (c .before .loop .inv .walking)
+past-key-requires c κs =
+    let l = c .before .loop in let a = c .before .before .before .before .args in
+    folding.still-due (choosing.seen (a .index)) (a .left) (a .mode) (a .count) (a .s .now) choosing.none-seen (c .before .before .before .before .pre) (omega arith) (l .at) (l .due) _ (l .inv .walking)
 
 -- src/lib.rt:44:30
 enum-told : tie.Need-enum-told Inv-loop μ-loop
@@ -51,10 +53,10 @@ enum-told c = search needs
 
 -- src/lib.rt:44:30
 returns : tie.Need-returns Inv-loop μ-loop
-returns c = choosing.is-held _ _ _ _ _ _
-    (folding.ends (choosing.seen (c .before .before .before .before .before .before .before .args .index)) (c .before .before .before .before .before .before .before .args .left) (c .before .before .before .before .before .before .before .args .mode) (c .before .before .before .before .before .before .before .args .count) (c .before .before .before .before .before .before .before .args .s .now)
-    choosing.none-seen (c .before .before .before .before .before .before .before .pre)
-    (omega arith) (c .before .before .before .before .loop .at) (c .before .before .before .before .loop .due) _ (c .before .before .before .before .loop .inv .walking) _ (c .before .before .past-key .ensures) _ (c .enum-told .given .1))
+returns c =
+    let l = c .before .before .before .before .loop in let a = c .before .before .before .before .before .before .before .args in
+    choosing.is-held _ _ _ _ _ _
+    (folding.ends (choosing.seen (a .index)) (a .left) (a .mode) (a .count) (a .s .now) choosing.none-seen (c .before .before .before .before .before .before .before .pre) (omega arith) (l .at) (l .due) _ (l .inv .walking) _ (c .before .before .past-key .ensures) _ (c .enum-told .given .1))
 
 -- src/lib.rt:45:26
 enum-known-k : tie.Need-enum-known-k Inv-loop μ-loop
@@ -62,39 +64,39 @@ enum-known-k c = search needs
 
 -- src/lib.rt:46:25
 add-v : tie.Need-add-v Inv-loop μ-loop
-add-v c = omega (
-  arith,
-  folding.value-inside (choosing.seen (c .before .before .before .before .before .before .before .before .args .index)) (c .before .before .before .before .before .before .before .before .args .left) (c .before .before .before .before .before .before .before .before .args .mode) (c .before .before .before .before .before .before .before .before .args .count) (c .before .before .before .before .before .before .before .before .args .s .now)
-      choosing.none-seen (c .before .before .before .before .before .before .before .before .pre)
-      (omega arith) (c .before .before .before .before .before .loop .at) (c .before .before .before .before .before .loop .due) _ (c .before .before .before .before .before .loop .inv .walking) _ (c .before .before .before .past-key .ensures) _ (c .before .k .given .1),
-)
+add-v c =
+    let l = c .before .before .before .before .before .loop in let a = c .before .before .before .before .before .before .before .before .args in
+    omega (
+      arith,
+      folding.value-inside (choosing.seen (a .index)) (a .left) (a .mode) (a .count) (a .s .now) choosing.none-seen (c .before .before .before .before .before .before .before .before .pre) (omega arith) (l .at) (l .due) _ (l .inv .walking) _ (c .before .before .before .past-key .ensures) _ (c .before .k .given .1),
+    )
 
 -- src/lib.rt:47:36
 sub-skip : tie.Need-sub-skip Inv-loop μ-loop
-sub-skip c = omega (
-  arith,
-  folding.value-inside (choosing.seen (c .before .before .before .before .before .before .before .before .args .index)) (c .before .before .before .before .before .before .before .before .args .left) (c .before .before .before .before .before .before .before .before .args .mode) (c .before .before .before .before .before .before .before .before .args .count) (c .before .before .before .before .before .before .before .before .args .s .now)
-      choosing.none-seen (c .before .before .before .before .before .before .before .before .pre)
-      (omega arith) (c .before .before .before .before .before .loop .at) (c .before .before .before .before .before .loop .due) _ (c .before .before .before .before .before .loop .inv .walking) _ (c .before .before .before .past-key .ensures) _ (c .before .k .given .1),
-)
+sub-skip c =
+    let l = c .before .before .before .before .before .loop in let a = c .before .before .before .before .before .before .before .before .args in
+    omega (
+      arith,
+      folding.value-inside (choosing.seen (a .index)) (a .left) (a .mode) (a .count) (a .s .now) choosing.none-seen (c .before .before .before .before .before .before .before .before .pre) (omega arith) (l .at) (l .due) _ (l .inv .walking) _ (c .before .before .before .past-key .ensures) _ (c .before .k .given .1),
+    )
 
 -- src/lib.rt:47:36
 part-skip-start : tie.Need-part-skip-start Inv-loop μ-loop
-part-skip-start c = omega (
-  arith,
-  folding.value-inside (choosing.seen (c .before .before .before .before .before .before .before .before .args .index)) (c .before .before .before .before .before .before .before .before .args .left) (c .before .before .before .before .before .before .before .before .args .mode) (c .before .before .before .before .before .before .before .before .args .count) (c .before .before .before .before .before .before .before .before .args .s .now)
-      choosing.none-seen (c .before .before .before .before .before .before .before .before .pre)
-      (omega arith) (c .before .before .before .before .before .loop .at) (c .before .before .before .before .before .loop .due) _ (c .before .before .before .before .before .loop .inv .walking) _ (c .before .before .before .past-key .ensures) _ (c .before .k .given .1),
-)
+part-skip-start c =
+    let l = c .before .before .before .before .before .loop in let a = c .before .before .before .before .before .before .before .before .args in
+    omega (
+      arith,
+      folding.value-inside (choosing.seen (a .index)) (a .left) (a .mode) (a .count) (a .s .now) choosing.none-seen (c .before .before .before .before .before .before .before .before .pre) (omega arith) (l .at) (l .due) _ (l .inv .walking) _ (c .before .before .before .past-key .ensures) _ (c .before .k .given .1),
+    )
 
 -- src/lib.rt:47:36
 part-skip-end : tie.Need-part-skip-end Inv-loop μ-loop
-part-skip-end c = omega (
-  arith,
-  folding.value-inside (choosing.seen (c .before .before .before .before .before .before .before .before .args .index)) (c .before .before .before .before .before .before .before .before .args .left) (c .before .before .before .before .before .before .before .before .args .mode) (c .before .before .before .before .before .before .before .before .args .count) (c .before .before .before .before .before .before .before .before .args .s .now)
-      choosing.none-seen (c .before .before .before .before .before .before .before .before .pre)
-      (omega arith) (c .before .before .before .before .before .loop .at) (c .before .before .before .before .before .loop .due) _ (c .before .before .before .before .before .loop .inv .walking) _ (c .before .before .before .past-key .ensures) _ (c .before .k .given .1),
-)
+part-skip-end c =
+    let l = c .before .before .before .before .before .loop in let a = c .before .before .before .before .before .before .before .before .args in
+    omega (
+      arith,
+      folding.value-inside (choosing.seen (a .index)) (a .left) (a .mode) (a .count) (a .s .now) choosing.none-seen (c .before .before .before .before .before .before .before .before .pre) (omega arith) (l .at) (l .due) _ (l .inv .walking) _ (c .before .before .before .past-key .ensures) _ (c .before .k .given .1),
+    )
 
 -- src/lib.rt:47:21
 skip-requires : tie.Need-skip-requires Inv-loop μ-loop
@@ -102,22 +104,20 @@ skip-requires c κs = search needs
 
 -- src/lib.rt:48:20
 sub-if1 : tie.Need-sub-if1 Inv-loop μ-loop
-sub-if1 c = omega (
-  arith,
-  folding.value-inside (choosing.seen (c .before .before .before .before .before .before .before .before .before .before .args .index)) (c .before .before .before .before .before .before .before .before .before .before .args .left) (c .before .before .before .before .before .before .before .before .before .before .args .mode) (c .before .before .before .before .before .before .before .before .before .before .args .count) (c .before .before .before .before .before .before .before .before .before .before .args .s .now)
-      choosing.none-seen (c .before .before .before .before .before .before .before .before .before .before .pre)
-      (omega arith)
-      (c .before .before .before .before .before .before .before .loop .at)
-      (c .before .before .before .before .before .before .before .loop .due) _
-      (c .before .before .before .before .before .before .before .loop .inv .walking) _ (c .before .before .before .before .before .past-key .ensures) _ (c .before .before .before .k .given .1),
-)
+sub-if1 c =
+    let l = c .before .before .before .before .before .before .before .loop in let a = c .before .before .before .before .before .before .before .before .before .before .args in
+    omega (
+      arith,
+      folding.value-inside (choosing.seen (a .index)) (a .left) (a .mode) (a .count) (a .s .now) choosing.none-seen (c .before .before .before .before .before .before .before .before .before .before .pre) (omega arith) (l .at) (l .due) _ (l .inv .walking) _ (c .before .before .before .before .before .past-key .ensures) _ (c .before .before .before .k .given .1),
+    )
 
 -- src/lib.rt:49:21
 returns-2 : tie.Need-returns-2 Inv-loop μ-loop
-returns-2 c = λ ps q d.
-    folding.unread (choosing.seen (c .before .before .before .before .before .before .before .before .before .before .before .args .index)) (c .before .before .before .before .before .before .before .before .before .before .before .args .left) (c .before .before .before .before .before .before .before .before .before .before .before .args .mode) (c .before .before .before .before .before .before .before .before .before .before .before .args .count) (c .before .before .before .before .before .before .before .before .before .before .before .args .s .now)
-    choosing.none-seen (c .before .before .before .before .before .before .before .before .before .before .before .pre)
-    (omega arith) (c .before .before .before .before .before .before .before .before .loop .at) (c .before .before .before .before .before .before .before .before .loop .due) _ (c .before .before .before .before .before .before .before .before .loop .inv .walking) _ (c .before .before .before .before .before .before .past-key .ensures) _ (c .before .before .before .before .k .given .1) _ (c .before .skip .ensures) (c .if1 .taken) ps q d
+returns-2 c =
+    let l = c .before .before .before .before .before .before .before .before .loop in let a = c .before .before .before .before .before .before .before .before .before .before .before .args in
+    λ ps q d. folding.unread (choosing.seen (a .index)) (a .left) (a .mode) (a .count) (a .s .now) choosing.none-seen
+    (c .before .before .before .before .before .before .before .before .before .before .before .pre) (omega arith) (l .at) (l .due) _ (l .inv .walking) _
+    (c .before .before .before .before .before .before .past-key .ensures) _ (c .before .before .before .before .k .given .1) _ (c .before .skip .ensures) (c .if1 .taken) ps q d
 
 -- src/lib.rt:51:41
 sub-chosen : tie.Need-sub-chosen Inv-loop μ-loop
@@ -125,12 +125,12 @@ sub-chosen c = search needs
 
 -- src/lib.rt:51:55
 sub-chosen-2 : tie.Need-sub-chosen-2 Inv-loop μ-loop
-sub-chosen-2 c = omega (
-  arith,
-  folding.value-inside (choosing.seen (c .before .before .before .before .before .before .before .before .before .before .before .args .index)) (c .before .before .before .before .before .before .before .before .before .before .before .args .left) (c .before .before .before .before .before .before .before .before .before .before .before .args .mode) (c .before .before .before .before .before .before .before .before .before .before .before .args .count) (c .before .before .before .before .before .before .before .before .before .before .before .args .s .now)
-      choosing.none-seen (c .before .before .before .before .before .before .before .before .before .before .before .pre)
-      (omega arith) (c .before .before .before .before .before .before .before .before .loop .at) (c .before .before .before .before .before .before .before .before .loop .due) _ (c .before .before .before .before .before .before .before .before .loop .inv .walking) _ (c .before .before .before .before .before .before .past-key .ensures) _ (c .before .before .before .before .k .given .1),
-)
+sub-chosen-2 c =
+    let l = c .before .before .before .before .before .before .before .before .loop in let a = c .before .before .before .before .before .before .before .before .before .before .before .args in
+    omega (
+      arith,
+      folding.value-inside (choosing.seen (a .index)) (a .left) (a .mode) (a .count) (a .s .now) choosing.none-seen (c .before .before .before .before .before .before .before .before .before .before .before .pre) (omega arith) (l .at) (l .due) _ (l .inv .walking) _ (c .before .before .before .before .before .before .past-key .ensures) _ (c .before .before .before .before .k .given .1),
+    )
 
 -- src/lib.rt:51:17
 chosen-requires : tie.Need-chosen-requires Inv-loop μ-loop
@@ -142,45 +142,48 @@ add-n c = search needs
 
 -- src/lib.rt:53:22
 add-at : tie.Need-add-at Inv-loop μ-loop
-add-at c = omega (
-  arith,
-  folding.value-inside (choosing.seen (c .before .before .before .before .before .before .before .before .before .before .before .before .args .index)) (c .before .before .before .before .before .before .before .before .before .before .before .before .args .left) (c .before .before .before .before .before .before .before .before .before .before .before .before .args .mode) (c .before .before .before .before .before .before .before .before .before .before .before .before .args .count) (c .before .before .before .before .before .before .before .before .before .before .before .before .args .s .now)
-      choosing.none-seen (c .before .before .before .before .before .before .before .before .before .before .before .before .pre)
-      (omega arith) (c .before .before .before .before .before .before .before .before .before .loop .at) (c .before .before .before .before .before .before .before .before .before .loop .due) _ (c .before .before .before .before .before .before .before .before .before .loop .inv .walking) _
-      (c .before .before .before .before .before .before .before .past-key .ensures) _ (c .before .before .before .before .before .k .given .1),
-  c .before .if1 .left,
-)
+add-at c =
+    let l = c .before .before .before .before .before .before .before .before .before .loop in
+    let a = c .before .before .before .before .before .before .before .before .before .before .before .before .args in
+    omega (
+      arith,
+      folding.value-inside (choosing.seen (a .index)) (a .left) (a .mode) (a .count) (a .s .now) choosing.none-seen (c .before .before .before .before .before .before .before .before .before .before .before .before .pre) (omega arith) (l .at) (l .due) _ (l .inv .walking) _ (c .before .before .before .before .before .before .before .past-key .ensures) _ (c .before .before .before .before .before .k .given .1),
+      c .before .if1 .left,
+    )
 
 -- src/lib.rt:54:17
 sub-due : tie.Need-sub-due Inv-loop μ-loop
-sub-due c = omega (
-  arith,
-  folding.two-due (choosing.seen (c .before .before .before .before .before .before .before .before .before .before .before .before .args .index)) (c .before .before .before .before .before .before .before .before .before .before .before .before .args .left) (c .before .before .before .before .before .before .before .before .before .before .before .before .args .mode) (c .before .before .before .before .before .before .before .before .before .before .before .before .args .count) (c .before .before .before .before .before .before .before .before .before .before .before .before .args .s .now)
-      choosing.none-seen (c .before .before .before .before .before .before .before .before .before .before .before .before .pre)
-      (omega arith) (c .before .before .before .before .before .before .before .before .before .loop .at) (c .before .before .before .before .before .before .before .before .before .loop .due) _ (c .before .before .before .before .before .before .before .before .before .loop .inv .walking) _
-      (c .before .before .before .before .before .before .before .past-key .ensures) _ (c .before .before .before .before .before .k .given .1) _ (c .before .before .skip .ensures),
-)
+sub-due c =
+    let l = c .before .before .before .before .before .before .before .before .before .loop in
+    let a = c .before .before .before .before .before .before .before .before .before .before .before .before .args in
+    omega (
+      arith,
+      folding.two-due (choosing.seen (a .index)) (a .left) (a .mode) (a .count) (a .s .now) choosing.none-seen (c .before .before .before .before .before .before .before .before .before .before .before .before .pre) (omega arith) (l .at) (l .due) _ (l .inv .walking) _ (c .before .before .before .before .before .before .before .past-key .ensures) _ (c .before .before .before .before .before .k .given .1) _ (c .before .before .skip .ensures),
+    )
 
 -- src/lib.rt:42:5
 loop-less : tie.Need-loop-less Inv-loop μ-loop
-loop-less c = omega (
-  arith,
-  folding.further (choosing.seen (c .before .before .before .before .before .before .before .before .before .before .before .before .args .index)) (c .before .before .before .before .before .before .before .before .before .before .before .before .args .left) (c .before .before .before .before .before .before .before .before .before .before .before .before .args .mode) (c .before .before .before .before .before .before .before .before .before .before .before .before .args .count) (c .before .before .before .before .before .before .before .before .before .before .before .before .args .s .now)
-      choosing.none-seen (c .before .before .before .before .before .before .before .before .before .before .before .before .pre)
-      (omega arith) (c .before .before .before .before .before .before .before .before .before .loop .at) (c .before .before .before .before .before .before .before .before .before .loop .due) _ (c .before .before .before .before .before .before .before .before .before .loop .inv .walking) _
-      (c .before .before .before .before .before .before .before .past-key .ensures) _ (c .before .before .before .before .before .k .given .1) _ (c .before .before .skip .ensures) (omega (arith, c .before .if1 .left)),
-  folding.value-inside (choosing.seen (c .before .before .before .before .before .before .before .before .before .before .before .before .args .index)) (c .before .before .before .before .before .before .before .before .before .before .before .before .args .left) (c .before .before .before .before .before .before .before .before .before .before .before .before .args .mode) (c .before .before .before .before .before .before .before .before .before .before .before .before .args .count) (c .before .before .before .before .before .before .before .before .before .before .before .before .args .s .now)
-      choosing.none-seen (c .before .before .before .before .before .before .before .before .before .before .before .before .pre)
-      (omega arith) (c .before .before .before .before .before .before .before .before .before .loop .at) (c .before .before .before .before .before .before .before .before .before .loop .due) _ (c .before .before .before .before .before .before .before .before .before .loop .inv .walking) _
-      (c .before .before .before .before .before .before .before .past-key .ensures) _ (c .before .before .before .before .before .k .given .1),
-  c .before .if1 .left,
-)
+loop-less c =
+    let l = c .before .before .before .before .before .before .before .before .before .loop in
+    let a = c .before .before .before .before .before .before .before .before .before .before .before .before .args in
+    omega (
+      arith,
+      folding.further (choosing.seen (a .index)) (a .left) (a .mode) (a .count) (a .s .now) choosing.none-seen (c .before .before .before .before .before .before .before .before .before .before .before .before .pre)
+          (omega arith) (l .at) (l .due) _ (l .inv .walking) _ (c .before .before .before .before .before .before .before .past-key .ensures) _ (c .before .before .before .before .before .k .given .1) _
+          (c .before .before .skip .ensures) (omega (arith, c .before .if1 .left)),
+      folding.value-inside (choosing.seen (a .index)) (a .left) (a .mode) (a .count) (a .s .now) choosing.none-seen (c .before .before .before .before .before .before .before .before .before .before .before .before .pre) (omega arith) (l .at) (l .due) _ (l .inv .walking) _ (c .before .before .before .before .before .before .before .past-key .ensures) _ (c .before .before .before .before .before .k .given .1),
+      c .before .if1 .left,
+    )
 
 -- src/lib.rt:42:5
 loop-again : tie.Need-loop-again Inv-loop μ-loop
 loop-again c = record {
   walking =
-      folding.goes-on (choosing.seen (c .before .before .before .before .before .before .before .before .before .before .before .before .args .index)) (c .before .before .before .before .before .before .before .before .before .before .before .before .args .left) (c .before .before .before .before .before .before .before .before .before .before .before .before .args .mode) (c .before .before .before .before .before .before .before .before .before .before .before .before .args .count) (c .before .before .before .before .before .before .before .before .before .before .before .before .args .s .now)
+      folding.goes-on (choosing.seen (c .before .before .before .before .before .before .before .before .before .before .before .before .args .index))
+      (c .before .before .before .before .before .before .before .before .before .before .before .before .args .left)
+      (c .before .before .before .before .before .before .before .before .before .before .before .before .args .mode)
+      (c .before .before .before .before .before .before .before .before .before .before .before .before .args .count)
+      (c .before .before .before .before .before .before .before .before .before .before .before .before .args .s .now)
       choosing.none-seen (c .before .before .before .before .before .before .before .before .before .before .before .before .pre)
       (omega arith) (c .before .before .before .before .before .before .before .before .before .loop .at) (c .before .before .before .before .before .before .before .before .before .loop .due) _ (c .before .before .before .before .before .before .before .before .before .loop .inv .walking) _
       (c .before .before .before .before .before .before .before .past-key .ensures) _ (c .before .before .before .before .before .k .given .1) _ (c .before .before .skip .ensures) (omega (arith, c .before .if1 .left)) _
@@ -188,7 +191,11 @@ loop-again c = record {
   few = omega (
     arith,
     c .before .before .before .before .before .before .before .before .before .loop .inv .few,
-    folding.further (choosing.seen (c .before .before .before .before .before .before .before .before .before .before .before .before .args .index)) (c .before .before .before .before .before .before .before .before .before .before .before .before .args .left) (c .before .before .before .before .before .before .before .before .before .before .before .before .args .mode) (c .before .before .before .before .before .before .before .before .before .before .before .before .args .count) (c .before .before .before .before .before .before .before .before .before .before .before .before .args .s .now)
+    folding.further (choosing.seen (c .before .before .before .before .before .before .before .before .before .before .before .before .args .index))
+        (c .before .before .before .before .before .before .before .before .before .before .before .before .args .left)
+        (c .before .before .before .before .before .before .before .before .before .before .before .before .args .mode)
+        (c .before .before .before .before .before .before .before .before .before .before .before .before .args .count)
+        (c .before .before .before .before .before .before .before .before .before .before .before .before .args .s .now)
         choosing.none-seen (c .before .before .before .before .before .before .before .before .before .before .before .before .pre)
         (omega arith) (c .before .before .before .before .before .before .before .before .before .loop .at) (c .before .before .before .before .before .before .before .before .before .loop .due) _ (c .before .before .before .before .before .before .before .before .before .loop .inv .walking) _
         (c .before .before .before .before .before .before .before .past-key .ensures) _ (c .before .before .before .before .before .k .given .1) _ (c .before .before .skip .ensures) (omega (arith, c .before .if1 .left)),

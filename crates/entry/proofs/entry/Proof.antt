@@ -53,15 +53,21 @@ part-entries-end c = search needs
 
 -- src/lib.rt:66:47
 entries-requires : tie.Need-entries-requires
-entries-requires c κs = opens.modes (c .before .before .before .before .before .before .before .args .s .now) _ (c .before .before .before .before .map .ensures) _ _ _ (c .before .before .mode .given .1)
+entries-requires c κs =
+    let b2 = c .before .before in let b4 = b2 .before .before in let a = b4 .before .before .before .args in
+    opens.modes (a .s .now) _ (b4 .map .ensures) _ _ _ (b2 .mode .given .1)
 
 -- src/lib.rt:61:1
 returns : tie.Need-returns
-returns c = subst (is.EntryIs (c .before .before .before .before .before .before .args .left) (c .before .before .before .before .before .before .args .s .now) (c .before .before .before .before .before .before .args .index)) (sym (c .placed .ensures)) (choosing.no-entry (c .before .before .before .before .before .before .args .s .now) _ (c .before .before .before .map .ensures) _ _ (c .before .enum-told .given .1))
+returns c =
+    let b3 = c .before .before .before in let a = b3 .before .before .before .args in
+    subst (is.EntryIs (a .left) (a .s .now) (a .index)) (sym (c .placed .ensures)) (choosing.no-entry (a .s .now) _ (b3 .map .ensures) _ _ (c .before .enum-told .given .1))
 
 -- src/lib.rt:61:1
 returns-2 : tie.Need-returns-2
-returns-2 c = choosing.of-map (c .before .before .before .before .before .before .before .before .args .s .now) _ (c .before .before .before .before .before .map .ensures) _ _ _ _ _ (c .before .before .before .mode .given .1) _ (c .entries .ensures)
+returns-2 c =
+    let b3 = c .before .before .before in let b5 = b3 .before .before in let a = b5 .before .before .before .args in
+    choosing.of-map (a .s .now) _ (b5 .map .ensures) _ _ _ _ _ (b3 .mode .given .1) _ (c .entries .ensures)
 
 pub entry-spec : {M : Type 1} → statement M
 entry-spec =

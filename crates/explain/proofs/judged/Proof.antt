@@ -17,9 +17,12 @@ judged-spec =
     (λ c. search needs)
     (λ c. search needs)
     (λ c κs. search needs)
-    (λ c. let a = c .before .before .before .before .before .before .before .before .args in answers.past-the-root (layoutOf (a .layout)) (a .m .now) (a .start) (a .end) (a .n) (a .o) (a .c) _ _ (c .before .before .before .before .before .root .ensures .0) (c .before .before .if1 .taken) _ (c .before .before .before .before .before .root .ensures .1) (c .inside .ensures))
+    (λ c. let b2 = c .before .before in let b5 = b2 .before .before .before in let a′ = b5 .before .before .before .args in
+    let a = a′ in answers.past-the-root (layoutOf (a .layout)) (a .m .now) (a .start) (a .end) (a .n) (a .o) (a .c) _ _ (b5 .root .ensures .0) (b2 .if1 .taken) _ (b5 .root .ensures .1)
+    (c .inside .ensures))
     (λ c. search needs)
     (λ c. search needs)
     (λ c. search needs)
     (λ c κs. search needs)
-    (λ c. let a = c .before .before .before .before .before .before .before .before .args in answers.in-the-root (layoutOf (a .layout)) (a .m .now) (a .start) (a .end) (a .n) (a .o) (a .c) _ _ (c .before .before .before .before .before .root .ensures .0) (c .before .before .if1 .left) (c .pointed .ensures)))
+    (λ c. let b2 = c .before .before in let b5 = b2 .before .before .before in let a′ = b5 .before .before .before .args in
+    let a = a′ in answers.in-the-root (layoutOf (a .layout)) (a .m .now) (a .start) (a .end) (a .n) (a .o) (a .c) _ _ (b5 .root .ensures .0) (b2 .if1 .left) (c .pointed .ensures)))

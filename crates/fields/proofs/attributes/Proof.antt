@@ -16,5 +16,7 @@ attributes-spec =
     (λ c κs. search needs)
     (λ c. search needs)
     (λ c. search needs)
-    (λ c. is.no-map-there (c .before .before .before .before .before .before .before .args .s .now) (c .before .before .before .before .before .before .before .args .left) _ (c .before .before .before .before .place-of .ensures) (c .before .before .before .before .before .if1 .left) _ (c .before .before .map .ensures) (c .enum-told .given .1))
-    (λ c. is.a-map-there (c .before .before .before .before .before .before .before .args .s .now) (c .before .before .before .before .before .before .before .args .left) _ (c .before .before .before .before .place-of .ensures) (c .before .before .before .before .before .if1 .left) _ (c .before .before .map .ensures) _ _ _ (c .enum-told2 .given .1)))
+    (λ c. let b2 = c .before .before in let b4 = b2 .before .before in let b5 = b4 .before in let a = b5 .before .before .args in
+    is.no-map-there (a .s .now) (a .left) _ (b4 .place-of .ensures) (b5 .if1 .left) _ (b2 .map .ensures) (c .enum-told .given .1))
+    (λ c. let b2 = c .before .before in let b4 = b2 .before .before in let b5 = b4 .before in let a = b5 .before .before .args in
+    is.a-map-there (a .s .now) (a .left) _ (b4 .place-of .ensures) (b5 .if1 .left) _ (b2 .map .ensures) _ _ _ (c .enum-told2 .given .1)))

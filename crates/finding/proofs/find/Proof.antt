@@ -41,11 +41,22 @@ find-spec =
     (λ c κs. search needs)
     (λ c. search needs)
     (λ c. search needs)
-    (λ c. (search needs, (search needs, turn.turn-nan ((c .before .before .before .before .before .before .before .args .s .now)) ((c .before .before .before .before .loop .i)) (omega arith) ((c .before .before .before .before .loop .smallest)) ((c .before .before .before .before .loop .largest)) ((c .before .before .before .before .loop .nans)) ((c .before .before .before .before .loop .some)) (ap (nanBits binary32) (sym ((c .before .before .pattern .ensures .0))) ∙ (sym ((c .before .nan .ensures)) ∙ (c .if2 .taken))) ∙ (c .before .before .before .before .loop .inv .1 .1))))
+    (λ c. let l = c .before .before .before .before .loop in let a = c .before .before .before .before .before .before .before .args in
+    (search needs, (search needs, turn.turn-nan ((a .s .now)) ((l .i)) (omega arith) ((l .smallest)) ((l .largest)) ((l .nans)) ((l .some)) (ap (nanBits binary32) (sym ((c .before .before .pattern .ensures .0))) ∙ (sym ((c .before .nan .ensures)) ∙ (c .if2 .taken))) ∙ (l .inv .1 .1))))
     (λ c κs. turn.no _ (sym ((c .before .nan .ensures)) ∙ (c .if2 .left)))
     (λ c κs. search needs)
     (λ c κs. search needs)
     (λ c. search needs)
-    (λ c. (search needs, (search needs, rw ((c .greater .ensures), (c .before .lesser .ensures), (c .before .before .number .ensures), (c .before .before .before .before .before .pattern .ensures .0)) (turn.turn-number ((c .before .before .before .before .before .before .before .before .before .before .args .s .now)) ((c .before .before .before .before .before .before .before .loop .i)) (omega arith) ((c .before .before .before .before .before .before .before .loop .smallest)) ((c .before .before .before .before .before .before .before .loop .largest)) ((c .before .before .before .before .before .before .before .loop .nans)) ((c .before .before .before .before .before .before .before .loop .some)) (ap (nanBits binary32) (sym ((c .before .before .before .before .before .pattern .ensures .0))) ∙ (sym ((c .before .before .before .before .nan .ensures)) ∙ (c .before .before .before .if2 .left))) ∙ (c .before .before .before .before .before .before .before .loop .inv .1 .1)))))
-    (λ c. turn.ends ((c .before .before .before .before .before .args .s .now)) ((c .before .before .loop .i)) (omega arith) (omega arith) ((c .before .before .loop .smallest)) ((c .before .before .loop .largest)) ((c .before .before .loop .nans)) ((c .before .before .loop .some)) true ((c .if3 .taken)) ((c .before .before .loop .inv .1 .1)))
-    (λ c. turn.ends ((c .before .before .before .before .before .args .s .now)) ((c .before .before .loop .i)) (omega arith) (omega arith) ((c .before .before .loop .smallest)) ((c .before .before .loop .largest)) ((c .before .before .loop .nans)) ((c .before .before .loop .some)) false ((c .if3 .left)) ((c .before .before .loop .inv .1 .1))))
+    (λ c. let l = c .before .before .before .before .before .before .before .loop in let a = c .before .before .before .before .before .before .before .before .before .before .args in (
+      search needs,
+      (
+        search needs,
+        rw ((c .greater .ensures), (c .before .lesser .ensures), (c .before .before .number .ensures), (c .before .before .before .before .before .pattern .ensures .0))
+            (turn.turn-number ((a .s .now)) ((l .i)) (omega arith) ((l .smallest)) ((l .largest)) ((l .nans)) ((l .some))
+            (ap (nanBits binary32) (sym ((c .before .before .before .before .before .pattern .ensures .0))) ∙ (sym ((c .before .before .before .before .nan .ensures)) ∙ (c .before .before .before .if2 .left))) ∙ (l .inv .1 .1)),
+      ),
+    ))
+    (λ c. let l = c .before .before .loop in let a = c .before .before .before .before .before .args in
+    turn.ends ((a .s .now)) ((l .i)) (omega arith) (omega arith) ((l .smallest)) ((l .largest)) ((l .nans)) ((l .some)) true ((c .if3 .taken)) ((l .inv .1 .1)))
+    (λ c. let l = c .before .before .loop in let a = c .before .before .before .before .before .args in
+    turn.ends ((a .s .now)) ((l .i)) (omega arith) (omega arith) ((l .smallest)) ((l .largest)) ((l .nans)) ((l .some)) false ((c .if3 .left)) ((l .inv .1 .1))))

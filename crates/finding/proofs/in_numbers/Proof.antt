@@ -15,7 +15,8 @@ in-numbers-spec =
     (λ c. search needs)
     (λ c. search needs)
     (λ c κs. sound.span-sound (c .before .f2 .given .1) ((c .before .before .before .pre)) .0)
-    (λ c κs. sound.span-sound (c .before .before .f2 .given .1) ((c .before .before .before .before .pre)) .1)
+    (λ c κs. let b2 = c .before .before in
+    sound.span-sound (b2 .f2 .given .1) ((b2 .before .before .pre)) .1)
     (λ c. sound.empty-shown (c .enum-told .given .1))
     (λ c. sound.nan-shown (c .before .f .given .1))
     (λ c. sound.span-shown (c .before .before .before .f2 .given .1) _ _ ((c .before .bits .ensures)) ((c .bits2 .ensures))))

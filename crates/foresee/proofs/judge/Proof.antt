@@ -16,5 +16,7 @@ judge-spec =
     (λ c. search needs)
     (λ c. search needs)
     (λ c κs. search needs)
-    (λ c. law.odd-objects (c .before .before .before .before .before .before .before .before .before .before .before .before .before .args .buffer .now) (c .before .before .before .before .before .before .before .before .before .before .before .before .before .args .rows .now) (c .before .before .before .before .before .before .before .before .before .before .before .before .before .args .n) (c .before .before .before .before .before .before .before .before .before .before .before .before .before .args .rest .now) (c .before .before .before .before .before .before .before .before .before .before .before .before .before .args .components) (c .before .before .before .before .before .before .names .result) (c .before .before .before .before .before .before .names .ensures) _ (c .before .c .given .1))
-    (λ c. law.by-objects (c .before .before .before .before .before .before .before .before .before .before .before .before .before .args .buffer .now) (c .before .before .before .before .before .before .before .before .before .before .before .before .before .args .rows .now) (c .before .before .before .before .before .before .before .before .before .before .before .before .before .args .n) (c .before .before .before .before .before .before .before .before .before .before .before .before .before .args .rest .now) (c .before .before .before .before .before .before .before .before .before .before .before .before .before .args .components) (c .before .before .before .before .before .before .names .result) (c .before .before .before .before .before .before .names .ensures) (c .before .enum-told .given .1) ∙ (c .each .ensures)))
+    (λ c. let b6 = c .before .before .before .before .before .before in let a = b6 .before .before .before .before .before .before .before .args in
+    law.odd-objects (a .buffer .now) (a .rows .now) (a .n) (a .rest .now) (a .components) (b6 .names .result) (b6 .names .ensures) _ (c .before .c .given .1))
+    (λ c. let b6 = c .before .before .before .before .before .before in let a = b6 .before .before .before .before .before .before .before .args in
+    law.by-objects (a .buffer .now) (a .rows .now) (a .n) (a .rest .now) (a .components) (b6 .names .result) (b6 .names .ensures) (c .before .enum-told .given .1) ∙ (c .each .ensures)))

@@ -20,13 +20,33 @@ verdict-spec =
     tie.close
     (tie.spec
     (λ c κs. search needs)
-    (λ c. law.root-deep (c .before .before .before .before .args .buffer .now) (c .before .before .before .before .args .rows .now) (c .before .before .before .before .args .objects) (c .before .before .before .before .args .components) (c .before .before .before .before .args .place) (c .before .before .before .before .args .size) (sym (c .if1 .taken) ∙ (c .before .deep .ensures)))
+    (λ c. let a = c .before .before .before .before .args in
+    law.root-deep (a .buffer .now) (a .rows .now) (a .objects) (a .components) (a .place) (a .size) (sym (c .if1 .taken) ∙ (c .before .deep .ensures)))
     (λ c κs. omega (arith, sound-lies (c .before .before .before .before .args .buffer .now) (c .before .before .before .before .args .rows .now) (c .before .before .before .before .args .objects) (c .before .before .before .before .args .components) (record { place = (c .before .before .before .before .args .place); size = (c .before .before .before .before .args .size) }) (c .before .before .before .before .pre)))
-    (λ c. law.object-deep (c .before .before .before .before .before .before .args .buffer .now) (c .before .before .before .before .before .before .args .rows .now) (c .before .before .before .before .before .before .args .objects) (c .before .before .before .before .before .before .args .components) (c .before .before .before .before .before .before .args .place) (c .before .before .before .before .before .before .args .size) (sym (c .before .before .if1 .left) ∙ (c .before .before .before .deep .ensures)) (sym (c .if2 .taken) ∙ (c .before .any-deep .ensures) (eachRow askedComponent componentWidth (c .before .before .before .before .before .before .args .components) (drop (objectWidth * (c .before .before .before .before .before .before .args .objects)) (c .before .before .before .before .before .before .args .rows .now)))))
-    (λ c. let g = (c .before .before .before .before .before .before .good) in let lies = sound-lies (c .before .before .before .before .before .before .args .buffer .now) (c .before .before .before .before .before .before .args .rows .now) (c .before .before .before .before .before .before .args .objects) (c .before .before .before .before .before .before .args .components) (record { place = (c .before .before .before .before .before .before .args .place); size = (c .before .before .before .before .before .before .args .size) }) (c .before .before .before .before .before .before .pre) in search needs)
-    (λ c. let lies = sound-lies (c .before .before .before .before .before .before .args .buffer .now) (c .before .before .before .before .before .before .args .rows .now) (c .before .before .before .before .before .before .args .objects) (c .before .before .before .before .before .before .args .components) (record { place = (c .before .before .before .before .before .before .args .place); size = (c .before .before .before .before .before .before .args .size) }) (c .before .before .before .before .before .before .pre) in search needs)
-    (λ c. let lies = sound-lies (c .before .before .before .before .before .before .args .buffer .now) (c .before .before .before .before .before .before .args .rows .now) (c .before .before .before .before .before .before .args .objects) (c .before .before .before .before .before .before .args .components) (record { place = (c .before .before .before .before .before .before .args .place); size = (c .before .before .before .before .before .before .args .size) }) (c .before .before .before .before .before .before .pre) in search needs)
-    (λ c. let lies = sound-lies (c .before .before .before .before .before .before .args .buffer .now) (c .before .before .before .before .before .before .args .rows .now) (c .before .before .before .before .before .before .args .objects) (c .before .before .before .before .before .before .args .components) (record { place = (c .before .before .before .before .before .before .args .place); size = (c .before .before .before .before .before .before .args .size) }) (c .before .before .before .before .before .before .pre) in search needs)
+    (λ c. let b2 = c .before .before in let b3 = b2 .before in let a = b3 .before .before .before .args in
+    law.object-deep (a .buffer .now) (a .rows .now) (a .objects) (a .components) (a .place) (a .size) (sym (b2 .if1 .left) ∙ (b3 .deep .ensures))
+    (sym (c .if2 .taken) ∙ (c .before .any-deep .ensures) (eachRow askedComponent componentWidth (a .components) (drop (objectWidth * (a .objects)) (a .rows .now)))))
+    (λ c. let g = (c .before .before .before .before .before .before .good) in let lies = sound-lies (c .before .before .before .before .before .before .args .buffer .now)
+    (c .before .before .before .before .before .before .args .rows .now) (c .before .before .before .before .before .before .args .objects) (c .before .before .before .before .before .before .args .components)
+    (record { place = (c .before .before .before .before .before .before .args .place); size = (c .before .before .before .before .before .before .args .size) }) (c .before .before .before .before .before .before .pre) in
+    search needs)
+    (λ c. let lies = sound-lies (c .before .before .before .before .before .before .args .buffer .now) (c .before .before .before .before .before .before .args .rows .now)
+    (c .before .before .before .before .before .before .args .objects) (c .before .before .before .before .before .before .args .components)
+    (record { place = (c .before .before .before .before .before .before .args .place); size = (c .before .before .before .before .before .before .args .size) }) (c .before .before .before .before .before .before .pre) in
+    search needs)
+    (λ c. let lies = sound-lies (c .before .before .before .before .before .before .args .buffer .now) (c .before .before .before .before .before .before .args .rows .now)
+    (c .before .before .before .before .before .before .args .objects) (c .before .before .before .before .before .before .args .components)
+    (record { place = (c .before .before .before .before .before .before .args .place); size = (c .before .before .before .before .before .before .args .size) }) (c .before .before .before .before .before .before .pre) in
+    search needs)
+    (λ c. let lies = sound-lies (c .before .before .before .before .before .before .args .buffer .now) (c .before .before .before .before .before .before .args .rows .now)
+    (c .before .before .before .before .before .before .args .objects) (c .before .before .before .before .before .before .args .components)
+    (record { place = (c .before .before .before .before .before .before .args .place); size = (c .before .before .before .before .before .before .args .size) }) (c .before .before .before .before .before .before .pre) in
+    search needs)
     (λ c. search needs)
-    (λ c κs. subst (λ (s : List ℕ). Counted (c .before .before .before .before .before .before .before .args .buffer .now) (c .before .before .before .before .before .before .before .args .rows .now) (c .before .before .before .before .before .before .before .args .objects) s (c .before .before .before .before .before .before .before .args .components)) (sym (part-to-end (c .before .before .before .before .before .before .before .args .rows .now) (objectWidth * (c .before .before .before .before .before .before .before .args .objects)))) (law.rows-count (c .before .before .before .before .before .before .before .args .buffer .now) (c .before .before .before .before .before .before .before .args .rows .now) (c .before .before .before .before .before .before .before .args .objects) (c .before .before .before .before .before .before .before .args .components) (c .before .before .before .before .before .before .before .args .place) (c .before .before .before .before .before .before .before .args .size) (c .before .before .before .before .before .before .before .pre)))
-    (λ c. law.none-too-deep (c .before .before .before .before .before .before .before .before .args .buffer .now) (c .before .before .before .before .before .before .before .before .args .rows .now) (c .before .before .before .before .before .before .before .before .args .objects) (c .before .before .before .before .before .before .before .before .args .components) (c .before .before .before .before .before .before .before .before .args .place) (c .before .before .before .before .before .before .before .before .args .size) (sym (c .before .before .before .before .if1 .left) ∙ (c .before .before .before .before .before .deep .ensures)) (sym (c .before .before .if2 .left) ∙ (c .before .before .before .any-deep .ensures) (eachRow askedComponent componentWidth (c .before .before .before .before .before .before .before .before .args .components) (drop (objectWidth * (c .before .before .before .before .before .before .before .before .args .objects)) (c .before .before .before .before .before .before .before .before .args .rows .now)))) ∙ ap (λ (s : List ℕ). judgedObjects (objectsOf (c .before .before .before .before .before .before .before .before .args .buffer .now) (c .before .before .before .before .before .before .before .before .args .rows .now) (c .before .before .before .before .before .before .before .before .args .objects) s (c .before .before .before .before .before .before .before .before .args .components))) (sym (part-to-end (c .before .before .before .before .before .before .before .before .args .rows .now) (objectWidth * (c .before .before .before .before .before .before .before .before .args .objects)))) ∙ (c .judge .ensures)))
+    (λ c κs. let b7 = c .before .before .before .before .before .before .before in let a = b7 .args in
+    subst (λ (s : List ℕ). Counted (a .buffer .now) (a .rows .now) (a .objects) s (a .components)) (sym (part-to-end (a .rows .now) (objectWidth * (a .objects))))
+    (law.rows-count (a .buffer .now) (a .rows .now) (a .objects) (a .components) (a .place) (a .size) (b7 .pre)))
+    (λ c. let b2 = c .before .before in let b3 = b2 .before in let b4 = b3 .before in let b5 = b4 .before in let a = b5 .before .before .before .args in
+    law.none-too-deep (a .buffer .now) (a .rows .now) (a .objects) (a .components) (a .place) (a .size) (sym (b4 .if1 .left) ∙ (b5 .deep .ensures))
+    (sym (b2 .if2 .left) ∙ (b3 .any-deep .ensures) (eachRow askedComponent componentWidth (a .components) (drop (objectWidth * (a .objects)) (a .rows .now)))) ∙ ap
+    (λ (s : List ℕ). judgedObjects (objectsOf (a .buffer .now) (a .rows .now) (a .objects) s (a .components))) (sym (part-to-end (a .rows .now) (objectWidth * (a .objects)))) ∙ (c .judge .ensures)))

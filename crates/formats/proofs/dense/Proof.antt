@@ -19,6 +19,11 @@ dense-spec =
     (λ c. search needs)
     (λ c. search needs)
     (λ c κs. search needs)
-    (λ c. λ cs is. laws.dense-right (c .before .before .before .before .before .before .before .before .before .before .args .shape .now) cs _ _ _ _ (laws.seen (RoleIs (roleName 0)) (c .before .before .before .before .before .before .before .before .before .before .args .parts .now) _ _ (c .before .before .before .before .before .before .role-of .ensures) (c .before .before .before .before .i .given .1) cs is) _ (c .before .dense-fits .ensures) (c .if1 .taken))
-    (λ c. λ cs is. laws.dense-absent (c .before .before .before .before .before .before .args .shape .now) cs (laws.seen (RoleIs (roleName 0)) (c .before .before .before .before .before .before .args .parts .now) _ _ (c .before .before .role-of .ensures) (c .enum-told .given .1) cs is))
-    (λ c. λ cs is. laws.dense-wrong (c .before .before .before .before .before .before .before .before .before .before .args .shape .now) cs _ _ _ _ (laws.seen (RoleIs (roleName 0)) (c .before .before .before .before .before .before .before .before .before .before .args .parts .now) _ _ (c .before .before .before .before .before .before .role-of .ensures) (c .before .before .before .before .i .given .1) cs is) _ (c .before .dense-fits .ensures) (c .if1 .left)))
+    (λ c. let b4 = c .before .before .before .before in let b6 = b4 .before .before in let a = b6 .before .before .before .before .args in
+    λ cs is. laws.dense-right (a .shape .now) cs _ _ _ _ (laws.seen (RoleIs (roleName 0)) (a .parts .now) _ _ (b6 .role-of .ensures) (b4 .i .given .1) cs is) _ (c .before .dense-fits .ensures)
+    (c .if1 .taken))
+    (λ c. let b2 = c .before .before in let a = b2 .before .before .before .before .args in
+    λ cs is. laws.dense-absent (a .shape .now) cs (laws.seen (RoleIs (roleName 0)) (a .parts .now) _ _ (b2 .role-of .ensures) (c .enum-told .given .1) cs is))
+    (λ c. let b4 = c .before .before .before .before in let b6 = b4 .before .before in let a = b6 .before .before .before .before .args in
+    λ cs is. laws.dense-wrong (a .shape .now) cs _ _ _ _ (laws.seen (RoleIs (roleName 0)) (a .parts .now) _ _ (b6 .role-of .ensures) (b4 .i .given .1) cs is) _ (c .before .dense-fits .ensures)
+    (c .if1 .left)))

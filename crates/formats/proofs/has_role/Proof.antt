@@ -15,5 +15,7 @@ has-role-spec =
     (λ c κs. search needs)
     (λ c. search needs)
     (λ c. search needs)
-    (λ c. λ cs is. laws.seen (RoleIs (roleName (c .before .before .before .before .before .args .code))) (c .before .before .before .before .before .args .parts .now) _ _ (c .before .before .role-of .ensures) (c .enum-told .given .1) cs is)
-    (λ c. λ cs is. laws.there (roleName (c .before .before .before .before .before .args .code)) cs _ _ _ _ (laws.seen (RoleIs (roleName (c .before .before .before .before .before .args .code))) (c .before .before .before .before .before .args .parts .now) _ _ (c .before .before .role-of .ensures) (c .enum-told2 .given .1) cs is)))
+    (λ c. let b2 = c .before .before in let a = b2 .before .before .before .args in
+    λ cs is. laws.seen (RoleIs (roleName (a .code))) (a .parts .now) _ _ (b2 .role-of .ensures) (c .enum-told .given .1) cs is)
+    (λ c. let b2 = c .before .before in let a = b2 .before .before .before .args in
+    λ cs is. laws.there (roleName (a .code)) cs _ _ _ _ (laws.seen (RoleIs (roleName (a .code))) (a .parts .now) _ _ (b2 .role-of .ensures) (c .enum-told2 .given .1) cs is)))

@@ -15,6 +15,9 @@ index-role-spec =
     (λ c κs. search needs)
     (λ c. search needs)
     (λ c. search needs)
-    (λ c. λ cs is. laws.index-plain (roleName (c .before .before .before .before .before .before .before .args .code)) cs _ _ _ _ (laws.seen (RoleIs (roleName (c .before .before .before .before .before .before .before .args .code))) (c .before .before .before .before .before .before .before .args .parts .now) _ _ (c .before .before .before .before .role-of .ensures) (c .before .before .i .given .1) cs is) (c .if1 .taken))
-    (λ c. λ cs is. laws.index-absent (roleName (c .before .before .before .before .before .args .code)) cs (laws.seen (RoleIs (roleName (c .before .before .before .before .before .args .code))) (c .before .before .before .before .before .args .parts .now) _ _ (c .before .before .role-of .ensures) (c .enum-told .given .1) cs is))
-    (λ c. λ cs is. laws.index-odd (roleName (c .before .before .before .before .before .before .before .args .code)) cs _ _ _ _ (laws.seen (RoleIs (roleName (c .before .before .before .before .before .before .before .args .code))) (c .before .before .before .before .before .before .before .args .parts .now) _ _ (c .before .before .before .before .role-of .ensures) (c .before .before .i .given .1) cs is) (c .if1 .left)))
+    (λ c. let b2 = c .before .before in let b4 = b2 .before .before in let a = b4 .before .before .before .args in
+    λ cs is. laws.index-plain (roleName (a .code)) cs _ _ _ _ (laws.seen (RoleIs (roleName (a .code))) (a .parts .now) _ _ (b4 .role-of .ensures) (b2 .i .given .1) cs is) (c .if1 .taken))
+    (λ c. let b2 = c .before .before in let a = b2 .before .before .before .args in
+    λ cs is. laws.index-absent (roleName (a .code)) cs (laws.seen (RoleIs (roleName (a .code))) (a .parts .now) _ _ (b2 .role-of .ensures) (c .enum-told .given .1) cs is))
+    (λ c. let b2 = c .before .before in let b4 = b2 .before .before in let a = b4 .before .before .before .args in
+    λ cs is. laws.index-odd (roleName (a .code)) cs _ _ _ _ (laws.seen (RoleIs (roleName (a .code))) (a .parts .now) _ _ (b4 .role-of .ensures) (b2 .i .given .1) cs is) (c .if1 .left)))

@@ -19,7 +19,8 @@ judge-spec =
     (λ c. search needs)
     (λ c. search needs)
     (λ c κs. search needs)
-    (λ c. unfold rulesOf in λ f cs e is. laws.with-code _ f (c .before .before .before .before .before .before .args .shape .now) cs e 0 (c .before .before .before .if1 .taken) ∙ laws.judged format.dense (c .before .before .before .before .before .before .args .shape .now) (c .before .before .before .before .before .before .args .parts .now) (c .dense .result) (c .dense .ensures) cs is)
+    (λ c. let b3 = c .before .before .before in let a = b3 .before .before .before .args in
+    unfold rulesOf in λ f cs e is. laws.with-code _ f (a .shape .now) cs e 0 (b3 .if1 .taken) ∙ laws.judged format.dense (a .shape .now) (a .parts .now) (c .dense .result) (c .dense .ensures) cs is)
     (λ c. search needs)
     (λ c. search needs)
     (λ c. search needs)
@@ -27,7 +28,9 @@ judge-spec =
     (λ c. search needs)
     (λ c. search needs)
     (λ c κs. search needs)
-    (λ c. unfold rulesOf in λ f cs e is. laws.with-code _ f (c .before .before .before .before .before .before .before .args .shape .now) cs e 1 (c .before .before .before .if2 .taken) ∙ laws.judged format.sparseCsr (c .before .before .before .before .before .before .before .args .shape .now) (c .before .before .before .before .before .before .before .args .parts .now) (c .sparse-csr .result) (c .sparse-csr .ensures) cs is)
+    (λ c. let b3 = c .before .before .before in let a = b3 .before .before .before .before .args in
+    unfold rulesOf in λ f cs e is. laws.with-code _ f (a .shape .now) cs e 1 (b3 .if2 .taken) ∙ laws.judged format.sparseCsr (a .shape .now) (a .parts .now) (c .sparse-csr .result)
+    (c .sparse-csr .ensures) cs is)
     (λ c. search needs)
     (λ c. search needs)
     (λ c. search needs)
@@ -35,10 +38,13 @@ judge-spec =
     (λ c. search needs)
     (λ c. search needs)
     (λ c κs. search needs)
-    (λ c. unfold rulesOf in λ f cs e is. laws.with-code _ f (c .before .before .before .before .before .before .before .before .args .shape .now) cs e 2 (c .before .before .before .if3 .taken) ∙ laws.judged format.sparseCoo (c .before .before .before .before .before .before .before .before .args .shape .now) (c .before .before .before .before .before .before .before .before .args .parts .now) (c .sparse-coo .result) (c .sparse-coo .ensures) cs is)
+    (λ c. let b3 = c .before .before .before in let a = b3 .before .before .before .before .before .args in
+    unfold rulesOf in λ f cs e is. laws.with-code _ f (a .shape .now) cs e 2 (b3 .if3 .taken) ∙ laws.judged format.sparseCoo (a .shape .now) (a .parts .now) (c .sparse-coo .result)
+    (c .sparse-coo .ensures) cs is)
     (λ c. search needs)
     (λ c. search needs)
     (λ c. search needs)
     (λ c κs. search needs)
-    (λ c. unfold rulesOf in λ f cs e is. laws.with-code _ f (c .before .before .before .before .before .before .before .before .args .shape .now) cs e 3 (c .before .before .if4 .taken) ∙ (c .quantized-group .ensures) (c .before .before .before .before .before .before .before .before .args .shape .now) cs (part-to-end (c .before .before .before .before .before .before .before .before .args .parts .now) 0 ∙ is))
+    (λ c. let b2 = c .before .before in let a = b2 .before .before .before .before .before .before .args in
+    unfold rulesOf in λ f cs e is. laws.with-code _ f (a .shape .now) cs e 3 (b2 .if4 .taken) ∙ (c .quantized-group .ensures) (a .shape .now) cs (part-to-end (a .parts .now) 0 ∙ is))
     (λ c. λ f cs e is. laws.other-code _ f (c .before .before .before .before .before .before .args .shape .now) cs e (c .before .before .before .if1 .left) (c .before .before .if2 .left) (c .before .if3 .left) (c .if4 .left)))

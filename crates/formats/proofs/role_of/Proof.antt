@@ -33,9 +33,12 @@ role-of-spec =
     (λ c. search needs)
     (λ c. search needs)
     (λ c. search needs)
-    (λ c. laws.role-here (c .before .before .before .before .before .before .before .args .code) (c .before .before .before .before .before .before .before .pre) (c .before .before .before .before .before .before .before .args .parts .now) (c .before .before .before .before .before .before .loop .at) (c .before .before .before .before .before .before .loop .i) (c .before .before .before .before .before .before .loop .inv .2) (omega arith) (c .before .before .before .if1 .taken))
+    (λ c. let l = c .before .before .before .before .before .before .loop in let a = c .before .before .before .before .before .before .before .args in
+    laws.role-here (a .code) (c .before .before .before .before .before .before .before .pre) (a .parts .now) (l .at) (l .i) (l .inv .2) (omega arith) (c .before .before .before .if1 .taken))
     (λ c. search needs)
     (λ c. search needs)
     (λ c. search needs)
-    (λ c. (omega arith, omega arith, laws.role-later (c .before .before .before .before .args .code) (c .before .before .before .before .pre) (c .before .before .before .before .args .parts .now) (c .before .before .before .loop .at) (c .before .before .before .loop .i) (c .before .before .before .loop .inv .2) (omega arith) (c .if1 .left)))
-    (λ c. laws.role-none (c .before .before .args .code) (c .before .before .pre) (c .before .before .args .parts .now) (c .before .loop .at) (c .before .loop .i) (c .before .loop .inv .2) (omega arith)))
+    (λ c. let l = c .before .before .before .loop in let a = c .before .before .before .before .args in
+    (omega arith, omega arith, laws.role-later (a .code) (c .before .before .before .before .pre) (a .parts .now) (l .at) (l .i) (l .inv .2) (omega arith) (c .if1 .left)))
+    (λ c. let l = c .before .loop in let a = c .before .before .args in
+    laws.role-none (a .code) (c .before .before .pre) (a .parts .now) (l .at) (l .i) (l .inv .2) (omega arith)))

@@ -22,6 +22,11 @@ sparse-coo-spec =
     (λ c. search needs)
     (λ c. search needs)
     (λ c κs. search needs)
-    (λ c. λ cs is. laws.coo-no-values (c .before .before .before .before .before .before .args .shape .now) cs (laws.seen (RoleIs (roleName 1)) (c .before .before .before .before .before .before .args .parts .now) _ _ (c .before .before .role-of .ensures) (c .enum-told .given .1) cs is))
-    (λ c. λ cs is. laws.coo-no-coords (c .before .before .before .before .before .before .before .before .before .before .before .before .args .shape .now) cs _ _ _ _ (laws.seen (RoleIs (roleName 1)) (c .before .before .before .before .before .before .before .before .before .before .before .before .args .parts .now) _ _ (c .before .before .before .before .before .before .before .before .role-of .ensures) (c .before .before .before .before .before .before .v .given .1) cs is) _ (laws.seen (IndexIs (roleName 4)) (c .before .before .before .before .before .before .before .before .before .before .before .before .args .parts .now) _ _ (c .before .before .before .index-role .ensures) (c .before .j .given .1) cs is))
-    (λ c. λ cs is. laws.coo-all (c .before .before .before .before .before .before .before .before .before .before .before .before .before .args .shape .now) cs _ _ _ _ (laws.seen (RoleIs (roleName 1)) (c .before .before .before .before .before .before .before .before .before .before .before .before .before .args .parts .now) _ _ (c .before .before .before .before .before .before .before .before .before .role-of .ensures) (c .before .before .before .before .before .before .before .v .given .1) cs is) _ _ (c .coo-lengths .result) (laws.seen (IndexIs (roleName 4)) (c .before .before .before .before .before .before .before .before .before .before .before .before .before .args .parts .now) _ _ (c .before .before .before .before .index-role .ensures) (c .before .before .x .given .1) cs is) (c .coo-lengths .ensures)))
+    (λ c. let b2 = c .before .before in let a = b2 .before .before .before .before .args in
+    λ cs is. laws.coo-no-values (a .shape .now) cs (laws.seen (RoleIs (roleName 1)) (a .parts .now) _ _ (b2 .role-of .ensures) (c .enum-told .given .1) cs is))
+    (λ c. let b3 = c .before .before .before in let b6 = b3 .before .before .before in let b8 = b6 .before .before in let a = b8 .before .before .before .before .args in
+    λ cs is. laws.coo-no-coords (a .shape .now) cs _ _ _ _ (laws.seen (RoleIs (roleName 1)) (a .parts .now) _ _ (b8 .role-of .ensures) (b6 .v .given .1) cs is) _
+    (laws.seen (IndexIs (roleName 4)) (a .parts .now) _ _ (b3 .index-role .ensures) (c .before .j .given .1) cs is))
+    (λ c. let b2 = c .before .before in let b4 = b2 .before .before in let b7 = b4 .before .before .before in let b9 = b7 .before .before in let a = b9 .before .before .before .before .args in
+    λ cs is. laws.coo-all (a .shape .now) cs _ _ _ _ (laws.seen (RoleIs (roleName 1)) (a .parts .now) _ _ (b9 .role-of .ensures) (b7 .v .given .1) cs is) _ _ (c .coo-lengths .result)
+    (laws.seen (IndexIs (roleName 4)) (a .parts .now) _ _ (b4 .index-role .ensures) (b2 .x .given .1) cs is) (c .coo-lengths .ensures)))

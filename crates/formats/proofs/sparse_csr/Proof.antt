@@ -30,7 +30,18 @@ sparse-csr-spec =
     (λ c. search needs)
     (λ c. search needs)
     (λ c κs. search needs)
-    (λ c. λ cs is. laws.csr-no-values (c .before .before .before .before .before .before .before .args .shape .now) cs (c .before .before .before .before .if1 .left) (laws.seen (RoleIs (roleName 1)) (c .before .before .before .before .before .before .before .args .parts .now) _ _ (c .before .before .role-of .ensures) (c .enum-told .given .1) cs is))
-    (λ c. λ cs is. laws.csr-no-indices (c .before .before .before .before .before .before .before .before .before .before .before .before .before .args .shape .now) cs (c .before .before .before .before .before .before .before .before .before .before .if1 .left) _ _ _ _ (laws.seen (RoleIs (roleName 1)) (c .before .before .before .before .before .before .before .before .before .before .before .before .before .args .parts .now) _ _ (c .before .before .before .before .before .before .before .before .role-of .ensures) (c .before .before .before .before .before .before .v .given .1) cs is) _ (laws.seen (IndexIs (roleName 2)) (c .before .before .before .before .before .before .before .before .before .before .before .before .before .args .parts .now) _ _ (c .before .before .before .index-role .ensures) (c .before .j .given .1) cs is))
-    (λ c. λ cs is. laws.csr-no-pointers (c .before .before .before .before .before .before .before .before .before .before .before .before .before .before .before .before .before .before .args .shape .now) cs (c .before .before .before .before .before .before .before .before .before .before .before .before .before .before .before .if1 .left) _ _ _ _ (laws.seen (RoleIs (roleName 1)) (c .before .before .before .before .before .before .before .before .before .before .before .before .before .before .before .before .before .before .args .parts .now) _ _ (c .before .before .before .before .before .before .before .before .before .before .before .before .before .role-of .ensures) (c .before .before .before .before .before .before .before .before .before .before .before .v .given .1) cs is) _ _ (laws.seen (IndexIs (roleName 2)) (c .before .before .before .before .before .before .before .before .before .before .before .before .before .before .before .before .before .before .args .parts .now) _ _ (c .before .before .before .before .before .before .before .before .index-role .ensures) (c .before .before .before .before .before .before .x .given .1) cs is) _ (laws.seen (IndexIs (roleName 3)) (c .before .before .before .before .before .before .before .before .before .before .before .before .before .before .before .before .before .before .args .parts .now) _ _ (c .before .before .before .index-role2 .ensures) (c .before .j2 .given .1) cs is))
-    (λ c. λ cs is. laws.csr-all (c .before .before .before .before .before .before .before .before .before .before .before .before .before .before .before .before .before .before .before .before .args .shape .now) cs (c .before .before .before .before .before .before .before .before .before .before .before .before .before .before .before .before .before .if1 .left) _ _ _ _ (laws.seen (RoleIs (roleName 1)) (c .before .before .before .before .before .before .before .before .before .before .before .before .before .before .before .before .before .before .before .before .args .parts .now) _ _ (c .before .before .before .before .before .before .before .before .before .before .before .before .before .before .before .role-of .ensures) (c .before .before .before .before .before .before .before .before .before .before .before .before .before .v .given .1) cs is) _ _ (laws.seen (IndexIs (roleName 2)) (c .before .before .before .before .before .before .before .before .before .before .before .before .before .before .before .before .before .before .before .before .args .parts .now) _ _ (c .before .before .before .before .before .before .before .before .before .before .index-role .ensures) (c .before .before .before .before .before .before .before .before .x .given .1) cs is) _ _ (c .csr-lengths .result) (laws.seen (IndexIs (roleName 3)) (c .before .before .before .before .before .before .before .before .before .before .before .before .before .before .before .before .before .before .before .before .args .parts .now) _ _ (c .before .before .before .before .before .index-role2 .ensures) (c .before .before .before .y .given .1) cs is) (c .csr-lengths .ensures)))
+    (λ c. let b2 = c .before .before in let b4 = b2 .before .before in let a = b4 .before .before .before .args in
+    λ cs is. laws.csr-no-values (a .shape .now) cs (b4 .if1 .left) (laws.seen (RoleIs (roleName 1)) (a .parts .now) _ _ (b2 .role-of .ensures) (c .enum-told .given .1) cs is))
+    (λ c. let b3 = c .before .before .before in let b6 = b3 .before .before .before in let b8 = b6 .before .before in let b10 = b8 .before .before in let a = b10 .before .before .before .args in
+    λ cs is. laws.csr-no-indices (a .shape .now) cs (b10 .if1 .left) _ _ _ _ (laws.seen (RoleIs (roleName 1)) (a .parts .now) _ _ (b8 .role-of .ensures) (b6 .v .given .1) cs is) _
+    (laws.seen (IndexIs (roleName 2)) (a .parts .now) _ _ (b3 .index-role .ensures) (c .before .j .given .1) cs is))
+    (λ c. let b3 = c .before .before .before in let b6 = b3 .before .before .before in let b8 = b6 .before .before in let b11 = b8 .before .before .before in let b13 = b11 .before .before in
+    let b15 = b13 .before .before in let a = b15 .before .before .before .args in
+    λ cs is. laws.csr-no-pointers (a .shape .now) cs (b15 .if1 .left) _ _ _ _ (laws.seen (RoleIs (roleName 1)) (a .parts .now) _ _ (b13 .role-of .ensures) (b11 .v .given .1) cs is) _ _
+    (laws.seen (IndexIs (roleName 2)) (a .parts .now) _ _ (b8 .index-role .ensures) (b6 .x .given .1) cs is) _
+    (laws.seen (IndexIs (roleName 3)) (a .parts .now) _ _ (b3 .index-role2 .ensures) (c .before .j2 .given .1) cs is))
+    (λ c. let b3 = c .before .before .before in let b5 = b3 .before .before in let b8 = b5 .before .before .before in let b10 = b8 .before .before in let b13 = b10 .before .before .before in
+    let b15 = b13 .before .before in let b17 = b15 .before .before in let a = b17 .before .before .before .args in
+    λ cs is. laws.csr-all (a .shape .now) cs (b17 .if1 .left) _ _ _ _ (laws.seen (RoleIs (roleName 1)) (a .parts .now) _ _ (b15 .role-of .ensures) (b13 .v .given .1) cs is) _ _
+    (laws.seen (IndexIs (roleName 2)) (a .parts .now) _ _ (b10 .index-role .ensures) (b8 .x .given .1) cs is) _ _ (c .csr-lengths .result)
+    (laws.seen (IndexIs (roleName 3)) (a .parts .now) _ _ (b5 .index-role2 .ensures) (b3 .y .given .1) cs is) (c .csr-lengths .ensures)))

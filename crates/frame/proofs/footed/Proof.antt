@@ -38,7 +38,9 @@ is-magic-requires c κs = search needs
 
 -- src/lib.rt:27:1
 returns-2 : tie.Need-returns-2
-returns-2 c = frames.current-footed ((c .before .before .before .before .args .layout)) ((c .before .before .if1 .left)) ((c .before .before .before .before .args .file .now)) _ (((c .is-magic .ensures)) ∙ ap (same magic) (part-to-end ((c .before .before .before .before .args .file .now)) (length ((c .before .before .before .before .args .file .now)) - 8)))
+returns-2 c =
+    let b2 = c .before .before in let a = b2 .before .before .args in
+    frames.current-footed ((a .layout)) ((b2 .if1 .left)) ((a .file .now)) _ (((c .is-magic .ensures)) ∙ ap (same magic) (part-to-end ((a .file .now)) (length ((a .file .now)) - 8)))
 
 pub footed-spec : {M : Type 1} → statement M
 footed-spec =

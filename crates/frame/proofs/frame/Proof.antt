@@ -28,7 +28,9 @@ add-if1 c = search needs
 
 -- src/lib.rt:45:9
 returns : tie.Need-returns
-returns c = frames.too-short (layoutOf (c .before .before .before .args .layout)) (c .before .size-back .result) (c .before .size-back .ensures .0) (c .before .size-back .ensures .1) (c .before .before .before .args .file .now) (c .if1 .taken)
+returns c =
+    let b1 = c .before in let a = b1 .before .before .args in
+    frames.too-short (layoutOf (a .layout)) (b1 .size-back .result) (b1 .size-back .ensures .0) (b1 .size-back .ensures .1) (a .file .now) (c .if1 .taken)
 
 -- src/lib.rt:47:24
 sub-is-magic : tie.Need-sub-is-magic
@@ -48,7 +50,10 @@ is-magic-requires c κs = search needs
 
 -- src/lib.rt:48:9
 returns-2 : tie.Need-returns-2
-returns-2 c = frames.no-header (layoutOf (c .before .before .before .before .before .before .args .layout)) (c .before .before .before .before .size-back .result) (c .before .before .before .before .size-back .ensures .0) (c .before .before .before .before .size-back .ensures .1) (c .before .before .before .before .before .before .args .file .now) (let a = c .before .before .before .if1 .left in omega (arith, a)) (sym (not-true (c .before .is-magic .result) (c .if2 .taken)) ∙ (c .before .is-magic .ensures))
+returns-2 c =
+    let b1 = c .before in let b3 = b1 .before .before in let b4 = b3 .before in let a′ = b4 .before .before .args in
+    frames.no-header (layoutOf (a′ .layout)) (b4 .size-back .result) (b4 .size-back .ensures .0) (b4 .size-back .ensures .1) (a′ .file .now) (let a = b3 .if1 .left in omega (arith, a))
+    (sym (not-true (b1 .is-magic .result) (c .if2 .taken)) ∙ (b1 .is-magic .ensures))
 
 -- src/lib.rt:50:24
 sub-footed : tie.Need-sub-footed
@@ -68,7 +73,11 @@ footed-requires c κs = search needs
 
 -- src/lib.rt:51:9
 returns-3 : tie.Need-returns-3
-returns-3 c = frames.no-footer (layoutOf (c .before .before .before .before .before .before .before .before .before .args .layout)) (c .before .before .before .before .before .before .before .size-back .result) (c .before .before .before .before .before .before .before .size-back .ensures .0) (c .before .before .before .before .before .before .before .size-back .ensures .1) (c .before .before .before .before .before .before .before .before .before .args .file .now) (let a = c .before .before .before .before .before .before .if1 .left in omega (arith, a)) (sym (not-false (c .before .before .before .before .is-magic .result) (c .before .before .before .if2 .left)) ∙ (c .before .before .before .before .is-magic .ensures)) (sym (not-true (c .before .footed .result) (c .if3 .taken)) ∙ (c .before .footed .ensures) ∙ ap (λ u. same ((layoutOf (c .before .before .before .before .before .before .before .before .before .args .layout)) .footer) (drop (length u - length ((layoutOf (c .before .before .before .before .before .before .before .before .before .args .layout)) .footer)) u)) (part-to-end (c .before .before .before .before .before .before .before .before .before .args .file .now) 0))
+returns-3 c =
+    let b1 = c .before in let b3 = b1 .before .before in let b4 = b3 .before in let b6 = b4 .before .before in let b7 = b6 .before in let a′ = b7 .before .before .args in
+    frames.no-footer (layoutOf (a′ .layout)) (b7 .size-back .result) (b7 .size-back .ensures .0) (b7 .size-back .ensures .1) (a′ .file .now) (let a = b6 .if1 .left in omega (arith, a))
+    (sym (not-false (b4 .is-magic .result) (b3 .if2 .left)) ∙ (b4 .is-magic .ensures))
+    (sym (not-true (b1 .footed .result) (c .if3 .taken)) ∙ (b1 .footed .ensures) ∙ ap (λ u. same ((layoutOf (a′ .layout)) .footer) (drop (length u - length ((layoutOf (a′ .layout)) .footer)) u)) (part-to-end (a′ .file .now) 0))
 
 -- src/lib.rt:53:14
 sub-at : tie.Need-sub-at
@@ -96,11 +105,36 @@ little-requires c κs = search needs
 
 -- src/lib.rt:56:9
 returns-4 : tie.Need-returns-4
-returns-4 c = frames.too-big (layoutOf (c .before .before .before .before .before .before .before .before .before .before .before .before .args .layout)) (c .before .before .before .before .before .before .before .before .before .before .size-back .result) (c .before .before .before .before .before .before .before .before .before .before .size-back .ensures .0) (c .before .before .before .before .before .before .before .before .before .before .size-back .ensures .1) (c .before .before .before .before .before .before .before .before .before .before .before .before .args .file .now) (let a = c .before .before .before .before .before .before .before .before .before .if1 .left in omega (arith, a)) (sym (not-false (c .before .before .before .before .before .before .before .is-magic .result) (c .before .before .before .before .before .before .if2 .left)) ∙ (c .before .before .before .before .before .before .before .is-magic .ensures)) (sym (not-false (c .before .before .before .before .footed .result) (c .before .before .before .if3 .left)) ∙ (c .before .before .before .before .footed .ensures) ∙ ap (λ u. same ((layoutOf (c .before .before .before .before .before .before .before .before .before .before .before .before .args .layout)) .footer) (drop (length u - length ((layoutOf (c .before .before .before .before .before .before .before .before .before .before .before .before .args .layout)) .footer)) u)) (part-to-end (c .before .before .before .before .before .before .before .before .before .before .before .before .args .file .now) 0)) (c .before .little .result) ((c .before .little .ensures) ∙ ap (λ k. little (take k (drop (length (c .before .before .before .before .before .before .before .before .before .before .before .before .args .file .now) - (c .before .before .before .before .before .before .before .before .before .before .size-back .result)) (c .before .before .before .before .before .before .before .before .before .before .before .before .args .file .now)))) (let z : length (c .before .before .before .before .before .before .before .before .before .before .before .before .args .file .now) - (c .before .before .before .before .before .before .before .before .before .before .size-back .result) + 8 - (length (c .before .before .before .before .before .before .before .before .before .before .before .before .args .file .now) - (c .before .before .before .before .before .before .before .before .before .before .size-back .result)) ≡ 8 = omega arith in z)) (omega arith)
+returns-4 c =
+    let a′ = c .before .before .before .before .before .before .before .before .before .before .before .before .args in
+    frames.too-big (layoutOf (a′ .layout)) (c .before .before .before .before .before .before .before .before .before .before .size-back .result)
+    (c .before .before .before .before .before .before .before .before .before .before .size-back .ensures .0)
+    (c .before .before .before .before .before .before .before .before .before .before .size-back .ensures .1) (a′ .file .now)
+    (let a = c .before .before .before .before .before .before .before .before .before .if1 .left in omega (arith, a))
+    (sym (not-false (c .before .before .before .before .before .before .before .is-magic .result) (c .before .before .before .before .before .before .if2 .left)) ∙ (c .before .before .before .before .before .before .before .is-magic .ensures))
+    (sym (not-false (c .before .before .before .before .footed .result) (c .before .before .before .if3 .left)) ∙ (c .before .before .before .before .footed .ensures) ∙ ap (λ u. same ((layoutOf (a′ .layout)) .footer) (drop (length u - length ((layoutOf (a′ .layout)) .footer)) u)) (part-to-end (a′ .file .now) 0))
+    (c .before .little .result)
+    ((c .before .little .ensures) ∙ ap (λ k. little (take k (drop (length (a′ .file .now) - (c .before .before .before .before .before .before .before .before .before .before .size-back .result)) (a′ .file .now))))
+    (let z : length (a′ .file .now) - (c .before .before .before .before .before .before .before .before .before .before .size-back .result) + 8 -
+    (length (a′ .file .now) - (c .before .before .before .before .before .before .before .before .before .before .size-back .result)) ≡ 8 = omega arith in z))
+    (omega arith)
 
 -- src/lib.rt:59:9
 returns-5 : tie.Need-returns-5
-returns-5 c = frames.no-size (layoutOf (c .before .before .before .before .before .before .before .before .before .before .before .before .before .args .layout)) (c .before .before .before .before .before .before .before .before .before .before .before .size-back .result) (c .before .before .before .before .before .before .before .before .before .before .before .size-back .ensures .0) (c .before .before .before .before .before .before .before .before .before .before .before .size-back .ensures .1) (c .before .before .before .before .before .before .before .before .before .before .before .before .before .args .file .now) (let a = c .before .before .before .before .before .before .before .before .before .before .if1 .left in omega (arith, a)) (sym (not-false (c .before .before .before .before .before .before .before .before .is-magic .result) (c .before .before .before .before .before .before .before .if2 .left)) ∙ (c .before .before .before .before .before .before .before .before .is-magic .ensures)) (sym (not-false (c .before .before .before .before .before .footed .result) (c .before .before .before .before .if3 .left)) ∙ (c .before .before .before .before .before .footed .ensures) ∙ ap (λ u. same ((layoutOf (c .before .before .before .before .before .before .before .before .before .before .before .before .before .args .layout)) .footer) (drop (length u - length ((layoutOf (c .before .before .before .before .before .before .before .before .before .before .before .before .before .args .layout)) .footer)) u)) (part-to-end (c .before .before .before .before .before .before .before .before .before .before .before .before .before .args .file .now) 0)) (c .before .before .little .result) ((c .before .before .little .ensures) ∙ ap (λ k. little (take k (drop (length (c .before .before .before .before .before .before .before .before .before .before .before .before .before .args .file .now) - (c .before .before .before .before .before .before .before .before .before .before .before .size-back .result)) (c .before .before .before .before .before .before .before .before .before .before .before .before .before .args .file .now)))) (let z : length (c .before .before .before .before .before .before .before .before .before .before .before .before .before .args .file .now) - (c .before .before .before .before .before .before .before .before .before .before .before .size-back .result) + 8 - (length (c .before .before .before .before .before .before .before .before .before .before .before .before .before .args .file .now) - (c .before .before .before .before .before .before .before .before .before .before .before .size-back .result)) ≡ 8 = omega arith in z)) (omega arith) (omega arith)
+returns-5 c =
+    let a′ = c .before .before .before .before .before .before .before .before .before .before .before .before .before .args in
+    frames.no-size (layoutOf (a′ .layout)) (c .before .before .before .before .before .before .before .before .before .before .before .size-back .result)
+    (c .before .before .before .before .before .before .before .before .before .before .before .size-back .ensures .0)
+    (c .before .before .before .before .before .before .before .before .before .before .before .size-back .ensures .1) (a′ .file .now)
+    (let a = c .before .before .before .before .before .before .before .before .before .before .if1 .left in omega (arith, a))
+    (sym (not-false (c .before .before .before .before .before .before .before .before .is-magic .result) (c .before .before .before .before .before .before .before .if2 .left)) ∙ (c .before .before .before .before .before .before .before .before .is-magic .ensures))
+    (sym (not-false (c .before .before .before .before .before .footed .result) (c .before .before .before .before .if3 .left)) ∙ (c .before .before .before .before .before .footed .ensures) ∙ ap (λ u. same ((layoutOf (a′ .layout)) .footer) (drop (length u - length ((layoutOf (a′ .layout)) .footer)) u)) (part-to-end (a′ .file .now) 0))
+    (c .before .before .little .result)
+    ((c .before .before .little .ensures) ∙ ap (λ k. little (take k
+    (drop (length (a′ .file .now) - (c .before .before .before .before .before .before .before .before .before .before .before .size-back .result)) (a′ .file .now))))
+    (let z : length (a′ .file .now) - (c .before .before .before .before .before .before .before .before .before .before .before .size-back .result) + 8 -
+    (length (a′ .file .now) - (c .before .before .before .before .before .before .before .before .before .before .before .size-back .result)) ≡ 8 = omega arith in z))
+    (omega arith) (omega arith)
 
 -- src/lib.rt:61:10
 sub-if6 : tie.Need-sub-if6
@@ -108,7 +142,20 @@ sub-if6 c = search needs
 
 -- src/lib.rt:62:9
 returns-6 : tie.Need-returns-6
-returns-6 c = frames.no-fit (layoutOf (c .before .before .before .before .before .before .before .before .before .before .before .before .before .before .args .layout)) (c .before .before .before .before .before .before .before .before .before .before .before .before .size-back .result) (c .before .before .before .before .before .before .before .before .before .before .before .before .size-back .ensures .0) (c .before .before .before .before .before .before .before .before .before .before .before .before .size-back .ensures .1) (c .before .before .before .before .before .before .before .before .before .before .before .before .before .before .args .file .now) (let a = c .before .before .before .before .before .before .before .before .before .before .before .if1 .left in omega (arith, a)) (sym (not-false (c .before .before .before .before .before .before .before .before .before .is-magic .result) (c .before .before .before .before .before .before .before .before .if2 .left)) ∙ (c .before .before .before .before .before .before .before .before .before .is-magic .ensures)) (sym (not-false (c .before .before .before .before .before .before .footed .result) (c .before .before .before .before .before .if3 .left)) ∙ (c .before .before .before .before .before .before .footed .ensures) ∙ ap (λ u. same ((layoutOf (c .before .before .before .before .before .before .before .before .before .before .before .before .before .before .args .layout)) .footer) (drop (length u - length ((layoutOf (c .before .before .before .before .before .before .before .before .before .before .before .before .before .before .args .layout)) .footer)) u)) (part-to-end (c .before .before .before .before .before .before .before .before .before .before .before .before .before .before .args .file .now) 0)) (c .before .before .before .little .result) ((c .before .before .before .little .ensures) ∙ ap (λ k. little (take k (drop (length (c .before .before .before .before .before .before .before .before .before .before .before .before .before .before .args .file .now) - (c .before .before .before .before .before .before .before .before .before .before .before .before .size-back .result)) (c .before .before .before .before .before .before .before .before .before .before .before .before .before .before .args .file .now)))) (let z : length (c .before .before .before .before .before .before .before .before .before .before .before .before .before .before .args .file .now) - (c .before .before .before .before .before .before .before .before .before .before .before .before .size-back .result) + 8 - (length (c .before .before .before .before .before .before .before .before .before .before .before .before .before .before .args .file .now) - (c .before .before .before .before .before .before .before .before .before .before .before .before .size-back .result)) ≡ 8 = omega arith in z)) (omega arith) (omega arith) (omega arith)
+returns-6 c =
+    let a′ = c .before .before .before .before .before .before .before .before .before .before .before .before .before .before .args in
+    frames.no-fit (layoutOf (a′ .layout)) (c .before .before .before .before .before .before .before .before .before .before .before .before .size-back .result)
+    (c .before .before .before .before .before .before .before .before .before .before .before .before .size-back .ensures .0)
+    (c .before .before .before .before .before .before .before .before .before .before .before .before .size-back .ensures .1) (a′ .file .now)
+    (let a = c .before .before .before .before .before .before .before .before .before .before .before .if1 .left in omega (arith, a))
+    (sym (not-false (c .before .before .before .before .before .before .before .before .before .is-magic .result) (c .before .before .before .before .before .before .before .before .if2 .left)) ∙ (c .before .before .before .before .before .before .before .before .before .is-magic .ensures))
+    (sym (not-false (c .before .before .before .before .before .before .footed .result) (c .before .before .before .before .before .if3 .left)) ∙ (c .before .before .before .before .before .before .footed .ensures) ∙ ap (λ u. same ((layoutOf (a′ .layout)) .footer) (drop (length u - length ((layoutOf (a′ .layout)) .footer)) u)) (part-to-end (a′ .file .now) 0))
+    (c .before .before .before .little .result)
+    ((c .before .before .before .little .ensures) ∙ ap (λ k. little
+    (take k (drop (length (a′ .file .now) - (c .before .before .before .before .before .before .before .before .before .before .before .before .size-back .result)) (a′ .file .now))))
+    (let z : length (a′ .file .now) - (c .before .before .before .before .before .before .before .before .before .before .before .before .size-back .result) + 8 -
+    (length (a′ .file .now) - (c .before .before .before .before .before .before .before .before .before .before .before .before .size-back .result)) ≡ 8 = omega arith in z))
+    (omega arith) (omega arith) (omega arith)
 
 -- src/lib.rt:64:16
 sub-t17 : tie.Need-sub-t17
@@ -116,7 +163,20 @@ sub-t17 c = search needs
 
 -- src/lib.rt:39:1
 returns-7 : tie.Need-returns-7
-returns-7 c = frames.framed (layoutOf (c .before .before .before .before .before .before .before .before .before .before .before .before .before .before .args .layout)) (c .before .before .before .before .before .before .before .before .before .before .before .before .size-back .result) (c .before .before .before .before .before .before .before .before .before .before .before .before .size-back .ensures .0) (c .before .before .before .before .before .before .before .before .before .before .before .before .size-back .ensures .1) (c .before .before .before .before .before .before .before .before .before .before .before .before .before .before .args .file .now) (let a = c .before .before .before .before .before .before .before .before .before .before .before .if1 .left in omega (arith, a)) (sym (not-false (c .before .before .before .before .before .before .before .before .before .is-magic .result) (c .before .before .before .before .before .before .before .before .if2 .left)) ∙ (c .before .before .before .before .before .before .before .before .before .is-magic .ensures)) (sym (not-false (c .before .before .before .before .before .before .footed .result) (c .before .before .before .before .before .if3 .left)) ∙ (c .before .before .before .before .before .before .footed .ensures) ∙ ap (λ u. same ((layoutOf (c .before .before .before .before .before .before .before .before .before .before .before .before .before .before .args .layout)) .footer) (drop (length u - length ((layoutOf (c .before .before .before .before .before .before .before .before .before .before .before .before .before .before .args .layout)) .footer)) u)) (part-to-end (c .before .before .before .before .before .before .before .before .before .before .before .before .before .before .args .file .now) 0)) (c .before .before .before .little .result) ((c .before .before .before .little .ensures) ∙ ap (λ k. little (take k (drop (length (c .before .before .before .before .before .before .before .before .before .before .before .before .before .before .args .file .now) - (c .before .before .before .before .before .before .before .before .before .before .before .before .size-back .result)) (c .before .before .before .before .before .before .before .before .before .before .before .before .before .before .args .file .now)))) (let z : length (c .before .before .before .before .before .before .before .before .before .before .before .before .before .before .args .file .now) - (c .before .before .before .before .before .before .before .before .before .before .before .before .size-back .result) + 8 - (length (c .before .before .before .before .before .before .before .before .before .before .before .before .before .before .args .file .now) - (c .before .before .before .before .before .before .before .before .before .before .before .before .size-back .result)) ≡ 8 = omega arith in z)) (omega arith) (omega arith) (omega arith)
+returns-7 c =
+    let a′ = c .before .before .before .before .before .before .before .before .before .before .before .before .before .before .args in
+    frames.framed (layoutOf (a′ .layout)) (c .before .before .before .before .before .before .before .before .before .before .before .before .size-back .result)
+    (c .before .before .before .before .before .before .before .before .before .before .before .before .size-back .ensures .0)
+    (c .before .before .before .before .before .before .before .before .before .before .before .before .size-back .ensures .1) (a′ .file .now)
+    (let a = c .before .before .before .before .before .before .before .before .before .before .before .if1 .left in omega (arith, a))
+    (sym (not-false (c .before .before .before .before .before .before .before .before .before .is-magic .result) (c .before .before .before .before .before .before .before .before .if2 .left)) ∙ (c .before .before .before .before .before .before .before .before .before .is-magic .ensures))
+    (sym (not-false (c .before .before .before .before .before .before .footed .result) (c .before .before .before .before .before .if3 .left)) ∙ (c .before .before .before .before .before .before .footed .ensures) ∙ ap (λ u. same ((layoutOf (a′ .layout)) .footer) (drop (length u - length ((layoutOf (a′ .layout)) .footer)) u)) (part-to-end (a′ .file .now) 0))
+    (c .before .before .before .little .result)
+    ((c .before .before .before .little .ensures) ∙ ap (λ k. little
+    (take k (drop (length (a′ .file .now) - (c .before .before .before .before .before .before .before .before .before .before .before .before .size-back .result)) (a′ .file .now))))
+    (let z : length (a′ .file .now) - (c .before .before .before .before .before .before .before .before .before .before .before .before .size-back .result) + 8 -
+    (length (a′ .file .now) - (c .before .before .before .before .before .before .before .before .before .before .before .before .size-back .result)) ≡ 8 = omega arith in z))
+    (omega arith) (omega arith) (omega arith)
 
 pub frame-spec : {M : Type 1} → statement M
 frame-spec =

@@ -47,8 +47,9 @@ part-past-key-end c = search needs
 -- src/lib.rt:109:15
 past-key-requires : tie.Need-past-key-requires Inv-loop μ-loop
 past-key-requires c κs =
-    folding.still-due (step (slotsAt (c .before .before .before .before .args .layout) (c .before .before .before .before .args .level))) (c .before .before .before .before .args .left) (c .before .before .before .before .args .mode) (c .before .before .before .before .args .count) (c .before .before .before .before .args .s .now)
-    (parts.begun (slotsAt (c .before .before .before .before .args .layout) (c .before .before .before .before .args .level))) (c .before .before .before .before .pre .1) (c .before .loop .inv .short) (c .before .loop .at) (c .before .loop .due) _ (c .before .loop .inv .walking)
+    let b4 = c .before .before .before .before in let l = c .before .loop in let a = b4 .args in
+    folding.still-due (step (slotsAt (a .layout) (a .level))) (a .left) (a .mode) (a .count) (a .s .now) (parts.begun (slotsAt (a .layout) (a .level))) (b4 .pre .1) (l .inv .short) (l .at) (l .due) _
+    (l .inv .walking)
 
 -- src/lib.rt:111:17
 enum-told : tie.Need-enum-told Inv-loop μ-loop
@@ -56,13 +57,16 @@ enum-told c = search needs
 
 -- src/lib.rt:111:17
 same-length : tie.Need-same-length Inv-loop μ-loop
-same-length c = parts.as-long (slotsAt (c .before .before .before .before .before .before .before .args .layout) (c .before .before .before .before .before .before .before .args .level)) (c .before .before .before .before .loop .p) _ (c .before .before .before .before .loop .inv .room) (c .before .before .before .before .before .before .before .pre .0)
+same-length c =
+    let b4 = c .before .before .before .before in let b7 = b4 .before .before .before in let l = b4 .loop in let a = b7 .args in
+    parts.as-long (slotsAt (a .layout) (a .level)) (l .p) _ (l .inv .room) (b7 .pre .0)
 
 -- src/lib.rt:111:17
 returns : tie.Need-returns Inv-loop μ-loop
-returns c = parts.noted _ _ _ _ _ _ _ _
-    (folding.ends (step (slotsAt (c .before .before .before .before .before .before .before .args .layout) (c .before .before .before .before .before .before .before .args .level))) (c .before .before .before .before .before .before .before .args .left) (c .before .before .before .before .before .before .before .args .mode) (c .before .before .before .before .before .before .before .args .count) (c .before .before .before .before .before .before .before .args .s .now)
-    (parts.begun (slotsAt (c .before .before .before .before .before .before .before .args .layout) (c .before .before .before .before .before .before .before .args .level))) (c .before .before .before .before .before .before .before .pre .1) (c .before .before .before .before .loop .inv .short) (c .before .before .before .before .loop .at) (c .before .before .before .before .loop .due) _ (c .before .before .before .before .loop .inv .walking) _ (c .before .before .past-key .ensures) _ (c .enum-told .given .1))
+returns c =
+    let b2 = c .before .before in let b4 = b2 .before .before in let b7 = b4 .before .before .before in let l = b4 .loop in let a = b7 .args in
+    parts.noted _ _ _ _ _ _ _ _
+    (folding.ends (step (slotsAt (a .layout) (a .level))) (a .left) (a .mode) (a .count) (a .s .now) (parts.begun (slotsAt (a .layout) (a .level))) (b7 .pre .1) (l .inv .short) (l .at) (l .due) _ (l .inv .walking) _ (b2 .past-key .ensures) _ (c .enum-told .given .1))
 
 -- src/lib.rt:116:26
 enum-known-k : tie.Need-enum-known-k Inv-loop μ-loop
@@ -70,35 +74,39 @@ enum-known-k c = search needs
 
 -- src/lib.rt:117:25
 add-v : tie.Need-add-v Inv-loop μ-loop
-add-v c = omega (
-  arith,
-  folding.value-inside (step (slotsAt (c .before .before .before .before .before .before .before .before .args .layout) (c .before .before .before .before .before .before .before .before .args .level))) (c .before .before .before .before .before .before .before .before .args .left) (c .before .before .before .before .before .before .before .before .args .mode) (c .before .before .before .before .before .before .before .before .args .count) (c .before .before .before .before .before .before .before .before .args .s .now)
-      (parts.begun (slotsAt (c .before .before .before .before .before .before .before .before .args .layout) (c .before .before .before .before .before .before .before .before .args .level))) (c .before .before .before .before .before .before .before .before .pre .1) (omega arith) (c .before .before .before .before .before .loop .at) (c .before .before .before .before .before .loop .due) _ (c .before .before .before .before .before .loop .inv .walking) _ (c .before .before .before .past-key .ensures) _ (c .before .k .given .1),
-)
+add-v c =
+    let l = c .before .before .before .before .before .loop in let a = c .before .before .before .before .before .before .before .before .args in
+    omega (
+      arith,
+      folding.value-inside (step (slotsAt (a .layout) (a .level))) (a .left) (a .mode) (a .count) (a .s .now) (parts.begun (slotsAt (a .layout) (a .level))) (c .before .before .before .before .before .before .before .before .pre .1) (omega arith) (l .at) (l .due) _ (l .inv .walking) _ (c .before .before .before .past-key .ensures) _ (c .before .k .given .1),
+    )
 
 -- src/lib.rt:118:36
 sub-skip : tie.Need-sub-skip Inv-loop μ-loop
-sub-skip c = omega (
-  arith,
-  folding.value-inside (step (slotsAt (c .before .before .before .before .before .before .before .before .args .layout) (c .before .before .before .before .before .before .before .before .args .level))) (c .before .before .before .before .before .before .before .before .args .left) (c .before .before .before .before .before .before .before .before .args .mode) (c .before .before .before .before .before .before .before .before .args .count) (c .before .before .before .before .before .before .before .before .args .s .now)
-      (parts.begun (slotsAt (c .before .before .before .before .before .before .before .before .args .layout) (c .before .before .before .before .before .before .before .before .args .level))) (c .before .before .before .before .before .before .before .before .pre .1) (omega arith) (c .before .before .before .before .before .loop .at) (c .before .before .before .before .before .loop .due) _ (c .before .before .before .before .before .loop .inv .walking) _ (c .before .before .before .past-key .ensures) _ (c .before .k .given .1),
-)
+sub-skip c =
+    let l = c .before .before .before .before .before .loop in let a = c .before .before .before .before .before .before .before .before .args in
+    omega (
+      arith,
+      folding.value-inside (step (slotsAt (a .layout) (a .level))) (a .left) (a .mode) (a .count) (a .s .now) (parts.begun (slotsAt (a .layout) (a .level))) (c .before .before .before .before .before .before .before .before .pre .1) (omega arith) (l .at) (l .due) _ (l .inv .walking) _ (c .before .before .before .past-key .ensures) _ (c .before .k .given .1),
+    )
 
 -- src/lib.rt:118:36
 part-skip-start : tie.Need-part-skip-start Inv-loop μ-loop
-part-skip-start c = omega (
-  arith,
-  folding.value-inside (step (slotsAt (c .before .before .before .before .before .before .before .before .args .layout) (c .before .before .before .before .before .before .before .before .args .level))) (c .before .before .before .before .before .before .before .before .args .left) (c .before .before .before .before .before .before .before .before .args .mode) (c .before .before .before .before .before .before .before .before .args .count) (c .before .before .before .before .before .before .before .before .args .s .now)
-      (parts.begun (slotsAt (c .before .before .before .before .before .before .before .before .args .layout) (c .before .before .before .before .before .before .before .before .args .level))) (c .before .before .before .before .before .before .before .before .pre .1) (omega arith) (c .before .before .before .before .before .loop .at) (c .before .before .before .before .before .loop .due) _ (c .before .before .before .before .before .loop .inv .walking) _ (c .before .before .before .past-key .ensures) _ (c .before .k .given .1),
-)
+part-skip-start c =
+    let l = c .before .before .before .before .before .loop in let a = c .before .before .before .before .before .before .before .before .args in
+    omega (
+      arith,
+      folding.value-inside (step (slotsAt (a .layout) (a .level))) (a .left) (a .mode) (a .count) (a .s .now) (parts.begun (slotsAt (a .layout) (a .level))) (c .before .before .before .before .before .before .before .before .pre .1) (omega arith) (l .at) (l .due) _ (l .inv .walking) _ (c .before .before .before .past-key .ensures) _ (c .before .k .given .1),
+    )
 
 -- src/lib.rt:118:36
 part-skip-end : tie.Need-part-skip-end Inv-loop μ-loop
-part-skip-end c = omega (
-  arith,
-  folding.value-inside (step (slotsAt (c .before .before .before .before .before .before .before .before .args .layout) (c .before .before .before .before .before .before .before .before .args .level))) (c .before .before .before .before .before .before .before .before .args .left) (c .before .before .before .before .before .before .before .before .args .mode) (c .before .before .before .before .before .before .before .before .args .count) (c .before .before .before .before .before .before .before .before .args .s .now)
-      (parts.begun (slotsAt (c .before .before .before .before .before .before .before .before .args .layout) (c .before .before .before .before .before .before .before .before .args .level))) (c .before .before .before .before .before .before .before .before .pre .1) (omega arith) (c .before .before .before .before .before .loop .at) (c .before .before .before .before .before .loop .due) _ (c .before .before .before .before .before .loop .inv .walking) _ (c .before .before .before .past-key .ensures) _ (c .before .k .given .1),
-)
+part-skip-end c =
+    let l = c .before .before .before .before .before .loop in let a = c .before .before .before .before .before .before .before .before .args in
+    omega (
+      arith,
+      folding.value-inside (step (slotsAt (a .layout) (a .level))) (a .left) (a .mode) (a .count) (a .s .now) (parts.begun (slotsAt (a .layout) (a .level))) (c .before .before .before .before .before .before .before .before .pre .1) (omega arith) (l .at) (l .due) _ (l .inv .walking) _ (c .before .before .before .past-key .ensures) _ (c .before .k .given .1),
+    )
 
 -- src/lib.rt:118:21
 skip-requires : tie.Need-skip-requires Inv-loop μ-loop
@@ -106,21 +114,25 @@ skip-requires c κs = search needs
 
 -- src/lib.rt:119:20
 sub-if1 : tie.Need-sub-if1 Inv-loop μ-loop
-sub-if1 c = omega (
-  arith,
-  folding.value-inside (step (slotsAt (c .before .before .before .before .before .before .before .before .before .before .args .layout) (c .before .before .before .before .before .before .before .before .before .before .args .level))) (c .before .before .before .before .before .before .before .before .before .before .args .left) (c .before .before .before .before .before .before .before .before .before .before .args .mode) (c .before .before .before .before .before .before .before .before .before .before .args .count) (c .before .before .before .before .before .before .before .before .before .before .args .s .now)
-      (parts.begun (slotsAt (c .before .before .before .before .before .before .before .before .before .before .args .layout) (c .before .before .before .before .before .before .before .before .before .before .args .level))) (c .before .before .before .before .before .before .before .before .before .before .pre .1) (omega arith) (c .before .before .before .before .before .before .before .loop .at) (c .before .before .before .before .before .before .before .loop .due) _ (c .before .before .before .before .before .before .before .loop .inv .walking) _ (c .before .before .before .before .before .past-key .ensures) _ (c .before .before .before .k .given .1),
-)
+sub-if1 c =
+    let l = c .before .before .before .before .before .before .before .loop in let a = c .before .before .before .before .before .before .before .before .before .before .args in
+    omega (
+      arith,
+      folding.value-inside (step (slotsAt (a .layout) (a .level))) (a .left) (a .mode) (a .count) (a .s .now) (parts.begun (slotsAt (a .layout) (a .level))) (c .before .before .before .before .before .before .before .before .before .before .pre .1) (omega arith) (l .at) (l .due) _ (l .inv .walking) _ (c .before .before .before .before .before .past-key .ensures) _ (c .before .before .before .k .given .1),
+    )
 
 -- src/lib.rt:120:21
 same-length-2 : tie.Need-same-length-2 Inv-loop μ-loop
-same-length-2 c = parts.as-long (slotsAt (c .before .before .before .before .before .before .before .before .before .before .before .args .layout) (c .before .before .before .before .before .before .before .before .before .before .before .args .level)) (c .before .before .before .before .before .before .before .before .loop .p) _ (c .before .before .before .before .before .before .before .before .loop .inv .room) (c .before .before .before .before .before .before .before .before .before .before .before .pre .0)
+same-length-2 c =
+    let b8 = c .before .before .before .before .before .before .before .before in let b11 = b8 .before .before .before in let l = b8 .loop in let a = b11 .args in
+    parts.as-long (slotsAt (a .layout) (a .level)) (l .p) _ (l .inv .room) (b11 .pre .0)
 
 -- src/lib.rt:120:21
 returns-2 : tie.Need-returns-2 Inv-loop μ-loop
-returns-2 c = λ ps q d.
-    folding.unread (step (slotsAt (c .before .before .before .before .before .before .before .before .before .before .before .args .layout) (c .before .before .before .before .before .before .before .before .before .before .before .args .level))) (c .before .before .before .before .before .before .before .before .before .before .before .args .left) (c .before .before .before .before .before .before .before .before .before .before .before .args .mode) (c .before .before .before .before .before .before .before .before .before .before .before .args .count) (c .before .before .before .before .before .before .before .before .before .before .before .args .s .now)
-    (parts.begun (slotsAt (c .before .before .before .before .before .before .before .before .before .before .before .args .layout) (c .before .before .before .before .before .before .before .before .before .before .before .args .level))) (c .before .before .before .before .before .before .before .before .before .before .before .pre .1) (c .before .before .before .before .before .before .before .before .loop .inv .short) (c .before .before .before .before .before .before .before .before .loop .at) (c .before .before .before .before .before .before .before .before .loop .due) _ (c .before .before .before .before .before .before .before .before .loop .inv .walking) _ (c .before .before .before .before .before .before .past-key .ensures) _ (c .before .before .before .before .k .given .1) _ (c .before .skip .ensures) (c .if1 .taken) ps q d
+returns-2 c =
+    let b4 = c .before .before .before .before in let b6 = b4 .before .before in let b8 = b6 .before .before in let b11 = b8 .before .before .before in let l = b8 .loop in let a = b11 .args in
+    λ ps q d. folding.unread (step (slotsAt (a .layout) (a .level))) (a .left) (a .mode) (a .count) (a .s .now) (parts.begun (slotsAt (a .layout) (a .level))) (b11 .pre .1) (l .inv .short) (l .at)
+    (l .due) _ (l .inv .walking) _ (b6 .past-key .ensures) _ (b4 .k .given .1) _ (c .before .skip .ensures) (c .if1 .taken) ps q d
 
 -- src/lib.rt:125:21
 known-requires : tie.Need-known-requires Inv-loop μ-loop
@@ -152,7 +164,9 @@ odd-key-requires c κs = c .before .before .known .ensures .0
 
 -- src/lib.rt:128:36
 mul-copy : tie.Need-mul-copy Inv-loop μ-loop
-mul-copy c = omega (arith, c .before .slot .ensures .0, c .before .before .before .known .ensures .0, c .before .before .before .known .ensures .1 (c .before .before .before .before .before .before .before .before .before .before .before .before .before .before .before .args .layout))
+mul-copy c =
+    let b3 = c .before .before .before in let a = b3 .before .before .before .before .before .before .before .before .before .before .before .before .args in
+    omega (arith, c .before .slot .ensures .0, b3 .known .ensures .0, b3 .known .ensures .1 (a .layout))
 
 -- src/lib.rt:128:36
 slice-read-copy : tie.Need-slice-read-copy Inv-loop μ-loop
@@ -168,92 +182,57 @@ copy-requires c κs = search needs
 
 -- src/lib.rt:129:39
 sub-mark : tie.Need-sub-mark Inv-loop μ-loop
-sub-mark c = omega (
-  arith,
-  folding.value-inside (step (slotsAt (c .before .before .before .before .before .before .before .before .before .before .before .before .before .before .before .before .before .before .args .layout) (c .before .before .before .before .before .before .before .before .before .before .before .before .before .before .before .before .before .before .args .level))) (c .before .before .before .before .before .before .before .before .before .before .before .before .before .before .before .before .before .before .args .left) (c .before .before .before .before .before .before .before .before .before .before .before .before .before .before .before .before .before .before .args .mode) (c .before .before .before .before .before .before .before .before .before .before .before .before .before .before .before .before .before .before .args .count) (c .before .before .before .before .before .before .before .before .before .before .before .before .before .before .before .before .before .before .args .s .now)
-      (parts.begun (slotsAt (c .before .before .before .before .before .before .before .before .before .before .before .before .before .before .before .before .before .before .args .layout) (c .before .before .before .before .before .before .before .before .before .before .before .before .before .before .before .before .before .before .args .level))) (c .before .before .before .before .before .before .before .before .before .before .before .before .before .before .before .before .before .before .pre .1) (omega arith) (c .before .before .before .before .before .before .before .before .before .before .before .before .before .before .before .loop .at) (c .before .before .before .before .before .before .before .before .before .before .before .before .before .before .before .loop .due) _ (c .before .before .before .before .before .before .before .before .before .before .before .before .before .before .before .loop .inv .walking) _ (c .before .before .before .before .before .before .before .before .before .before .before .before .before .past-key .ensures) _ (c .before .before .before .before .before .before .before .before .before .before .before .k .given .1),
-)
+sub-mark c =
+    let l = c .before .before .before .before .before .before .before .before .before .before .before .before .before .before .before .loop in
+    let a = c .before .before .before .before .before .before .before .before .before .before .before .before .before .before .before .before .before .before .args in
+    omega (
+      arith,
+      folding.value-inside (step (slotsAt (a .layout) (a .level))) (a .left) (a .mode) (a .count) (a .s .now) (parts.begun (slotsAt (a .layout) (a .level)))
+          (c .before .before .before .before .before .before .before .before .before .before .before .before .before .before .before .before .before .before .pre .1) (omega arith) (l .at) (l .due) _ (l .inv .walking) _
+          (c .before .before .before .before .before .before .before .before .before .before .before .before .before .past-key .ensures) _
+          (c .before .before .before .before .before .before .before .before .before .before .before .k .given .1),
+    )
 
 -- src/lib.rt:129:17
 mark-requires : tie.Need-mark-requires Inv-loop μ-loop
-mark-requires c κs = (omega (arith, c .before .before .before .before .before .before .before .before .before .before .before .before .before .before .before .loop .inv .room, c .before .before .before .before .before .before .known .ensures .1 (c .before .before .before .before .before .before .before .before .before .before .before .before .before .before .before .before .before .before .args .layout)), omega (arith, c .before .before .before .before .slot .ensures .0, c .before .before .before .before .before .before .known .ensures .1 (c .before .before .before .before .before .before .before .before .before .before .before .before .before .before .before .before .before .before .args .layout)))
+mark-requires c κs =
+    let b4 = c .before .before .before .before in let b6 = b4 .before .before in let b15 = b6 .before .before .before .before .before .before .before .before .before in let l = b15 .loop in
+    let a = b15 .before .before .before .args in
+    (omega (arith, l .inv .room, b6 .known .ensures .1 (a .layout)), omega (arith, b4 .slot .ensures .0, b6 .known .ensures .1 (a .layout)))
 
 -- src/lib.rt:130:22
 add-at : tie.Need-add-at Inv-loop μ-loop
-add-at c = omega (
-  arith,
-  folding.value-inside (step (slotsAt
-      (c .before .before .before .before .before .before .before .before .before .before .before .before .before .before .before .before .before .before .before .before .before .args .layout)
-      (c .before .before .before .before .before .before .before .before .before .before .before .before .before .before .before .before .before .before .before .before .before .args .level)))
-      (c .before .before .before .before .before .before .before .before .before .before .before .before .before .before .before .before .before .before .before .before .before .args .left)
-      (c .before .before .before .before .before .before .before .before .before .before .before .before .before .before .before .before .before .before .before .before .before .args .mode)
-      (c .before .before .before .before .before .before .before .before .before .before .before .before .before .before .before .before .before .before .before .before .before .args .count)
-      (c .before .before .before .before .before .before .before .before .before .before .before .before .before .before .before .before .before .before .before .before .before .args .s .now)
-      (parts.begun (slotsAt
-      (c .before .before .before .before .before .before .before .before .before .before .before .before .before .before .before .before .before .before .before .before .before .args .layout)
-      (c .before .before .before .before .before .before .before .before .before .before .before .before .before .before .before .before .before .before .before .before .before .args .level))) (c .before .before .before .before .before .before .before .before .before .before .before .before .before .before .before .before .before .before .before .before .before .pre .1)
-      (c .before .before .before .before .before .before .before .before .before .before .before .before .before .before .before .before .before .before .loop .inv .short)
-      (c .before .before .before .before .before .before .before .before .before .before .before .before .before .before .before .before .before .before .loop .at)
-      (c .before .before .before .before .before .before .before .before .before .before .before .before .before .before .before .before .before .before .loop .due) _
-      (c .before .before .before .before .before .before .before .before .before .before .before .before .before .before .before .before .before .before .loop .inv .walking) _ (c .before .before .before .before .before .before .before .before .before .before .before .before .before .before .before .before .past-key .ensures) _ (c .before .before .before .before .before .before .before .before .before .before .before .before .before .before .k .given .1),
-  c .before .before .before .before .before .before .before .before .before .before .if1 .left,
-  c .before .before .before .before .before .before .before .before .before .before .before .before .before .before .before .before .before .before .loop .inv .short,
-)
+add-at c =
+    let b10 = c .before .before .before .before .before .before .before .before .before .before in let b14 = b10 .before .before .before .before in let b16 = b14 .before .before in
+    let b18 = b16 .before .before in let b21 = b18 .before .before .before in let l = b18 .loop in let a = b21 .args in
+    omega (
+      arith,
+      folding.value-inside (step (slotsAt (a .layout) (a .level))) (a .left) (a .mode) (a .count) (a .s .now) (parts.begun (slotsAt (a .layout) (a .level))) (b21 .pre .1) (l .inv .short) (l .at) (l .due) _ (l .inv .walking) _ (b16 .past-key .ensures) _ (b14 .k .given .1),
+      b10 .if1 .left,
+      l .inv .short,
+    )
 
 -- src/lib.rt:131:17
 sub-due : tie.Need-sub-due Inv-loop μ-loop
-sub-due c = omega (
-  arith,
-  folding.two-due (step (slotsAt
-      (c .before .before .before .before .before .before .before .before .before .before .before .before .before .before .before .before .before .before .before .before .before .args .layout)
-      (c .before .before .before .before .before .before .before .before .before .before .before .before .before .before .before .before .before .before .before .before .before .args .level)))
-      (c .before .before .before .before .before .before .before .before .before .before .before .before .before .before .before .before .before .before .before .before .before .args .left)
-      (c .before .before .before .before .before .before .before .before .before .before .before .before .before .before .before .before .before .before .before .before .before .args .mode)
-      (c .before .before .before .before .before .before .before .before .before .before .before .before .before .before .before .before .before .before .before .before .before .args .count)
-      (c .before .before .before .before .before .before .before .before .before .before .before .before .before .before .before .before .before .before .before .before .before .args .s .now)
-      (parts.begun (slotsAt
-      (c .before .before .before .before .before .before .before .before .before .before .before .before .before .before .before .before .before .before .before .before .before .args .layout)
-      (c .before .before .before .before .before .before .before .before .before .before .before .before .before .before .before .before .before .before .before .before .before .args .level))) (c .before .before .before .before .before .before .before .before .before .before .before .before .before .before .before .before .before .before .before .before .before .pre .1)
-      (c .before .before .before .before .before .before .before .before .before .before .before .before .before .before .before .before .before .before .loop .inv .short)
-      (c .before .before .before .before .before .before .before .before .before .before .before .before .before .before .before .before .before .before .loop .at)
-      (c .before .before .before .before .before .before .before .before .before .before .before .before .before .before .before .before .before .before .loop .due) _
-      (c .before .before .before .before .before .before .before .before .before .before .before .before .before .before .before .before .before .before .loop .inv .walking) _ (c .before .before .before .before .before .before .before .before .before .before .before .before .before .before .before .before .past-key .ensures) _ (c .before .before .before .before .before .before .before .before .before .before .before .before .before .before .k .given .1) _ (c .before .before .before .before .before .before .before .before .before .before .before .skip .ensures),
-)
+sub-due c =
+    let b11 = c .before .before .before .before .before .before .before .before .before .before .before in let b14 = b11 .before .before .before in let b16 = b14 .before .before in
+    let b18 = b16 .before .before in let b21 = b18 .before .before .before in let l = b18 .loop in let a = b21 .args in
+    omega (
+      arith,
+      folding.two-due (step (slotsAt (a .layout) (a .level))) (a .left) (a .mode) (a .count) (a .s .now) (parts.begun (slotsAt (a .layout) (a .level))) (b21 .pre .1) (l .inv .short) (l .at) (l .due) _ (l .inv .walking) _ (b16 .past-key .ensures) _ (b14 .k .given .1) _ (b11 .skip .ensures),
+    )
 
 -- src/lib.rt:108:5
 loop-less : tie.Need-loop-less Inv-loop μ-loop
-loop-less c = omega (
-  arith,
-  folding.further (step (slotsAt
-      (c .before .before .before .before .before .before .before .before .before .before .before .before .before .before .before .before .before .before .before .before .before .args .layout)
-      (c .before .before .before .before .before .before .before .before .before .before .before .before .before .before .before .before .before .before .before .before .before .args .level)))
-      (c .before .before .before .before .before .before .before .before .before .before .before .before .before .before .before .before .before .before .before .before .before .args .left)
-      (c .before .before .before .before .before .before .before .before .before .before .before .before .before .before .before .before .before .before .before .before .before .args .mode)
-      (c .before .before .before .before .before .before .before .before .before .before .before .before .before .before .before .before .before .before .before .before .before .args .count)
-      (c .before .before .before .before .before .before .before .before .before .before .before .before .before .before .before .before .before .before .before .before .before .args .s .now)
-      (parts.begun (slotsAt
-      (c .before .before .before .before .before .before .before .before .before .before .before .before .before .before .before .before .before .before .before .before .before .args .layout)
-      (c .before .before .before .before .before .before .before .before .before .before .before .before .before .before .before .before .before .before .before .before .before .args .level))) (c .before .before .before .before .before .before .before .before .before .before .before .before .before .before .before .before .before .before .before .before .before .pre .1)
-      (c .before .before .before .before .before .before .before .before .before .before .before .before .before .before .before .before .before .before .loop .inv .short)
-      (c .before .before .before .before .before .before .before .before .before .before .before .before .before .before .before .before .before .before .loop .at)
-      (c .before .before .before .before .before .before .before .before .before .before .before .before .before .before .before .before .before .before .loop .due) _
-      (c .before .before .before .before .before .before .before .before .before .before .before .before .before .before .before .before .before .before .loop .inv .walking) _ (c .before .before .before .before .before .before .before .before .before .before .before .before .before .before .before .before .past-key .ensures) _ (c .before .before .before .before .before .before .before .before .before .before .before .before .before .before .k .given .1) _ (c .before .before .before .before .before .before .before .before .before .before .before .skip .ensures) (omega (arith, c .before .before .before .before .before .before .before .before .before .before .if1 .left)),
-  folding.value-inside (step (slotsAt
-      (c .before .before .before .before .before .before .before .before .before .before .before .before .before .before .before .before .before .before .before .before .before .args .layout)
-      (c .before .before .before .before .before .before .before .before .before .before .before .before .before .before .before .before .before .before .before .before .before .args .level)))
-      (c .before .before .before .before .before .before .before .before .before .before .before .before .before .before .before .before .before .before .before .before .before .args .left)
-      (c .before .before .before .before .before .before .before .before .before .before .before .before .before .before .before .before .before .before .before .before .before .args .mode)
-      (c .before .before .before .before .before .before .before .before .before .before .before .before .before .before .before .before .before .before .before .before .before .args .count)
-      (c .before .before .before .before .before .before .before .before .before .before .before .before .before .before .before .before .before .before .before .before .before .args .s .now)
-      (parts.begun (slotsAt
-      (c .before .before .before .before .before .before .before .before .before .before .before .before .before .before .before .before .before .before .before .before .before .args .layout)
-      (c .before .before .before .before .before .before .before .before .before .before .before .before .before .before .before .before .before .before .before .before .before .args .level))) (c .before .before .before .before .before .before .before .before .before .before .before .before .before .before .before .before .before .before .before .before .before .pre .1)
-      (c .before .before .before .before .before .before .before .before .before .before .before .before .before .before .before .before .before .before .loop .inv .short)
-      (c .before .before .before .before .before .before .before .before .before .before .before .before .before .before .before .before .before .before .loop .at)
-      (c .before .before .before .before .before .before .before .before .before .before .before .before .before .before .before .before .before .before .loop .due) _
-      (c .before .before .before .before .before .before .before .before .before .before .before .before .before .before .before .before .before .before .loop .inv .walking) _ (c .before .before .before .before .before .before .before .before .before .before .before .before .before .before .before .before .past-key .ensures) _ (c .before .before .before .before .before .before .before .before .before .before .before .before .before .before .k .given .1),
-  c .before .before .before .before .before .before .before .before .before .before .if1 .left,
-)
+loop-less c =
+    let b10 = c .before .before .before .before .before .before .before .before .before .before in let b11 = b10 .before in let b14 = b11 .before .before .before in let b16 = b14 .before .before in
+    let b18 = b16 .before .before in let b21 = b18 .before .before .before in let l = b18 .loop in let a = b21 .args in
+    omega (
+      arith,
+      folding.further (step (slotsAt (a .layout) (a .level))) (a .left) (a .mode) (a .count) (a .s .now) (parts.begun (slotsAt (a .layout) (a .level))) (b21 .pre .1) (l .inv .short) (l .at) (l .due) _ (l .inv .walking) _ (b16 .past-key .ensures) _ (b14 .k .given .1) _ (b11 .skip .ensures) (omega (arith, b10 .if1 .left)),
+      folding.value-inside (step (slotsAt (a .layout) (a .level))) (a .left) (a .mode) (a .count) (a .s .now) (parts.begun (slotsAt (a .layout) (a .level))) (b21 .pre .1) (l .inv .short) (l .at) (l .due) _ (l .inv .walking) _ (b16 .past-key .ensures) _ (b14 .k .given .1),
+      b10 .if1 .left,
+    )
 
 -- src/lib.rt:108:5
 loop-again : tie.Need-loop-again Inv-loop μ-loop
@@ -272,7 +251,10 @@ loop-again c = record {
       (c .before .before .before .before .before .before .before .before .before .before .before .before .before .before .before .before .before .before .loop .inv .short)
       (c .before .before .before .before .before .before .before .before .before .before .before .before .before .before .before .before .before .before .loop .at)
       (c .before .before .before .before .before .before .before .before .before .before .before .before .before .before .before .before .before .before .loop .due) _
-      (c .before .before .before .before .before .before .before .before .before .before .before .before .before .before .before .before .before .before .loop .inv .walking) _ (c .before .before .before .before .before .before .before .before .before .before .before .before .before .before .before .before .past-key .ensures) _ (c .before .before .before .before .before .before .before .before .before .before .before .before .before .before .k .given .1) _ (c .before .before .before .before .before .before .before .before .before .before .before .skip .ensures) (omega (arith, c .before .before .before .before .before .before .before .before .before .before .if1 .left)) _
+      (c .before .before .before .before .before .before .before .before .before .before .before .before .before .before .before .before .before .before .loop .inv .walking) _
+      (c .before .before .before .before .before .before .before .before .before .before .before .before .before .before .before .before .past-key .ensures) _
+      (c .before .before .before .before .before .before .before .before .before .before .before .before .before .before .k .given .1) _
+      (c .before .before .before .before .before .before .before .before .before .before .before .skip .ensures) (omega (arith, c .before .before .before .before .before .before .before .before .before .before .if1 .left)) _
       (λ q y. parts.turned (slotsAt
       (c .before .before .before .before .before .before .before .before .before .before .before .before .before .before .before .before .before .before .before .before .before .args .layout)
       (c .before .before .before .before .before .before .before .before .before .before .before .before .before .before .before .before .before .before .before .before .before .args .level)) _ _ (c .before .before .before .before .before .before .before .before .before .known .ensures .1

@@ -69,12 +69,16 @@ named-requires c κs = search needs
 
 -- src/lib.rt:79:1
 returns : tie.Need-returns
-returns c = parts.past-list (slotsAt (c .before .before .before .before .before .before .args .layout) (c .before .before .before .before .before .before .args .level)) (c .before .before .before .before .before .before .args .s .now) _ (c .known .ensures .1 (c .before .before .before .before .before .before .args .layout))
-    (texts.slot-odd (c .before .before .before .before .before .before .args .s .now) _ (c .before .before .before .text .ensures .1) (c .before .enum-told .given .1) (slotsAt (c .before .before .before .before .before .before .args .layout) (c .before .before .before .before .before .before .args .level)) _ (c .known .ensures .1 (c .before .before .before .before .before .before .args .layout)))
+returns c =
+    let b3 = c .before .before .before in let a = b3 .before .before .before .args in
+    parts.past-list (slotsAt (a .layout) (a .level)) (a .s .now) _ (c .known .ensures .1 (a .layout))
+    (texts.slot-odd (a .s .now) _ (b3 .text .ensures .1) (c .before .enum-told .given .1) (slotsAt (a .layout) (a .level)) _ (c .known .ensures .1 (a .layout)))
 
 -- src/lib.rt:79:1
 returns-2 : tie.Need-returns-2
-returns-2 c = parts.within-list _ _ (texts.slot-known (c .before .before .before .before .before .before .before .before .args .s .now) _ (c .before .before .before .before .before .text .ensures .1) _ _ (c .before .before .before .at .given .1) (slotsAt (c .before .before .before .before .before .before .before .before .args .layout) (c .before .before .before .before .before .before .before .before .args .level)) _ refl _ (c .named .ensures))
+returns-2 c =
+    let b3 = c .before .before .before in let b5 = b3 .before .before in let a = b5 .before .before .before .args in
+    parts.within-list _ _ (texts.slot-known (a .s .now) _ (b5 .text .ensures .1) _ _ (b3 .at .given .1) (slotsAt (a .layout) (a .level)) _ refl _ (c .named .ensures))
 
 pub slot-spec : {M : Type 1} → statement M
 slot-spec =

@@ -35,15 +35,23 @@ part-whole-end-2 : tie.Need-part-whole-end-2
 part-whole-end-2 c = search needs
 
 whole-requires : tie.Need-whole-requires
-whole-requires c κs = let a = (c .before .before .before .before .before .before .before .args) in let fits = fit.rows-fit (a .buffer .now) (a .plan .now) (a .rows .now) (a .objects) (a .components) (rootAttributes (a .place) (a .size)) ((c .before .before .before .before .before .before .before .pre .0)) ((c .before .before .before .before .before .before .before .pre .1 .0)) in
-    (walking.as-lent (a .buffer .now) (a .rows .now) 0 (λ b r. WholeRows b (a .plan .now) r (a .objects) (a .components) (a .place) (a .size)) fits, laying.room-as (sym (meant.whole-meant (a .buffer .now) (a .plan .now) (a .rows .now) (a .objects) (a .components) (a .place) (a .size) ((c .before .before .before .before .before .before .before .pre .0)) fits) ∙ sym (rows.lent-both (a .buffer .now) (a .rows .now) 0 (λ b r. wholeOf b (a .plan .now) r (a .objects) (a .components) (a .place) (a .size)))) (frames.room-at-start _ _ ((c .before .before .before .before .before .before .before .pre .1 .1))))
+whole-requires c κs =
+    let b7 = c .before .before .before .before .before .before .before in let a′ = b7 .args in
+    let a = (a′) in let fits = fit.rows-fit (a .buffer .now) (a .plan .now) (a .rows .now) (a .objects) (a .components) (rootAttributes (a .place) (a .size)) ((b7 .pre .0)) ((b7 .pre .1 .0)) in (
+      walking.as-lent (a .buffer .now) (a .rows .now) 0 (λ b r. WholeRows b (a .plan .now) r (a .objects) (a .components) (a .place) (a .size)) fits,
+      laying.room-as
+          (sym (meant.whole-meant (a .buffer .now) (a .plan .now) (a .rows .now) (a .objects) (a .components) (a .place) (a .size) ((b7 .pre .0)) fits) ∙ sym
+          (rows.lent-both (a .buffer .now) (a .rows .now) 0 (λ b r. wholeOf b (a .plan .now) r (a .objects) (a .components) (a .place) (a .size)))) (frames.room-at-start _ _ ((b7 .pre .1 .1))),
+    )
 
 same-length : tie.Need-same-length
 same-length c = search needs
 
 returns : tie.Need-returns
-returns c = let a = (c .before .before .before .before .before .before .before .before .before .before .args) in let fits = fit.rows-fit (a .buffer .now) (a .plan .now) (a .rows .now) (a .objects) (a .components) (rootAttributes (a .place) (a .size)) ((c .before .before .before .before .before .before .before .before .before .before .pre .0)) ((c .before .before .before .before .before .before .before .before .before .before .pre .1 .0)) in
-    frames.from-start (laying.as-bytes ((rows.lent-both (a .buffer .now) (a .rows .now) 0 (λ b r. wholeOf b (a .plan .now) r (a .objects) (a .components) (a .place) (a .size))) ∙ (meant.whole-meant (a .buffer .now) (a .plan .now) (a .rows .now) (a .objects) (a .components) (a .place) (a .size) ((c .before .before .before .before .before .before .before .before .before .before .pre .0)) fits)) ((c .before .before .whole .ensures)))
+returns c =
+    let b2 = c .before .before in let b10 = b2 .before .before .before .before .before .before .before .before in let a′ = b10 .args in
+    let a = (a′) in let fits = fit.rows-fit (a .buffer .now) (a .plan .now) (a .rows .now) (a .objects) (a .components) (rootAttributes (a .place) (a .size)) ((b10 .pre .0)) ((b10 .pre .1 .0)) in frames.from-start
+    (laying.as-bytes ((rows.lent-both (a .buffer .now) (a .rows .now) 0 (λ b r. wholeOf b (a .plan .now) r (a .objects) (a .components) (a .place) (a .size))) ∙ (meant.whole-meant (a .buffer .now) (a .plan .now) (a .rows .now) (a .objects) (a .components) (a .place) (a .size) ((b10 .pre .0)) fits)) ((b2 .whole .ensures)))
 
 pub file-spec : {M : Type 1} → statement M
 file-spec =

@@ -31,12 +31,17 @@ dense-length-spec =
     (λ c. search needs)
     (λ c. search needs)
     (λ c κs. search needs)
-    (λ c. laws.product-none (c .before .before .before .before .before .before .before .before .before .args .n) (c .before .before .before .before .before .before .before .before .before .args .shape .now) (c .before .before .before .before .before .before .before .before .before .args .unit) (c .before .before .before .before .before .before .before .loop .i) (c .before .before .before .before .before .before .before .loop .p) (c .before .before .before .before .before .before .before .loop .inv .1) (c .before .before .before .before .before .before .loop-test .taken) _ (c .before .has-zero .ensures) (c .if2 .taken))
-    (λ c. let x = laws.above 18446744073709551615 (c .before .before .before .before .before .before .before .loop .p) (getD (c .before .before .before .before .before .before .before .before .before .args .shape .now) (c .before .before .before .before .before .before .before .loop .i) 0) _ (c .before .before .before .before .too-big .ensures) (c .before .before .before .if1 .taken) in laws.product-over (c .before .before .before .before .before .before .before .before .before .args .n) (c .before .before .before .before .before .before .before .before .before .args .shape .now) (c .before .before .before .before .before .before .before .before .before .args .unit) (c .before .before .before .before .before .before .before .loop .i) (c .before .before .before .before .before .before .before .loop .p) (c .before .before .before .before .before .before .before .loop .inv .1) (c .before .before .before .before .before .before .loop-test .taken) _ (c .before .has-zero .ensures) (c .if2 .left) (omega arith))
+    (λ c. let b6 = c .before .before .before .before .before .before in let b7 = b6 .before in let l = b7 .loop in let a = b7 .before .before .args in
+    laws.product-none (a .n) (a .shape .now) (a .unit) (l .i) (l .p) (l .inv .1) (b6 .loop-test .taken) _ (c .before .has-zero .ensures) (c .if2 .taken))
+    (λ c. let l = c .before .before .before .before .before .before .before .loop in let a = c .before .before .before .before .before .before .before .before .before .args in
+    let x = laws.above 18446744073709551615 (l .p) (getD (a .shape .now) (l .i) 0) _ (c .before .before .before .before .too-big .ensures) (c .before .before .before .if1 .taken) in laws.product-over
+    (a .n) (a .shape .now) (a .unit) (l .i) (l .p) (l .inv .1) (c .before .before .before .before .before .before .loop-test .taken) _ (c .before .has-zero .ensures) (c .if2 .left) (omega arith))
     (λ c. search needs)
     (λ c. search needs)
     (λ c. let x = laws.within 18446744073709551615 (c .before .before .before .before .before .loop .p) (getD (c .before .before .before .before .before .before .before .args .shape .now) (c .before .before .before .before .before .loop .i) 0) _ (c .before .before .too-big .ensures) (c .before .if1 .left) in record { fits = omega arith })
     (λ c. search needs)
     (λ c. search needs)
-    (λ c. (omega arith, laws.product-next (c .before .before .before .before .before .before .before .args .n) (c .before .before .before .before .before .before .before .args .shape .now) (c .before .before .before .before .before .before .before .args .unit) (c .before .before .before .before .before .loop .i) (c .before .before .before .before .before .loop .p) (c .before .before .before .before .before .loop .inv .1) (c .before .before .before .before .loop-test .taken)))
-    (λ c. laws.product-last (c .before .before .before .args .n) (c .before .before .before .args .shape .now) (c .before .before .before .args .unit) (c .before .loop .i) (c .before .loop .p) (c .before .loop .inv .1) (c .loop-test .left)))
+    (λ c. let l = c .before .before .before .before .before .loop in let a = c .before .before .before .before .before .before .before .args in
+    (omega arith, laws.product-next (a .n) (a .shape .now) (a .unit) (l .i) (l .p) (l .inv .1) (c .before .before .before .before .loop-test .taken)))
+    (λ c. let l = c .before .loop in let a = c .before .before .before .args in
+    laws.product-last (a .n) (a .shape .now) (a .unit) (l .i) (l .p) (l .inv .1) (c .loop-test .left)))

@@ -26,8 +26,10 @@ has-zero-spec =
     (λ c. search needs)
     (λ c. search needs)
     (λ c. search needs)
-    (λ c. sym ((c .before .before .before .loop .inv .1) ∙ eq-eqb _ 0 (zero-here (c .before .before .before .before .args .s .now) (c .before .before .before .loop .i) (c .before .before .loop-test .taken) (c .if1 .taken))))
+    (λ c. let b2 = c .before .before in let b3 = b2 .before in let l = b3 .loop in let a = b3 .before .args in
+    sym ((l .inv .1) ∙ eq-eqb _ 0 (zero-here (a .s .now) (l .i) (b2 .loop-test .taken) (c .if1 .taken))))
     (λ c. search needs)
     (λ c. search needs)
-    (λ c. (omega arith, (c .before .before .before .loop .inv .1) ∙ some-here (c .before .before .before .before .args .s .now) (c .before .before .before .loop .i) (c .before .before .loop-test .taken) (c .if1 .left)))
+    (λ c. let l = c .before .before .before .loop in let a = c .before .before .before .before .args in
+    (omega arith, (l .inv .1) ∙ some-here (a .s .now) (l .i) (c .before .before .loop-test .taken) (c .if1 .left)))
     (λ c. sym ((c .before .loop .inv .1) ∙ ap (λ n. eqb n 0) (product-end (c .before .before .args .s .now) (c .before .loop .i) (c .loop-test .left)))))

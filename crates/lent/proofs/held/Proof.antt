@@ -27,5 +27,6 @@ held-spec =
     (λ c κs. search needs)
     (λ c. search needs)
     (λ c. search needs)
-    (λ c. bytes.one-more ((c .before .before .before .before .before .args .s .now)) ((c .before .before .before .loop .i)) ((c .before .before .before .loop .inv)) ((c .below .ensures)))
+    (λ c. let b3 = c .before .before .before in let l = b3 .loop in let a = b3 .before .before .args in
+    bytes.one-more ((a .s .now)) ((l .i)) ((l .inv)) ((c .below .ensures)))
     (λ c. bytes.all-held ((c .before .before .before .args .s .now)) (λ j l. ((c .before .loop .inv)) j (let h = (c .loop-test .left) in omega (arith, l, h))) (let g = (c .before .before .before .good) in omega arith)))

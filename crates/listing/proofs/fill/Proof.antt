@@ -33,9 +33,8 @@ fill-spec =
     (λ c. search needs)
     (λ c. search needs)
     (λ c. search needs)
-    (λ c. let l = c .before .before .before .before .before .before .before .before .before .loop in
-    let o = c .before .before .before .before .before .before .once in
-    filling.kept (l .space) (o .last .1 .0) (l .at) (c .before .before .before .before .before .before .before .before .loop-test .taken) (c .before .before .before .before .before .space .given .1))
+    (λ c. let b5 = c .before .before .before .before .before in let b6 = b5 .before in let b8 = b6 .before .before in let l′ = b8 .before .loop in
+    let l = l′ in let o = b6 .once in filling.kept (l .space) (o .last .1 .0) (l .at) (b8 .loop-test .taken) (b5 .space .given .1))
     (λ c. let l = c .before .before .before .before .before .before .before .before .before .loop in
     let o = c .before .before .before .before .before .before .once in
     let f = filling.further (l .space) (o .last .1 .0) (l .at) (c .before .before .before .before .before .before .before .before .loop-test .taken) (c .before .before .before .before .before .space .given .1) (c .before .before .k .given .1) (o .ensures) in
@@ -43,11 +42,8 @@ fill-spec =
     let i = l .inv .1 in
     record { fits = omega (arith, f, g, i) })
     (λ c. search needs)
-    (λ c. let l = c .before .before .before .before .before .before .before .before .before .loop in
-    let o = c .before .before .before .before .before .before .once in
-    let f = filling.further (l .space) (o .last .1 .0) (l .at) (c .before .before .before .before .before .before .before .before .loop-test .taken) (c .before .before .before .before .before .space .given .1) (c .before .before .k .given .1) (o .ensures) in
-    let s = c .before .before .before .before .before .space .given .1 in
-    let i = l .inv .1 in
-    (omega (arith, f, s), s ∙ i))
+    (λ c. let b2 = c .before .before in let b5 = b2 .before .before .before in let b6 = b5 .before in let b8 = b6 .before .before in let l′ = b8 .before .loop in
+    let l = l′ in let o = b6 .once in let f = filling.further (l .space) (o .last .1 .0) (l .at) (b8 .loop-test .taken) (b5 .space .given .1) (b2 .k .given .1) (o .ensures) in let s = b5 .space .given .1
+    in let i = l .inv .1 in (omega (arith, f, s), s ∙ i))
     (λ c. search needs)
     (λ c. let l = c .before .loop in filling.counted (l .at) (l .space) (l .inv .0)))

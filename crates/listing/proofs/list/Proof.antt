@@ -34,8 +34,10 @@ list-spec =
     (λ c κs. search needs)
     (λ c. search needs)
     (λ c κs. search needs)
-    (λ c. filling.read-counts _ (c .before .before .n .given .1) (c .before .before .before .before .before .fill .ensures) .0)
-    (λ c. filling.read-counts _ (c .before .before .before .n .given .1) (c .before .before .before .before .before .before .fill .ensures) .1)
+    (λ c. let b2 = c .before .before in
+    filling.read-counts _ (b2 .n .given .1) (b2 .before .before .before .fill .ensures) .0)
+    (λ c. let b3 = c .before .before .before in
+    filling.read-counts _ (b3 .n .given .1) (b3 .before .before .before .fill .ensures) .1)
     (λ c. search needs)
     (λ c. search needs)
     (λ c. search needs)

@@ -13,4 +13,6 @@ use Rattle.sizes.proofs.piece.attributes.Reads as attributes-reads
 pub attributes-spec : {M : Type 1} → statement M
 attributes-spec =
     tie.close
-    (tie.spec (λ c κs. search needs) (λ c κs. search needs) (λ c. checking.attributes-second ((c .before .before .before .args .place)) ((c .before .before .before .args .size)) ((c .before .before .before .args .other)) ((c .before .before .before .args .length)) (sym ((c .before .before .absent .ensures)) ∙ ((c .before .if1 .taken))) ((c .attributes .ensures))) (λ c κs. search needs) (λ c. checking.attributes-first ((c .before .before .before .args .place)) ((c .before .before .before .args .size)) ((c .before .before .before .args .other)) ((c .before .before .before .args .length)) (sym ((c .before .before .absent .ensures)) ∙ ((c .before .if1 .left))) ((c .attributes2 .ensures))))
+    (tie.spec (λ c κs. search needs) (λ c κs. search needs) (λ c. let b2 = c .before .before in let a = b2 .before .args in
+    checking.attributes-second ((a .place)) ((a .size)) ((a .other)) ((a .length)) (sym ((b2 .absent .ensures)) ∙ ((c .before .if1 .taken))) ((c .attributes .ensures))) (λ c κs. search needs) (λ c. let b2 = c .before .before in let a = b2 .before .args in
+    checking.attributes-first ((a .place)) ((a .size)) ((a .other)) ((a .length)) (sym ((b2 .absent .ensures)) ∙ ((c .before .if1 .left))) ((c .attributes2 .ensures))))

@@ -28,22 +28,52 @@ lay-spec =
     (λ c. search needs)
     (λ c. search needs)
     (λ c. search needs)
-    (λ c. let g = (c .before .before .before .before .before .before .before .before .before .before .before .before .before .before .before .before .before .good) in let h = laying.cut-fits ((c .before .before .before .before .before .before .before .before .before .before .before .before .before .before .before .before .before .pre .0)) ((c .before .before .before .before .before .before .before .before .before .before .before .before .before .before .before .before .before .pre .1)) in omega (arith, h))
+    (λ c. let b17 = c .before .before .before .before .before .before .before .before .before .before .before .before .before .before .before .before .before in
+    let g = (b17 .good) in let h = laying.cut-fits ((b17 .pre .0)) ((b17 .pre .1)) in omega (arith, h))
     (λ c. search needs)
     (λ c. search needs)
     (λ c. search needs)
-    (λ c κs. ((laying.within-second ((c .before .before .before .before .before .before .before .before .before .before .before .before .before .before .before .before .before .before .pre .0)) ((c .before .before .before .before .before .before .before .before .before .before .before .before .before .before .before .before .before .before .pre .1)) ((c .before .before .before .before .before .before .before .before .before .before .before .before .read-as .ensures .1)) refl ((c .before .before .before .before .before .before .before .before .read-as2 .ensures .1)), laying.few-first ((c .before .before .before .before .before .before .before .before .before .before .before .before .before .before .before .before .before .before .pre .0)), laying.few-second ((c .before .before .before .before .before .before .before .before .before .before .before .before .before .before .before .before .before .before .pre .0))), (laying.rows-first ((c .before .before .before .before .before .before .before .before .before .before .before .before .before .before .before .before .before .before .pre .0)) ((c .before .before .before .before .before .before .before .before .before .before .before .before .before .before .before .before .before .before .pre .1)) ((c .before .before .before .before .before .before .before .before .before .before .before .before .read-as .ensures .1)) refl ((c .before .before .before .before .before .before .before .before .read-as2 .ensures .1)), (laying.rows-second ((c .before .before .before .before .before .before .before .before .before .before .before .before .before .before .before .before .before .before .pre .0)) ((c .before .before .before .before .before .before .before .before .before .before .before .before .before .before .before .before .before .before .pre .1)) ((c .before .before .before .before .before .before .before .before .before .before .before .before .read-as .ensures .1)) refl ((c .before .before .before .before .before .before .before .before .read-as2 .ensures .1)), laying.room-file ((c .before .before .before .before .before .before .before .before .before .before .before .before .before .before .before .before .before .before .pre .0)) ((c .before .before .before .before .before .before .before .before .before .before .before .before .before .before .before .before .before .before .pre .1)) ((c .before .before .before .before .before .before .before .before .before .before .before .before .read-as .ensures .1)) refl ((c .before .before .before .before .before .before .before .before .read-as2 .ensures .1)) ((c .before .before .before .before .before .before .before .before .before .before .before .before .before .before .before .before .before .before .args .second .now)) ((c .before .before .before .before .before .before .before .before .before .before .before .before .before .before .before .before .before .before .args .other)) ((c .before .before .before .before .before .before .before .before .before .before .before .before .before .before .before .before .before .before .args .rest)) (laying.kept-second ((c .before .before .before .before .before .before .before .before .before .before .before .before .before .before .before .before .before .before .pre .0)) ((c .before .before .before .before .before .before .before .before .before .before .before .before .before .before .before .before .before .before .pre .1)) ((c .before .before .before .before .before .before .before .before .before .before .before .before .read-as .ensures .1)) refl ((c .before .before .before .before .before .before .before .before .read-as2 .ensures .1)) (sym ((c .before .before .before .before .before .absent .ensures)) ∙ ((c .before .before .before .before .if1 .taken))))))))
+    (λ c κs. let b4 = c .before .before .before .before in let b5 = b4 .before in let b8 = b5 .before .before .before in let b12 = b8 .before .before .before .before in
+    let b18 = b12 .before .before .before .before .before .before in let a = b18 .args in (
+      (laying.within-second ((b18 .pre .0)) ((b18 .pre .1)) ((b12 .read-as .ensures .1)) refl ((b8 .read-as2 .ensures .1)), laying.few-first ((b18 .pre .0)), laying.few-second ((b18 .pre .0))),
+      (
+        laying.rows-first ((b18 .pre .0)) ((b18 .pre .1)) ((b12 .read-as .ensures .1)) refl ((b8 .read-as2 .ensures .1)),
+        (
+          laying.rows-second ((b18 .pre .0)) ((b18 .pre .1)) ((b12 .read-as .ensures .1)) refl ((b8 .read-as2 .ensures .1)),
+          laying.room-file ((b18 .pre .0)) ((b18 .pre .1)) ((b12 .read-as .ensures .1)) refl
+              ((b8 .read-as2 .ensures .1)) ((a .second .now)) ((a .other)) ((a .rest))
+              (laying.kept-second ((b18 .pre .0)) ((b18 .pre .1)) ((b12 .read-as .ensures .1)) refl ((b8 .read-as2 .ensures .1)) (sym ((b5 .absent .ensures)) ∙ ((b4 .if1 .taken)))),
+        ),
+      ),
+    ))
     (λ c. search needs)
     (λ c. search needs)
-    (λ c. (laying.output-is ((c .before .before .before .before .before .before .before .before .before .before .before .before .before .before .before .before .before .before .before .before .before .pre .0)) ((c .before .before .before .before .before .before .before .before .before .before .before .before .before .before .before .before .before .before .before .before .before .pre .1)) ((c .before .before .before .before .before .before .before .before .before .before .before .before .before .before .before .read-as .ensures .1)) refl ((c .before .before .before .before .before .before .before .before .before .before .before .read-as2 .ensures .1)) ((c .before .before .before .before .before .before .before .before .before .before .before .before .before .before .before .before .before .before .before .before .before .args .second .now)) ((c .before .before .before .before .before .before .before .before .before .before .before .before .before .before .before .before .before .before .before .before .before .args .other)) ((c .before .before .before .before .before .before .before .before .before .before .before .before .before .before .before .before .before .before .before .before .before .args .rest)) (laying.kept-second ((c .before .before .before .before .before .before .before .before .before .before .before .before .before .before .before .before .before .before .before .before .before .pre .0)) ((c .before .before .before .before .before .before .before .before .before .before .before .before .before .before .before .before .before .before .before .before .before .pre .1)) ((c .before .before .before .before .before .before .before .before .before .before .before .before .before .before .before .read-as .ensures .1)) refl ((c .before .before .before .before .before .before .before .before .before .before .before .read-as2 .ensures .1)) (sym ((c .before .before .before .before .before .before .before .before .absent .ensures)) ∙ ((c .before .before .before .before .before .before .before .if1 .taken)))) ((c .before .before .both .ensures)), laying.still-long ((c .before .before .before .before .before .before .before .before .before .before .before .before .before .before .before .before .before .before .before .before .before .pre .0)) ((c .before .before .before .before .before .before .before .before .before .before .before .before .before .before .before .before .before .before .before .before .before .pre .1)) ((c .before .before .before .before .before .before .before .before .before .before .before .before .before .before .before .read-as .ensures .1)) refl ((c .before .before .before .before .before .before .before .before .before .before .before .read-as2 .ensures .1))))
+    (λ c. let b2 = c .before .before in let b7 = b2 .before .before .before .before .before in let b8 = b7 .before in let b11 = b8 .before .before .before in let b15 = b11 .before .before .before .before in
+    let b21 = b15 .before .before .before .before .before .before in let a = b21 .args in
+    (laying.output-is ((b21 .pre .0)) ((b21 .pre .1)) ((b15 .read-as .ensures .1)) refl ((b11 .read-as2 .ensures .1)) ((a .second .now)) ((a .other)) ((a .rest)) (laying.kept-second ((b21 .pre .0)) ((b21 .pre .1)) ((b15 .read-as .ensures .1)) refl ((b11 .read-as2 .ensures .1)) (sym ((b8 .absent .ensures)) ∙ ((b7 .if1 .taken)))) ((b2 .both .ensures)), laying.still-long ((b21 .pre .0)) ((b21 .pre .1)) ((b15 .read-as .ensures .1)) refl ((b11 .read-as2 .ensures .1))))
     (λ c. search needs)
     (λ c. search needs)
     (λ c. search needs)
-    (λ c. let g = (c .before .before .before .before .before .before .before .before .before .before .before .before .before .before .before .before .before .good) in let h = laying.cut-fits ((c .before .before .before .before .before .before .before .before .before .before .before .before .before .before .before .before .before .pre .0)) ((c .before .before .before .before .before .before .before .before .before .before .before .before .before .before .before .before .before .pre .1)) in omega (arith, h))
+    (λ c. let b17 = c .before .before .before .before .before .before .before .before .before .before .before .before .before .before .before .before .before in
+    let g = (b17 .good) in let h = laying.cut-fits ((b17 .pre .0)) ((b17 .pre .1)) in omega (arith, h))
     (λ c. search needs)
     (λ c. search needs)
     (λ c. search needs)
-    (λ c κs. ((laying.within-first ((c .before .before .before .before .before .before .before .before .before .before .before .before .before .before .before .before .before .before .pre .0)) ((c .before .before .before .before .before .before .before .before .before .before .before .before .before .before .before .before .before .before .pre .1)) ((c .before .before .before .before .before .before .before .before .before .before .before .before .read-as .ensures .1)) refl ((c .before .before .before .before .before .before .before .before .read-as2 .ensures .1)), laying.few-first ((c .before .before .before .before .before .before .before .before .before .before .before .before .before .before .before .before .before .before .pre .0)), laying.few-second ((c .before .before .before .before .before .before .before .before .before .before .before .before .before .before .before .before .before .before .pre .0))), (laying.rows-first ((c .before .before .before .before .before .before .before .before .before .before .before .before .before .before .before .before .before .before .pre .0)) ((c .before .before .before .before .before .before .before .before .before .before .before .before .before .before .before .before .before .before .pre .1)) ((c .before .before .before .before .before .before .before .before .before .before .before .before .read-as .ensures .1)) refl ((c .before .before .before .before .before .before .before .before .read-as2 .ensures .1)), (laying.rows-second ((c .before .before .before .before .before .before .before .before .before .before .before .before .before .before .before .before .before .before .pre .0)) ((c .before .before .before .before .before .before .before .before .before .before .before .before .before .before .before .before .before .before .pre .1)) ((c .before .before .before .before .before .before .before .before .before .before .before .before .read-as .ensures .1)) refl ((c .before .before .before .before .before .before .before .before .read-as2 .ensures .1)), laying.room-file ((c .before .before .before .before .before .before .before .before .before .before .before .before .before .before .before .before .before .before .pre .0)) ((c .before .before .before .before .before .before .before .before .before .before .before .before .before .before .before .before .before .before .pre .1)) ((c .before .before .before .before .before .before .before .before .before .before .before .before .read-as .ensures .1)) refl ((c .before .before .before .before .before .before .before .before .read-as2 .ensures .1)) ((c .before .before .before .before .before .before .before .before .before .before .before .before .before .before .before .before .before .before .args .first .now)) ((c .before .before .before .before .before .before .before .before .before .before .before .before .before .before .before .before .before .before .args .place)) ((c .before .before .before .before .before .before .before .before .before .before .before .before .before .before .before .before .before .before .args .size)) (laying.kept-first ((c .before .before .before .before .before .before .before .before .before .before .before .before .before .before .before .before .before .before .pre .0)) ((c .before .before .before .before .before .before .before .before .before .before .before .before .before .before .before .before .before .before .pre .1)) ((c .before .before .before .before .before .before .before .before .before .before .before .before .read-as .ensures .1)) refl ((c .before .before .before .before .before .before .before .before .read-as2 .ensures .1)) (sym ((c .before .before .before .before .before .absent .ensures)) ∙ ((c .before .before .before .before .if1 .left))))))))
+    (λ c κs. let b4 = c .before .before .before .before in let b5 = b4 .before in let b8 = b5 .before .before .before in let b12 = b8 .before .before .before .before in
+    let b18 = b12 .before .before .before .before .before .before in let a = b18 .args in (
+      (laying.within-first ((b18 .pre .0)) ((b18 .pre .1)) ((b12 .read-as .ensures .1)) refl ((b8 .read-as2 .ensures .1)), laying.few-first ((b18 .pre .0)), laying.few-second ((b18 .pre .0))),
+      (
+        laying.rows-first ((b18 .pre .0)) ((b18 .pre .1)) ((b12 .read-as .ensures .1)) refl ((b8 .read-as2 .ensures .1)),
+        (
+          laying.rows-second ((b18 .pre .0)) ((b18 .pre .1)) ((b12 .read-as .ensures .1)) refl ((b8 .read-as2 .ensures .1)),
+          laying.room-file ((b18 .pre .0)) ((b18 .pre .1)) ((b12 .read-as .ensures .1)) refl
+              ((b8 .read-as2 .ensures .1)) ((a .first .now)) ((a .place)) ((a .size))
+              (laying.kept-first ((b18 .pre .0)) ((b18 .pre .1)) ((b12 .read-as .ensures .1)) refl ((b8 .read-as2 .ensures .1)) (sym ((b5 .absent .ensures)) ∙ ((b4 .if1 .left)))),
+        ),
+      ),
+    ))
     (λ c. search needs)
     (λ c. search needs)
-    (λ c. (laying.output-is ((c .before .before .before .before .before .before .before .before .before .before .before .before .before .before .before .before .before .before .before .before .before .pre .0)) ((c .before .before .before .before .before .before .before .before .before .before .before .before .before .before .before .before .before .before .before .before .before .pre .1)) ((c .before .before .before .before .before .before .before .before .before .before .before .before .before .before .before .read-as .ensures .1)) refl ((c .before .before .before .before .before .before .before .before .before .before .before .read-as2 .ensures .1)) ((c .before .before .before .before .before .before .before .before .before .before .before .before .before .before .before .before .before .before .before .before .before .args .first .now)) ((c .before .before .before .before .before .before .before .before .before .before .before .before .before .before .before .before .before .before .before .before .before .args .place)) ((c .before .before .before .before .before .before .before .before .before .before .before .before .before .before .before .before .before .before .before .before .before .args .size)) (laying.kept-first ((c .before .before .before .before .before .before .before .before .before .before .before .before .before .before .before .before .before .before .before .before .before .pre .0)) ((c .before .before .before .before .before .before .before .before .before .before .before .before .before .before .before .before .before .before .before .before .before .pre .1)) ((c .before .before .before .before .before .before .before .before .before .before .before .before .before .before .before .read-as .ensures .1)) refl ((c .before .before .before .before .before .before .before .before .before .before .before .read-as2 .ensures .1)) (sym ((c .before .before .before .before .before .before .before .before .absent .ensures)) ∙ ((c .before .before .before .before .before .before .before .if1 .left)))) ((c .before .before .both2 .ensures)), laying.still-long ((c .before .before .before .before .before .before .before .before .before .before .before .before .before .before .before .before .before .before .before .before .before .pre .0)) ((c .before .before .before .before .before .before .before .before .before .before .before .before .before .before .before .before .before .before .before .before .before .pre .1)) ((c .before .before .before .before .before .before .before .before .before .before .before .before .before .before .before .read-as .ensures .1)) refl ((c .before .before .before .before .before .before .before .before .before .before .before .read-as2 .ensures .1)))))
+    (λ c. let b2 = c .before .before in let b7 = b2 .before .before .before .before .before in let b8 = b7 .before in let b11 = b8 .before .before .before in let b15 = b11 .before .before .before .before in
+    let b21 = b15 .before .before .before .before .before .before in let a = b21 .args in
+    (laying.output-is ((b21 .pre .0)) ((b21 .pre .1)) ((b15 .read-as .ensures .1)) refl ((b11 .read-as2 .ensures .1)) ((a .first .now)) ((a .place)) ((a .size)) (laying.kept-first ((b21 .pre .0)) ((b21 .pre .1)) ((b15 .read-as .ensures .1)) refl ((b11 .read-as2 .ensures .1)) (sym ((b8 .absent .ensures)) ∙ ((b7 .if1 .left)))) ((b2 .both2 .ensures)), laying.still-long ((b21 .pre .0)) ((b21 .pre .1)) ((b15 .read-as .ensures .1)) refl ((b11 .read-as2 .ensures .1)))))

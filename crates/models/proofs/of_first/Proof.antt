@@ -55,8 +55,12 @@ of-first-spec =
     (λ c.
     let at11 = c .before .before .before .before .before .before .before .before .before .before .before in
     let at12 = at11 .before in
-    let at21 = at12 .before .before .before .before .before .before .before .before .before in
-    (omega arith, writing.rest-less (at12 .loop .inv .1) (objects.turns-step (at21 .args .first .now) (at21 .args .a .now) (at21 .args .m) (λ x o. ofObject x o (object (o .name) (objectsFrom (at21 .args .second .now) (at21 .args .b .now) (at21 .args .n) 0 (at21 .args .n)))) (at12 .loop .i) (at11 .loop-test .taken)) (rw (whole (at21 .args .first .now), whole (at21 .args .a .now), whole (at21 .args .second .now), whole (at21 .args .b .now)) at (c .before .before .of-object .ensures))))
+    let at21 = at12 .before .before .before .before .before .before .before .before .before in (
+      omega arith,
+      writing.rest-less (at12 .loop .inv .1) (objects.turns-step (at21 .args .first .now) (at21 .args .a .now) (at21 .args .m)
+          (λ x o. ofObject x o (object (o .name) (objectsFrom (at21 .args .second .now) (at21 .args .b .now) (at21 .args .n) 0 (at21 .args .n)))) (at12 .loop .i) (at11 .loop-test .taken))
+          (rw (whole (at21 .args .first .now), whole (at21 .args .a .now), whole (at21 .args .second .now), whole (at21 .args .b .now)) at (c .before .before .of-object .ensures)),
+    ))
     (λ c κs. search needs)
     (λ c.
     let at11 = c .before .before .before .before .before .before .before .before .before .before .before in

@@ -52,8 +52,12 @@ of-second-spec =
     (λ c.
     let at10 = c .before .before .before .before .before .before .before .before .before .before in
     let at11 = at10 .before in
-    let at19 = at11 .before .before .before .before .before .before .before .before in
-    (omega arith, writing.rest-less (at11 .loop .inv .1) (objects.turns-step (at19 .args .second .now) (at19 .args .b .now) (at19 .args .n) (λ x p. ifAbsent (entry 2 0 x 0 0 0 0 0) (object (p .name) (objectsFrom (at19 .args .first .now) (at19 .args .a .now) (at19 .args .m) 0 (at19 .args .m)))) (at11 .loop .j) (at10 .loop-test .taken)) (rw (whole (at19 .args .second .now), whole (at19 .args .b .now), whole (at19 .args .first .now), whole (at19 .args .a .now)) at (c .before .before .of-new .ensures))))
+    let at19 = at11 .before .before .before .before .before .before .before .before in (
+      omega arith,
+      writing.rest-less (at11 .loop .inv .1) (objects.turns-step (at19 .args .second .now) (at19 .args .b .now) (at19 .args .n)
+          (λ x p. ifAbsent (entry 2 0 x 0 0 0 0 0) (object (p .name) (objectsFrom (at19 .args .first .now) (at19 .args .a .now) (at19 .args .m) 0 (at19 .args .m)))) (at11 .loop .j) (at10 .loop-test .taken))
+          (rw (whole (at19 .args .second .now), whole (at19 .args .b .now), whole (at19 .args .first .now), whole (at19 .args .a .now)) at (c .before .before .of-new .ensures)),
+    ))
     (λ c κs. search needs)
     (λ c.
     let at10 = c .before .before .before .before .before .before .before .before .before .before in

@@ -16,7 +16,8 @@ of-tables-spec =
     (λ c. search needs)
     (λ c. search needs)
     (λ c. search needs)
-    (λ c κs. rw (whole ((c .before .before .before .before .before .before .before .args .a .now))) ((c .before .before .before .before .before .before .before .pre .0), omega (arith, (c .before .before .before .before .before .before .before .pre .0 .few))))
+    (λ c κs. let b7 = c .before .before .before .before .before .before .before in let a = b7 .args in
+    rw (whole ((a .a .now))) ((b7 .pre .0), omega (arith, (b7 .pre .0 .few))))
     (λ c. search needs)
     (λ c. search needs)
     (λ c. search needs)
@@ -80,7 +81,8 @@ of-tables-spec =
     let at33 = at24 .before .before .before .before .before .before .before .before .before in
     let at41 = at33 .before .before .before .before .before .before .before .before in
     (rw (whole (at41 .args .b .now)) (at41 .pre .1), objects.known (at41 .args .first .now) (at41 .args .a .now) (at41 .args .m) (at41 .pre .0) (at33 .put-starts .ensures .0) (at33 .put-starts .ensures .1) (at24 .sort .ensures .0) (at24 .sort .ensures .1)))
-    (λ c. writing.same-length (writing.then ((c .before .before .before .before .before .before .before .before .before .before .before .before .of-first .ensures)) ((c .before .before .of-second .ensures))))
+    (λ c. let b2 = c .before .before in
+    writing.same-length (writing.then ((b2 .before .before .before .before .before .before .before .before .before .before .of-first .ensures)) ((b2 .of-second .ensures))))
     (λ c.
     let at12 = c .before .before .before .before .before .before .before .before .before .before .before .before in
     let at44 = at12 .before .before .before .before .before .before .before .before .before .before .before .before .before .before .before .before .before .before .before .before .before .before .before .before .before .before .before .before .before .before .before .before in

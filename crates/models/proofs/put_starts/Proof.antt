@@ -26,10 +26,13 @@ put-starts-spec =
     (λ c. omega (arith, objects.row-lies ((c .before .before .pre .0)) ((c .loop-test .taken))))
     (λ c. omega (arith, objects.row-lies ((c .before .before .pre .0)) ((c .loop-test .taken))))
     (λ c. omega (arith, objects.row-lies ((c .before .before .before .pre .0)) ((c .before .loop-test .taken))))
-    (λ c. omega (arith, ((c .before .before .before .pre .0 .each) ((c .before .before .loop .j)) ((c .before .loop-test .taken)) .parts)))
-    (λ c. omega (arith, ((c .before .before .before .pre .0 .each) ((c .before .before .loop .j)) ((c .before .loop-test .taken)) .parts), (c .before .before .loop .inv .here)))
+    (λ c. let b2 = c .before .before in
+    omega (arith, ((b2 .before .pre .0 .each) ((b2 .loop .j)) ((c .before .loop-test .taken)) .parts)))
+    (λ c. let b2 = c .before .before in let l = b2 .loop in
+    omega (arith, ((b2 .before .pre .0 .each) ((l .j)) ((c .before .loop-test .taken)) .parts), (l .inv .here)))
     (λ c. search needs)
     (λ c. search needs)
-    (λ c. objects.begun-more ((c .before .before .before .pre .1)) ((c .before .before .loop .inv)) ((c .before .loop-test .taken)))
+    (λ c. let b2 = c .before .before in
+    objects.begun-more ((b2 .before .pre .1)) ((b2 .loop .inv)) ((c .before .loop-test .taken)))
     (λ c. objects.begun-all ((c .before .loop .inv)) (omega arith) .1)
     (λ c. objects.begun-all ((c .before .loop .inv)) (omega arith)))

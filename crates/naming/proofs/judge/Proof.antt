@@ -29,6 +29,12 @@ judge-spec =
     (λ c. search needs)
     (λ c κs. search needs)
     (λ c. search needs)
-    (λ c. let a = (c .before .before .before .before .before .before .before .before .before .before .before .before .before .before .before .before .args) in λ done h x k. (judging.judge-last (a .m .now) (a .t) (a .left .now) (a .size .now) done h x k ((c .before .before .before .before .before .before .before .before .before .before .before .if1 .left)) ((c .before .before .before .before .before .before .before .before .before .before .if2 .left)) (omega arith) ((c .before .before .before .no-twice .result)) ((c .before .before .before .no-twice .ensures) ∙ ap (λ f. distinct (listed f 0 (a .t .count))) (from-wholes (a .m .now) (a .left .now) (a .size .now))) ∙ ap (λ b. told done (cond b Yes (No 11))) ((c .if4 .taken))))
+    (λ c. let a = (c .before .before .before .before .before .before .before .before .before .before .before .before .before .before .before .before .args) in λ done h x k.
+    (judging.judge-last (a .m .now) (a .t) (a .left .now) (a .size .now) done h x k ((c .before .before .before .before .before .before .before .before .before .before .before .if1 .left))
+    ((c .before .before .before .before .before .before .before .before .before .before .if2 .left)) (omega arith) ((c .before .before .before .no-twice .result))
+    ((c .before .before .before .no-twice .ensures) ∙ ap (λ f. distinct (listed f 0 (a .t .count))) (from-wholes (a .m .now) (a .left .now) (a .size .now))) ∙ ap (λ b. told done (cond b Yes (No 11))) ((c .if4 .taken))))
     (λ c. search needs)
-    (λ c. let a = (c .before .before .before .before .before .before .before .before .before .before .before .before .before .before .before .before .args) in λ done h x k. (judging.judge-last (a .m .now) (a .t) (a .left .now) (a .size .now) done h x k ((c .before .before .before .before .before .before .before .before .before .before .before .if1 .left)) ((c .before .before .before .before .before .before .before .before .before .before .if2 .left)) (omega arith) ((c .before .before .before .no-twice .result)) ((c .before .before .before .no-twice .ensures) ∙ ap (λ f. distinct (listed f 0 (a .t .count))) (from-wholes (a .m .now) (a .left .now) (a .size .now))) ∙ ap (λ b. told done (cond b Yes (No 11))) ((c .if4 .left)))))
+    (λ c. let a = (c .before .before .before .before .before .before .before .before .before .before .before .before .before .before .before .before .args) in λ done h x k.
+    (judging.judge-last (a .m .now) (a .t) (a .left .now) (a .size .now) done h x k ((c .before .before .before .before .before .before .before .before .before .before .before .if1 .left))
+    ((c .before .before .before .before .before .before .before .before .before .before .if2 .left)) (omega arith) ((c .before .before .before .no-twice .result))
+    ((c .before .before .before .no-twice .ensures) ∙ ap (λ f. distinct (listed f 0 (a .t .count))) (from-wholes (a .m .now) (a .left .now) (a .size .now))) ∙ ap (λ b. told done (cond b Yes (No 11))) ((c .if4 .left)))))

@@ -35,8 +35,39 @@ object-spec =
     (λ c. search needs)
     (λ c. search needs)
     (λ c κs. search needs)
-    (λ c. opens.size-inside (c .before .before .before .before .before .before .before .before .before .before .before .before .before .before .before .before .before .args .s .now) _ (c .before .before .before .before .before .before .before .before .before .before .before .before .before .before .map .ensures) _ _ _ (c .before .before .before .before .before .before .before .before .before .before .before .before .mode .given .1))
-    (λ c. (opens.ends-faulty (c .before .before .before .before .before .before .before .before .before .before .before .before .before .before .before .before .before .before .before .args .s .now) _ (c .before .before .before .before .before .before .before .before .before .before .before .before .before .before .before .before .map .ensures) _ _ _ (c .before .before .before .before .before .before .before .before .before .before .before .before .before .before .mode .given .1) 29 (omega arith) _ (c .before .before .before .before .before .before .before .before .before .entries .ensures .0) (c .if1 .taken), walks.entries-judged (c .before .before .before .before .before .before .before .before .before .before .before .before .before .before .before .before .before .before .before .args .layout) (c .before .before .before .before .before .before .before .before .before .before .before .before .before .before .before .before .before .before .before .args .s .now) (c .before .before .before .before .before .before .before .before .before .before .before .before .before .before .before .before .before .before .before .args .start) _ (c .before .before .before .before .before .before .before .before .before .before .before .before .before .before .before .before .map .ensures) _ _ _ (c .before .before .before .before .before .before .before .before .before .before .before .before .before .before .mode .given .1) _ _ _ (c .before .before .before .before .before .before .before .before .before .entries .ensures .1) _ (c .before .before .before .verdict .ensures)))
+    (λ c. opens.size-inside (c .before .before .before .before .before .before .before .before .before .before .before .before .before .before .before .before .before .args .s .now) _
+    (c .before .before .before .before .before .before .before .before .before .before .before .before .before .before .map .ensures) _ _ _
+    (c .before .before .before .before .before .before .before .before .before .before .before .before .mode .given .1))
+    (λ c. (
+      opens.ends-faulty (c .before .before .before .before .before .before .before .before .before .before .before .before .before .before .before .before .before .before .before .args .s .now) _
+          (c .before .before .before .before .before .before .before .before .before .before .before .before .before .before .before .before .map .ensures) _ _ _
+          (c .before .before .before .before .before .before .before .before .before .before .before .before .before .before .mode .given .1) 29 (omega arith) _
+          (c .before .before .before .before .before .before .before .before .before .entries .ensures .0) (c .if1 .taken),
+      walks.entries-judged
+          (c .before .before .before .before .before .before .before .before .before .before .before .before .before .before .before .before .before .before .before .args .layout)
+          (c .before .before .before .before .before .before .before .before .before .before .before .before .before .before .before .before .before .before .before .args .s .now)
+          (c .before .before .before .before .before .before .before .before .before .before .before .before .before .before .before .before .before .before .before .args .start) _
+          (c .before .before .before .before .before .before .before .before .before .before .before .before .before .before .before .before .map .ensures) _ _ _
+          (c .before .before .before .before .before .before .before .before .before .before .before .before .before .before .mode .given .1) _ _ _
+          (c .before .before .before .before .before .before .before .before .before .entries .ensures .1) _ (c .before .before .before .verdict .ensures),
+    ))
     (λ c. search needs)
-    (λ c. ((c .skip .ensures) ∙ ap (λ s. code (itemEnd 30 s)) (part-to-end (c .before .before .before .before .before .before .before .args .s .now) 0), walks.no-map (c .before .before .before .before .before .before .before .args .layout) (c .before .before .before .before .before .before .before .args .s .now) (c .before .before .before .before .before .before .before .args .start) _ (c .before .before .before .before .map .ensures) (c .before .before .enum-told .given .1)))
-    (λ c. (opens.ends-inside (c .before .before .before .before .before .before .before .before .before .before .before .before .before .before .before .before .before .before .before .before .args .s .now) _ (c .before .before .before .before .before .before .before .before .before .before .before .before .before .before .before .before .before .map .ensures) _ _ _ (c .before .before .before .before .before .before .before .before .before .before .before .before .before .before .before .mode .given .1) 29 (omega arith) _ (c .before .before .before .before .before .before .before .before .before .before .entries .ensures .0) (c .before .if1 .left), walks.entries-judged (c .before .before .before .before .before .before .before .before .before .before .before .before .before .before .before .before .before .before .before .before .args .layout) (c .before .before .before .before .before .before .before .before .before .before .before .before .before .before .before .before .before .before .before .before .args .s .now) (c .before .before .before .before .before .before .before .before .before .before .before .before .before .before .before .before .before .before .before .before .args .start) _ (c .before .before .before .before .before .before .before .before .before .before .before .before .before .before .before .before .before .map .ensures) _ _ _ (c .before .before .before .before .before .before .before .before .before .before .before .before .before .before .before .mode .given .1) _ _ _ (c .before .before .before .before .before .before .before .before .before .before .entries .ensures .1) _ (c .before .before .before .before .verdict .ensures))))
+    (λ c. (
+      (c .skip .ensures) ∙ ap (λ s. code (itemEnd 30 s)) (part-to-end (c .before .before .before .before .before .before .before .args .s .now) 0),
+      walks.no-map
+          (c .before .before .before .before .before .before .before .args .layout) (c .before .before .before .before .before .before .before .args .s .now) (c .before .before .before .before .before .before .before .args .start)
+          _ (c .before .before .before .before .map .ensures) (c .before .before .enum-told .given .1),
+    ))
+    (λ c. (
+      opens.ends-inside (c .before .before .before .before .before .before .before .before .before .before .before .before .before .before .before .before .before .before .before .before .args .s .now) _
+          (c .before .before .before .before .before .before .before .before .before .before .before .before .before .before .before .before .before .map .ensures) _ _ _
+          (c .before .before .before .before .before .before .before .before .before .before .before .before .before .before .before .mode .given .1) 29 (omega arith) _
+          (c .before .before .before .before .before .before .before .before .before .before .entries .ensures .0) (c .before .if1 .left),
+      walks.entries-judged
+          (c .before .before .before .before .before .before .before .before .before .before .before .before .before .before .before .before .before .before .before .before .args .layout)
+          (c .before .before .before .before .before .before .before .before .before .before .before .before .before .before .before .before .before .before .before .before .args .s .now)
+          (c .before .before .before .before .before .before .before .before .before .before .before .before .before .before .before .before .before .before .before .before .args .start) _
+          (c .before .before .before .before .before .before .before .before .before .before .before .before .before .before .before .before .before .map .ensures) _ _ _
+          (c .before .before .before .before .before .before .before .before .before .before .before .before .before .before .before .mode .given .1) _ _ _
+          (c .before .before .before .before .before .before .before .before .before .before .entries .ensures .1) _ (c .before .before .before .before .verdict .ensures),
+    )))

@@ -35,32 +35,66 @@ entries-spec =
     (λ c. search needs)
     (λ c. search needs)
     (λ c. search needs)
-    (λ c κs. walked.still-due 30 ((c .before .before .before .before .before .args .mode)) ((c .before .before .before .before .before .args .count)) ((c .before .before .before .before .before .args .s .now)) ((c .before .before .before .before .before .pre .2)) ((c .before .loop .inv .2)) ((c .before .loop .at)) ((c .before .loop .due)) _ ((c .before .loop .inv .0)))
+    (λ c κs. let b5 = c .before .before .before .before .before in let l = c .before .loop in let a = b5 .args in
+    walked.still-due 30 ((a .mode)) ((a .count)) ((a .s .now)) ((b5 .pre .2)) ((l .inv .2)) ((l .at)) ((l .due)) _ ((l .inv .0)))
     (λ c. search needs)
     (λ c. search needs)
     (λ c. search needs)
     (λ c. search needs)
-    (λ c. let z = walked.ends-faulty 30 ((c .before .before .before .before .before .before .before .before .before .before .args .mode)) ((c .before .before .before .before .before .before .before .before .before .before .args .count)) ((c .before .before .before .before .before .before .before .before .before .before .args .s .now)) ((c .before .before .before .before .before .before .before .before .before .before .pre .2)) ((c .before .before .before .before .before .before .loop .inv .2)) ((c .before .before .before .before .before .before .loop .at)) ((c .before .before .before .before .before .before .loop .due)) _ ((c .before .before .before .before .before .before .loop .inv .0)) _ ((c .before .before .before .before .past-key .ensures)) _ ((c .before .before .e .given .1)) ((c .if1 .taken)) in (z .0, ((c .before .before .before .before .before .before .loop .inv .1)), z .1))
+    (λ c. let b2 = c .before .before in let b4 = b2 .before .before in let b6 = b4 .before .before in let b10 = b6 .before .before .before .before in let l = b6 .loop in let a = b10 .args in
+    let z = walked.ends-faulty 30 ((a .mode)) ((a .count)) ((a .s .now)) ((b10 .pre .2)) ((l .inv .2)) ((l .at)) ((l .due)) _ ((l .inv .0)) _ ((b4 .past-key .ensures)) _ ((b2 .e .given .1))
+    ((c .if1 .taken)) in (z .0, ((l .inv .1)), z .1))
     (λ c. search needs)
     (λ c. search needs)
     (λ c. search needs)
-    (λ c. let z = walked.ends-inside 30 ((c .before .before .before .before .before .before .before .before .before .before .args .mode)) ((c .before .before .before .before .before .before .before .before .before .before .args .count)) ((c .before .before .before .before .before .before .before .before .before .before .args .s .now)) ((c .before .before .before .before .before .before .before .before .before .before .pre .2)) ((c .before .before .before .before .before .before .loop .inv .2)) ((c .before .before .before .before .before .before .loop .at)) ((c .before .before .before .before .before .before .loop .due)) _ ((c .before .before .before .before .before .before .loop .inv .0)) _ ((c .before .before .before .before .past-key .ensures)) _ ((c .before .before .e .given .1)) ((c .if1 .left)) in (z .0, ((c .before .before .before .before .before .before .loop .inv .1)), z .1))
+    (λ c. let b2 = c .before .before in let b4 = b2 .before .before in let b6 = b4 .before .before in let b10 = b6 .before .before .before .before in let l = b6 .loop in let a = b10 .args in
+    let z = walked.ends-inside 30 ((a .mode)) ((a .count)) ((a .s .now)) ((b10 .pre .2)) ((l .inv .2)) ((l .at)) ((l .due)) _ ((l .inv .0)) _ ((b4 .past-key .ensures)) _ ((b2 .e .given .1))
+    ((c .if1 .left)) in (z .0, ((l .inv .1)), z .1))
     (λ c. search needs)
-    (λ c. omega (arith, walked.value-inside 30 ((c .before .before .before .before .before .before .before .before .before .args .mode)) ((c .before .before .before .before .before .before .before .before .before .args .count)) ((c .before .before .before .before .before .before .before .before .before .args .s .now)) ((c .before .before .before .before .before .before .before .before .before .pre .2)) ((c .before .before .before .before .before .loop .inv .2)) ((c .before .before .before .before .before .loop .at)) ((c .before .before .before .before .before .loop .due)) _ ((c .before .before .before .before .before .loop .inv .0)) _ ((c .before .before .before .past-key .ensures)) _ ((c .before .k .given .1))))
-    (λ c. omega (arith, walked.value-inside 30 ((c .before .before .before .before .before .before .before .before .before .args .mode)) ((c .before .before .before .before .before .before .before .before .before .args .count)) ((c .before .before .before .before .before .before .before .before .before .args .s .now)) ((c .before .before .before .before .before .before .before .before .before .pre .2)) ((c .before .before .before .before .before .loop .inv .2)) ((c .before .before .before .before .before .loop .at)) ((c .before .before .before .before .before .loop .due)) _ ((c .before .before .before .before .before .loop .inv .0)) _ ((c .before .before .before .past-key .ensures)) _ ((c .before .k .given .1))))
-    (λ c. omega (arith, walked.value-inside 30 ((c .before .before .before .before .before .before .before .before .before .args .mode)) ((c .before .before .before .before .before .before .before .before .before .args .count)) ((c .before .before .before .before .before .before .before .before .before .args .s .now)) ((c .before .before .before .before .before .before .before .before .before .pre .2)) ((c .before .before .before .before .before .loop .inv .2)) ((c .before .before .before .before .before .loop .at)) ((c .before .before .before .before .before .loop .due)) _ ((c .before .before .before .before .before .loop .inv .0)) _ ((c .before .before .before .past-key .ensures)) _ ((c .before .k .given .1))))
+    (λ c. let b3 = c .before .before .before in let b5 = b3 .before .before in let b9 = b5 .before .before .before .before in let l = b5 .loop in let a = b9 .args in
+    omega (arith, walked.value-inside 30 ((a .mode)) ((a .count)) ((a .s .now)) ((b9 .pre .2)) ((l .inv .2)) ((l .at)) ((l .due)) _ ((l .inv .0)) _ ((b3 .past-key .ensures)) _ ((c .before .k .given .1))))
+    (λ c. let b3 = c .before .before .before in let b5 = b3 .before .before in let b9 = b5 .before .before .before .before in let l = b5 .loop in let a = b9 .args in
+    omega (arith, walked.value-inside 30 ((a .mode)) ((a .count)) ((a .s .now)) ((b9 .pre .2)) ((l .inv .2)) ((l .at)) ((l .due)) _ ((l .inv .0)) _ ((b3 .past-key .ensures)) _ ((c .before .k .given .1))))
+    (λ c. let b3 = c .before .before .before in let b5 = b3 .before .before in let b9 = b5 .before .before .before .before in let l = b5 .loop in let a = b9 .args in
+    omega (arith, walked.value-inside 30 ((a .mode)) ((a .count)) ((a .s .now)) ((b9 .pre .2)) ((l .inv .2)) ((l .at)) ((l .due)) _ ((l .inv .0)) _ ((b3 .past-key .ensures)) _ ((c .before .k .given .1))))
     (λ c. search needs)
     (λ c κs. search needs)
-    (λ c. omega (arith, walked.value-inside 30 ((c .before .before .before .before .before .before .before .before .before .before .before .args .mode)) ((c .before .before .before .before .before .before .before .before .before .before .before .args .count)) ((c .before .before .before .before .before .before .before .before .before .before .before .args .s .now)) ((c .before .before .before .before .before .before .before .before .before .before .before .pre .2)) ((c .before .before .before .before .before .before .before .loop .inv .2)) ((c .before .before .before .before .before .before .before .loop .at)) ((c .before .before .before .before .before .before .before .loop .due)) _ ((c .before .before .before .before .before .before .before .loop .inv .0)) _ ((c .before .before .before .before .before .past-key .ensures)) _ ((c .before .before .before .k .given .1))))
+    (λ c. let b3 = c .before .before .before in let b5 = b3 .before .before in let b7 = b5 .before .before in let b11 = b7 .before .before .before .before in let l = b7 .loop in let a = b11 .args in
+    omega (arith, walked.value-inside 30 ((a .mode)) ((a .count)) ((a .s .now)) ((b11 .pre .2)) ((l .inv .2)) ((l .at)) ((l .due)) _ ((l .inv .0)) _ ((b5 .past-key .ensures)) _ ((b3 .k .given .1))))
     (λ c. search needs)
     (λ c. search needs)
-    (λ c. let z = walked.value-faulty 30 ((c .before .before .before .before .before .before .before .before .before .before .before .before .before .args .mode)) ((c .before .before .before .before .before .before .before .before .before .before .before .before .before .args .count)) ((c .before .before .before .before .before .before .before .before .before .before .before .before .before .args .s .now)) ((c .before .before .before .before .before .before .before .before .before .before .before .before .before .pre .2)) ((c .before .before .before .before .before .before .before .before .before .loop .inv .2)) ((c .before .before .before .before .before .before .before .before .before .loop .at)) ((c .before .before .before .before .before .before .before .before .before .loop .due)) _ ((c .before .before .before .before .before .before .before .before .before .loop .inv .0)) _ ((c .before .before .before .before .before .before .before .past-key .ensures)) _ ((c .before .before .before .before .before .k .given .1)) _ ((c .before .before .one .ensures .0)) ((c .if2 .taken)) _ in (z .0, ((c .before .before .before .before .before .before .before .before .before .loop .inv .1)), z .1))
+    (λ c. let b2 = c .before .before in let b5 = b2 .before .before .before in let b7 = b5 .before .before in let b9 = b7 .before .before in let b13 = b9 .before .before .before .before in let l = b9 .loop in
+    let a = b13 .args in
+    let z = walked.value-faulty 30 ((a .mode)) ((a .count)) ((a .s .now)) ((b13 .pre .2)) ((l .inv .2)) ((l .at)) ((l .due)) _ ((l .inv .0)) _ ((b7 .past-key .ensures)) _ ((b5 .k .given .1)) _
+    ((b2 .one .ensures .0)) ((c .if2 .taken)) _ in (z .0, ((l .inv .1)), z .1))
     (λ c κs. search needs)
     (λ c. search needs)
     (λ c. search needs)
     (λ c. search needs)
-    (λ c κs. let a = ((c .before .before .before .before .before .before .before .before .before .before .before .before .before .loop .inv .0 .holds .named .counted)) in let b = ((c .before .before .before .before .before .before .before .before .before .before .before .before .before .loop .inv .0 .few)) in let d = ((c .before .before .before .before .before .before .before .before .before .before .before .before .before .loop .inv .0 .walking .within)) in let g = ((c .before .before .before .before .before .before .before .before .before .before .before .before .before .loop .inv .2)) in omega arith)
-    (λ c. let a = walked.value-inside 30 ((c .before .before .before .before .before .before .before .before .before .before .before .before .before .before .before .before .before .before .before .before .before .before .before .args .mode)) ((c .before .before .before .before .before .before .before .before .before .before .before .before .before .before .before .before .before .before .before .before .before .before .before .args .count)) ((c .before .before .before .before .before .before .before .before .before .before .before .before .before .before .before .before .before .before .before .before .before .before .before .args .s .now)) ((c .before .before .before .before .before .before .before .before .before .before .before .before .before .before .before .before .before .before .before .before .before .before .before .pre .2)) ((c .before .before .before .before .before .before .before .before .before .before .before .before .before .before .before .before .before .before .before .loop .inv .2)) ((c .before .before .before .before .before .before .before .before .before .before .before .before .before .before .before .before .before .before .before .loop .at)) ((c .before .before .before .before .before .before .before .before .before .before .before .before .before .before .before .before .before .before .before .loop .due)) _ ((c .before .before .before .before .before .before .before .before .before .before .before .before .before .before .before .before .before .before .before .loop .inv .0)) _ ((c .before .before .before .before .before .before .before .before .before .before .before .before .before .before .before .before .before .past-key .ensures)) _ ((c .before .before .before .before .before .before .before .before .before .before .before .before .before .before .before .k .given .1)) in let b = ((c .before .before .before .before .before .before .before .before .before .before .if2 .left)) in let d = ((c .before .before .before .before .before .before .before .before .before .before .before .before .before .before .before .before .before .before .before .loop .inv .2)) in omega arith)
-    (λ c. omega (arith, walked.two-due 30 ((c .before .before .before .before .before .before .before .before .before .before .before .before .before .before .before .before .before .before .before .before .before .before .before .args .mode)) ((c .before .before .before .before .before .before .before .before .before .before .before .before .before .before .before .before .before .before .before .before .before .before .before .args .count)) ((c .before .before .before .before .before .before .before .before .before .before .before .before .before .before .before .before .before .before .before .before .before .before .before .args .s .now)) ((c .before .before .before .before .before .before .before .before .before .before .before .before .before .before .before .before .before .before .before .before .before .before .before .pre .2)) ((c .before .before .before .before .before .before .before .before .before .before .before .before .before .before .before .before .before .before .before .loop .inv .2)) ((c .before .before .before .before .before .before .before .before .before .before .before .before .before .before .before .before .before .before .before .loop .at)) ((c .before .before .before .before .before .before .before .before .before .before .before .before .before .before .before .before .before .before .before .loop .due)) _ ((c .before .before .before .before .before .before .before .before .before .before .before .before .before .before .before .before .before .before .before .loop .inv .0)) _ ((c .before .before .before .before .before .before .before .before .before .before .before .before .before .before .before .before .before .past-key .ensures)) _ ((c .before .before .before .before .before .before .before .before .before .before .before .before .before .before .before .k .given .1)) _ ((c .before .before .before .before .before .before .before .before .before .before .before .before .one .ensures .0))))
-    (λ c. omega (arith, walked.value-inside 30 ((c .before .before .before .before .before .before .before .before .before .before .before .before .before .before .before .before .before .before .before .before .before .before .before .args .mode)) ((c .before .before .before .before .before .before .before .before .before .before .before .before .before .before .before .before .before .before .before .before .before .before .before .args .count)) ((c .before .before .before .before .before .before .before .before .before .before .before .before .before .before .before .before .before .before .before .before .before .before .before .args .s .now)) ((c .before .before .before .before .before .before .before .before .before .before .before .before .before .before .before .before .before .before .before .before .before .before .before .pre .2)) ((c .before .before .before .before .before .before .before .before .before .before .before .before .before .before .before .before .before .before .before .loop .inv .2)) ((c .before .before .before .before .before .before .before .before .before .before .before .before .before .before .before .before .before .before .before .loop .at)) ((c .before .before .before .before .before .before .before .before .before .before .before .before .before .before .before .before .before .before .before .loop .due)) _ ((c .before .before .before .before .before .before .before .before .before .before .before .before .before .before .before .before .before .before .before .loop .inv .0)) _ ((c .before .before .before .before .before .before .before .before .before .before .before .before .before .before .before .before .before .past-key .ensures)) _ ((c .before .before .before .before .before .before .before .before .before .before .before .before .before .before .before .k .given .1)), walked.goes-on 30 ((c .before .before .before .before .before .before .before .before .before .before .before .before .before .before .before .before .before .before .before .before .before .before .before .args .mode)) ((c .before .before .before .before .before .before .before .before .before .before .before .before .before .before .before .before .before .before .before .before .before .before .before .args .count)) ((c .before .before .before .before .before .before .before .before .before .before .before .before .before .before .before .before .before .before .before .before .before .before .before .args .s .now)) ((c .before .before .before .before .before .before .before .before .before .before .before .before .before .before .before .before .before .before .before .before .before .before .before .pre .2)) ((c .before .before .before .before .before .before .before .before .before .before .before .before .before .before .before .before .before .before .before .loop .inv .2)) ((c .before .before .before .before .before .before .before .before .before .before .before .before .before .before .before .before .before .before .before .loop .at)) ((c .before .before .before .before .before .before .before .before .before .before .before .before .before .before .before .before .before .before .before .loop .due)) _ ((c .before .before .before .before .before .before .before .before .before .before .before .before .before .before .before .before .before .before .before .loop .inv .0)) _ ((c .before .before .before .before .before .before .before .before .before .before .before .before .before .before .before .before .before .past-key .ensures)) _ ((c .before .before .before .before .before .before .before .before .before .before .before .before .before .before .before .k .given .1)) _ ((c .before .before .before .before .before .before .before .before .before .before .before .before .one .ensures .0)) ((c .before .before .before .before .before .before .before .before .before .before .if2 .left))))
-    (λ c. (walked.one-more 30 ((c .before .before .before .before .before .before .before .before .before .before .before .before .before .before .before .before .before .before .before .before .before .before .before .args .mode)) ((c .before .before .before .before .before .before .before .before .before .before .before .before .before .before .before .before .before .before .before .before .before .before .before .args .count)) ((c .before .before .before .before .before .before .before .before .before .before .before .before .before .before .before .before .before .before .before .before .before .before .before .args .s .now)) ((c .before .before .before .before .before .before .before .before .before .before .before .before .before .before .before .before .before .before .before .before .before .before .before .pre .2)) ((c .before .before .before .before .before .before .before .before .before .before .before .before .before .before .before .before .before .before .before .loop .inv .2)) ((c .before .before .before .before .before .before .before .before .before .before .before .before .before .before .before .before .before .before .before .loop .at)) ((c .before .before .before .before .before .before .before .before .before .before .before .before .before .before .before .before .before .before .before .loop .due)) _ ((c .before .before .before .before .before .before .before .before .before .before .before .before .before .before .before .before .before .before .before .loop .inv .0)) _ ((c .before .before .before .before .before .before .before .before .before .before .before .before .before .before .before .before .before .past-key .ensures)) _ ((c .before .before .before .before .before .before .before .before .before .before .before .before .before .before .before .k .given .1)) _ ((c .before .before .before .before .before .before .before .before .before .before .before .before .one .ensures .0)) ((c .before .before .before .before .before .before .before .before .before .before .if2 .left)) _ (λ done p few key value kept. looping.one-more-kept (c .before .before .before .before .before .before .before .before .before .before .before .before .before .before .before .before .before .before .before .before .before .before .before .args .deep) (layoutOf (c .before .before .before .before .before .before .before .before .before .before .before .before .before .before .before .before .before .before .before .before .before .before .before .args .layout)) ((c .before .before .before .before .before .before .before .before .before .before .before .before .before .before .before .before .before .before .before .before .before .before .before .args .start)) ((c .before .before .before .before .before .before .before .before .before .before .before .before .before .before .before .before .before .before .before .before .before .before .before .args .s .now)) ((c .before .before .before .before .before .before .before .before .before .before .before .before .before .before .before .before .before .before .before .loop .at)) _ (walked.value-inside 30 ((c .before .before .before .before .before .before .before .before .before .before .before .before .before .before .before .before .before .before .before .before .before .before .before .args .mode)) ((c .before .before .before .before .before .before .before .before .before .before .before .before .before .before .before .before .before .before .before .before .before .before .before .args .count)) ((c .before .before .before .before .before .before .before .before .before .before .before .before .before .before .before .before .before .before .before .before .before .before .before .args .s .now)) ((c .before .before .before .before .before .before .before .before .before .before .before .before .before .before .before .before .before .before .before .before .before .before .before .pre .2)) ((c .before .before .before .before .before .before .before .before .before .before .before .before .before .before .before .before .before .before .before .loop .inv .2)) ((c .before .before .before .before .before .before .before .before .before .before .before .before .before .before .before .before .before .before .before .loop .at)) ((c .before .before .before .before .before .before .before .before .before .before .before .before .before .before .before .before .before .before .before .loop .due)) _ ((c .before .before .before .before .before .before .before .before .before .before .before .before .before .before .before .before .before .before .before .loop .inv .0)) _ ((c .before .before .before .before .before .before .before .before .before .before .before .before .before .before .before .before .before .past-key .ensures)) _ ((c .before .before .before .before .before .before .before .before .before .before .before .before .before .before .before .k .given .1))) _ _ _ _ _ _ _ _ _ ((c .before .before .before .before .before .before .before .before .before .before .before .before .one .ensures .1)) ((c .before .before .before .before .before .before .before .before .before .keep .ensures)) ((c .before .before .before .before .before .note .ensures)) done p _ _ key value kept), ((c .before .before .before .before .before .note .ensures .0)) ∙ ((c .before .before .before .before .before .before .before .before .before .before .before .before .before .before .before .before .before .before .before .loop .inv .1)), ((c .before .before .before .before .before .before .before .before .before .before .before .before .before .before .before .before .before .before .before .loop .inv .2)))))
+    (λ c κs. let l = c .before .before .before .before .before .before .before .before .before .before .before .before .before .loop in
+    let a = ((l .inv .0 .holds .named .counted)) in let b = ((l .inv .0 .few)) in let d = ((l .inv .0 .walking .within)) in let g = ((l .inv .2)) in omega arith)
+    (λ c. let l = c .before .before .before .before .before .before .before .before .before .before .before .before .before .before .before .before .before .before .before .loop in
+    let a′ = c .before .before .before .before .before .before .before .before .before .before .before .before .before .before .before .before .before .before .before .before .before .before .before .args in
+    let a = walked.value-inside 30 ((a′ .mode)) ((a′ .count)) ((a′ .s .now))
+    ((c .before .before .before .before .before .before .before .before .before .before .before .before .before .before .before .before .before .before .before .before .before .before .before .pre .2))
+    ((l .inv .2)) ((l .at)) ((l .due)) _ ((l .inv .0)) _
+    ((c .before .before .before .before .before .before .before .before .before .before .before .before .before .before .before .before .before .past-key .ensures)) _
+    ((c .before .before .before .before .before .before .before .before .before .before .before .before .before .before .before .k .given .1)) in let b = ((c .before .before .before .before .before .before .before .before .before .before .if2 .left))
+    in let d = ((l .inv .2)) in omega arith)
+    (λ c. let b12 = c .before .before .before .before .before .before .before .before .before .before .before .before in let b15 = b12 .before .before .before in let b17 = b15 .before .before in
+    let b19 = b17 .before .before in let b23 = b19 .before .before .before .before in let l = b19 .loop in let a = b23 .args in
+    omega
+    (arith, walked.two-due 30 ((a .mode)) ((a .count)) ((a .s .now)) ((b23 .pre .2)) ((l .inv .2)) ((l .at)) ((l .due)) _ ((l .inv .0)) _ ((b17 .past-key .ensures)) _ ((b15 .k .given .1)) _ ((b12 .one .ensures .0))))
+    (λ c. let b10 = c .before .before .before .before .before .before .before .before .before .before in let b12 = b10 .before .before in let b15 = b12 .before .before .before in
+    let b17 = b15 .before .before in let b19 = b17 .before .before in let b23 = b19 .before .before .before .before in let l = b19 .loop in let a = b23 .args in
+    omega
+    (arith, walked.value-inside 30 ((a .mode)) ((a .count)) ((a .s .now)) ((b23 .pre .2)) ((l .inv .2)) ((l .at)) ((l .due)) _ ((l .inv .0)) _ ((b17 .past-key .ensures)) _ ((b15 .k .given .1)), walked.goes-on 30 ((a .mode)) ((a .count)) ((a .s .now)) ((b23 .pre .2)) ((l .inv .2)) ((l .at)) ((l .due)) _ ((l .inv .0)) _ ((b17 .past-key .ensures)) _ ((b15 .k .given .1)) _ ((b12 .one .ensures .0)) ((b10 .if2 .left))))
+    (λ c. let b5 = c .before .before .before .before .before in let b9 = b5 .before .before .before .before in let b10 = b9 .before in let b12 = b10 .before .before in let b15 = b12 .before .before .before in
+    let b17 = b15 .before .before in let b19 = b17 .before .before in let b23 = b19 .before .before .before .before in let l = b19 .loop in let a = b23 .args in (
+      walked.one-more 30 ((a .mode)) ((a .count)) ((a .s .now)) ((b23 .pre .2)) ((l .inv .2)) ((l .at)) ((l .due)) _ ((l .inv .0)) _ ((b17 .past-key .ensures)) _ ((b15 .k .given .1)) _ ((b12 .one .ensures .0))
+          ((b10 .if2 .left)) _ (λ done p few key value kept. looping.one-more-kept (a .deep) (layoutOf (a .layout)) ((a .start)) ((a .s .now)) ((l .at)) _
+          (walked.value-inside 30 ((a .mode)) ((a .count)) ((a .s .now)) ((b23 .pre .2)) ((l .inv .2)) ((l .at)) ((l .due)) _ ((l .inv .0)) _ ((b17 .past-key .ensures)) _ ((b15 .k .given .1))) _ _ _ _ _ _ _ _ _
+          ((b12 .one .ensures .1)) ((b9 .keep .ensures)) ((b5 .note .ensures)) done p _ _ key value kept),
+      ((b5 .note .ensures .0)) ∙ ((l .inv .1)),
+      ((l .inv .2)),
+    )))

@@ -17,6 +17,9 @@ keep-spec =
     (λ c. search needs)
     (λ c. search needs)
     (λ c κs. search needs)
-    (λ c. keeping.stays ((c .before .before .before .args .v)) ((c .before .before .before .args .j)) ((c .before .before .before .args .first)) _ _ _ ((c .before .first .given .1)))
-    (λ c. keeping.begins ((c .before .before .before .before .before .before .args .v)) ((c .before .before .before .before .before .before .args .j)) ((c .before .before .before .before .before .before .args .first)) _ ((c .before .before .before .before .first2 .given .1)) _ _ ((c .before .v .given .1)) _ refl)
-    (λ c. keeping.goes-on ((c .before .before .before .before .before .before .before .args .v)) ((c .before .before .before .before .before .before .before .args .j)) ((c .before .before .before .before .before .before .before .args .first)) _ ((c .before .before .before .before .before .first2 .given .1)) _ _ ((c .before .before .v2 .given .1)) ((c .plus .ensures))))
+    (λ c. let a = c .before .before .before .args in
+    keeping.stays ((a .v)) ((a .j)) ((a .first)) _ _ _ ((c .before .first .given .1)))
+    (λ c. let b4 = c .before .before .before .before in let a = b4 .before .before .args in
+    keeping.begins ((a .v)) ((a .j)) ((a .first)) _ ((b4 .first2 .given .1)) _ _ ((c .before .v .given .1)) _ refl)
+    (λ c. let b2 = c .before .before in let b5 = b2 .before .before .before in let a = b5 .before .before .args in
+    keeping.goes-on ((a .v)) ((a .j)) ((a .first)) _ ((b5 .first2 .given .1)) _ _ ((b2 .v2 .given .1)) ((c .plus .ensures))))

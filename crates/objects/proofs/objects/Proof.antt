@@ -37,15 +37,41 @@ objects-spec =
     (λ c. search needs)
     (λ c. search needs)
     (λ c. search needs)
-    (λ c κs. (length-replicate {A = ℕ} 1024 0, length-replicate {A = ℕ} 1024 0, opens.modes ((c .before .before .before .before .before .before .before .before .before .args .c .now)) _ ((c .before .before .before .before .before .before .map .ensures)) _ _ _ ((c .before .before .before .before .mode .given .1))))
-    (λ c. opens.size-inside ((c .before .before .before .before .before .before .before .before .before .before .before .before .before .args .c .now)) _ ((c .before .before .before .before .before .before .before .before .before .before .map .ensures)) _ _ _ ((c .before .before .before .before .before .before .before .before .mode .given .1)))
-    (λ c. opens.size-inside ((c .before .before .before .before .before .before .before .before .before .before .before .before .before .args .c .now)) _ ((c .before .before .before .before .before .before .before .before .before .before .map .ensures)) _ _ _ ((c .before .before .before .before .before .before .before .before .mode .given .1)))
+    (λ c κs. let b4 = c .before .before .before .before in let b6 = b4 .before .before in let a = b6 .before .before .before .args in
+    (length-replicate {A = ℕ} 1024 0, length-replicate {A = ℕ} 1024 0, opens.modes ((a .c .now)) _ ((b6 .map .ensures)) _ _ _ ((b4 .mode .given .1))))
+    (λ c. let b8 = c .before .before .before .before .before .before .before .before in let b10 = b8 .before .before in let a = b10 .before .before .before .args in
+    opens.size-inside ((a .c .now)) _ ((b10 .map .ensures)) _ _ _ ((b8 .mode .given .1)))
+    (λ c. let b8 = c .before .before .before .before .before .before .before .before in let b10 = b8 .before .before in let a = b10 .before .before .before .args in
+    opens.size-inside ((a .c .now)) _ ((b10 .map .ensures)) _ _ _ ((b8 .mode .given .1)))
     (λ c. search needs)
     (λ c. search needs)
     (λ c. search needs)
     (λ c κs. search needs)
-    (λ c. opens.size-inside ((c .before .before .before .before .before .before .before .before .before .before .before .before .before .before .before .before .before .args .c .now)) _ ((c .before .before .before .before .before .before .before .before .before .before .before .before .before .before .map .ensures)) _ _ _ ((c .before .before .before .before .before .before .before .before .before .before .before .before .mode .given .1)))
-    (λ c. (opens.ends-faulty ((c .before .before .before .before .before .before .before .before .before .before .before .before .before .before .before .before .before .before .before .args .c .now)) _ ((c .before .before .before .before .before .before .before .before .before .before .before .before .before .before .before .before .map .ensures)) _ _ _ ((c .before .before .before .before .before .before .before .before .before .before .before .before .before .before .mode .given .1)) 30 (let g = ((c .before .before .before .before .before .before .before .before .before .before .before .before .before .before .before .before .before .before .before .good)) in omega arith) _ ((c .before .before .before .before .before .before .before .before .before .entries .ensures .0)) ((c .if1 .taken)), walks.entries-judged (c .before .before .before .before .before .before .before .before .before .before .before .before .before .before .before .before .before .before .before .args .deep) (layoutOf (c .before .before .before .before .before .before .before .before .before .before .before .before .before .before .before .before .before .before .before .args .layout)) ((c .before .before .before .before .before .before .before .before .before .before .before .before .before .before .before .before .before .before .before .args .c .now)) ((c .before .before .before .before .before .before .before .before .before .before .before .before .before .before .before .before .before .before .before .args .start)) _ ((c .before .before .before .before .before .before .before .before .before .before .before .before .before .before .before .before .map .ensures)) _ _ _ ((c .before .before .before .before .before .before .before .before .before .before .before .before .before .before .mode .given .1)) _ _ _ _ ((c .before .before .before .before .before .before .before .before .before .entries .ensures .2)) ((c .before .before .verdict .result)) ((c .before .before .verdict .ensures))))
-    (λ c. let g = ((c .before .before .before .before .before .before .before .before .before .before .before .before .before .before .before .before .before .before .before .before .good)) in let a = opens.size-inside ((c .before .before .before .before .before .before .before .before .before .before .before .before .before .before .before .before .before .before .before .before .args .c .now)) _ ((c .before .before .before .before .before .before .before .before .before .before .before .before .before .before .before .before .before .map .ensures)) _ _ _ ((c .before .before .before .before .before .before .before .before .before .before .before .before .before .before .before .mode .given .1)) in let b = ((c .before .if1 .left)) in omega arith)
-    (λ c. (((c .skip .ensures)) ∙ ap (λ s. code (itemEnd 31 s)) (part-to-end ((c .before .before .before .before .before .before .before .args .c .now)) 0), walks.no-map (c .before .before .before .before .before .before .before .args .deep) (layoutOf (c .before .before .before .before .before .before .before .args .layout)) ((c .before .before .before .before .before .before .before .args .c .now)) ((c .before .before .before .before .before .before .before .args .start)) _ ((c .before .before .before .before .map .ensures)) ((c .before .before .enum-told .given .1))))
-    (λ c. (opens.ends-inside ((c .before .before .before .before .before .before .before .before .before .before .before .before .before .before .before .before .before .before .before .before .args .c .now)) _ ((c .before .before .before .before .before .before .before .before .before .before .before .before .before .before .before .before .before .map .ensures)) _ _ _ ((c .before .before .before .before .before .before .before .before .before .before .before .before .before .before .before .mode .given .1)) 30 (let g = ((c .before .before .before .before .before .before .before .before .before .before .before .before .before .before .before .before .before .before .before .before .good)) in omega arith) _ ((c .before .before .before .before .before .before .before .before .before .before .entries .ensures .0)) ((c .before .if1 .left)), walks.entries-judged (c .before .before .before .before .before .before .before .before .before .before .before .before .before .before .before .before .before .before .before .before .args .deep) (layoutOf (c .before .before .before .before .before .before .before .before .before .before .before .before .before .before .before .before .before .before .before .before .args .layout)) ((c .before .before .before .before .before .before .before .before .before .before .before .before .before .before .before .before .before .before .before .before .args .c .now)) ((c .before .before .before .before .before .before .before .before .before .before .before .before .before .before .before .before .before .before .before .before .args .start)) _ ((c .before .before .before .before .before .before .before .before .before .before .before .before .before .before .before .before .before .map .ensures)) _ _ _ ((c .before .before .before .before .before .before .before .before .before .before .before .before .before .before .before .mode .given .1)) _ _ _ _ ((c .before .before .before .before .before .before .before .before .before .before .entries .ensures .2)) ((c .before .before .before .verdict .result)) ((c .before .before .before .verdict .ensures)))))
+    (λ c. let b12 = c .before .before .before .before .before .before .before .before .before .before .before .before in let b14 = b12 .before .before in let a = b14 .before .before .before .args in
+    opens.size-inside ((a .c .now)) _ ((b14 .map .ensures)) _ _ _ ((b12 .mode .given .1)))
+    (λ c. let a = c .before .before .before .before .before .before .before .before .before .before .before .before .before .before .before .before .before .before .before .args in (
+      opens.ends-faulty ((a .c .now)) _ ((c .before .before .before .before .before .before .before .before .before .before .before .before .before .before .before .before .map .ensures)) _ _ _
+          ((c .before .before .before .before .before .before .before .before .before .before .before .before .before .before .mode .given .1)) 30
+          (let g = ((c .before .before .before .before .before .before .before .before .before .before .before .before .before .before .before .before .before .before .before .good)) in omega arith) _
+          ((c .before .before .before .before .before .before .before .before .before .entries .ensures .0)) ((c .if1 .taken)),
+      walks.entries-judged (a .deep) (layoutOf (a .layout)) ((a .c .now)) ((a .start)) _
+          ((c .before .before .before .before .before .before .before .before .before .before .before .before .before .before .before .before .map .ensures)) _ _ _
+          ((c .before .before .before .before .before .before .before .before .before .before .before .before .before .before .mode .given .1)) _ _ _ _
+          ((c .before .before .before .before .before .before .before .before .before .entries .ensures .2)) ((c .before .before .verdict .result)) ((c .before .before .verdict .ensures)),
+    ))
+    (λ c. let g = ((c .before .before .before .before .before .before .before .before .before .before .before .before .before .before .before .before .before .before .before .before .good)) in let a = opens.size-inside
+    ((c .before .before .before .before .before .before .before .before .before .before .before .before .before .before .before .before .before .before .before .before .args .c .now)) _
+    ((c .before .before .before .before .before .before .before .before .before .before .before .before .before .before .before .before .before .map .ensures)) _ _ _
+    ((c .before .before .before .before .before .before .before .before .before .before .before .before .before .before .before .mode .given .1)) in let b = ((c .before .if1 .left)) in omega arith)
+    (λ c. let b2 = c .before .before in let b4 = b2 .before .before in let a = b4 .before .before .before .args in
+    (((c .skip .ensures)) ∙ ap (λ s. code (itemEnd 31 s)) (part-to-end ((a .c .now)) 0), walks.no-map (a .deep) (layoutOf (a .layout)) ((a .c .now)) ((a .start)) _ ((b4 .map .ensures)) ((b2 .enum-told .given .1))))
+    (λ c. let a = c .before .before .before .before .before .before .before .before .before .before .before .before .before .before .before .before .before .before .before .before .args in (
+      opens.ends-inside ((a .c .now)) _ ((c .before .before .before .before .before .before .before .before .before .before .before .before .before .before .before .before .before .map .ensures)) _ _ _
+          ((c .before .before .before .before .before .before .before .before .before .before .before .before .before .before .before .mode .given .1)) 30
+          (let g = ((c .before .before .before .before .before .before .before .before .before .before .before .before .before .before .before .before .before .before .before .before .good)) in omega arith) _
+          ((c .before .before .before .before .before .before .before .before .before .before .entries .ensures .0)) ((c .before .if1 .left)),
+      walks.entries-judged (a .deep) (layoutOf (a .layout)) ((a .c .now)) ((a .start)) _
+          ((c .before .before .before .before .before .before .before .before .before .before .before .before .before .before .before .before .before .map .ensures)) _ _ _
+          ((c .before .before .before .before .before .before .before .before .before .before .before .before .before .before .before .mode .given .1)) _ _ _ _
+          ((c .before .before .before .before .before .before .before .before .before .before .entries .ensures .2)) ((c .before .before .before .verdict .result)) ((c .before .before .before .verdict .ensures)),
+    )))

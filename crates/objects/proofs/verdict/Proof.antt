@@ -27,6 +27,9 @@ verdict-spec =
     (λ c. search needs)
     (λ c. search needs)
     (λ c. search needs)
-    (λ c. ends.names-conclude ((c .before .before .before .before .before .before .before .before .before .before .before .before .args .m .now)) ((c .before .before .before .before .before .before .before .before .before .before .before .before .args .names)) ((c .before .before .before .before .before .before .before .before .before .before .before .before .args .first)) ((c .before .before .before .before .before .before .before .before .before .before .before .before .args .left .now)) ((c .before .before .before .before .before .before .before .before .before .before .before .before .args .size .now)) (c .before .before .before .before .before .before .before .before .before .before .before .before .pre) _ ((c .before .before .before .before .judge .ensures)) _ ((c .before .n .given .1)))
-    (λ c. ends.fault-concludes ((c .before .before .before .before .before .before .before .before .before .before .before .before .before .before .args .m .now)) ((c .before .before .before .before .before .before .before .before .before .before .before .before .before .before .args .names)) ((c .before .before .before .before .before .before .before .before .before .before .before .before .before .before .args .first)) ((c .before .before .before .before .before .before .before .before .before .before .before .before .before .before .args .left .now)) ((c .before .before .before .before .before .before .before .before .before .before .before .before .before .before .args .size .now)) (c .before .before .before .before .before .before .before .before .before .before .before .before .before .before .pre) _ ((c .before .before .before .before .before .before .judge .ensures)) ((c .before .before .before .enum-told .given .1)) _ _ _ ((c .before .first .given .1)))
-    (λ c. ends.fine-concludes ((c .before .before .before .before .before .before .before .before .before .before .before .before .before .before .args .m .now)) ((c .before .before .before .before .before .before .before .before .before .before .before .before .before .before .args .names)) ((c .before .before .before .before .before .before .before .before .before .before .before .before .before .before .args .first)) ((c .before .before .before .before .before .before .before .before .before .before .before .before .before .before .args .left .now)) ((c .before .before .before .before .before .before .before .before .before .before .before .before .before .before .args .size .now)) (c .before .before .before .before .before .before .before .before .before .before .before .before .before .before .pre) _ ((c .before .before .before .before .before .before .judge .ensures)) ((c .before .before .before .enum-told .given .1)) _ ((c .before .first2 .given .1))))
+    (λ c. let b4 = c .before .before .before .before in let b12 = b4 .before .before .before .before .before .before .before .before in let a = b12 .args in
+    ends.names-conclude ((a .m .now)) ((a .names)) ((a .first)) ((a .left .now)) ((a .size .now)) (b12 .pre) _ ((b4 .judge .ensures)) _ ((c .before .n .given .1)))
+    (λ c. let b3 = c .before .before .before in let b6 = b3 .before .before .before in let b14 = b6 .before .before .before .before .before .before .before .before in let a = b14 .args in
+    ends.fault-concludes ((a .m .now)) ((a .names)) ((a .first)) ((a .left .now)) ((a .size .now)) (b14 .pre) _ ((b6 .judge .ensures)) ((b3 .enum-told .given .1)) _ _ _ ((c .before .first .given .1)))
+    (λ c. let b3 = c .before .before .before in let b6 = b3 .before .before .before in let b14 = b6 .before .before .before .before .before .before .before .before in let a = b14 .args in
+    ends.fine-concludes ((a .m .now)) ((a .names)) ((a .first)) ((a .left .now)) ((a .size .now)) (b14 .pre) _ ((b6 .judge .ensures)) ((b3 .enum-told .given .1)) _ ((c .before .first2 .given .1))))

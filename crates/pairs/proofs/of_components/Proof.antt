@@ -65,8 +65,12 @@ of-components-spec =
     (λ c.
     let at12 = c .before .before .before .before .before .before .before .before .before .before .before .before in
     let at34 = at12 .before .before .before .before .before .before .before .before .before .before .before .before .before .before .before .before .before .before .before .before .before .before in
-    writing.same-length (written.both-seen (partsAt (at34 .args .first .now) (at34 .args .a .now) (at34 .args .c) (at34 .args .m)) (partsAt (at34 .args .second .now) (at34 .args .b .now) (at34 .args .d) (at34 .args .n)) (at34 .args .i) (at34 .args .j) (at34 .args .at) (rw (whole (at34 .args .first .now), whole (at34 .args .a .now), whole (at34 .args .second .now), whole (at34 .args .b .now)) at (at12 .of-first .ensures)) (rw (whole (at34 .args .first .now), whole (at34 .args .a .now), whole (at34 .args .second .now), whole (at34 .args .b .now)) at (c .before .before .before .of-second .ensures)) (c .either .ensures) .wrote))
+    writing.same-length (written.both-seen (partsAt (at34 .args .first .now) (at34 .args .a .now) (at34 .args .c) (at34 .args .m)) (partsAt (at34 .args .second .now) (at34 .args .b .now) (at34 .args .d) (at34 .args .n))
+    (at34 .args .i) (at34 .args .j) (at34 .args .at) (rw (whole (at34 .args .first .now), whole (at34 .args .a .now), whole (at34 .args .second .now), whole (at34 .args .b .now)) at (at12 .of-first .ensures))
+    (rw (whole (at34 .args .first .now), whole (at34 .args .a .now), whole (at34 .args .second .now), whole (at34 .args .b .now)) at (c .before .before .before .of-second .ensures)) (c .either .ensures) .wrote))
     (λ c.
     let at12 = c .before .before .before .before .before .before .before .before .before .before .before .before in
     let at34 = at12 .before .before .before .before .before .before .before .before .before .before .before .before .before .before .before .before .before .before .before .before .before .before in
-    written.both-seen (partsAt (at34 .args .first .now) (at34 .args .a .now) (at34 .args .c) (at34 .args .m)) (partsAt (at34 .args .second .now) (at34 .args .b .now) (at34 .args .d) (at34 .args .n)) (at34 .args .i) (at34 .args .j) (at34 .args .at) (rw (whole (at34 .args .first .now), whole (at34 .args .a .now), whole (at34 .args .second .now), whole (at34 .args .b .now)) at (at12 .of-first .ensures)) (rw (whole (at34 .args .first .now), whole (at34 .args .a .now), whole (at34 .args .second .now), whole (at34 .args .b .now)) at (c .before .before .before .of-second .ensures)) (c .either .ensures)))
+    written.both-seen (partsAt (at34 .args .first .now) (at34 .args .a .now) (at34 .args .c) (at34 .args .m)) (partsAt (at34 .args .second .now) (at34 .args .b .now) (at34 .args .d) (at34 .args .n)) (at34 .args .i)
+    (at34 .args .j) (at34 .args .at) (rw (whole (at34 .args .first .now), whole (at34 .args .a .now), whole (at34 .args .second .now), whole (at34 .args .b .now)) at (at12 .of-first .ensures))
+    (rw (whole (at34 .args .first .now), whole (at34 .args .a .now), whole (at34 .args .second .now), whole (at34 .args .b .now)) at (c .before .before .before .of-second .ensures)) (c .either .ensures)))

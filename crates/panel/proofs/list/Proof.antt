@@ -28,15 +28,27 @@ list-spec =
     (λ c. search needs)
     (λ c. search needs)
     (λ c. search needs)
-    (λ c κs. sym (c .before .before .before .before .sound .ensures) ∙ (c .before .before .before .if1 .taken))
-    (λ c. answers.too-long _ _ (c .before .before .before .before .before .before .before .before .before .before .before .before .before .args .text .now) (answers.all-listed (c .before .before .before .before .before .before .before .before .before .before .before .before .before .args .file .now) (c .before .before .before .before .before .before .before .before .before .before .before .before .before .args .table .now) (c .before .before .before .before .before .before .before .before .before .before .before .before .before .args .objects) (c .before .before .before .before .before .before .before .before .before .before .before .before .before .args .components) (sym (c .before .before .before .before .before .before .if1 .taken) ∙ (c .before .before .before .before .before .before .before .sound .ensures) ∙ rows.lent (c .before .before .before .before .before .before .before .before .before .before .before .before .before .args .file .now) (c .before .before .before .before .before .before .before .before .before .before .before .before .before .args .table .now) (λ f t. sound f t (c .before .before .before .before .before .before .before .before .before .before .before .before .before .args .objects) (c .before .before .before .before .before .before .before .before .before .before .before .before .before .args .components)))) _ ((writing.as-bytes (rows.lent (c .before .before .before .before .before .before .before .before .before .before .before .before .before .args .file .now) (c .before .before .before .before .before .before .before .before .before .before .before .before .before .args .table .now) (λ f t. text f t (more false f t) (c .before .before .before .before .before .before .before .before .before .before .before .before .before .args .objects) (c .before .before .before .before .before .before .before .before .before .before .before .before .before .args .components))) (c .before .before .whole .ensures)) .past) (c .if2 .taken))
+    (λ c κs. let b3 = c .before .before .before in
+    sym (b3 .before .sound .ensures) ∙ (b3 .if1 .taken))
+    (λ c. let b2 = c .before .before in let b6 = b2 .before .before .before .before in let b7 = b6 .before in let a = b7 .before .before .before .before .before .before .args in
+    answers.too-long _ _ (a .text .now)
+    (answers.all-listed (a .file .now) (a .table .now) (a .objects) (a .components) (sym (b6 .if1 .taken) ∙ (b7 .sound .ensures) ∙ rows.lent (a .file .now) (a .table .now) (λ f t. sound f t (a .objects) (a .components))))
+    _ ((writing.as-bytes (rows.lent (a .file .now) (a .table .now) (λ f t. text f t (more false f t) (a .objects) (a .components))) (b2 .whole .ensures)) .past) (c .if2 .taken))
     (λ c. search needs)
     (λ c. search needs)
     (λ c. search needs)
     (λ c. search needs)
     (λ c. search needs)
     (λ c. search needs)
-    (λ c κs. sym (c .before .before .before .before .before .before .before .before .before .before .sound .ensures) ∙ (c .before .before .before .before .before .before .before .before .before .if1 .taken))
+    (λ c κs. let b9 = c .before .before .before .before .before .before .before .before .before in
+    sym (b9 .before .sound .ensures) ∙ (b9 .if1 .taken))
     (λ c. search needs)
-    (λ c. answers.listed-whole _ _ (c .before .before .before .before .before .before .before .before .before .before .before .before .before .before .before .before .before .before .before .args .text .now) (answers.all-listed (c .before .before .before .before .before .before .before .before .before .before .before .before .before .before .before .before .before .before .before .args .file .now) (c .before .before .before .before .before .before .before .before .before .before .before .before .before .before .before .before .before .before .before .args .table .now) (c .before .before .before .before .before .before .before .before .before .before .before .before .before .before .before .before .before .before .before .args .objects) (c .before .before .before .before .before .before .before .before .before .before .before .before .before .before .before .before .before .before .before .args .components) (sym (c .before .before .before .before .before .before .before .before .before .before .before .before .if1 .taken) ∙ (c .before .before .before .before .before .before .before .before .before .before .before .before .before .sound .ensures) ∙ rows.lent (c .before .before .before .before .before .before .before .before .before .before .before .before .before .before .before .before .before .before .before .args .file .now) (c .before .before .before .before .before .before .before .before .before .before .before .before .before .before .before .before .before .before .before .args .table .now) (λ f t. sound f t (c .before .before .before .before .before .before .before .before .before .before .before .before .before .before .before .before .before .before .before .args .objects) (c .before .before .before .before .before .before .before .before .before .before .before .before .before .before .before .before .before .before .before .args .components)))) _ ((writing.as-bytes (rows.lent (c .before .before .before .before .before .before .before .before .before .before .before .before .before .before .before .before .before .before .before .args .file .now) (c .before .before .before .before .before .before .before .before .before .before .before .before .before .before .before .before .before .before .before .args .table .now) (λ f t. text f t (more false f t) (c .before .before .before .before .before .before .before .before .before .before .before .before .before .before .before .before .before .before .before .args .objects) (c .before .before .before .before .before .before .before .before .before .before .before .before .before .before .before .before .before .before .before .args .components))) (c .before .before .before .before .before .before .before .before .whole .ensures)) .past) (c .before .before .before .before .before .before .if2 .left) _ _ (writing.as-bytes (rows.lent (c .before .before .before .before .before .before .before .before .before .before .before .before .before .before .before .before .before .before .before .args .file .now) (c .before .before .before .before .before .before .before .before .before .before .before .before .before .before .before .before .before .before .before .args .table .now) (λ f t. text f t (more false f t) (c .before .before .before .before .before .before .before .before .before .before .before .before .before .before .before .before .before .before .before .args .objects) (c .before .before .before .before .before .before .before .before .before .before .before .before .before .before .before .before .before .before .before .args .components))) (c .before .before .whole2 .ensures)))
-    (λ c. answers.refused _ (c .before .before .before .before .before .before .before .args .text .now) (answers.not-listed (c .before .before .before .before .before .before .before .args .file .now) (c .before .before .before .before .before .before .before .args .table .now) (c .before .before .before .before .before .before .before .args .objects) (c .before .before .before .before .before .before .before .args .components) (sym (c .if1 .left) ∙ (c .before .sound .ensures) ∙ rows.lent (c .before .before .before .before .before .before .before .args .file .now) (c .before .before .before .before .before .before .before .args .table .now) (λ f t. sound f t (c .before .before .before .before .before .before .before .args .objects) (c .before .before .before .before .before .before .before .args .components))))))
+    (λ c. let b2 = c .before .before in let b6 = b2 .before .before .before .before in let b8 = b6 .before .before in let b12 = b8 .before .before .before .before in let b13 = b12 .before in
+    let a = b13 .before .before .before .before .before .before .args in
+    answers.listed-whole _ _ (a .text .now)
+    (answers.all-listed (a .file .now) (a .table .now) (a .objects) (a .components) (sym (b12 .if1 .taken) ∙ (b13 .sound .ensures) ∙ rows.lent (a .file .now) (a .table .now) (λ f t. sound f t (a .objects) (a .components))))
+    _ ((writing.as-bytes (rows.lent (a .file .now) (a .table .now) (λ f t. text f t (more false f t) (a .objects) (a .components))) (b8 .whole .ensures)) .past) (b6 .if2 .left) _ _
+    (writing.as-bytes (rows.lent (a .file .now) (a .table .now) (λ f t. text f t (more false f t) (a .objects) (a .components))) (b2 .whole2 .ensures)))
+    (λ c. let a = c .before .before .before .before .before .before .before .args in
+    answers.refused _ (a .text .now)
+    (answers.not-listed (a .file .now) (a .table .now) (a .objects) (a .components) (sym (c .if1 .left) ∙ (c .before .sound .ensures) ∙ rows.lent (a .file .now) (a .table .now) (λ f t. sound f t (a .objects) (a .components))))))

@@ -17,4 +17,5 @@ refusal-spec =
     (λ c. answers.too-long _ _ ((c .before .before .before .before .before .args .text .now)) refl _ ((c .before .before .refused .ensures .past)) ((c .if1 .taken)))
     (λ c κs. search needs)
     (λ c. search needs)
-    (λ c. answers.listed-whole _ _ ((c .before .before .before .before .before .before .before .before .before .args .text .now)) refl _ ((c .before .before .before .before .before .before .refused .ensures .past)) ((c .before .before .before .before .if1 .left)) _ _ ((c .before .before .refused2 .ensures))))
+    (λ c. let b2 = c .before .before in let b4 = b2 .before .before in let b6 = b4 .before .before in let a = b6 .before .before .before .args in
+    answers.listed-whole _ _ ((a .text .now)) refl _ ((b6 .refused .ensures .past)) ((b4 .if1 .left)) _ _ ((b2 .refused2 .ensures))))

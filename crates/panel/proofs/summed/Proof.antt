@@ -23,7 +23,10 @@ summed-spec =
     (λ c. search needs)
     (λ c. search needs)
     (λ c. search needs)
-    (λ c κs. rows.lent ((c .before .before .before .before .before .before .args .file .now)) ((c .before .before .before .before .before .before .args .table .now)) (λ f t. sound f t ((c .before .before .before .before .before .before .args .objects)) ((c .before .before .before .before .before .before .args .components))) ∙ (c .before .before .before .before .before .before .pre))
+    (λ c κs. let b6 = c .before .before .before .before .before .before in let a = b6 .args in
+    rows.lent ((a .file .now)) ((a .table .now)) (λ f t. sound f t ((a .objects)) ((a .components))) ∙ (b6 .pre))
     (λ c κs. search needs)
     (λ c. search needs)
-    (λ c. unfold summaryText in writing.then (writing.as-bytes (rows.lent ((c .before .before .before .before .before .before .before .before .before .before .before .before .before .args .file .now)) ((c .before .before .before .before .before .before .before .before .before .before .before .before .before .args .table .now)) (λ f t. text f t (more true f t) ((c .before .before .before .before .before .before .before .before .before .before .before .before .before .args .objects)) ((c .before .before .before .before .before .before .before .before .before .before .before .before .before .args .components)))) ((c .before .before .before .before .before .before .whole .ensures))) ((c .before .before .bytes-line .ensures))))
+    (λ c. let b2 = c .before .before in let b6 = b2 .before .before .before .before in let a = b6 .before .before .before .before .before .before .before .args in
+    unfold summaryText in writing.then (writing.as-bytes (rows.lent ((a .file .now)) ((a .table .now)) (λ f t. text f t (more true f t) ((a .objects)) ((a .components)))) ((b6 .whole .ensures)))
+    ((b2 .bytes-line .ensures))))

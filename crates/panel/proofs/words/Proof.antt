@@ -9,4 +9,6 @@ use Rattle.panel.proofs.words.Lts as lts
 use Rattle.put.proofs.word.Reads as word-reads
 
 pub words-spec : {M : Type 1} → statement M
-words-spec = tie.close (tie.spec (λ c. answers.too-long _ ((c .before .before .before .args .said .now)) ((c .before .before .before .args .text .now)) refl _ (answers.length-counted ((c .before .before .before .args .said .now)) (search needs)) ((c .if1 .taken))) (λ c κs. search needs) (λ c. search needs) (λ c. answers.listed-whole _ ((c .before .before .before .before .before .before .before .args .said .now)) ((c .before .before .before .before .before .before .before .args .text .now)) refl _ (answers.length-counted ((c .before .before .before .before .before .before .before .args .said .now)) (search needs)) ((c .before .before .before .before .if1 .left)) _ _ ((c .before .before .word .ensures))))
+words-spec = tie.close (tie.spec (λ c. let a = c .before .before .before .args in
+    answers.too-long _ ((a .said .now)) ((a .text .now)) refl _ (answers.length-counted ((a .said .now)) (search needs)) ((c .if1 .taken))) (λ c κs. search needs) (λ c. search needs) (λ c. let b2 = c .before .before in let b4 = b2 .before .before in let a = b4 .before .before .before .args in
+    answers.listed-whole _ ((a .said .now)) ((a .text .now)) refl _ (answers.length-counted ((a .said .now)) (search needs)) ((b4 .if1 .left)) _ _ ((b2 .word .ensures))))

@@ -59,8 +59,13 @@ of-first-spec =
     let at6 = c .before .before .before .before .before .before in
     let at13 = at6 .before .before .before .before .before .before .before in
     let at14 = at13 .before in
-    let at21 = at14 .before .before .before .before .before .before .before in
-    (omega arith, turns.going-less (partsAt (at21 .args .first .now) (at21 .args .a .now) (at21 .args .p) (at21 .args .m)) (partsAt (at21 .args .second .now) (at21 .args .b .now) (at21 .args .q) (at21 .args .n)) (at21 .args .i) (at21 .args .j) (at21 .args .at) _ (at14 .loop .inv .1) (match.parts-step (at21 .args .first .now) (at21 .args .a .now) (at21 .args .p) (at21 .args .m) (at14 .loop .k) (at13 .loop-test .taken)) (rw (whole (at21 .args .first .now), whole (at21 .args .a .now), whole (at21 .args .second .now), whole (at21 .args .b .now)) at (at6 .of-part .ensures)) (c .before .before .before .either .ensures) (c .before .before .either2 .ensures) (c .before .either3 .ensures) (c .either4 .ensures)))
+    let at21 = at14 .before .before .before .before .before .before .before in (
+      omega arith,
+      turns.going-less (partsAt (at21 .args .first .now) (at21 .args .a .now) (at21 .args .p) (at21 .args .m)) (partsAt (at21 .args .second .now) (at21 .args .b .now) (at21 .args .q) (at21 .args .n))
+          (at21 .args .i) (at21 .args .j) (at21 .args .at) _ (at14 .loop .inv .1) (match.parts-step (at21 .args .first .now) (at21 .args .a .now) (at21 .args .p) (at21 .args .m) (at14 .loop .k) (at13 .loop-test .taken))
+          (rw (whole (at21 .args .first .now), whole (at21 .args .a .now), whole (at21 .args .second .now), whole (at21 .args .b .now)) at (at6 .of-part .ensures)) (c .before .before .before .either .ensures)
+          (c .before .before .either2 .ensures) (c .before .either3 .ensures) (c .either4 .ensures),
+    ))
     (λ c κs. search needs)
     (λ c.
     let at9 = c .before .before .before .before .before .before .before .before .before in

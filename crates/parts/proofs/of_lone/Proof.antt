@@ -28,7 +28,8 @@ of-lone-spec =
     (λ c. search needs)
     (λ c. search needs)
     (λ c. search needs)
-    (λ c κs. rw (whole ((c .before .before .before .before .before .before .before .before .before .before .before .args .b .now))) (omega (arith, (c .before .before .before .before .before .before .before .before .before .before .before .pre .0))))
+    (λ c κs. let b11 = c .before .before .before .before .before .before .before .before .before .before .before in let a = b11 .args in
+    rw (whole ((a .b .now))) (omega (arith, (b11 .pre .0))))
     (λ c κs.
     let at12 = c .before .before .before .before .before .before .before .before .before .before .before .before in
     match.asked (at12 .args .first .now) (at12 .args .a .now) (at12 .args .ix .now) (at12 .args .p) (at12 .args .n) (at12 .args .sorted) (at12 .pre .1))
@@ -37,8 +38,12 @@ of-lone-spec =
     (λ c.
     let at6 = c .before .before .before .before .before .before in
     let at18 = at6 .before .before .before .before .before .before .before .before .before .before .before .before in
-    turns.lone-absent (partAt (at18 .args .second .now) (at18 .args .b .now) (at18 .args .q)) (partsAt (at18 .args .first .now) (at18 .args .a .now) (at18 .args .p) (at18 .args .n)) (at18 .args .i) (at18 .args .j) (at18 .args .l) (at18 .args .at) _ (match.is-absent (at18 .args .second .now) (at18 .args .b .now) (at18 .args .q) (at18 .args .first .now) (at18 .args .a .now) (at18 .args .p) (at18 .args .n) (c .before .before .before .before .before .find .ensures) (at6 .name-at .ensures) (c .before .before .before .before .if1 .taken)) (c .before .before .entry .ensures))
+    turns.lone-absent (partAt (at18 .args .second .now) (at18 .args .b .now) (at18 .args .q)) (partsAt (at18 .args .first .now) (at18 .args .a .now) (at18 .args .p) (at18 .args .n)) (at18 .args .i) (at18 .args .j)
+    (at18 .args .l) (at18 .args .at) _ (match.is-absent (at18 .args .second .now) (at18 .args .b .now) (at18 .args .q) (at18 .args .first .now) (at18 .args .a .now) (at18 .args .p) (at18 .args .n)
+    (c .before .before .before .before .before .find .ensures) (at6 .name-at .ensures) (c .before .before .before .before .if1 .taken)) (c .before .before .entry .ensures))
     (λ c κs. search needs)
     (λ c.
     let at15 = c .before .before .before .before .before .before .before .before .before .before .before .before .before .before .before in
-    turns.lone-there (partAt (at15 .args .second .now) (at15 .args .b .now) (at15 .args .q)) (partsAt (at15 .args .first .now) (at15 .args .a .now) (at15 .args .p) (at15 .args .n)) (at15 .args .i) (at15 .args .j) (at15 .args .l) (at15 .args .at) _ (match.is-found (at15 .args .second .now) (at15 .args .b .now) (at15 .args .q) (at15 .args .first .now) (at15 .args .a .now) (at15 .args .p) (at15 .args .n) (c .before .before .find .ensures) (c .before .before .before .name-at .ensures) (omega arith)) (search needs) (c .placed .ensures)))
+    turns.lone-there (partAt (at15 .args .second .now) (at15 .args .b .now) (at15 .args .q)) (partsAt (at15 .args .first .now) (at15 .args .a .now) (at15 .args .p) (at15 .args .n)) (at15 .args .i) (at15 .args .j)
+    (at15 .args .l) (at15 .args .at) _ (match.is-found (at15 .args .second .now) (at15 .args .b .now) (at15 .args .q) (at15 .args .first .now) (at15 .args .a .now) (at15 .args .p) (at15 .args .n)
+    (c .before .before .find .ensures) (c .before .before .before .name-at .ensures) (omega arith)) (search needs) (c .placed .ensures)))

@@ -52,8 +52,12 @@ of-second-spec =
     (λ c.
     let at10 = c .before .before .before .before .before .before .before .before .before .before in
     let at11 = at10 .before in
-    let at18 = at11 .before .before .before .before .before .before .before in
-    (omega arith, turns.coming-less (partsAt (at18 .args .second .now) (at18 .args .b .now) (at18 .args .q) (at18 .args .m)) (partsAt (at18 .args .first .now) (at18 .args .a .now) (at18 .args .p) (at18 .args .n)) (at18 .args .i) (at18 .args .j) (at18 .args .at) _ (at11 .loop .inv .1) (match.parts-step (at18 .args .second .now) (at18 .args .b .now) (at18 .args .q) (at18 .args .m) (at11 .loop .l) (at10 .loop-test .taken)) (rw (whole (at18 .args .second .now), whole (at18 .args .b .now), whole (at18 .args .first .now), whole (at18 .args .a .now)) at (c .before .before .before .of-lone .ensures)) (c .either .ensures)))
+    let at18 = at11 .before .before .before .before .before .before .before in (
+      omega arith,
+      turns.coming-less (partsAt (at18 .args .second .now) (at18 .args .b .now) (at18 .args .q) (at18 .args .m)) (partsAt (at18 .args .first .now) (at18 .args .a .now) (at18 .args .p) (at18 .args .n))
+          (at18 .args .i) (at18 .args .j) (at18 .args .at) _ (at11 .loop .inv .1) (match.parts-step (at18 .args .second .now) (at18 .args .b .now) (at18 .args .q) (at18 .args .m) (at11 .loop .l) (at10 .loop-test .taken))
+          (rw (whole (at18 .args .second .now), whole (at18 .args .b .now), whole (at18 .args .first .now), whole (at18 .args .a .now)) at (c .before .before .before .of-lone .ensures)) (c .either .ensures),
+    ))
     (λ c κs. search needs)
     (λ c.
     let at9 = c .before .before .before .before .before .before .before .before .before in

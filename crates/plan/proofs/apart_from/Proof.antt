@@ -32,10 +32,14 @@ shared-slice-read-apart : tie.Need-shared-slice-read-apart Inv-loop μ-loop
 shared-slice-read-apart c = let e = tests.earlier-there ((c .before .before .loop .inv)) ((c .before .loop-test .taken)) in omega (arith, e .offsets)
 
 add-apart : tie.Need-add-apart Inv-loop μ-loop
-add-apart c = let e = tests.earlier-there ((c .before .before .loop .inv)) ((c .before .loop-test .taken)) in let g = (c .before .before .before .before .before .good) in omega (arith, e .rows-there)
+add-apart c =
+    let b2 = c .before .before in
+    let e = tests.earlier-there ((b2 .loop .inv)) ((c .before .loop-test .taken)) in let g = (b2 .before .before .before .good) in omega (arith, e .rows-there)
 
 mul-apart-2 : tie.Need-mul-apart-2 Inv-loop μ-loop
-mul-apart-2 c = let e = tests.earlier-there ((c .before .before .loop .inv)) ((c .before .loop-test .taken)) in let g = (c .before .before .before .before .before .good) in omega (arith, e .rows-there)
+mul-apart-2 c =
+    let b2 = c .before .before in
+    let e = tests.earlier-there ((b2 .loop .inv)) ((c .before .loop-test .taken)) in let g = (b2 .before .before .before .good) in omega (arith, e .rows-there)
 
 shared-slice-read-apart-2 : tie.Need-shared-slice-read-apart-2 Inv-loop μ-loop
 shared-slice-read-apart-2 c = let e = tests.earlier-there ((c .before .before .before .loop .inv)) ((c .before .before .loop-test .taken)) in omega (arith, e .rows-there)
@@ -47,10 +51,14 @@ loop-less : tie.Need-loop-less Inv-loop μ-loop
 loop-less c = search needs
 
 loop-again : tie.Need-loop-again Inv-loop μ-loop
-loop-again c = tests.go-on ((c .before .before .before .before .before .loop .inv)) ((c .before .before .before .before .loop-test .taken)) (sym ((c .if1 .taken)) ∙ (c .before .apart .ensures))
+loop-again c =
+    let b4 = c .before .before .before .before in let l = b4 .before .loop in
+    tests.go-on ((l .inv)) ((b4 .loop-test .taken)) (sym ((c .if1 .taken)) ∙ (c .before .apart .ensures))
 
 returns : tie.Need-returns Inv-loop μ-loop
-returns c = tests.shares ((c .before .before .before .before .before .loop .inv)) ((c .before .before .before .before .loop-test .taken)) (sym ((c .if1 .left)) ∙ (c .before .apart .ensures))
+returns c =
+    let b4 = c .before .before .before .before in let l = b4 .before .loop in
+    tests.shares ((l .inv)) ((b4 .loop-test .taken)) (sym ((c .if1 .left)) ∙ (c .before .apart .ensures))
 
 returns-2 : tie.Need-returns-2 Inv-loop μ-loop
 returns-2 c = tests.none-left ((c .before .loop .inv)) ((c .loop-test .left))

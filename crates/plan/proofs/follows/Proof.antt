@@ -18,13 +18,19 @@ shared-slice-read-offset : tie.Need-shared-slice-read-offset
 shared-slice-read-offset c = omega (arith, (c .before .before .before .pre .offset))
 
 mul-at : tie.Need-mul-at
-mul-at c = let g = (c .before .before .before .good) in omega (arith, (c .before .before .before .pre .row-there))
+mul-at c =
+    let b3 = c .before .before .before in
+    let g = (b3 .good) in omega (arith, (b3 .pre .row-there))
 
 add-size : tie.Need-add-size
-add-size c = let g = (c .before .before .before .good) in omega (arith, (c .before .before .before .pre .row-there))
+add-size c =
+    let b3 = c .before .before .before in
+    let g = (b3 .good) in omega (arith, (b3 .pre .row-there))
 
 mul-size : tie.Need-mul-size
-mul-size c = let g = (c .before .before .before .good) in omega (arith, (c .before .before .before .pre .row-there))
+mul-size c =
+    let b3 = c .before .before .before in
+    let g = (b3 .good) in omega (arith, (b3 .pre .row-there))
 
 shared-slice-read-size : tie.Need-shared-slice-read-size
 shared-slice-read-size c = omega (arith, (c .before .before .before .before .pre .row-there))
@@ -36,13 +42,19 @@ returns : tie.Need-returns
 returns c = tests.not-allowed ((c .before .before .before .before .before .before .pre)) (sym (not-true _ ((c .if1 .taken))) ∙ (c .before .allowed .ensures))
 
 returns-2 : tie.Need-returns-2
-returns-2 c = tests.past-all ((c .before .before .before .before .before .before .before .pre)) (sym (not-false _ ((c .before .if1 .left))) ∙ (c .before .before .allowed .ensures)) ((c .if2 .taken))
+returns-2 c =
+    let b2 = c .before .before in
+    tests.past-all ((b2 .before .before .before .before .before .pre)) (sym (not-false _ ((c .before .if1 .left))) ∙ (b2 .allowed .ensures)) ((c .if2 .taken))
 
 apart-from-requires : tie.Need-apart-from-requires
-apart-from-requires c κs = (tests.end-low ((c .before .before .before .before .before .before .before .pre)) (sym (not-false _ ((c .before .if1 .left))) ∙ (c .before .before .allowed .ensures)), (c .before .before .before .before .before .before .before .pre .before))
+apart-from-requires c κs =
+    let b2 = c .before .before in let b7 = b2 .before .before .before .before .before in
+    (tests.end-low ((b7 .pre)) (sym (not-false _ ((c .before .if1 .left))) ∙ (b2 .allowed .ensures)), (b7 .pre .before))
 
 returns-3 : tie.Need-returns-3
-returns-3 c = tests.as-looked ((c .before .before .before .before .before .before .before .before .pre)) (sym (not-false _ ((c .before .before .if1 .left))) ∙ (c .before .before .before .allowed .ensures)) ((c .apart-from .ensures))
+returns-3 c =
+    let b2 = c .before .before in let b3 = b2 .before in
+    tests.as-looked ((b3 .before .before .before .before .before .pre)) (sym (not-false _ ((b2 .if1 .left))) ∙ (b3 .allowed .ensures)) ((c .apart-from .ensures))
 
 pub follows-spec : {M : Type 1} → statement M
 follows-spec =

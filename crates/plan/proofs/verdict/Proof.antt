@@ -18,7 +18,9 @@ abbrev μ-loop : tie.MeasureT-loop
 μ-loop plan rows n ceiling i₀ end₀ i end = n - i
 
 returns : tie.Need-returns Inv-loop μ-loop
-returns c = turns.too-high ((c .before .before .before .args .plan .now)) ((c .before .before .before .args .rows .now)) ((c .before .before .before .args .n)) ((c .before .before .before .args .ceiling)) ((c .if1 .taken))
+returns c =
+    let a = c .before .before .before .args in
+    turns.too-high ((a .plan .now)) ((a .rows .now)) ((a .n)) ((a .ceiling)) ((c .if1 .taken))
 
 loop-holds : tie.Need-loop-holds Inv-loop μ-loop
 loop-holds c = turns.begin ((c .if1 .left)) ((c .before .before .before .pre))
@@ -30,37 +32,53 @@ follows-requires : tie.Need-follows-requires Inv-loop μ-loop
 follows-requires c κs = turns.next ((c .before .before .loop .inv)) ((c .before .loop-test .taken)) ((c .if2 .left))
 
 mul-at : tie.Need-mul-at Inv-loop μ-loop
-mul-at c = let g = (c .before .before .before .before .before .before .before .before .good) in omega (arith, turns.row-long ((c .before .before .before .before .loop .inv)) ((c .before .before .before .loop-test .taken)))
+mul-at c =
+    let b3 = c .before .before .before in let b4 = b3 .before in let l = b4 .loop in
+    let g = (b4 .before .before .before .before .good) in omega (arith, turns.row-long ((l .inv)) ((b3 .loop-test .taken)))
 
 mul-farther : tie.Need-mul-farther Inv-loop μ-loop
-mul-farther c = let g = (c .before .before .before .before .before .before .before .before .good) in omega (arith, (c .before .before .if2 .left))
+mul-farther c =
+    let b2 = c .before .before in
+    let g = (b2 .before .before .before .before .before .before .good) in omega (arith, (b2 .if2 .left))
 
 shared-slice-read-farther : tie.Need-shared-slice-read-farther Inv-loop μ-loop
 shared-slice-read-farther c = omega (arith, (c .before .before .before .if2 .left))
 
 add-farther : tie.Need-add-farther Inv-loop μ-loop
-add-farther c = let g = (c .before .before .before .before .before .before .before .before .before .good) in omega (arith, turns.row-long ((c .before .before .before .before .before .loop .inv)) ((c .before .before .before .before .loop-test .taken)))
+add-farther c =
+    let b4 = c .before .before .before .before in let b5 = b4 .before in let l = b5 .loop in
+    let g = (b5 .before .before .before .before .good) in omega (arith, turns.row-long ((l .inv)) ((b4 .loop-test .taken)))
 
 mul-farther-2 : tie.Need-mul-farther-2 Inv-loop μ-loop
-mul-farther-2 c = let g = (c .before .before .before .before .before .before .before .before .before .good) in omega (arith, turns.row-long ((c .before .before .before .before .before .loop .inv)) ((c .before .before .before .before .loop-test .taken)))
+mul-farther-2 c =
+    let b4 = c .before .before .before .before in let b5 = b4 .before in let l = b5 .loop in
+    let g = (b5 .before .before .before .before .good) in omega (arith, turns.row-long ((l .inv)) ((b4 .loop-test .taken)))
 
 shared-slice-read-farther-2 : tie.Need-shared-slice-read-farther-2 Inv-loop μ-loop
-shared-slice-read-farther-2 c = omega (arith, turns.row-long ((c .before .before .before .before .before .before .loop .inv)) ((c .before .before .before .before .before .loop-test .taken)))
+shared-slice-read-farther-2 c =
+    let b5 = c .before .before .before .before .before in let l = b5 .before .loop in
+    omega (arith, turns.row-long ((l .inv)) ((b5 .loop-test .taken)))
 
 add-farther-2 : tie.Need-add-farther-2 Inv-loop μ-loop
-add-farther-2 c = omega (arith, turns.sum-low ((c .before .before .before .before .before .before .loop .inv)) ((c .before .before .before .before .before .loop-test .taken)) ((c .before .before .before .before .if2 .left)) (sym ((c .before .before .if3 .taken)) ∙ (c .before .before .before .follows .ensures)))
+add-farther-2 c =
+    let b2 = c .before .before in let b3 = b2 .before in let b4 = b3 .before in let b5 = b4 .before in let l = b5 .before .loop in
+    omega (arith, turns.sum-low ((l .inv)) ((b5 .loop-test .taken)) ((b4 .if2 .left)) (sym ((b2 .if3 .taken)) ∙ (b3 .follows .ensures)))
 
 farther-requires : tie.Need-farther-requires Inv-loop μ-loop
 farther-requires c κs = search needs
 
 add-i : tie.Need-add-i Inv-loop μ-loop
-add-i c = let g = (c .before .before .before .before .before .before .before .before .before .before .before .good) in omega (arith, (c .before .before .before .before .before .if2 .left))
+add-i c =
+    let b5 = c .before .before .before .before .before in
+    let g = (b5 .before .before .before .before .before .before .good) in omega (arith, (b5 .if2 .left))
 
 loop-less : tie.Need-loop-less Inv-loop μ-loop
 loop-less c = omega (arith, (c .before .before .before .before .before .before .loop-test .taken))
 
 loop-again : tie.Need-loop-again Inv-loop μ-loop
-loop-again c = turns.turn ((c .before .before .before .before .before .before .before .loop .inv)) ((c .before .before .before .before .before .before .loop-test .taken)) ((c .before .before .before .before .before .if2 .left)) (sym ((c .before .before .before .if3 .taken)) ∙ (c .before .before .before .before .follows .ensures)) ((c .farther .ensures))
+loop-again c =
+    let b3 = c .before .before .before in let b4 = b3 .before in let b5 = b4 .before in let b6 = b5 .before in let l = b6 .before .loop in
+    turns.turn ((l .inv)) ((b6 .loop-test .taken)) ((b5 .if2 .left)) (sym ((b3 .if3 .taken)) ∙ (b4 .follows .ensures)) ((c .farther .ensures))
 
 returns-3 : tie.Need-returns-3 Inv-loop μ-loop
 returns-3 c = turns.breaks ((c .before .before .before .before .loop .inv)) ((c .before .before .before .loop-test .taken)) ((c .before .before .if2 .left)) (sym ((c .if3 .left)) ∙ (c .before .follows .ensures))

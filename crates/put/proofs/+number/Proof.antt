@@ -34,10 +34,12 @@ pub +number-spec : {M : Type 1} → statement M
     (λ c. search needs)
     (λ c κs. search needs)
     (λ c. search needs)
-    (λ c. writing.as-bytes (pieces.decimal-one _ (c .before .before .before .before .if1 .taken)) (c .before .before .byte .ensures))
+    (λ c. let b2 = c .before .before in
+    writing.as-bytes (pieces.decimal-one _ (b2 .before .before .if1 .taken)) (b2 .byte .ensures))
     (λ c κs. search needs)
     (λ c. search needs)
     (λ c. search needs)
     (λ c κs. search needs)
     (λ c. search needs)
-    (λ c. writing.as-bytes (pieces.decimal-more _ (search needs) (c .before .before .before .before .before .before .before .before .if1 .left)) (writing.then (c .before .before .before .before .before .before .number .ensures) (c .before .before .byte2 .ensures)))
+    (λ c. let b2 = c .before .before in let b6 = b2 .before .before .before .before in
+    writing.as-bytes (pieces.decimal-more _ (search needs) (b6 .before .before .if1 .left)) (writing.then (b6 .number .ensures) (b2 .byte2 .ensures)))

@@ -19,4 +19,5 @@ blank-text-spec =
     (λ c. search needs)
     (λ c κs. search needs)
     (λ c. search needs)
-    (λ c. writing.as-bytes (ap (λ (s : List ℕ). 32 ∷ shownText s) (part-to-end (c .before .before .before .before .before .before .before .before .before .before .before .args .t .now) 0)) (writing.then (c .before .before .before .before .before .before .before .byte .ensures) (c .before .before .text .ensures))))
+    (λ c. let b2 = c .before .before in let b7 = b2 .before .before .before .before .before in let a = b7 .before .before .before .before .args in
+    writing.as-bytes (ap (λ (s : List ℕ). 32 ∷ shownText s) (part-to-end (a .t .now) 0)) (writing.then (b7 .byte .ensures) (b2 .text .ensures))))

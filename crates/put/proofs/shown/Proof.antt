@@ -13,11 +13,15 @@ shown-spec =
     (λ c κs. search needs)
     (λ c κs. search needs)
     (λ c. search needs)
-    (λ c. writing.as-bytes (pieces.shown-plain _ (sym (c .before .before .before .before .before .plain .ensures) ∙ (c .before .before .before .before .if1 .taken))) (c .before .before .byte .ensures))
+    (λ c. let b2 = c .before .before in let b4 = b2 .before .before in
+    writing.as-bytes (pieces.shown-plain _ (sym (b4 .before .plain .ensures) ∙ (b4 .if1 .taken))) (b2 .byte .ensures))
     (λ c κs. search needs)
     (λ c κs. search needs)
     (λ c κs. search needs)
     (λ c κs. search needs)
     (λ c κs. search needs)
     (λ c. search needs)
-    (λ c. writing.as-bytes (pieces.shown-escaped _ _ _ (sym (c .before .before .before .before .before .before .before .before .before .before .before .before .before .before .before .plain .ensures) ∙ (c .before .before .before .before .before .before .before .before .before .before .before .before .before .before .if1 .left)) (c .before .before .before .before .before .before .before .before .hex .ensures) (c .before .before .before .hex2 .ensures)) (writing.then (c .before .before .before .before .before .before .before .before .before .before .before .before .byte2 .ensures) (writing.then (c .before .before .before .before .before .before .before .byte3 .ensures) (c .before .before .byte4 .ensures)))))
+    (λ c. let b2 = c .before .before in let b3 = b2 .before in let b7 = b3 .before .before .before .before in let b8 = b7 .before in let b12 = b8 .before .before .before .before in
+    let b14 = b12 .before .before in
+    writing.as-bytes (pieces.shown-escaped _ _ _ (sym (b14 .before .plain .ensures) ∙ (b14 .if1 .left)) (b8 .hex .ensures) (b3 .hex2 .ensures))
+    (writing.then (b12 .byte2 .ensures) (writing.then (b7 .byte3 .ensures) (b2 .byte4 .ensures)))))

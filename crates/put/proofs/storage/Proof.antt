@@ -21,6 +21,7 @@ storage-spec =
     (λ c. omega (arith, (names.named (c .before .before .before .before .args .code) ((c .before .before .if1 .taken))) .0))
     (λ c κs. search needs)
     (λ c. search needs)
-    (λ c. writing.as-bytes ((names.named (c .before .before .before .before .before .before .before .before .args .code) ((c .before .before .before .before .before .before .if1 .taken))) .1) (c .before .before .word .ensures))
+    (λ c. let b2 = c .before .before in let b6 = b2 .before .before .before .before in let a = b6 .before .before .args in
+    writing.as-bytes ((names.named (a .code) ((b6 .if1 .taken))) .1) (b2 .word .ensures))
     (λ c κs. search needs)
     (λ c. writing.as-bytes (sym (names.unnamed (c .before .before .before .args .code) (c .before .if1 .left))) (writing.nothing _ (search needs) (c .placed .ensures))))

@@ -55,7 +55,9 @@ same-length c = search needs
 
 -- src/lib.rt:61:1
 returns : tie.Need-returns
-returns c = writing.as-bytes (reasons.reasoned-as _ _ (c .before .before .before .before .before .before .listed .ensures)) (c .before .before .word .ensures)
+returns c =
+    let b2 = c .before .before in
+    writing.as-bytes (reasons.reasoned-as _ _ (b2 .before .before .before .before .listed .ensures)) (b2 .word .ensures)
 
 pub because-spec : {M : Type 1} → statement M
 because-spec =

@@ -29,7 +29,9 @@ same-length c = search needs
 
 -- src/lib.rt:86:9
 returns : tie.Need-returns
-returns c = writing.as-bytes (lines.is-given _ _ _ _ (sym (c .before .before .before .before .before .before .before .before .if1 .taken) ∙ c .before .before .before .before .before .before .before .before .before .given .ensures)) (writing.then (c .before .before .before .before .before .before .word .ensures) (c .before .before .blank-text .ensures))
+returns c =
+    let b2 = c .before .before in let b6 = b2 .before .before .before .before in let b8 = b6 .before .before in
+    writing.as-bytes (lines.is-given _ _ _ _ (sym (b8 .if1 .taken) ∙ b8 .before .given .ensures)) (writing.then (b6 .word .ensures) (b2 .blank-text .ensures))
 
 -- src/lib.rt:88:5
 placed-requires : tie.Need-placed-requires

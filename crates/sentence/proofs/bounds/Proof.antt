@@ -34,7 +34,9 @@ same-length c = search needs
 
 -- src/lib.rt:91:9
 returns : tie.Need-returns
-returns c = writing.as-bytes (lines.needs-room _ _ _ _ (c .before .before .before .before .before .before .before .before .before .before .before .before .before .before .if1 .taken)) (writing.then (c .before .before .before .before .before .before .before .before .before .before .before .word .ensures) (writing.then (c .before .before .before .before .before .before .before .blank-number .ensures) (c .before .before .word2 .ensures)))
+returns c =
+    let b2 = c .before .before in let b7 = b2 .before .before .before .before .before in let b11 = b7 .before .before .before .before in
+    writing.as-bytes (lines.needs-room _ _ _ _ (b11 .before .before .before .if1 .taken)) (writing.then (b11 .word .ensures) (writing.then (b7 .blank-number .ensures) (b2 .word2 .ensures)))
 
 -- src/lib.rt:94:31
 slice-aggregate-word-3 : tie.Need-slice-aggregate-word-3
@@ -54,7 +56,9 @@ same-length-2 c = search needs
 
 -- src/lib.rt:95:9
 returns-2 : tie.Need-returns-2
-returns-2 c = writing.as-bytes (lines.at-byte _ _ _ _ (c .before .before .before .before .before .before .before .before .before .before .if1 .left) (c .before .before .before .before .before .before .before .before .before .if2 .taken)) (writing.then (c .before .before .before .before .before .before .word3 .ensures) (c .before .before .blank-number2 .ensures))
+returns-2 c =
+    let b2 = c .before .before in let b6 = b2 .before .before .before .before in let b9 = b6 .before .before .before in
+    writing.as-bytes (lines.at-byte _ _ _ _ (b9 .before .if1 .left) (b9 .if2 .taken)) (writing.then (b6 .word3 .ensures) (b2 .blank-number2 .ensures))
 
 -- src/lib.rt:97:27
 slice-aggregate-word-4 : tie.Need-slice-aggregate-word-4
@@ -94,10 +98,11 @@ same-length-3 c = search needs
 
 -- src/lib.rt:84:1
 returns-3 : tie.Need-returns-3
-returns-3 c = writing.as-bytes (lines.from-to _ _ _ _ (c .before .before .before .before .before .before .before .before .before .before .before .before .before .before .before .before .before .before .before .if1 .left) (c .before .before .before .before .before .before .before .before .before .before .before .before .before .before .before .before .before .before .if2 .left))
-    (writing.then (c .before .before .before .before .before .before .before .before .before .before .before .before .before .before .before .word4 .ensures)
-    (writing.then (c .before .before .before .before .before .before .before .before .before .before .before .blank-number3 .ensures)
-    (writing.then (c .before .before .before .before .before .before .word5 .ensures) (c .before .before .blank-number4 .ensures))))
+returns-3 c =
+    let b2 = c .before .before in let b6 = b2 .before .before .before .before in let b11 = b6 .before .before .before .before .before in let b15 = b11 .before .before .before .before in
+    let b18 = b15 .before .before .before in
+    writing.as-bytes (lines.from-to _ _ _ _ (b18 .before .if1 .left) (b18 .if2 .left))
+    (writing.then (b15 .word4 .ensures) (writing.then (b11 .blank-number3 .ensures) (writing.then (b6 .word5 .ensures) (b2 .blank-number4 .ensures))))
 
 pub bounds-spec : {M : Type 1} → statement M
 bounds-spec =

@@ -22,7 +22,9 @@ same-length c = search needs
 
 -- src/lib.rt:134:9
 returns : tie.Need-returns
-returns c = writing.as-bytes (lines.is-accepted _ (c .before .before .before .before .before .before .before .before .before .args .file .now) _ (c .before .before .before .before .before .if1 .taken)) (c .before .before .word .ensures)
+returns c =
+    let b2 = c .before .before in let b5 = b2 .before .before .before in let a = b5 .before .before .before .before .args in
+    writing.as-bytes (lines.is-accepted _ (a .file .now) _ (b5 .if1 .taken)) (b2 .word .ensures)
 
 -- src/lib.rt:136:5
 refused-requires : tie.Need-refused-requires
@@ -34,7 +36,9 @@ same-length-2 c = search needs
 
 -- src/lib.rt:129:1
 returns-2 : tie.Need-returns-2
-returns-2 c = writing.as-bytes (lines.is-refused _ (c .before .before .before .before .before .before .before .before .args .file .now) _ (c .before .before .before .before .if1 .left)) (c .before .before .refused .ensures)
+returns-2 c =
+    let b2 = c .before .before in let b4 = b2 .before .before in let a = b4 .before .before .before .before .args in
+    writing.as-bytes (lines.is-refused _ (a .file .now) _ (b4 .if1 .left)) (b2 .refused .ensures)
 
 pub line-spec : {M : Type 1} → statement M
 line-spec =

@@ -15,11 +15,15 @@ returns-2 c = reasons.old-short _ _ (c .before .before .if1 .left) (c .before .i
 
 -- src/lib.rt:54:13
 returns-3 : tie.Need-returns-3
-returns-3 c = reasons.old-fit _ _ (c .before .before .before .if1 .left) (c .before .before .if2 .taken) (c .before .if3 .left) (c .if4 .taken)
+returns-3 c =
+    let b2 = c .before .before in
+    reasons.old-fit _ _ (b2 .before .if1 .left) (b2 .if2 .taken) (c .before .if3 .left) (c .if4 .taken)
 
 -- src/lib.rt:43:1
 returns-4 : tie.Need-returns-4
-returns-4 c = reasons.old-other _ _ (c .before .before .before .if1 .left) (c .before .before .if2 .taken) (c .before .if3 .left) (c .if4 .left)
+returns-4 c =
+    let b2 = c .before .before in
+    reasons.old-other _ _ (b2 .before .if1 .left) (b2 .if2 .taken) (c .before .if3 .left) (c .if4 .left)
 
 -- src/lib.rt:43:1
 returns-5 : tie.Need-returns-5

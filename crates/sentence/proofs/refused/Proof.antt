@@ -80,31 +80,21 @@ byte-requires-2 c κs = search needs
 
 -- src/lib.rt:112:1
 same-length : tie.Need-same-length
-same-length c = writing.same-length
-    (writing.then (c .before .before .before .before .before .before .before .before .before .before .before .before .before .before .before .before .before .before .before .before .before .before .before .before .before .before .before .before .before .before .before .before .before .before .before .word .ensures)
-    (writing.then (c .before .before .before .before .before .before .before .before .before .before .before .before .before .before .before .before .before .before .before .before .before .before .before .before .before .before .before .before .before .before .before .blank-number .ensures)
-    (writing.then (c .before .before .before .before .before .before .before .before .before .before .before .before .before .before .before .before .before .before .before .before .before .before .before .before .before .before .before .byte .ensures)
-    (writing.then (c .before .before .before .before .before .before .before .before .before .before .before .before .before .before .before .before .before .before .before .before .before .before .before .because .ensures)
-    (writing.then
-    (writing.as-bytes (lines.as-part _ _ _ (c .before .before .before .before .before .before .before .before .before .before .before .before .before .before .before .before .before .before .before .part .ensures)) (c .before .before .before .before .before .before .before .before .before .before .before .before .before .before .before .before .belongs .ensures))
-    (writing.then
-    (writing.as-bytes (lines.as-part _ _ _ (c .before .before .before .before .before .before .before .before .before .before .before .before .before .part2 .ensures)) (c .before .before .before .before .before .before .before .before .before .before .belongs2 .ensures))
-    (writing.then (c .before .before .before .before .before .before .bounds .ensures) (c .before .before .byte2 .ensures))))))))
+same-length c =
+    let b2 = c .before .before in let b6 = b2 .before .before .before .before in let b10 = b6 .before .before .before .before in let b13 = b10 .before .before .before in
+    let b16 = b13 .before .before .before in let b19 = b16 .before .before .before in let b23 = b19 .before .before .before .before in let b27 = b23 .before .before .before .before in
+    let b31 = b27 .before .before .before .before in
+    writing.same-length
+    (writing.then (b31 .before .before .before .before .word .ensures) (writing.then (b31 .blank-number .ensures) (writing.then (b27 .byte .ensures) (writing.then (b23 .because .ensures) (writing.then (writing.as-bytes (lines.as-part _ _ _ (b19 .part .ensures)) (b16 .belongs .ensures)) (writing.then (writing.as-bytes (lines.as-part _ _ _ (b13 .part2 .ensures)) (b10 .belongs2 .ensures)) (writing.then (b6 .bounds .ensures) (b2 .byte2 .ensures))))))))
 
 -- src/lib.rt:112:1
 returns : tie.Need-returns
-returns c = writing.as-bytes
-    (lines.whole-line _ (c .before .before .before .before .before .before .before .before .before .before .before .before .before .before .before .before .before .before .before .before .before .before .before .before .before .before .before .before .before .before .before .before .before .before .before .before .before .before .before .before .args .file .now) (c .before .before .before .before .before .before .before .before .before .before .before .before .before .before .before .before .before .before .before .before .before .before .before .before .before .before .before .before .before .before .before .before .before .before .before .before .before .before .before .before .args .e) _
-    (part-to-end (c .before .before .before .before .before .before .before .before .before .before .before .before .before .before .before .before .before .before .before .before .before .before .before .before .before .before .before .before .before .before .before .before .before .before .before .before .before .before .before .before .args .file .now) 0))
-    (writing.then (c .before .before .before .before .before .before .before .before .before .before .before .before .before .before .before .before .before .before .before .before .before .before .before .before .before .before .before .before .before .before .before .before .before .before .before .word .ensures)
-    (writing.then (c .before .before .before .before .before .before .before .before .before .before .before .before .before .before .before .before .before .before .before .before .before .before .before .before .before .before .before .before .before .before .before .blank-number .ensures)
-    (writing.then (c .before .before .before .before .before .before .before .before .before .before .before .before .before .before .before .before .before .before .before .before .before .before .before .before .before .before .before .byte .ensures)
-    (writing.then (c .before .before .before .before .before .before .before .before .before .before .before .before .before .before .before .before .before .before .before .before .before .before .before .because .ensures)
-    (writing.then
-    (writing.as-bytes (lines.as-part _ _ _ (c .before .before .before .before .before .before .before .before .before .before .before .before .before .before .before .before .before .before .before .part .ensures)) (c .before .before .before .before .before .before .before .before .before .before .before .before .before .before .before .before .belongs .ensures))
-    (writing.then
-    (writing.as-bytes (lines.as-part _ _ _ (c .before .before .before .before .before .before .before .before .before .before .before .before .before .part2 .ensures)) (c .before .before .before .before .before .before .before .before .before .before .belongs2 .ensures))
-    (writing.then (c .before .before .before .before .before .before .bounds .ensures) (c .before .before .byte2 .ensures))))))))
+returns c =
+    let b2 = c .before .before in let b6 = b2 .before .before .before .before in let b10 = b6 .before .before .before .before in let b13 = b10 .before .before .before in
+    let b16 = b13 .before .before .before in let b19 = b16 .before .before .before in let b23 = b19 .before .before .before .before in let b27 = b23 .before .before .before .before in
+    let b31 = b27 .before .before .before .before in let b35 = b31 .before .before .before .before in let a = b35 .before .before .before .before .before .args in
+    writing.as-bytes (lines.whole-line _ (a .file .now) (a .e) _ (part-to-end (a .file .now) 0))
+    (writing.then (b35 .word .ensures) (writing.then (b31 .blank-number .ensures) (writing.then (b27 .byte .ensures) (writing.then (b23 .because .ensures) (writing.then (writing.as-bytes (lines.as-part _ _ _ (b19 .part .ensures)) (b16 .belongs .ensures)) (writing.then (writing.as-bytes (lines.as-part _ _ _ (b13 .part2 .ensures)) (b10 .belongs2 .ensures)) (writing.then (b6 .bounds .ensures) (b2 .byte2 .ensures))))))))
 
 pub refused-spec : {M : Type 1} → statement M
 refused-spec =

@@ -37,9 +37,10 @@ line-requires c κs = search needs
 
 -- src/lib.rt:148:9
 returns : tie.Need-returns
-returns c = answers.too-long _ _ (c .before .before .before .before .before .before .before .args .text .now) refl _ (c .before .before .line .ensures .past
-    ∙ ap (λ (f : List ℕ). capped (0 + length (said (layoutOf (c .before .before .before .before .before .before .before .args .layout)) f (is.explanation (c .before .before .before .before .before .before .before .args .e)))))
-    (part-to-end (c .before .before .before .before .before .before .before .args .file .now) 0)) (c .if1 .taken)
+returns c =
+    let b2 = c .before .before in let a = b2 .before .before .before .before .before .args in
+    answers.too-long _ _ (a .text .now) refl _ (b2 .line .ensures .past ∙ ap (λ (f : List ℕ). capped (0 + length (said (layoutOf (a .layout)) f (is.explanation (a .e))))) (part-to-end (a .file .now) 0))
+    (c .if1 .taken)
 
 -- src/lib.rt:153:5
 line-requires-2 : tie.Need-line-requires-2
@@ -51,9 +52,10 @@ same-length c = search needs
 
 -- src/lib.rt:140:1
 returns-2 : tie.Need-returns-2
-returns-2 c = answers.listed-whole _ _ (c .before .before .before .before .before .before .before .before .before .before .before .args .text .now) refl _ (c .before .before .before .before .before .before .line .ensures .past
-    ∙ ap (λ (f : List ℕ). capped (0 + length (said (layoutOf (c .before .before .before .before .before .before .before .before .before .before .before .args .layout)) f (is.explanation (c .before .before .before .before .before .before .before .before .before .before .before .args .e)))))
-    (part-to-end (c .before .before .before .before .before .before .before .before .before .before .before .args .file .now) 0)) (c .before .before .before .before .if1 .left) _ _ (c .before .before .line2 .ensures)
+returns-2 c =
+    let b2 = c .before .before in let b4 = b2 .before .before in let b6 = b4 .before .before in let a = b6 .before .before .before .before .before .args in
+    answers.listed-whole _ _ (a .text .now) refl _
+    (b6 .line .ensures .past ∙ ap (λ (f : List ℕ). capped (0 + length (said (layoutOf (a .layout)) f (is.explanation (a .e))))) (part-to-end (a .file .now) 0)) (b4 .if1 .left) _ _ (b2 .line2 .ensures)
 
 pub say-spec : {M : Type 1} → statement M
 say-spec =

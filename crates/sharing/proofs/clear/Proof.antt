@@ -15,4 +15,5 @@ clear-spec =
     (λ c. search needs)
     (λ c κs. search needs)
     (λ c. search needs)
-    (λ c. laid.lent-zeros (c .before .before .before .before .before .args .from) (c .before .before .before .before .before .args .count) (c .before .before .before .before .before .args .shared .now) _ (c .before .before .before .before .before .pre) (c .before .before .zero .ensures)))
+    (λ c. let b2 = c .before .before in let b5 = b2 .before .before .before in let a = b5 .args in
+    laid.lent-zeros (a .from) (a .count) (a .shared .now) _ (b5 .pre) (b2 .zero .ensures)))

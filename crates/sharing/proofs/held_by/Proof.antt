@@ -23,7 +23,9 @@ shared-slice-read-t15 : tie.Need-shared-slice-read-t15
 shared-slice-read-t15 c = search needs
 
 returns : tie.Need-returns
-returns c = looked.held-is (c .before .before .before .before .before .before .args .s .now) (c .before .before .before .before .before .before .pre) _
+returns c =
+    let b6 = c .before .before .before .before .before .before in let a = b6 .args in
+    looked.held-is (a .s .now) (b6 .pre) _
 
 pub held-by-spec : {M : Type 1} → statement M
 held-by-spec = tie.close (tie.spec shared-slice-read-t5 shared-slice-read-t7 shared-slice-read-t9 shared-slice-read-t11 shared-slice-read-t13 shared-slice-read-t15 returns)

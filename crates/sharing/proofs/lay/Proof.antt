@@ -17,7 +17,9 @@ lay-spec =
     (λ c. search needs)
     (λ c κs. search needs)
     (λ c. search needs)
-    (λ c. laid.lays-first 65536 (c .before .before .before .before .before .before .before .before .args .engine) (c .before .before .before .before .before .before .before .before .args .free) (c .before .before .before .before .before .before .before .before .args .layout) (c .before .before .before .before .before .before .before .before .args .file .now) (c .before .before .before .before .before .before .before .before .args .shared .now) (c .before .before .before .before .before .if1 .taken) (let w = (c .before .before .before .before .before .before .before .before .pre .0) in let r = (c .before .before .before .before .before .before .before .before .pre .1) in omega (arith, w, r)) _ _ (c .before .before .read-as .ensures))
+    (λ c. let b2 = c .before .before in let b5 = b2 .before .before .before in let b8 = b5 .before .before .before in let a = b8 .args in
+    laid.lays-first 65536 (a .engine) (a .free) (a .layout) (a .file .now) (a .shared .now) (b5 .if1 .taken) (let w = (b8 .pre .0) in let r = (b8 .pre .1) in omega (arith, w, r)) _ _
+    (b2 .read-as .ensures))
     (λ c. search needs)
     (λ c. search needs)
     (λ c. search needs)
@@ -28,4 +30,5 @@ lay-spec =
     (λ c. search needs)
     (λ c κs. search needs)
     (λ c. search needs)
-    (λ c. laid.lays-last 65536 (c .before .before .before .before .before .before .before .before .args .engine) (c .before .before .before .before .before .before .before .before .args .free) (c .before .before .before .before .before .before .before .before .args .layout) (c .before .before .before .before .before .before .before .before .args .file .now) (c .before .before .before .before .before .before .before .before .args .shared .now) (c .before .before .before .before .before .if1 .left) (c .before .before .before .before .before .before .before .before .pre .0) (let r = (c .before .before .before .before .before .before .before .before .pre .1) in omega (arith, r)) _ _ (c .before .before .read-last .ensures)))
+    (λ c. let b2 = c .before .before in let b5 = b2 .before .before .before in let b8 = b5 .before .before .before in let a = b8 .args in
+    laid.lays-last 65536 (a .engine) (a .free) (a .layout) (a .file .now) (a .shared .now) (b5 .if1 .left) (b8 .pre .0) (let r = (b8 .pre .1) in omega (arith, r)) _ _ (b2 .read-last .ensures)))

@@ -28,7 +28,11 @@ enum-known-place : tie.Need-enum-known-place
 enum-known-place c = search needs
 
 add-end : tie.Need-add-end
-add-end c = let z = standing.inside 65536 (c .before .before .before .before .before .before .before .before .args .engine) (c .before .before .before .before .before .before .before .before .args .shared .now) _ _ _ _ (standing.loaded-at 65536 (c .before .before .before .before .before .before .before .before .args .shared .now) (c .before .before .before .before .before .before .before .before .args .engine) _ _ _ _ (looked.asked 65536 (c .before .before .before .before .before .before .before .before .args .engine) (c .before .before .before .before .before .before .before .before .args .shared .now) _ _ (c .before .before .before .standing .ensures) (c .before .place .given .1))) in let y = standing.whole 65536 (c .before .before .before .before .before .before .before .before .args .shared .now) (c .before .before .before .before .before .before .before .before .args .engine) _ _ _ _ (looked.asked 65536 (c .before .before .before .before .before .before .before .before .args .engine) (c .before .before .before .before .before .before .before .before .args .shared .now) _ _ (c .before .before .before .standing .ensures) (c .before .place .given .1)) in omega (arith, z, y)
+add-end c =
+    let b1 = c .before in let b3 = b1 .before .before in let a = b3 .before .before .before .before .before .args in
+    let z = standing.inside 65536 (a .engine) (a .shared .now) _ _ _ _
+    (standing.loaded-at 65536 (a .shared .now) (a .engine) _ _ _ _ (looked.asked 65536 (a .engine) (a .shared .now) _ _ (b3 .standing .ensures) (b1 .place .given .1))) in let y = standing.whole 65536
+    (a .shared .now) (a .engine) _ _ _ _ (looked.asked 65536 (a .engine) (a .shared .now) _ _ (b3 .standing .ensures) (b1 .place .given .1)) in omega (arith, z, y)
 
 sub-list : tie.Need-sub-list
 sub-list c = search needs
@@ -40,31 +44,54 @@ part-list-end : tie.Need-part-list-end
 part-list-end c = search needs
 
 mul-list : tie.Need-mul-list
-mul-list c = let z = standing.inside 65536 (c .before .before .before .before .before .before .before .before .before .args .engine) (c .before .before .before .before .before .before .before .before .before .args .shared .now) _ _ _ _ (standing.loaded-at 65536 (c .before .before .before .before .before .before .before .before .before .args .shared .now) (c .before .before .before .before .before .before .before .before .before .args .engine) _ _ _ _ (looked.asked 65536 (c .before .before .before .before .before .before .before .before .before .args .engine) (c .before .before .before .before .before .before .before .before .before .args .shared .now) _ _ (c .before .before .before .before .standing .ensures) (c .before .before .place .given .1))) in let y = standing.whole 65536 (c .before .before .before .before .before .before .before .before .before .args .shared .now) (c .before .before .before .before .before .before .before .before .before .args .engine) _ _ _ _ (looked.asked 65536 (c .before .before .before .before .before .before .before .before .before .args .engine) (c .before .before .before .before .before .before .before .before .before .args .shared .now) _ _ (c .before .before .before .before .standing .ensures) (c .before .before .place .given .1)) in omega (arith, z, y)
+mul-list c =
+    let b2 = c .before .before in let b4 = b2 .before .before in let a = b4 .before .before .before .before .before .args in
+    let z = standing.inside 65536 (a .engine) (a .shared .now) _ _ _ _
+    (standing.loaded-at 65536 (a .shared .now) (a .engine) _ _ _ _ (looked.asked 65536 (a .engine) (a .shared .now) _ _ (b4 .standing .ensures) (b2 .place .given .1))) in let y = standing.whole 65536
+    (a .shared .now) (a .engine) _ _ _ _ (looked.asked 65536 (a .engine) (a .shared .now) _ _ (b4 .standing .ensures) (b2 .place .given .1)) in omega (arith, z, y)
 
 sub-list-2 : tie.Need-sub-list-2
-sub-list-2 c = let z = standing.inside 65536 (c .before .before .before .before .before .before .before .before .before .args .engine) (c .before .before .before .before .before .before .before .before .before .args .shared .now) _ _ _ _ (standing.loaded-at 65536 (c .before .before .before .before .before .before .before .before .before .args .shared .now) (c .before .before .before .before .before .before .before .before .before .args .engine) _ _ _ _ (looked.asked 65536 (c .before .before .before .before .before .before .before .before .before .args .engine) (c .before .before .before .before .before .before .before .before .before .args .shared .now) _ _ (c .before .before .before .before .standing .ensures) (c .before .before .place .given .1))) in let y = standing.whole 65536 (c .before .before .before .before .before .before .before .before .before .args .shared .now) (c .before .before .before .before .before .before .before .before .before .args .engine) _ _ _ _ (looked.asked 65536 (c .before .before .before .before .before .before .before .before .before .args .engine) (c .before .before .before .before .before .before .before .before .before .args .shared .now) _ _ (c .before .before .before .before .standing .ensures) (c .before .before .place .given .1)) in omega (arith, z, y)
+sub-list-2 c =
+    let b2 = c .before .before in let b4 = b2 .before .before in let a = b4 .before .before .before .before .before .args in
+    let z = standing.inside 65536 (a .engine) (a .shared .now) _ _ _ _
+    (standing.loaded-at 65536 (a .shared .now) (a .engine) _ _ _ _ (looked.asked 65536 (a .engine) (a .shared .now) _ _ (b4 .standing .ensures) (b2 .place .given .1))) in let y = standing.whole 65536
+    (a .shared .now) (a .engine) _ _ _ _ (looked.asked 65536 (a .engine) (a .shared .now) _ _ (b4 .standing .ensures) (b2 .place .given .1)) in omega (arith, z, y)
 
 part-list-start-2 : tie.Need-part-list-start-2
-part-list-start-2 c = let z = standing.inside 65536 (c .before .before .before .before .before .before .before .before .before .args .engine) (c .before .before .before .before .before .before .before .before .before .args .shared .now) _ _ _ _ (standing.loaded-at 65536 (c .before .before .before .before .before .before .before .before .before .args .shared .now) (c .before .before .before .before .before .before .before .before .before .args .engine) _ _ _ _ (looked.asked 65536 (c .before .before .before .before .before .before .before .before .before .args .engine) (c .before .before .before .before .before .before .before .before .before .args .shared .now) _ _ (c .before .before .before .before .standing .ensures) (c .before .before .place .given .1))) in let y = standing.whole 65536 (c .before .before .before .before .before .before .before .before .before .args .shared .now) (c .before .before .before .before .before .before .before .before .before .args .engine) _ _ _ _ (looked.asked 65536 (c .before .before .before .before .before .before .before .before .before .args .engine) (c .before .before .before .before .before .before .before .before .before .args .shared .now) _ _ (c .before .before .before .before .standing .ensures) (c .before .before .place .given .1)) in omega (arith, z, y)
+part-list-start-2 c =
+    let b2 = c .before .before in let b4 = b2 .before .before in let a = b4 .before .before .before .before .before .args in
+    let z = standing.inside 65536 (a .engine) (a .shared .now) _ _ _ _
+    (standing.loaded-at 65536 (a .shared .now) (a .engine) _ _ _ _ (looked.asked 65536 (a .engine) (a .shared .now) _ _ (b4 .standing .ensures) (b2 .place .given .1))) in let y = standing.whole 65536
+    (a .shared .now) (a .engine) _ _ _ _ (looked.asked 65536 (a .engine) (a .shared .now) _ _ (b4 .standing .ensures) (b2 .place .given .1)) in omega (arith, z, y)
 
 part-list-end-2 : tie.Need-part-list-end-2
-part-list-end-2 c = let z = standing.inside 65536 (c .before .before .before .before .before .before .before .before .before .args .engine) (c .before .before .before .before .before .before .before .before .before .args .shared .now) _ _ _ _ (standing.loaded-at 65536 (c .before .before .before .before .before .before .before .before .before .args .shared .now) (c .before .before .before .before .before .before .before .before .before .args .engine) _ _ _ _ (looked.asked 65536 (c .before .before .before .before .before .before .before .before .before .args .engine) (c .before .before .before .before .before .before .before .before .before .args .shared .now) _ _ (c .before .before .before .before .standing .ensures) (c .before .before .place .given .1))) in let y = standing.whole 65536 (c .before .before .before .before .before .before .before .before .before .args .shared .now) (c .before .before .before .before .before .before .before .before .before .args .engine) _ _ _ _ (looked.asked 65536 (c .before .before .before .before .before .before .before .before .before .args .engine) (c .before .before .before .before .before .before .before .before .before .args .shared .now) _ _ (c .before .before .before .before .standing .ensures) (c .before .before .place .given .1)) in omega (arith, z, y)
+part-list-end-2 c =
+    let b2 = c .before .before in let b4 = b2 .before .before in let a = b4 .before .before .before .before .before .args in
+    let z = standing.inside 65536 (a .engine) (a .shared .now) _ _ _ _
+    (standing.loaded-at 65536 (a .shared .now) (a .engine) _ _ _ _ (looked.asked 65536 (a .engine) (a .shared .now) _ _ (b4 .standing .ensures) (b2 .place .given .1))) in let y = standing.whole 65536
+    (a .shared .now) (a .engine) _ _ _ _ (looked.asked 65536 (a .engine) (a .shared .now) _ _ (b4 .standing .ensures) (b2 .place .given .1)) in omega (arith, z, y)
 
 list-requires : tie.Need-list-requires
 list-requires c κs = search needs
 
 returns : tie.Need-returns
-returns c = looked.nowhere-list 65536 (c .before .before .before .before .before .before .before .args .engine) (c .before .before .before .before .before .before .before .args .shared .now) (c .before .before .before .before .before .before .before .args .file .now) (c .before .before .before .before .before .before .before .args .text .now) (looked.asked 65536 (c .before .before .before .before .before .before .before .args .engine) (c .before .before .before .before .before .before .before .args .shared .now) _ _ (c .before .before .standing .ensures) (c .enum-told .given .1))
+returns c =
+    let b2 = c .before .before in let a = b2 .before .before .before .before .before .args in
+    looked.nowhere-list 65536 (a .engine) (a .shared .now) (a .file .now) (a .text .now) (looked.asked 65536 (a .engine) (a .shared .now) _ _ (b2 .standing .ensures) (c .enum-told .given .1))
 
 returns-2 : tie.Need-returns-2
-returns-2 c = looked.idle-list 65536 (c .before .before .before .before .before .before .before .args .engine) (c .before .before .before .before .before .before .before .args .shared .now) (c .before .before .before .before .before .before .before .args .file .now) (c .before .before .before .before .before .before .before .args .text .now) _ (looked.asked 65536 (c .before .before .before .before .before .before .before .args .engine) (c .before .before .before .before .before .before .before .args .shared .now) _ _ (c .before .before .standing .ensures) (c .enum-told2 .given .1))
+returns-2 c =
+    let b2 = c .before .before in let a = b2 .before .before .before .before .before .args in
+    looked.idle-list 65536 (a .engine) (a .shared .now) (a .file .now) (a .text .now) _ (looked.asked 65536 (a .engine) (a .shared .now) _ _ (b2 .standing .ensures) (c .enum-told2 .given .1))
 
 same-length : tie.Need-same-length
 same-length c = search needs
 
 returns-3 : tie.Need-returns-3
-returns-3 c = looked.loaded-list 65536 (c .before .before .before .before .before .before .before .before .before .before .before .before .before .before .args .engine) (c .before .before .before .before .before .before .before .before .before .before .before .before .before .before .args .shared .now) (c .before .before .before .before .before .before .before .before .before .before .before .before .before .before .args .file .now) (c .before .before .before .before .before .before .before .before .before .before .before .before .before .before .args .text .now) _ _ _ _ (looked.asked 65536 (c .before .before .before .before .before .before .before .before .before .before .before .before .before .before .args .engine) (c .before .before .before .before .before .before .before .before .before .before .before .before .before .before .args .shared .now) _ _ (c .before .before .before .before .before .before .before .before .before .standing .ensures) (c .before .before .before .before .before .before .before .place .given .1)) _ _ (c .before .before .list .ensures .0) (c .before .before .list .ensures .1)
+returns-3 c =
+    let b2 = c .before .before in let b7 = b2 .before .before .before .before .before in let b9 = b7 .before .before in let a = b9 .before .before .before .before .before .args in
+    looked.loaded-list 65536 (a .engine) (a .shared .now) (a .file .now) (a .text .now) _ _ _ _ (looked.asked 65536 (a .engine) (a .shared .now) _ _ (b9 .standing .ensures) (b7 .place .given .1)) _ _
+    (b2 .list .ensures .0) (b2 .list .ensures .1)
 
 pub list-spec : {M : Type 1} → statement M
 list-spec = tie.close (tie.spec sub-standing part-standing-start part-standing-end standing-requires enum-told enum-told-2 enum-known-place add-end sub-list part-list-start part-list-end mul-list sub-list-2 part-list-start-2 part-list-end-2 list-requires returns returns-2 same-length returns-3)

@@ -43,34 +43,52 @@ part-lay-end : tie.Need-part-lay-end
 part-lay-end c = search needs
 
 lay-requires : tie.Need-lay-requires
-lay-requires c κs = loads.lay-asks 65536 (c .before .before .before .before .before .before .before .before .before .before .args .engine) (c .before .before .before .before .before .before .before .before .before .before .args .layout) (c .before .before .before .before .before .before .before .before .before .before .args .file .now) (c .before .before .before .before .before .before .before .before .before .before .args .shared .now) _ (asked 65536 (c .before .before .before .before .before .before .before .before .before .before .args .engine) (c .before .before .before .before .before .before .before .before .before .before .args .shared .now) _ _ (c .before .before .before .before .before .standing .ensures) (c .before .before .before .free .given .1))
+lay-requires c κs =
+    let b3 = c .before .before .before in let b5 = b3 .before .before in let a = b5 .before .before .before .before .before .args in
+    loads.lay-asks 65536 (a .engine) (a .layout) (a .file .now) (a .shared .now) _ (asked 65536 (a .engine) (a .shared .now) _ _ (b5 .standing .ensures) (b3 .free .given .1))
 
 same-length : tie.Need-same-length
 same-length c = search needs
 
 returns : tie.Need-returns
-returns c = let h = asked 65536 (c .before .before .before .before .before .before .before .before .before .before .before .before .before .before .before .args .engine) (c .before .before .before .before .before .before .before .before .before .before .before .before .before .before .before .args .shared .now) _ _ (c .before .before .before .before .before .before .before .before .before .before .standing .ensures) (c .before .before .before .before .before .before .before .before .free .given .1) in loads.refused-loads 65536 (c .before .before .before .before .before .before .before .before .before .before .before .before .before .before .before .args .engine) (c .before .before .before .before .before .before .before .before .before .before .before .before .before .before .before .args .layout) (c .before .before .before .before .before .before .before .before .before .before .before .before .before .before .before .args .file .now) (c .before .before .before .before .before .before .before .before .before .before .before .before .before .before .before .args .shared .now) _ h _ _ (loads.handed 65536 (c .before .before .before .before .before .before .before .before .before .before .before .before .before .before .before .args .engine) (c .before .before .before .before .before .before .before .before .before .before .before .before .before .before .before .args .layout) (c .before .before .before .before .before .before .before .before .before .before .before .before .before .before .before .args .file .now) (c .before .before .before .before .before .before .before .before .before .before .before .before .before .before .before .args .shared .now) _ h _ _ _ (part-to-end (c .before .before .before .before .before .before .before .before .before .before .before .before .before .before .before .args .file .now) 0) (c .before .before .before .before .lay .ensures)) (c .if1 .taken)
+returns c =
+    let b4 = c .before .before .before .before in let b8 = b4 .before .before .before .before in let b10 = b8 .before .before in let a = b10 .before .before .before .before .before .args in
+    let h = asked 65536 (a .engine) (a .shared .now) _ _ (b10 .standing .ensures) (b8 .free .given .1) in loads.refused-loads 65536 (a .engine) (a .layout) (a .file .now) (a .shared .now) _ h _ _
+    (loads.handed 65536 (a .engine) (a .layout) (a .file .now) (a .shared .now) _ h _ _ _ (part-to-end (a .file .now) 0) (b4 .lay .ensures)) (c .if1 .taken)
 
 settle-requires : tie.Need-settle-requires
-settle-requires c κs = let h = asked 65536 (c .before .before .before .before .before .before .before .before .before .before .before .before .before .before .before .before .args .engine) (c .before .before .before .before .before .before .before .before .before .before .before .before .before .before .before .before .args .shared .now) _ _ (c .before .before .before .before .before .before .before .before .before .before .before .standing .ensures) (c .before .before .before .before .before .before .before .before .before .free .given .1) in loads.settle-asks 65536 (c .before .before .before .before .before .before .before .before .before .before .before .before .before .before .before .before .args .engine) (c .before .before .before .before .before .before .before .before .before .before .before .before .before .before .before .before .args .layout) (c .before .before .before .before .before .before .before .before .before .before .before .before .before .before .before .before .args .file .now) (c .before .before .before .before .before .before .before .before .before .before .before .before .before .before .before .before .args .shared .now) _ h _ _ (loads.handed 65536 (c .before .before .before .before .before .before .before .before .before .before .before .before .before .before .before .before .args .engine) (c .before .before .before .before .before .before .before .before .before .before .before .before .before .before .before .before .args .layout) (c .before .before .before .before .before .before .before .before .before .before .before .before .before .before .before .before .args .file .now) (c .before .before .before .before .before .before .before .before .before .before .before .before .before .before .before .before .args .shared .now) _ h _ _ _ (part-to-end (c .before .before .before .before .before .before .before .before .before .before .before .before .before .before .before .before .args .file .now) 0) (c .before .before .before .before .before .lay .ensures)) (c .before .if1 .left)
+settle-requires c κs =
+    let b5 = c .before .before .before .before .before in let b9 = b5 .before .before .before .before in let b11 = b9 .before .before in let a = b11 .before .before .before .before .before .args in
+    let h = asked 65536 (a .engine) (a .shared .now) _ _ (b11 .standing .ensures) (b9 .free .given .1) in loads.settle-asks 65536 (a .engine) (a .layout) (a .file .now) (a .shared .now) _ h _ _
+    (loads.handed 65536 (a .engine) (a .layout) (a .file .now) (a .shared .now) _ h _ _ _ (part-to-end (a .file .now) 0) (b5 .lay .ensures)) (c .before .if1 .left)
 
 same-length-2 : tie.Need-same-length-2
 same-length-2 c = search needs
 
 returns-2 : tie.Need-returns-2
-returns-2 c = loads.nowhere-loads 65536 (c .before .before .before .before .before .before .before .before .args .engine) (c .before .before .before .before .before .before .before .before .args .layout) (c .before .before .before .before .before .before .before .before .args .file .now) (c .before .before .before .before .before .before .before .before .args .shared .now) (asked 65536 (c .before .before .before .before .before .before .before .before .args .engine) (c .before .before .before .before .before .before .before .before .args .shared .now) _ _ (c .before .before .before .standing .ensures) (c .before .enum-told .given .1)) _ (c .refused .ensures)
+returns-2 c =
+    let b3 = c .before .before .before in let a = b3 .before .before .before .before .before .args in
+    loads.nowhere-loads 65536 (a .engine) (a .layout) (a .file .now) (a .shared .now) (asked 65536 (a .engine) (a .shared .now) _ _ (b3 .standing .ensures) (c .before .enum-told .given .1)) _
+    (c .refused .ensures)
 
 same-length-3 : tie.Need-same-length-3
 same-length-3 c = search needs
 
 returns-3 : tie.Need-returns-3
-returns-3 c = loads.busy-loads 65536 (c .before .before .before .before .before .before .before .before .args .engine) (c .before .before .before .before .before .before .before .before .args .layout) (c .before .before .before .before .before .before .before .before .args .file .now) (c .before .before .before .before .before .before .before .before .args .shared .now) _ _ _ _ (asked 65536 (c .before .before .before .before .before .before .before .before .args .engine) (c .before .before .before .before .before .before .before .before .args .shared .now) _ _ (c .before .before .before .standing .ensures) (c .before .enum-told2 .given .1)) _ (c .refused2 .ensures)
+returns-3 c =
+    let b3 = c .before .before .before in let a = b3 .before .before .before .before .before .args in
+    loads.busy-loads 65536 (a .engine) (a .layout) (a .file .now) (a .shared .now) _ _ _ _ (asked 65536 (a .engine) (a .shared .now) _ _ (b3 .standing .ensures) (c .before .enum-told2 .given .1)) _
+    (c .refused2 .ensures)
 
 same-length-4 : tie.Need-same-length-4
 same-length-4 c = search needs
 
 returns-4 : tie.Need-returns-4
-returns-4 c = let h = asked 65536 (c .before .before .before .before .before .before .before .before .before .before .before .before .before .before .before .before .before .before .before .args .engine) (c .before .before .before .before .before .before .before .before .before .before .before .before .before .before .before .before .before .before .before .args .shared .now) _ _ (c .before .before .before .before .before .before .before .before .before .before .before .before .before .before .standing .ensures) (c .before .before .before .before .before .before .before .before .before .before .before .before .free .given .1) in loads.accepted-loads 65536 (c .before .before .before .before .before .before .before .before .before .before .before .before .before .before .before .before .before .before .before .args .engine) (c .before .before .before .before .before .before .before .before .before .before .before .before .before .before .before .before .before .before .before .args .layout) (c .before .before .before .before .before .before .before .before .before .before .before .before .before .before .before .before .before .before .before .args .file .now) (c .before .before .before .before .before .before .before .before .before .before .before .before .before .before .before .before .before .before .before .args .shared .now) _ h _ _ (loads.handed 65536 (c .before .before .before .before .before .before .before .before .before .before .before .before .before .before .before .before .before .before .before .args .engine) (c .before .before .before .before .before .before .before .before .before .before .before .before .before .before .before .before .before .before .before .args .layout) (c .before .before .before .before .before .before .before .before .before .before .before .before .before .before .before .before .before .before .before .args .file .now) (c .before .before .before .before .before .before .before .before .before .before .before .before .before .before .before .before .before .before .before .args .shared .now) _ h _ _ _ (part-to-end (c .before .before .before .before .before .before .before .before .before .before .before .before .before .before .before .before .before .before .before .args .file .now) 0) (c .before .before .before .before .before .before .before .before .lay .ensures)) (c .before .before .before .before .if1 .left) _ (c .before .before .settle .ensures)
+returns-4 c =
+    let b2 = c .before .before in let b4 = b2 .before .before in let b8 = b4 .before .before .before .before in let b12 = b8 .before .before .before .before in let b14 = b12 .before .before in
+    let a = b14 .before .before .before .before .before .args in
+    let h = asked 65536 (a .engine) (a .shared .now) _ _ (b14 .standing .ensures) (b12 .free .given .1) in loads.accepted-loads 65536 (a .engine) (a .layout) (a .file .now) (a .shared .now) _ h _ _
+    (loads.handed 65536 (a .engine) (a .layout) (a .file .now) (a .shared .now) _ h _ _ _ (part-to-end (a .file .now) 0) (b8 .lay .ensures)) (b4 .if1 .left) _ (b2 .settle .ensures)
 
 pub load-spec : {M : Type 1} → statement M
 load-spec =

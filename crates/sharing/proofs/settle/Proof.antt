@@ -20,4 +20,6 @@ settle-spec =
     (λ c κs. search needs)
     (λ c κs. search needs)
     (λ c. search needs)
-    (λ c. laid.settled 65536 (c .before .before .before .before .before .before .before .args .engine) (c .before .before .before .before .before .before .before .args .layout) (c .before .before .before .before .before .before .before .args .objects) (c .before .before .before .before .before .before .before .args .components) (c .before .before .before .before .before .before .before .args .start) (c .before .before .before .before .before .before .before .args .place) (c .before .before .before .before .before .before .before .args .size) (c .before .before .before .before .before .before .before .args .shared .now) _ _ _ (c .before .before .before .before .before .before .before .pre .0) (c .before .before .before .before .before .before .before .pre .1 .1) (c .before .before .before .before .before .state-at .ensures) (c .before .before .before .layout-number .ensures) (c .before .before .keep .ensures)))
+    (λ c. let b2 = c .before .before in let b3 = b2 .before in let b5 = b3 .before .before in let b7 = b5 .before .before in let a = b7 .args in
+    laid.settled 65536 (a .engine) (a .layout) (a .objects) (a .components) (a .start) (a .place) (a .size) (a .shared .now) _ _ _ (b7 .pre .0) (b7 .pre .1 .1) (b5 .state-at .ensures)
+    (b3 .layout-number .ensures) (b2 .keep .ensures)))

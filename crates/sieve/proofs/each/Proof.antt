@@ -33,25 +33,67 @@ each-spec =
     (λ c. search needs)
     (λ c. search needs)
     (λ c. search needs)
-    (λ c κs. walked.still-due 30 ((c .before .before .before .before .before .args .mode)) ((c .before .before .before .before .before .args .count)) ((c .before .before .before .before .before .args .s .now)) ((c .before .before .before .before .before .pre .1)) ((c .before .loop .inv .1)) ((c .before .loop .at)) ((c .before .loop .due)) _ ((c .before .loop .inv .0)))
+    (λ c κs. let b5 = c .before .before .before .before .before in let l = c .before .loop in let a = b5 .args in
+    walked.still-due 30 ((a .mode)) ((a .count)) ((a .s .now)) ((b5 .pre .1)) ((l .inv .1)) ((l .at)) ((l .due)) _ ((l .inv .0)))
     (λ c. search needs)
     (λ c. ((c .before .before .before .before .loop .inv .2)))
     (λ c. ((c .before .before .before .before .loop .inv .3)))
-    (λ c. (sieving.all-sieved ((c .before .before .before .before .before .before .before .before .args .layout)) ((c .before .before .before .before .before .before .before .before .args .start)) ((c .before .before .before .before .before .before .before .before .args .end)) ((c .before .before .before .before .before .before .before .before .args .mode)) ((c .before .before .before .before .before .before .before .before .args .count)) ((c .before .before .before .before .before .before .before .before .args .fill)) ((c .before .before .before .before .before .before .before .before .args .from)) ((c .before .before .before .before .before .before .before .before .args .s .now)) ((c .before .before .before .before .before .before .before .before .args .t .now)) ((c .before .before .before .before .before .before .before .before .args .list .now)) ((c .before .before .before .before .before .before .before .before .pre .1)) ((c .before .before .before .before .loop .inv .1)) ((c .before .before .before .before .loop .at)) ((c .before .before .before .before .loop .due)) ((c .before .before .before .before .loop .have)) ((c .before .before .before .before .loop .t)) ((c .before .before .before .before .loop .list)) ((c .before .before .before .before .loop .inv .0)) _ ((c .before .before .past-key .ensures)) _ ((c .enum-told .given .1)), (c .before .before .before .before .loop .inv .4)))
+    (λ c. let b2 = c .before .before in let b4 = b2 .before .before in let b8 = b4 .before .before .before .before in let l = b4 .loop in let a = b8 .args in
+    (sieving.all-sieved ((a .layout)) ((a .start)) ((a .end)) ((a .mode)) ((a .count)) ((a .fill)) ((a .from)) ((a .s .now)) ((a .t .now)) ((a .list .now)) ((b8 .pre .1)) ((l .inv .1)) ((l .at)) ((l .due)) ((l .have)) ((l .t)) ((l .list)) ((l .inv .0)) _ ((b2 .past-key .ensures)) _ ((c .enum-told .given .1)), (l .inv .4)))
     (λ c. search needs)
-    (λ c. omega (arith, walked.value-inside 30 ((c .before .before .before .before .before .before .before .before .before .args .mode)) ((c .before .before .before .before .before .before .before .before .before .args .count)) ((c .before .before .before .before .before .before .before .before .before .args .s .now)) ((c .before .before .before .before .before .before .before .before .before .pre .1)) ((c .before .before .before .before .before .loop .inv .1)) ((c .before .before .before .before .before .loop .at)) ((c .before .before .before .before .before .loop .due)) _ ((c .before .before .before .before .before .loop .inv .0)) _ ((c .before .before .before .past-key .ensures)) _ ((c .before .k .given .1))))
-    (λ c. omega (arith, walked.value-inside 30 ((c .before .before .before .before .before .before .before .before .before .args .mode)) ((c .before .before .before .before .before .before .before .before .before .args .count)) ((c .before .before .before .before .before .before .before .before .before .args .s .now)) ((c .before .before .before .before .before .before .before .before .before .pre .1)) ((c .before .before .before .before .before .loop .inv .1)) ((c .before .before .before .before .before .loop .at)) ((c .before .before .before .before .before .loop .due)) _ ((c .before .before .before .before .before .loop .inv .0)) _ ((c .before .before .before .past-key .ensures)) _ ((c .before .k .given .1))))
-    (λ c. omega (arith, walked.value-inside 30 ((c .before .before .before .before .before .before .before .before .before .args .mode)) ((c .before .before .before .before .before .before .before .before .before .args .count)) ((c .before .before .before .before .before .before .before .before .before .args .s .now)) ((c .before .before .before .before .before .before .before .before .before .pre .1)) ((c .before .before .before .before .before .loop .inv .1)) ((c .before .before .before .before .before .loop .at)) ((c .before .before .before .before .before .loop .due)) _ ((c .before .before .before .before .before .loop .inv .0)) _ ((c .before .before .before .past-key .ensures)) _ ((c .before .k .given .1))))
-    (λ c. omega (arith, walked.value-inside 30 ((c .before .before .before .before .before .before .before .before .before .args .mode)) ((c .before .before .before .before .before .before .before .before .before .args .count)) ((c .before .before .before .before .before .before .before .before .before .args .s .now)) ((c .before .before .before .before .before .before .before .before .before .pre .1)) ((c .before .before .before .before .before .loop .inv .1)) ((c .before .before .before .before .before .loop .at)) ((c .before .before .before .before .before .loop .due)) _ ((c .before .before .before .before .before .loop .inv .0)) _ ((c .before .before .before .past-key .ensures)) _ ((c .before .k .given .1))))
-    (λ c. omega (arith, walked.value-inside 30 ((c .before .before .before .before .before .before .before .before .before .before .args .mode)) ((c .before .before .before .before .before .before .before .before .before .before .args .count)) ((c .before .before .before .before .before .before .before .before .before .before .args .s .now)) ((c .before .before .before .before .before .before .before .before .before .before .pre .1)) ((c .before .before .before .before .before .before .loop .inv .1)) ((c .before .before .before .before .before .before .loop .at)) ((c .before .before .before .before .before .before .loop .due)) _ ((c .before .before .before .before .before .before .loop .inv .0)) _ ((c .before .before .before .before .past-key .ensures)) _ ((c .before .before .k .given .1))))
-    (λ c. omega (arith, walked.value-inside 30 ((c .before .before .before .before .before .before .before .before .before .before .args .mode)) ((c .before .before .before .before .before .before .before .before .before .before .args .count)) ((c .before .before .before .before .before .before .before .before .before .before .args .s .now)) ((c .before .before .before .before .before .before .before .before .before .before .pre .1)) ((c .before .before .before .before .before .before .loop .inv .1)) ((c .before .before .before .before .before .before .loop .at)) ((c .before .before .before .before .before .before .loop .due)) _ ((c .before .before .before .before .before .before .loop .inv .0)) _ ((c .before .before .before .before .past-key .ensures)) _ ((c .before .before .k .given .1))))
-    (λ c. omega (arith, walked.value-inside 30 ((c .before .before .before .before .before .before .before .before .before .before .args .mode)) ((c .before .before .before .before .before .before .before .before .before .before .args .count)) ((c .before .before .before .before .before .before .before .before .before .before .args .s .now)) ((c .before .before .before .before .before .before .before .before .before .before .pre .1)) ((c .before .before .before .before .before .before .loop .inv .1)) ((c .before .before .before .before .before .before .loop .at)) ((c .before .before .before .before .before .before .loop .due)) _ ((c .before .before .before .before .before .before .loop .inv .0)) _ ((c .before .before .before .before .past-key .ensures)) _ ((c .before .before .k .given .1))))
-    (λ c κs. ((c .before .before .before .before .before .before .before .before .before .before .before .before .before .pre .0), (c .before .before .before .before .before .before .before .before .before .loop .inv .4), putting.still-long ((c .before .before .before .before .before .before .before .before .before .before .before .before .before .args .fill)) ((c .before .before .before .before .before .before .before .before .before .before .before .before .before .args .t .now)) ((c .before .before .before .before .before .before .before .before .before .loop .t)) ((c .before .before .before .before .before .before .before .before .before .before .before .before .before .pre .2)) ((c .before .before .before .before .before .before .before .before .before .loop .inv .2))))
-    (λ c. omega (arith, walked.value-inside 30 ((c .before .before .before .before .before .before .before .before .before .before .before .before .before .before .before .before .before .before .before .args .mode)) ((c .before .before .before .before .before .before .before .before .before .before .before .before .before .before .before .before .before .before .before .args .count)) ((c .before .before .before .before .before .before .before .before .before .before .before .before .before .before .before .before .before .before .before .args .s .now)) ((c .before .before .before .before .before .before .before .before .before .before .before .before .before .before .before .before .before .before .before .pre .1)) ((c .before .before .before .before .before .before .before .before .before .before .before .before .before .before .before .loop .inv .1)) ((c .before .before .before .before .before .before .before .before .before .before .before .before .before .before .before .loop .at)) ((c .before .before .before .before .before .before .before .before .before .before .before .before .before .before .before .loop .due)) _ ((c .before .before .before .before .before .before .before .before .before .before .before .before .before .before .before .loop .inv .0)) _ ((c .before .before .before .before .before .before .before .before .before .before .before .before .before .past-key .ensures)) _ ((c .before .before .before .before .before .before .before .before .before .before .before .k .given .1))))
-    (λ c. ((c .before .before .before .before .before .before .step .kept .1 .1 .1 .1 .1 .1 .1 .1 .0)) ∙ ((c .before .before .before .before .before .before .before .before .before .before .before .before .before .before .before .before .loop .inv .2)))
-    (λ c. ((c .before .before .before .before .before .before .step .kept .1 .1 .1 .1 .1 .1 .1 .1 .1 .0)) ∙ ((c .before .before .before .before .before .before .before .before .before .before .before .before .before .before .before .before .loop .inv .3)))
-    (λ c. (sieving.none-read ((c .before .before .before .before .before .before .before .before .before .before .before .before .before .before .before .before .before .before .before .before .args .layout)) ((c .before .before .before .before .before .before .before .before .before .before .before .before .before .before .before .before .before .before .before .before .args .start)) ((c .before .before .before .before .before .before .before .before .before .before .before .before .before .before .before .before .before .before .before .before .args .end)) ((c .before .before .before .before .before .before .before .before .before .before .before .before .before .before .before .before .before .before .before .before .args .mode)) ((c .before .before .before .before .before .before .before .before .before .before .before .before .before .before .before .before .before .before .before .before .args .count)) ((c .before .before .before .before .before .before .before .before .before .before .before .before .before .before .before .before .before .before .before .before .args .fill)) ((c .before .before .before .before .before .before .before .before .before .before .before .before .before .before .before .before .before .before .before .before .args .from)) ((c .before .before .before .before .before .before .before .before .before .before .before .before .before .before .before .before .before .before .before .before .args .s .now)) ((c .before .before .before .before .before .before .before .before .before .before .before .before .before .before .before .before .before .before .before .before .args .t .now)) ((c .before .before .before .before .before .before .before .before .before .before .before .before .before .before .before .before .before .before .before .before .args .list .now)) ((c .before .before .before .before .before .before .before .before .before .before .before .before .before .before .before .before .before .before .before .before .pre .1)) ((c .before .before .before .before .before .before .before .before .before .before .before .before .before .before .before .before .loop .inv .1)) ((c .before .before .before .before .before .before .before .before .before .before .before .before .before .before .before .before .loop .at)) ((c .before .before .before .before .before .before .before .before .before .before .before .before .before .before .before .before .loop .due)) ((c .before .before .before .before .before .before .before .before .before .before .before .before .before .before .before .before .loop .have)) ((c .before .before .before .before .before .before .before .before .before .before .before .before .before .before .before .before .loop .t)) ((c .before .before .before .before .before .before .before .before .before .before .before .before .before .before .before .before .loop .list)) ((c .before .before .before .before .before .before .before .before .before .before .before .before .before .before .before .before .loop .inv .0)) _ ((c .before .before .before .before .before .before .before .before .before .before .before .before .before .before .past-key .ensures)) _ ((c .before .before .before .before .before .before .before .before .before .before .before .before .k .given .1)) _ ((c .before .before .before .before .before .before .step .ensures .0)) ((c .if1 .taken)) _ _ _, (c .before .before .before .before .before .before .step .ensures .1 .1)))
-    (λ c. let a = walked.value-inside 30 ((c .before .before .before .before .before .before .before .before .before .before .before .before .before .before .before .before .before .before .before .before .args .mode)) ((c .before .before .before .before .before .before .before .before .before .before .before .before .before .before .before .before .before .before .before .before .args .count)) ((c .before .before .before .before .before .before .before .before .before .before .before .before .before .before .before .before .before .before .before .before .args .s .now)) ((c .before .before .before .before .before .before .before .before .before .before .before .before .before .before .before .before .before .before .before .before .pre .1)) ((c .before .before .before .before .before .before .before .before .before .before .before .before .before .before .before .before .loop .inv .1)) ((c .before .before .before .before .before .before .before .before .before .before .before .before .before .before .before .before .loop .at)) ((c .before .before .before .before .before .before .before .before .before .before .before .before .before .before .before .before .loop .due)) _ ((c .before .before .before .before .before .before .before .before .before .before .before .before .before .before .before .before .loop .inv .0)) _ ((c .before .before .before .before .before .before .before .before .before .before .before .before .before .before .past-key .ensures)) _ ((c .before .before .before .before .before .before .before .before .before .before .before .before .k .given .1)) in let b = ((c .if1 .left)) in let d = ((c .before .before .before .before .before .before .before .before .before .before .before .before .before .before .before .before .loop .inv .1)) in omega arith)
-    (λ c. omega (arith, walked.two-due 30 ((c .before .before .before .before .before .before .before .before .before .before .before .before .before .before .before .before .before .before .before .before .args .mode)) ((c .before .before .before .before .before .before .before .before .before .before .before .before .before .before .before .before .before .before .before .before .args .count)) ((c .before .before .before .before .before .before .before .before .before .before .before .before .before .before .before .before .before .before .before .before .args .s .now)) ((c .before .before .before .before .before .before .before .before .before .before .before .before .before .before .before .before .before .before .before .before .pre .1)) ((c .before .before .before .before .before .before .before .before .before .before .before .before .before .before .before .before .loop .inv .1)) ((c .before .before .before .before .before .before .before .before .before .before .before .before .before .before .before .before .loop .at)) ((c .before .before .before .before .before .before .before .before .before .before .before .before .before .before .before .before .loop .due)) _ ((c .before .before .before .before .before .before .before .before .before .before .before .before .before .before .before .before .loop .inv .0)) _ ((c .before .before .before .before .before .before .before .before .before .before .before .before .before .before .past-key .ensures)) _ ((c .before .before .before .before .before .before .before .before .before .before .before .before .k .given .1)) _ ((c .before .before .before .before .before .before .step .ensures .0))))
-    (λ c. omega (arith, walked.value-inside 30 ((c .before .before .before .before .before .before .before .before .before .before .before .before .before .before .before .before .before .before .before .before .args .mode)) ((c .before .before .before .before .before .before .before .before .before .before .before .before .before .before .before .before .before .before .before .before .args .count)) ((c .before .before .before .before .before .before .before .before .before .before .before .before .before .before .before .before .before .before .before .before .args .s .now)) ((c .before .before .before .before .before .before .before .before .before .before .before .before .before .before .before .before .before .before .before .before .pre .1)) ((c .before .before .before .before .before .before .before .before .before .before .before .before .before .before .before .before .loop .inv .1)) ((c .before .before .before .before .before .before .before .before .before .before .before .before .before .before .before .before .loop .at)) ((c .before .before .before .before .before .before .before .before .before .before .before .before .before .before .before .before .loop .due)) _ ((c .before .before .before .before .before .before .before .before .before .before .before .before .before .before .before .before .loop .inv .0)) _ ((c .before .before .before .before .before .before .before .before .before .before .before .before .before .before .past-key .ensures)) _ ((c .before .before .before .before .before .before .before .before .before .before .before .before .k .given .1)), walked.goes-on 30 ((c .before .before .before .before .before .before .before .before .before .before .before .before .before .before .before .before .before .before .before .before .args .mode)) ((c .before .before .before .before .before .before .before .before .before .before .before .before .before .before .before .before .before .before .before .before .args .count)) ((c .before .before .before .before .before .before .before .before .before .before .before .before .before .before .before .before .before .before .before .before .args .s .now)) ((c .before .before .before .before .before .before .before .before .before .before .before .before .before .before .before .before .before .before .before .before .pre .1)) ((c .before .before .before .before .before .before .before .before .before .before .before .before .before .before .before .before .loop .inv .1)) ((c .before .before .before .before .before .before .before .before .before .before .before .before .before .before .before .before .loop .at)) ((c .before .before .before .before .before .before .before .before .before .before .before .before .before .before .before .before .loop .due)) _ ((c .before .before .before .before .before .before .before .before .before .before .before .before .before .before .before .before .loop .inv .0)) _ ((c .before .before .before .before .before .before .before .before .before .before .before .before .before .before .past-key .ensures)) _ ((c .before .before .before .before .before .before .before .before .before .before .before .before .k .given .1)) _ ((c .before .before .before .before .before .before .step .ensures .0)) ((c .if1 .left))))
-    (λ c. (walked.one-more 30 ((c .before .before .before .before .before .before .before .before .before .before .before .before .before .before .before .before .before .before .before .before .args .mode)) ((c .before .before .before .before .before .before .before .before .before .before .before .before .before .before .before .before .before .before .before .before .args .count)) ((c .before .before .before .before .before .before .before .before .before .before .before .before .before .before .before .before .before .before .before .before .args .s .now)) ((c .before .before .before .before .before .before .before .before .before .before .before .before .before .before .before .before .before .before .before .before .pre .1)) ((c .before .before .before .before .before .before .before .before .before .before .before .before .before .before .before .before .loop .inv .1)) ((c .before .before .before .before .before .before .before .before .before .before .before .before .before .before .before .before .loop .at)) ((c .before .before .before .before .before .before .before .before .before .before .before .before .before .before .before .before .loop .due)) _ ((c .before .before .before .before .before .before .before .before .before .before .before .before .before .before .before .before .loop .inv .0)) _ ((c .before .before .before .before .before .before .before .before .before .before .before .before .before .before .past-key .ensures)) _ ((c .before .before .before .before .before .before .before .before .before .before .before .before .k .given .1)) _ ((c .before .before .before .before .before .before .step .ensures .0)) ((c .if1 .left)) _ (λ done x few key value kept. sieving.one-more-sieved ((c .before .before .before .before .before .before .before .before .before .before .before .before .before .before .before .before .before .before .before .before .args .layout)) ((c .before .before .before .before .before .before .before .before .before .before .before .before .before .before .before .before .before .before .before .before .args .start)) ((c .before .before .before .before .before .before .before .before .before .before .before .before .before .before .before .before .before .before .before .before .args .end)) ((c .before .before .before .before .before .before .before .before .before .before .before .before .before .before .before .before .before .before .before .before .args .fill)) ((c .before .before .before .before .before .before .before .before .before .before .before .before .before .before .before .before .before .before .before .before .args .from)) ((c .before .before .before .before .before .before .before .before .before .before .before .before .before .before .before .before .before .before .before .before .args .t .now)) ((c .before .before .before .before .before .before .before .before .before .before .before .before .before .before .before .before .before .before .before .before .args .list .now)) ((c .before .before .before .before .before .before .before .before .before .before .before .before .before .before .before .before .before .before .before .before .args .s .now)) ((c .before .before .before .before .before .before .before .before .before .before .before .before .before .before .before .before .loop .at)) _ ((c .before .before .before .before .before .before .before .before .before .before .before .before .before .before .before .before .loop .have)) ((c .before .before .before .before .before .before .before .before .before .before .before .before .before .before .before .before .loop .t)) ((c .before .before .before .before .before .before .before .before .before .before .before .before .before .before .before .before .loop .list)) _ _ _ ((c .before .before .before .before .before .before .before .before .before .before .before .before .before .before .before .before .loop .inv .2)) ((c .before .before .before .before .before .before .before .before .before .before .before .before .before .before .before .before .loop .inv .3)) ((c .before .before .before .before .before .before .step .ensures .1 .0)) done x _ _ key value kept), ((c .before .before .before .before .before .before .before .before .before .before .before .before .before .before .before .before .loop .inv .1)), ((c .before .before .before .before .before .before .step .kept .1 .1 .1 .1 .1 .1 .1 .1 .0)) ∙ ((c .before .before .before .before .before .before .before .before .before .before .before .before .before .before .before .before .loop .inv .2)), ((c .before .before .before .before .before .before .step .kept .1 .1 .1 .1 .1 .1 .1 .1 .1 .0)) ∙ ((c .before .before .before .before .before .before .before .before .before .before .before .before .before .before .before .before .loop .inv .3)), (c .before .before .before .before .before .before .step .ensures .1 .1))))
+    (λ c. let b3 = c .before .before .before in let b5 = b3 .before .before in let b9 = b5 .before .before .before .before in let l = b5 .loop in let a = b9 .args in
+    omega (arith, walked.value-inside 30 ((a .mode)) ((a .count)) ((a .s .now)) ((b9 .pre .1)) ((l .inv .1)) ((l .at)) ((l .due)) _ ((l .inv .0)) _ ((b3 .past-key .ensures)) _ ((c .before .k .given .1))))
+    (λ c. let b3 = c .before .before .before in let b5 = b3 .before .before in let b9 = b5 .before .before .before .before in let l = b5 .loop in let a = b9 .args in
+    omega (arith, walked.value-inside 30 ((a .mode)) ((a .count)) ((a .s .now)) ((b9 .pre .1)) ((l .inv .1)) ((l .at)) ((l .due)) _ ((l .inv .0)) _ ((b3 .past-key .ensures)) _ ((c .before .k .given .1))))
+    (λ c. let b3 = c .before .before .before in let b5 = b3 .before .before in let b9 = b5 .before .before .before .before in let l = b5 .loop in let a = b9 .args in
+    omega (arith, walked.value-inside 30 ((a .mode)) ((a .count)) ((a .s .now)) ((b9 .pre .1)) ((l .inv .1)) ((l .at)) ((l .due)) _ ((l .inv .0)) _ ((b3 .past-key .ensures)) _ ((c .before .k .given .1))))
+    (λ c. let b3 = c .before .before .before in let b5 = b3 .before .before in let b9 = b5 .before .before .before .before in let l = b5 .loop in let a = b9 .args in
+    omega (arith, walked.value-inside 30 ((a .mode)) ((a .count)) ((a .s .now)) ((b9 .pre .1)) ((l .inv .1)) ((l .at)) ((l .due)) _ ((l .inv .0)) _ ((b3 .past-key .ensures)) _ ((c .before .k .given .1))))
+    (λ c. let b2 = c .before .before in let b4 = b2 .before .before in let b6 = b4 .before .before in let b10 = b6 .before .before .before .before in let l = b6 .loop in let a = b10 .args in
+    omega (arith, walked.value-inside 30 ((a .mode)) ((a .count)) ((a .s .now)) ((b10 .pre .1)) ((l .inv .1)) ((l .at)) ((l .due)) _ ((l .inv .0)) _ ((b4 .past-key .ensures)) _ ((b2 .k .given .1))))
+    (λ c. let b2 = c .before .before in let b4 = b2 .before .before in let b6 = b4 .before .before in let b10 = b6 .before .before .before .before in let l = b6 .loop in let a = b10 .args in
+    omega (arith, walked.value-inside 30 ((a .mode)) ((a .count)) ((a .s .now)) ((b10 .pre .1)) ((l .inv .1)) ((l .at)) ((l .due)) _ ((l .inv .0)) _ ((b4 .past-key .ensures)) _ ((b2 .k .given .1))))
+    (λ c. let b2 = c .before .before in let b4 = b2 .before .before in let b6 = b4 .before .before in let b10 = b6 .before .before .before .before in let l = b6 .loop in let a = b10 .args in
+    omega (arith, walked.value-inside 30 ((a .mode)) ((a .count)) ((a .s .now)) ((b10 .pre .1)) ((l .inv .1)) ((l .at)) ((l .due)) _ ((l .inv .0)) _ ((b4 .past-key .ensures)) _ ((b2 .k .given .1))))
+    (λ c κs. let b9 = c .before .before .before .before .before .before .before .before .before in let b13 = b9 .before .before .before .before in let l = b9 .loop in let a = b13 .args in
+    ((b13 .pre .0), (l .inv .4), putting.still-long ((a .fill)) ((a .t .now)) ((l .t)) ((b13 .pre .2)) ((l .inv .2))))
+    (λ c. let b11 = c .before .before .before .before .before .before .before .before .before .before .before in let b13 = b11 .before .before in let b15 = b13 .before .before in
+    let b19 = b15 .before .before .before .before in let l = b15 .loop in let a = b19 .args in
+    omega (arith, walked.value-inside 30 ((a .mode)) ((a .count)) ((a .s .now)) ((b19 .pre .1)) ((l .inv .1)) ((l .at)) ((l .due)) _ ((l .inv .0)) _ ((b13 .past-key .ensures)) _ ((b11 .k .given .1))))
+    (λ c. let b6 = c .before .before .before .before .before .before in let l = b6 .before .before .before .before .before .before .before .before .before .before .loop in
+    ((b6 .step .kept .1 .1 .1 .1 .1 .1 .1 .1 .0)) ∙ ((l .inv .2)))
+    (λ c. let b6 = c .before .before .before .before .before .before in let l = b6 .before .before .before .before .before .before .before .before .before .before .loop in
+    ((b6 .step .kept .1 .1 .1 .1 .1 .1 .1 .1 .1 .0)) ∙ ((l .inv .3)))
+    (λ c. let b6 = c .before .before .before .before .before .before in let b12 = b6 .before .before .before .before .before .before in let b14 = b12 .before .before in let b16 = b14 .before .before in
+    let b20 = b16 .before .before .before .before in let l = b16 .loop in let a = b20 .args in
+    (sieving.none-read ((a .layout)) ((a .start)) ((a .end)) ((a .mode)) ((a .count)) ((a .fill)) ((a .from)) ((a .s .now)) ((a .t .now)) ((a .list .now)) ((b20 .pre .1)) ((l .inv .1)) ((l .at)) ((l .due)) ((l .have)) ((l .t)) ((l .list)) ((l .inv .0)) _ ((b14 .past-key .ensures)) _ ((b12 .k .given .1)) _ ((b6 .step .ensures .0)) ((c .if1 .taken)) _ _ _, (b6 .step .ensures .1 .1)))
+    (λ c. let a = walked.value-inside 30
+    ((c .before .before .before .before .before .before .before .before .before .before .before .before .before .before .before .before .before .before .before .before .args .mode))
+    ((c .before .before .before .before .before .before .before .before .before .before .before .before .before .before .before .before .before .before .before .before .args .count))
+    ((c .before .before .before .before .before .before .before .before .before .before .before .before .before .before .before .before .before .before .before .before .args .s .now))
+    ((c .before .before .before .before .before .before .before .before .before .before .before .before .before .before .before .before .before .before .before .before .pre .1))
+    ((c .before .before .before .before .before .before .before .before .before .before .before .before .before .before .before .before .loop .inv .1))
+    ((c .before .before .before .before .before .before .before .before .before .before .before .before .before .before .before .before .loop .at))
+    ((c .before .before .before .before .before .before .before .before .before .before .before .before .before .before .before .before .loop .due)) _
+    ((c .before .before .before .before .before .before .before .before .before .before .before .before .before .before .before .before .loop .inv .0)) _
+    ((c .before .before .before .before .before .before .before .before .before .before .before .before .before .before .past-key .ensures)) _
+    ((c .before .before .before .before .before .before .before .before .before .before .before .before .k .given .1)) in let b = ((c .if1 .left)) in let d = ((c .before .before .before .before .before .before .before .before .before .before .before .before .before .before .before .before .loop .inv .1))
+    in omega arith)
+    (λ c. let b6 = c .before .before .before .before .before .before in let b12 = b6 .before .before .before .before .before .before in let b14 = b12 .before .before in let b16 = b14 .before .before in
+    let b20 = b16 .before .before .before .before in let l = b16 .loop in let a = b20 .args in
+    omega
+    (arith, walked.two-due 30 ((a .mode)) ((a .count)) ((a .s .now)) ((b20 .pre .1)) ((l .inv .1)) ((l .at)) ((l .due)) _ ((l .inv .0)) _ ((b14 .past-key .ensures)) _ ((b12 .k .given .1)) _ ((b6 .step .ensures .0))))
+    (λ c. let b6 = c .before .before .before .before .before .before in let b12 = b6 .before .before .before .before .before .before in let b14 = b12 .before .before in let b16 = b14 .before .before in
+    let b20 = b16 .before .before .before .before in let l = b16 .loop in let a = b20 .args in
+    omega
+    (arith, walked.value-inside 30 ((a .mode)) ((a .count)) ((a .s .now)) ((b20 .pre .1)) ((l .inv .1)) ((l .at)) ((l .due)) _ ((l .inv .0)) _ ((b14 .past-key .ensures)) _ ((b12 .k .given .1)), walked.goes-on 30 ((a .mode)) ((a .count)) ((a .s .now)) ((b20 .pre .1)) ((l .inv .1)) ((l .at)) ((l .due)) _ ((l .inv .0)) _ ((b14 .past-key .ensures)) _ ((b12 .k .given .1)) _ ((b6 .step .ensures .0)) ((c .if1 .left))))
+    (λ c. let b6 = c .before .before .before .before .before .before in let b12 = b6 .before .before .before .before .before .before in let b14 = b12 .before .before in let b16 = b14 .before .before in
+    let b20 = b16 .before .before .before .before in let l = b16 .loop in let a = b20 .args in (
+      walked.one-more 30 ((a .mode)) ((a .count)) ((a .s .now)) ((b20 .pre .1)) ((l .inv .1)) ((l .at)) ((l .due)) _ ((l .inv .0)) _ ((b14 .past-key .ensures)) _ ((b12 .k .given .1)) _ ((b6 .step .ensures .0))
+          ((c .if1 .left)) _ (λ done x few key value kept. sieving.one-more-sieved ((a .layout)) ((a .start)) ((a .end)) ((a .fill)) ((a .from)) ((a .t .now)) ((a .list .now)) ((a .s .now)) ((l .at)) _ ((l .have)) ((l .t))
+          ((l .list)) _ _ _ ((l .inv .2)) ((l .inv .3)) ((b6 .step .ensures .1 .0)) done x _ _ key value kept),
+      ((l .inv .1)),
+      ((b6 .step .kept .1 .1 .1 .1 .1 .1 .1 .1 .0)) ∙ ((l .inv .2)),
+      ((b6 .step .kept .1 .1 .1 .1 .1 .1 .1 .1 .1 .0)) ∙ ((l .inv .3)),
+      (b6 .step .ensures .1 .1),
+    )))

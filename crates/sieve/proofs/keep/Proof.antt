@@ -28,14 +28,19 @@ keep-spec =
     (λ c κs. search needs)
     (λ c κs. search needs)
     (λ c. search needs)
-    (λ c. putting.keeps-put ((c .before .before .before .before .before .before .before .before .before .before .before .before .before .before .args .layout)) ((c .before .before .before .before .before .before .before .before .before .before .before .before .before .before .args .s .now)) ((c .before .before .before .before .before .before .before .before .before .before .before .before .before .before .args .c .now)) ((c .before .before .before .before .before .before .before .before .before .before .before .before .before .before .args .start)) ((c .before .before .before .before .before .before .before .before .before .before .before .before .before .before .args .end)) ((c .before .before .before .before .before .before .before .before .before .before .before .before .before .before .args .fill)) ((c .before .before .before .before .before .before .before .before .before .before .before .before .before .before .args .from)) ((c .before .before .before .before .before .before .before .before .before .before .before .before .before .before .args .m)) ((c .before .before .before .before .before .before .before .before .before .before .before .before .before .before .args .have)) ((c .before .before .before .before .before .before .before .before .before .before .before .before .before .before .pre .1)) ((c .before .before .before .before .before .before .before .before .before .before .before .before .before .before .args .t .now)) _ _ _ ((c .more .ensures)) ((c .before .before .before .before .before .before .before .before .before .before .plus .ensures)) ((c .before .before .before .before .before .before .before .before .before .if1 .taken)) _ ((c .before .before .before .put-whole .ensures .1)))
+    (λ c. let b3 = c .before .before .before in let b9 = b3 .before .before .before .before .before .before in let b10 = b9 .before in let b14 = b10 .before .before .before .before in let a = b14 .args in
+    putting.keeps-put ((a .layout)) ((a .s .now)) ((a .c .now)) ((a .start)) ((a .end)) ((a .fill)) ((a .from)) ((a .m)) ((a .have)) ((b14 .pre .1)) ((a .t .now)) _ _ _ ((c .more .ensures))
+    ((b10 .plus .ensures)) ((b9 .if1 .taken)) _ ((b3 .put-whole .ensures .1)))
     (λ c. search needs)
     (λ c. search needs)
     (λ c. search needs)
     (λ c. search needs)
     (λ c. search needs)
     (λ c. search needs)
-    (λ c κs. putting.window-long ((c .before .before .before .before .before .before .before .before .args .fill)) ((c .before .before .before .before .before .before .before .before .args .t .now)) ((c .before .before .before .before .before .before .before .before .args .have)) ((c .before .before .before .before .before .before .before .before .pre .1)) ((c .before .before .before .before .before .before .before .before .pre .2)) ((c .before .before .before .if1 .left)))
+    (λ c κs. let b3 = c .before .before .before in let b8 = b3 .before .before .before .before .before in let a = b8 .args in
+    putting.window-long ((a .fill)) ((a .t .now)) ((a .have)) ((b8 .pre .1)) ((b8 .pre .2)) ((b3 .if1 .left)))
     (λ c κs. search needs)
     (λ c. search needs)
-    (λ c. putting.keeps-weighed ((c .before .before .before .before .before .before .before .before .before .before .before .before .args .layout)) ((c .before .before .before .before .before .before .before .before .before .before .before .before .args .s .now)) ((c .before .before .before .before .before .before .before .before .before .before .before .before .args .c .now)) ((c .before .before .before .before .before .before .before .before .before .before .before .before .args .start)) ((c .before .before .before .before .before .before .before .before .before .before .before .before .args .end)) ((c .before .before .before .before .before .before .before .before .before .before .before .before .args .fill)) ((c .before .before .before .before .before .before .before .before .before .before .before .before .args .from)) ((c .before .before .before .before .before .before .before .before .before .before .before .before .args .m)) ((c .before .before .before .before .before .before .before .before .before .before .before .before .args .have)) ((c .before .before .before .before .before .before .before .before .before .before .before .before .pre .1)) ((c .before .before .before .before .before .before .before .before .before .before .before .before .args .t .now)) _ _ _ ((c .more2 .ensures)) ((c .before .before .before .before .before .before .before .before .plus .ensures)) ((c .before .before .before .before .before .before .before .if1 .left)) _ _ ((c .before .before .before .weigh .ensures .0)) ((c .before .before .before .weigh .ensures .1))))
+    (λ c. let b3 = c .before .before .before in let b7 = b3 .before .before .before .before in let b8 = b7 .before in let b12 = b8 .before .before .before .before in let a = b12 .args in
+    putting.keeps-weighed ((a .layout)) ((a .s .now)) ((a .c .now)) ((a .start)) ((a .end)) ((a .fill)) ((a .from)) ((a .m)) ((a .have)) ((b12 .pre .1)) ((a .t .now)) _ _ _ ((c .more2 .ensures))
+    ((b8 .plus .ensures)) ((b7 .if1 .left)) _ _ ((b3 .weigh .ensures .0)) ((b3 .weigh .ensures .1))))

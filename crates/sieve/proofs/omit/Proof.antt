@@ -17,6 +17,8 @@ omit-spec =
     (λ c κs. search needs)
     (λ c κs. search needs)
     (λ c. search needs)
-    (λ c. putting.omits-listed ((c .before .before .before .before .before .before .before .before .before .args .fill)) ((c .before .before .before .before .before .before .before .before .before .args .n)) ((c .before .before .before .before .before .before .before .before .before .args .c)) ((c .before .before .before .before .before .before .before .before .before .args .have)) ((c .before .before .before .before .before .before .before .before .before .pre)) ((c .before .before .before .before .before .before .before .before .before .args .list .now)) _ _ ((c .more .ensures)) ((c .before .before .before .three .ensures)))
+    (λ c. let b3 = c .before .before .before in let b9 = b3 .before .before .before .before .before .before in let a = b9 .args in
+    putting.omits-listed ((a .fill)) ((a .n)) ((a .c)) ((a .have)) ((b9 .pre)) ((a .list .now)) _ _ ((c .more .ensures)) ((b3 .three .ensures)))
     (λ c κs. search needs)
-    (λ c. putting.omits-counted ((c .before .before .before .args .fill)) ((c .before .before .before .args .n)) ((c .before .before .before .args .c)) ((c .before .before .before .args .have)) ((c .before .before .before .pre)) ((c .before .before .before .args .list .now)) ((c .before .before .before .args .list .now)) _ ((c .more2 .ensures)) ((c .before .if1 .left))))
+    (λ c. let b3 = c .before .before .before in let a = b3 .args in
+    putting.omits-counted ((a .fill)) ((a .n)) ((a .c)) ((a .have)) ((b3 .pre)) ((a .list .now)) ((a .list .now)) _ ((c .more2 .ensures)) ((c .before .if1 .left))))

@@ -31,6 +31,8 @@ step-spec =
     (λ c. search needs)
     (λ c κs. search needs)
     (λ c. search needs)
-    (λ c. (((c .before .before .before .before .before .before .before .object .ensures .0)) ∙ ap (λ s. code (itemEnd 30 s)) (part-to-end ((c .before .before .before .before .before .before .before .before .before .before .before .before .before .args .c .now)) 0), (sieving.steps-omit ((c .before .before .before .before .before .before .before .before .before .before .before .before .before .args .layout)) ((c .before .before .before .before .before .before .before .before .before .before .before .before .before .args .s .now)) ((c .before .before .before .before .before .before .before .before .before .before .before .before .before .args .c .now)) ((c .before .before .before .before .before .before .before .before .before .before .before .before .before .args .start)) ((c .before .before .before .before .before .before .before .before .before .before .before .before .before .args .end)) ((c .before .before .before .before .before .before .before .before .before .before .before .before .before .args .fill)) ((c .before .before .before .before .before .before .before .before .before .before .before .before .before .args .from)) ((c .before .before .before .before .before .before .before .before .before .before .before .before .before .args .have)) ((c .before .before .before .before .before .before .before .before .before .before .before .before .before .args .t .now)) ((c .before .before .before .before .before .before .before .before .before .before .before .before .before .args .list .now)) _ _ _ ((c .before .before .before .before .before .before .before .object .ensures .1)) _ _ ((c .before .before .before .before .before .v .given .1)) ((c .before .before .omit .ensures .0)), (c .before .before .omit .ensures .1))))
+    (λ c. let b2 = c .before .before in let b5 = b2 .before .before .before in let b7 = b5 .before .before in let a = b7 .before .before .before .before .before .before .args in
+    (((b7 .object .ensures .0)) ∙ ap (λ s. code (itemEnd 30 s)) (part-to-end ((a .c .now)) 0), (sieving.steps-omit ((a .layout)) ((a .s .now)) ((a .c .now)) ((a .start)) ((a .end)) ((a .fill)) ((a .from)) ((a .have)) ((a .t .now)) ((a .list .now)) _ _ _ ((b7 .object .ensures .1)) _ _ ((b5 .v .given .1)) ((b2 .omit .ensures .0)), (b2 .omit .ensures .1))))
     (λ c. search needs)
-    (λ c. (((c .before .before .before .before .before .before .before .before .before .object .ensures .0)) ∙ ap (λ s. code (itemEnd 30 s)) (part-to-end ((c .before .before .before .before .before .before .before .before .before .before .before .before .before .before .before .args .c .now)) 0), (sieving.steps-keep ((c .before .before .before .before .before .before .before .before .before .before .before .before .before .before .before .args .layout)) ((c .before .before .before .before .before .before .before .before .before .before .before .before .before .before .before .args .s .now)) ((c .before .before .before .before .before .before .before .before .before .before .before .before .before .before .before .args .c .now)) ((c .before .before .before .before .before .before .before .before .before .before .before .before .before .before .before .args .start)) ((c .before .before .before .before .before .before .before .before .before .before .before .before .before .before .before .args .end)) ((c .before .before .before .before .before .before .before .before .before .before .before .before .before .before .before .args .fill)) ((c .before .before .before .before .before .before .before .before .before .before .before .before .before .before .before .args .from)) ((c .before .before .before .before .before .before .before .before .before .before .before .before .before .before .before .args .have)) ((c .before .before .before .before .before .before .before .before .before .before .before .before .before .before .before .args .t .now)) ((c .before .before .before .before .before .before .before .before .before .before .before .before .before .before .before .args .list .now)) _ _ _ ((c .before .before .before .before .before .before .before .before .before .object .ensures .1)) _ ((c .before .before .before .before .before .before .before .v2 .given .1)) ((c .before .before .keep .ensures .0)), (c .before .before .keep .ensures .1)))))
+    (λ c. let b2 = c .before .before in let b7 = b2 .before .before .before .before .before in let b9 = b7 .before .before in let a = b9 .before .before .before .before .before .before .args in
+    (((b9 .object .ensures .0)) ∙ ap (λ s. code (itemEnd 30 s)) (part-to-end ((a .c .now)) 0), (sieving.steps-keep ((a .layout)) ((a .s .now)) ((a .c .now)) ((a .start)) ((a .end)) ((a .fill)) ((a .from)) ((a .have)) ((a .t .now)) ((a .list .now)) _ _ _ ((b9 .object .ensures .1)) _ ((b7 .v2 .given .1)) ((b2 .keep .ensures .0)), (b2 .keep .ensures .1)))))

@@ -21,5 +21,6 @@ three-spec =
     (λ c. search needs)
     (λ c κs. search needs)
     (λ c. search needs)
-    (λ c. putting.three-put ((c .before .before .before .before .before .before .before .before .before .before .before .before .before .before .args .list .now)) _ _ _ ((c .before .before .before .before .before .before .before .before .before .before .before .before .before .before .args .i)) _ _ _ ((c .before .before .before .before .before .before .before .before .before .before .put .ensures)) ((c .before .before .before .before .before .before .put2 .ensures)) ((c .before .before .put3 .ensures)))
+    (λ c. let b2 = c .before .before in let b6 = b2 .before .before .before .before in let b10 = b6 .before .before .before .before in let a = b10 .before .before .before .before .args in
+    putting.three-put ((a .list .now)) _ _ _ ((a .i)) _ _ _ ((b10 .put .ensures)) ((b6 .put2 .ensures)) ((b2 .put3 .ensures)))
     (λ c. sym (laying.sets-out (((c .before .before .args .a)) ∷ ((c .before .before .args .b)) ∷ ((c .before .before .args .c)) ∷ []) ((c .before .before .args .list .now)) ((c .before .before .args .i)) (omega arith))))

@@ -21,4 +21,5 @@ weigh-spec =
     (λ c κs. search needs)
     (λ c κs. search needs)
     (λ c. search needs)
-    (λ c. (putting.weighed ((c .before .before .before .before .before .before .before .before .before .before .before .args .layout)) ((c .before .before .before .before .before .before .before .before .before .before .before .args .s .now)) ((c .before .before .before .before .before .before .before .before .before .before .before .args .c .now)) ((c .before .before .before .before .before .before .before .before .before .before .before .args .start)) ((c .before .before .before .before .before .before .before .before .before .before .before .args .end)) ((c .before .before .before .before .before .before .before .before .before .before .before .args .place)) ((c .before .before .before .before .before .before .before .before .before .before .before .args .total)) ((c .before .before .before .before .before .before .before .before .before .before .before .args .t .now)) _ ((c .before .before .before .before .before .before .before .before .before .before .before .pre .0)) _ ((c .before .before .before .before .put-whole .ensures .1)) _ _ ((c .add .ensures .0)), (c .add .ensures .1))))
+    (λ c. let b4 = c .before .before .before .before in let b11 = b4 .before .before .before .before .before .before .before in let a = b11 .args in
+    (putting.weighed ((a .layout)) ((a .s .now)) ((a .c .now)) ((a .start)) ((a .end)) ((a .place)) ((a .total)) ((a .t .now)) _ ((b11 .pre .0)) _ ((b4 .put-whole .ensures .1)) _ _ ((c .add .ensures .0)), (c .add .ensures .1))))

@@ -14,4 +14,6 @@ use Rattle.sizes.proofs.last_end.Tie as tie
 
 pub last-end-spec : {M : Type 1} → statement M
 last-end-spec =
-    tie.close (tie.spec (λ c. search needs) (λ c. search needs) (λ c. search needs) (λ c. search needs) (λ c. search needs) (λ c κs. search needs) (λ c. λ buffer attributes sound. (c .end .ensures) ∙ ap (λ (s : List ℕ). cappedEnd (reached [] 8 (blobSizes (eachRow askedComponent componentWidth ((c .before .before .before .args .components)) s)))) (part-to-end ((c .before .before .before .args .rows .now)) (objectWidth * ((c .before .before .before .args .objects)))) ∙ ap cappedEnd (sym (law.end-is buffer ((c .before .before .before .args .rows .now)) ((c .before .before .before .args .objects)) ((c .before .before .before .args .components)) attributes sound))))
+    tie.close (tie.spec (λ c. search needs) (λ c. search needs) (λ c. search needs) (λ c. search needs) (λ c. search needs) (λ c κs. search needs) (λ c. let a = c .before .before .before .args in
+    λ buffer attributes sound. (c .end .ensures) ∙ ap (λ (s : List ℕ). cappedEnd (reached [] 8 (blobSizes (eachRow askedComponent componentWidth ((a .components)) s))))
+    (part-to-end ((a .rows .now)) (objectWidth * ((a .objects)))) ∙ ap cappedEnd (sym (law.end-is buffer ((a .rows .now)) ((a .objects)) ((a .components)) attributes sound))))

@@ -44,7 +44,10 @@ part-objects-end-2 : tie.Need-part-objects-end-2
 part-objects-end-2 c = search needs
 
 objects-requires : tie.Need-objects-requires
-objects-requires c κs = let a = (c .before .before .before .before .args) in subst (λ (X : Type 0). X) (sym (lent-both (a .rows .now) (a .rows .now) (objectWidth * a .objects) (λ os cs. Fits (a .plan .now) os cs (a .objects) 0 0 (begun (a .plan .now))))) (law.all-fit (a .plan .now) (a .rows .now) (a .objects) (a .components) ((c .before .before .before .before .pre)))
+objects-requires c κs =
+    let b4 = c .before .before .before .before in let a′ = b4 .args in
+    let a = (a′) in subst (λ (X : Type 0). X) (sym (lent-both (a .rows .now) (a .rows .now) (objectWidth * a .objects) (λ os cs. Fits (a .plan .now) os cs (a .objects) 0 0 (begun (a .plan .now)))))
+    (law.all-fit (a .plan .now) (a .rows .now) (a .objects) (a .components) ((b4 .pre)))
 
 attributes-requires : tie.Need-attributes-requires
 attributes-requires c κs = search needs

@@ -27,10 +27,14 @@ enum-known-front : tie.Need-enum-known-front
 enum-known-front c = search needs
 
 sub-free : tie.Need-sub-free
-sub-free c = let z = states.fit 65536 (c .before .before .before .before .before .before .args .shared .now) _ _ (states.asked 65536 (c .before .before .before .before .before .before .args .shared .now) _ _ (c .before .before .before .both .ensures) (c .before .front .given .1)) in omega (arith, z)
+sub-free c =
+    let b3 = c .before .before .before in let a = b3 .before .before .before .args in
+    let z = states.fit 65536 (a .shared .now) _ _ (states.asked 65536 (a .shared .now) _ _ (b3 .both .ensures) (c .before .front .given .1)) in omega (arith, z)
 
 sub-free-2 : tie.Need-sub-free-2
-sub-free-2 c = let z = states.fit 65536 (c .before .before .before .before .before .before .args .shared .now) _ _ (states.asked 65536 (c .before .before .before .before .before .before .args .shared .now) _ _ (c .before .before .before .both .ensures) (c .before .front .given .1)) in omega (arith, z)
+sub-free-2 c =
+    let b3 = c .before .before .before in let a = b3 .before .before .before .args in
+    let z = states.fit 65536 (a .shared .now) _ _ (states.asked 65536 (a .shared .now) _ _ (b3 .both .ensures) (c .before .front .given .1)) in omega (arith, z)
 
 sub-stands-by : tie.Need-sub-stands-by
 sub-stands-by c = search needs
@@ -39,13 +43,20 @@ part-stands-by-start : tie.Need-part-stands-by-start
 part-stands-by-start c = search needs
 
 part-stands-by-end : tie.Need-part-stands-by-end
-part-stands-by-end c = let z = (states.whole 65536 (c .before .before .before .before .before .before .before .args .shared .now) _ _ (states.asked 65536 (c .before .before .before .before .before .before .before .args .shared .now) _ _ (c .before .before .before .before .both .ensures) (c .before .before .front .given .1))) in omega (arith, z)
+part-stands-by-end c =
+    let b2 = c .before .before in let b4 = b2 .before .before in let a = b4 .before .before .before .args in
+    let z = (states.whole 65536 (a .shared .now) _ _ (states.asked 65536 (a .shared .now) _ _ (b4 .both .ensures) (b2 .front .given .1))) in omega (arith, z)
 
 stands-by-requires : tie.Need-stands-by-requires
-stands-by-requires c κs = states.front-eight 65536 (c .before .before .before .before .before .before .before .before .args .shared .now) (states.whole 65536 (c .before .before .before .before .before .before .before .before .args .shared .now) _ _ (states.asked 65536 (c .before .before .before .before .before .before .before .before .args .shared .now) _ _ (c .before .before .before .before .before .both .ensures) (c .before .before .before .front .given .1)))
+stands-by-requires c κs =
+    let b3 = c .before .before .before in let b5 = b3 .before .before in let a = b5 .before .before .before .args in
+    states.front-eight 65536 (a .shared .now) (states.whole 65536 (a .shared .now) _ _ (states.asked 65536 (a .shared .now) _ _ (b5 .both .ensures) (b3 .front .given .1)))
 
 returns : tie.Need-returns
-returns c = (c .stands-by .ensures) ∙ states.standing-first 65536 (c .before .before .before .before .before .before .before .before .before .args .shared .now) _ _ (states.asked 65536 (c .before .before .before .before .before .before .before .before .before .args .shared .now) _ _ (c .before .before .before .before .before .before .both .ensures) (c .before .before .before .before .front .given .1)) ∙ ap (λ (n : ℕ). standing 65536 n (c .before .before .before .before .before .before .before .before .before .args .shared .now)) (sym (c .before .before .if1 .taken))
+returns c =
+    let b2 = c .before .before in let b4 = b2 .before .before in let b6 = b4 .before .before in let a = b6 .before .before .before .args in
+    (c .stands-by .ensures) ∙ states.standing-first 65536 (a .shared .now) _ _ (states.asked 65536 (a .shared .now) _ _ (b6 .both .ensures) (b4 .front .given .1)) ∙ ap
+    (λ (n : ℕ). standing 65536 n (a .shared .now)) (sym (b2 .if1 .taken))
 
 sub-stands-by-2 : tie.Need-sub-stands-by-2
 sub-stands-by-2 c = search needs
@@ -54,19 +65,30 @@ part-stands-by-start-2 : tie.Need-part-stands-by-start-2
 part-stands-by-start-2 c = search needs
 
 part-stands-by-end-2 : tie.Need-part-stands-by-end-2
-part-stands-by-end-2 c = let z = (states.whole 65536 (c .before .before .before .before .before .before .before .before .args .shared .now) _ _ (states.asked 65536 (c .before .before .before .before .before .before .before .before .args .shared .now) _ _ (c .before .before .before .before .before .both .ensures) (c .before .before .before .front .given .1))) in omega (arith, z)
+part-stands-by-end-2 c =
+    let b3 = c .before .before .before in let b5 = b3 .before .before in let a = b5 .before .before .before .args in
+    let z = (states.whole 65536 (a .shared .now) _ _ (states.asked 65536 (a .shared .now) _ _ (b5 .both .ensures) (b3 .front .given .1))) in omega (arith, z)
 
 sub-stands-by-3 : tie.Need-sub-stands-by-3
-sub-stands-by-3 c = let z = states.fit 65536 (c .before .before .before .before .before .before .before .before .before .args .shared .now) _ _ (states.asked 65536 (c .before .before .before .before .before .before .before .before .before .args .shared .now) _ _ (c .before .before .before .before .before .before .both .ensures) (c .before .before .before .before .front .given .1)) in omega (arith, z)
+sub-stands-by-3 c =
+    let b4 = c .before .before .before .before in let b6 = b4 .before .before in let a = b6 .before .before .before .args in
+    let z = states.fit 65536 (a .shared .now) _ _ (states.asked 65536 (a .shared .now) _ _ (b6 .both .ensures) (b4 .front .given .1)) in omega (arith, z)
 
 stands-by-requires-2 : tie.Need-stands-by-requires-2
-stands-by-requires-2 c κs = states.back-eight 65536 (c .before .before .before .before .before .before .before .before .before .args .shared .now) (states.whole 65536 (c .before .before .before .before .before .before .before .before .before .args .shared .now) _ _ (states.asked 65536 (c .before .before .before .before .before .before .before .before .before .args .shared .now) _ _ (c .before .before .before .before .before .before .both .ensures) (c .before .before .before .before .front .given .1)))
+stands-by-requires-2 c κs =
+    let b4 = c .before .before .before .before in let b6 = b4 .before .before in let a = b6 .before .before .before .args in
+    states.back-eight 65536 (a .shared .now) (states.whole 65536 (a .shared .now) _ _ (states.asked 65536 (a .shared .now) _ _ (b6 .both .ensures) (b4 .front .given .1)))
 
 returns-2 : tie.Need-returns-2
-returns-2 c = (c .stands-by2 .ensures) ∙ states.standing-second 65536 (c .before .before .before .before .before .before .before .before .before .before .args .shared .now) _ _ (states.asked 65536 (c .before .before .before .before .before .before .before .before .before .before .args .shared .now) _ _ (c .before .before .before .before .before .before .before .both .ensures) (c .before .before .before .before .before .front .given .1)) ∙ ap (λ (n : ℕ). standing 65536 n (c .before .before .before .before .before .before .before .before .before .before .args .shared .now)) (sym (c .before .before .if2 .taken))
+returns-2 c =
+    let b2 = c .before .before in let b5 = b2 .before .before .before in let b7 = b5 .before .before in let a = b7 .before .before .before .args in
+    (c .stands-by2 .ensures) ∙ states.standing-second 65536 (a .shared .now) _ _ (states.asked 65536 (a .shared .now) _ _ (b7 .both .ensures) (b5 .front .given .1)) ∙ ap
+    (λ (n : ℕ). standing 65536 n (a .shared .now)) (sym (b2 .if2 .taken))
 
 returns-3 : tie.Need-returns-3
-returns-3 c = states.standing-unusable 65536 (c .before .before .before .before .before .args .shared .now) _ (states.asked 65536 (c .before .before .before .before .before .args .shared .now) _ _ (c .before .before .both .ensures) (c .enum-told .given .1))
+returns-3 c =
+    let b2 = c .before .before in let a = b2 .before .before .before .args in
+    states.standing-unusable 65536 (a .shared .now) _ (states.asked 65536 (a .shared .now) _ _ (b2 .both .ensures) (c .enum-told .given .1))
 
 returns-4 : tie.Need-returns-4
 returns-4 c = states.standing-stranger 65536 (c .before .before .before .before .before .before .before .before .args .shared .now) _ (c .before .if1 .left) (c .if2 .left)

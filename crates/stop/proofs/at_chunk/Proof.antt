@@ -51,7 +51,9 @@ sub-result-2 c = search needs
 
 -- src/lib.rt:30:13
 returns-2 : tie.Need-returns-2 Inv-loop μ-loop
-returns-2 c = turns.odd-head _ _ (c .before .before .before .before .before .before .loop .inv) (c .before .before .before .before .before .loop-test .taken) _ (c .before .before .before .major-of .ensures) (c .before .before .if1 .left) _ (c .before .low-of .ensures) (c .if2 .taken)
+returns-2 c =
+    let b2 = c .before .before in let b3 = b2 .before in let b5 = b3 .before .before in let l = b5 .before .loop in
+    turns.odd-head _ _ (l .inv) (b5 .loop-test .taken) _ (b3 .major-of .ensures) (b2 .if1 .left) _ (c .before .low-of .ensures) (c .if2 .taken)
 
 -- src/lib.rt:32:28
 sub-skip : tie.Need-sub-skip Inv-loop μ-loop
@@ -75,10 +77,12 @@ sub-if3 c = search needs
 
 -- src/lib.rt:34:13
 returns-3 : tie.Need-returns-3 Inv-loop μ-loop
-returns-3 c = turns.cut-chunk _ _ (c .before .before .before .before .before .before .before .before .before .loop .inv) (c .before .before .before .before .before .before .before .before .loop-test .taken) _ (c .before .before .before .before .before .before .major-of .ensures) (c .before .before .before .before .before .if1 .left) _ (c .before .before .before .before .low-of .ensures) (c .before .before .before .before .before .before .before .before .before .before .before .pre)
-    (omega (arith, c .before .before .before .if2 .left)) (omega arith) _ (c .before .skip .ensures
-    ∙ ap (λ x. code (itemEnd 1 x))
-    (part-to-end (c .before .before .before .before .before .before .before .before .before .before .before .args .s .now) (c .before .before .before .before .before .before .before .before .before .loop .at))) (c .if3 .taken)
+returns-3 c =
+    let l = c .before .before .before .before .before .before .before .before .before .loop in let a = c .before .before .before .before .before .before .before .before .before .before .before .args in
+    turns.cut-chunk _ _ (l .inv) (c .before .before .before .before .before .before .before .before .loop-test .taken) _ (c .before .before .before .before .before .before .major-of .ensures)
+    (c .before .before .before .before .before .if1 .left) _ (c .before .before .before .before .low-of .ensures)
+    (c .before .before .before .before .before .before .before .before .before .before .before .pre) (omega (arith, c .before .before .before .if2 .left)) (omega arith) _
+    (c .before .skip .ensures ∙ ap (λ x. code (itemEnd 1 x)) (part-to-end (a .s .now) (l .at))) (c .if3 .taken)
 
 -- src/lib.rt:36:9
 add-at : tie.Need-add-at Inv-loop μ-loop
@@ -86,22 +90,23 @@ add-at c = search needs
 
 -- src/lib.rt:24:5
 loop-less : tie.Need-loop-less Inv-loop μ-loop
-loop-less c = omega (
-  arith,
-  turns.some-byte _ (c .before .before .before .before .before .before .before .before .before .before .before .args .s .now) (c .before .before .before .before .before .before .before .before .before .loop .inv) (c .before .before .before .before .before .before .before .before .loop-test .taken) _ (c .before .before .before .before .before .before .major-of .ensures) (c .before .before .before .before .before .if1 .left) _ (c .before .before .before .before .low-of .ensures) (c .before .before .before .before .before .before .before .before .before .before .before .pre)
-      (omega (arith, c .before .before .before .if2 .left)) (omega arith) _ (c .before .skip .ensures
-      ∙ ap (λ x. code (itemEnd 1 x))
-      (part-to-end (c .before .before .before .before .before .before .before .before .before .before .before .args .s .now) (c .before .before .before .before .before .before .before .before .before .loop .at)))
-      (omega (arith, c .if3 .left)),
-)
+loop-less c =
+    let l = c .before .before .before .before .before .before .before .before .before .loop in let a = c .before .before .before .before .before .before .before .before .before .before .before .args in
+    omega (
+      arith,
+      turns.some-byte _ (a .s .now) (l .inv) (c .before .before .before .before .before .before .before .before .loop-test .taken) _ (c .before .before .before .before .before .before .major-of .ensures)
+          (c .before .before .before .before .before .if1 .left) _ (c .before .before .before .before .low-of .ensures) (c .before .before .before .before .before .before .before .before .before .before .before .pre)
+          (omega (arith, c .before .before .before .if2 .left)) (omega arith) _ (c .before .skip .ensures ∙ ap (λ x. code (itemEnd 1 x)) (part-to-end (a .s .now) (l .at))) (omega (arith, c .if3 .left)),
+    )
 
 -- src/lib.rt:24:5
 loop-again : tie.Need-loop-again Inv-loop μ-loop
-loop-again c = turns.next-chunk _ _ (c .before .before .before .before .before .before .before .before .before .loop .inv) (c .before .before .before .before .before .before .before .before .loop-test .taken) _ (c .before .before .before .before .before .before .major-of .ensures) (c .before .before .before .before .before .if1 .left) _ (c .before .before .before .before .low-of .ensures) (c .before .before .before .before .before .before .before .before .before .before .before .pre)
-    (omega (arith, c .before .before .before .if2 .left)) (omega arith) _ (c .before .skip .ensures
-    ∙ ap (λ x. code (itemEnd 1 x))
-    (part-to-end (c .before .before .before .before .before .before .before .before .before .before .before .args .s .now) (c .before .before .before .before .before .before .before .before .before .loop .at)))
-    (omega (arith, c .if3 .left))
+loop-again c =
+    let l = c .before .before .before .before .before .before .before .before .before .loop in let a = c .before .before .before .before .before .before .before .before .before .before .before .args in
+    turns.next-chunk _ _ (l .inv) (c .before .before .before .before .before .before .before .before .loop-test .taken) _ (c .before .before .before .before .before .before .major-of .ensures)
+    (c .before .before .before .before .before .if1 .left) _ (c .before .before .before .before .low-of .ensures)
+    (c .before .before .before .before .before .before .before .before .before .before .before .pre) (omega (arith, c .before .before .before .if2 .left)) (omega arith) _
+    (c .before .skip .ensures ∙ ap (λ x. code (itemEnd 1 x)) (part-to-end (a .s .now) (l .at))) (omega (arith, c .if3 .left))
 
 -- src/lib.rt:19:1
 returns-4 : tie.Need-returns-4 Inv-loop μ-loop

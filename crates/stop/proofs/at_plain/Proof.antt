@@ -39,7 +39,9 @@ at-chunk-requires c κs = is.byteStrings
 
 -- src/lib.rt:50:9
 returns-2 : tie.Need-returns-2
-returns-2 c = turns.plain-bytes (c .before .before .before .before .before .before .args .s .now) _ (c .before .before .before .before .if1 .left) (c .before .before .if2 .taken) (subst (λ x. is.ChunksStop 2 x (c .at-chunk .result)) (part-to-end (c .before .before .before .before .before .before .args .s .now) 1) (c .at-chunk .ensures))
+returns-2 c =
+    let b2 = c .before .before in let b4 = b2 .before .before in let a = b4 .before .before .args in
+    turns.plain-bytes (a .s .now) _ (b4 .if1 .left) (b2 .if2 .taken) (subst (λ x. is.ChunksStop 2 x (c .at-chunk .result)) (part-to-end (a .s .now) 1) (c .at-chunk .ensures))
 
 -- src/lib.rt:53:25
 sub-at-chunk-2 : tie.Need-sub-at-chunk-2
@@ -59,7 +61,9 @@ at-chunk-requires-2 c κs = is.textStrings
 
 -- src/lib.rt:53:9
 returns-3 : tie.Need-returns-3
-returns-3 c = turns.plain-text (c .before .before .before .before .before .before .before .args .s .now) _ (c .before .before .before .before .before .if1 .left) (c .before .before .if3 .taken) (subst (λ x. is.ChunksStop 3 x (c .at-chunk2 .result)) (part-to-end (c .before .before .before .before .before .before .before .args .s .now) 1) (c .at-chunk2 .ensures))
+returns-3 c =
+    let b2 = c .before .before in let b5 = b2 .before .before .before in let a = b5 .before .before .args in
+    turns.plain-text (a .s .now) _ (b5 .if1 .left) (b2 .if3 .taken) (subst (λ x. is.ChunksStop 3 x (c .at-chunk2 .result)) (part-to-end (a .s .now) 1) (c .at-chunk2 .ensures))
 
 -- src/lib.rt:57:13
 returns-4 : tie.Need-returns-4
@@ -87,10 +91,10 @@ at-head-requires c κs = search needs
 
 -- src/lib.rt:42:1
 returns-6 : tie.Need-returns-6
-returns-6 c = turns.plain-head (c .before .before .before .before .before .before .before .before .args .s .now) _ (c .before .before .before .before .before .before .if1 .left)
-    (omega (arith, (c .before .before .before .before .before .before .before .shared-slice-known .given) 0)) (c .before .before .before .before .if2 .left) (c .before .before .before .if3 .left) (c .before .before .if4 .left) (c .at-head .ensures
-    ∙ ap headLeft
-    (part-to-end (c .before .before .before .before .before .before .before .before .args .s .now) 0))
+returns-6 c =
+    let b2 = c .before .before in let b3 = b2 .before in let b4 = b3 .before in let b6 = b4 .before .before in let b7 = b6 .before in let a = b7 .before .args in
+    turns.plain-head (a .s .now) _ (b6 .if1 .left) (omega (arith, (b7 .shared-slice-known .given) 0)) (b4 .if2 .left) (b3 .if3 .left) (b2 .if4 .left)
+    (c .at-head .ensures ∙ ap headLeft (part-to-end (a .s .now) 0))
 
 pub at-plain-spec : {M : Type 1} → statement M
 at-plain-spec =

@@ -74,18 +74,19 @@ add-at c = search needs
 
 -- src/lib.rt:70:5
 loop-less : tie.Need-loop-less Inv-loop μ-loop
-loop-less c = omega (
-  arith,
-  turns.item-byte _ (c .before .before .before .before .before .before .before .before .before .args .s .now) _ (c .before .before .before .before .before .before .before .loop .inv) (c .before .before .before .before .before .before .loop-test .taken) (omega arith) _ (c .before .skip .ensures
-      ∙ ap (λ x. code (itemEnd (c .before .before .before .before .before .before .before .loop .left) x))
-      (part-to-end (c .before .before .before .before .before .before .before .before .before .args .s .now) (c .before .before .before .before .before .before .before .loop .at))) (c .if3 .taken),
-)
+loop-less c =
+    let l = c .before .before .before .before .before .before .before .loop in let a = c .before .before .before .before .before .before .before .before .before .args in
+    omega (
+      arith,
+      turns.item-byte _ (a .s .now) _ (l .inv) (c .before .before .before .before .before .before .loop-test .taken) (omega arith) _ (c .before .skip .ensures ∙ ap (λ x. code (itemEnd (l .left) x)) (part-to-end (a .s .now) (l .at))) (c .if3 .taken),
+    )
 
 -- src/lib.rt:70:5
 loop-again : tie.Need-loop-again Inv-loop μ-loop
-loop-again c = turns.next-item _ _ _ (c .before .before .before .before .before .before .before .loop .inv) (c .before .before .before .before .before .before .loop-test .taken) (omega arith) _ (c .before .skip .ensures
-    ∙ ap (λ x. code (itemEnd (c .before .before .before .before .before .before .before .loop .left) x))
-    (part-to-end (c .before .before .before .before .before .before .before .before .before .args .s .now) (c .before .before .before .before .before .before .before .loop .at))) (c .if3 .taken)
+loop-again c =
+    let l = c .before .before .before .before .before .before .before .loop in let a = c .before .before .before .before .before .before .before .before .before .args in
+    turns.next-item _ _ _ (l .inv) (c .before .before .before .before .before .before .loop-test .taken) (omega arith) _
+    (c .before .skip .ensures ∙ ap (λ x. code (itemEnd (l .left) x)) (part-to-end (a .s .now) (l .at))) (c .if3 .taken)
 
 -- src/lib.rt:84:29
 sub-at-plain : tie.Need-sub-at-plain Inv-loop μ-loop
@@ -105,13 +106,13 @@ at-plain-requires c κs = search needs
 
 -- src/lib.rt:84:13
 returns-3 : tie.Need-returns-3 Inv-loop μ-loop
-returns-3 c = turns.plain-item _ _ _ (c .before .before .before .before .before .before .before .before .before .before .loop .inv) (c .before .before .before .before .before .before .before .before .before .loop-test .taken) (omega arith) _ (c .before .before .before .before .skip .ensures
-    ∙ ap (λ x. code (itemEnd (c .before .before .before .before .before .before .before .before .before .before .loop .left) x))
-    (part-to-end (c .before .before .before .before .before .before .before .before .before .before .before .before .args .s .now) (c .before .before .before .before .before .before .before .before .before .before .loop .at)))
-    (omega (arith, c .before .before .before .if3 .left)) (c .before .before .before .before .before .before .before .before .before .before .loop .left - 1)
+returns-3 c =
+    let l = c .before .before .before .before .before .before .before .before .before .before .loop in
+    let a = c .before .before .before .before .before .before .before .before .before .before .before .before .args in
+    turns.plain-item _ _ _ (l .inv) (c .before .before .before .before .before .before .before .before .before .loop-test .taken) (omega arith) _
+    (c .before .before .before .before .skip .ensures ∙ ap (λ x. code (itemEnd (l .left) x)) (part-to-end (a .s .now) (l .at))) (omega (arith, c .before .before .before .if3 .left)) (l .left - 1)
     (omega (arith, c .before .before .before .before .before .before .before .if1 .left)) _ (turns.low-holds-none _ (c .before .before .if4 .taken))
-    (subst (λ x. is.PlainStops x (c .at-plain .result))
-    (part-to-end (c .before .before .before .before .before .before .before .before .before .before .before .before .args .s .now) (c .before .before .before .before .before .before .before .before .before .before .loop .at)) (c .at-plain .ensures))
+    (subst (λ x. is.PlainStops x (c .at-plain .result)) (part-to-end (a .s .now) (l .at)) (c .at-plain .ensures))
 
 -- src/lib.rt:87:29
 sub-at-plain-2 : tie.Need-sub-at-plain-2 Inv-loop μ-loop
@@ -131,13 +132,13 @@ at-plain-requires-2 c κs = search needs
 
 -- src/lib.rt:87:13
 returns-4 : tie.Need-returns-4 Inv-loop μ-loop
-returns-4 c = turns.plain-item _ _ _ (c .before .before .before .before .before .before .before .before .before .before .before .loop .inv) (c .before .before .before .before .before .before .before .before .before .before .loop-test .taken) (omega arith) _ (c .before .before .before .before .before .skip .ensures
-    ∙ ap (λ x. code (itemEnd (c .before .before .before .before .before .before .before .before .before .before .before .loop .left) x))
-    (part-to-end (c .before .before .before .before .before .before .before .before .before .before .before .before .before .args .s .now) (c .before .before .before .before .before .before .before .before .before .before .before .loop .at)))
-    (omega (arith, c .before .before .before .before .if3 .left)) (c .before .before .before .before .before .before .before .before .before .before .before .loop .left - 1)
-    (omega (arith, c .before .before .before .before .before .before .before .before .if1 .left)) _ (turns.high-holds-none _ (c .before .before .if5 .taken))
-    (subst (λ x. is.PlainStops x (c .at-plain2 .result))
-    (part-to-end (c .before .before .before .before .before .before .before .before .before .before .before .before .before .args .s .now) (c .before .before .before .before .before .before .before .before .before .before .before .loop .at)) (c .at-plain2 .ensures))
+returns-4 c =
+    let l = c .before .before .before .before .before .before .before .before .before .before .before .loop in
+    let a = c .before .before .before .before .before .before .before .before .before .before .before .before .before .args in
+    turns.plain-item _ _ _ (l .inv) (c .before .before .before .before .before .before .before .before .before .before .loop-test .taken) (omega arith) _
+    (c .before .before .before .before .before .skip .ensures ∙ ap (λ x. code (itemEnd (l .left) x)) (part-to-end (a .s .now) (l .at))) (omega (arith, c .before .before .before .before .if3 .left))
+    (l .left - 1) (omega (arith, c .before .before .before .before .before .before .before .before .if1 .left)) _ (turns.high-holds-none _ (c .before .before .if5 .taken))
+    (subst (λ x. is.PlainStops x (c .at-plain2 .result)) (part-to-end (a .s .now) (l .at)) (c .at-plain2 .ensures))
 
 -- src/lib.rt:89:28
 sub-head : tie.Need-sub-head Inv-loop μ-loop
@@ -177,18 +178,16 @@ at-head-requires c κs = search needs
 
 -- src/lib.rt:91:13
 returns-5 : tie.Need-returns-5 Inv-loop μ-loop
-returns-5 c = turns.bad-head _ _ _ (c .before .before .before .before .before .before .before .before .before .before .before .before .before .before .before .loop .inv) (c .before .before .before .before .before .before .before .before .before .before .before .before .before .before .loop-test .taken) (omega arith) _ (c .before .before .before .before .before .before .before .before .before .skip .ensures
-    ∙ ap (λ x. code (itemEnd (c .before .before .before .before .before .before .before .before .before .before .before .before .before .before .before .loop .left) x))
-    (part-to-end (c .before .before .before .before .before .before .before .before .before .before .before .before .before .before .before .before .before .args .s .now) (c .before .before .before .before .before .before .before .before .before .before .before .before .before .before .before .loop .at)))
-    (omega (arith, c .before .before .before .before .before .before .before .before .if3 .left)) (c .before .before .before .before .before .before .before .before .before .before .before .before .before .before .before .loop .left - 1)
+returns-5 c =
+    let l = c .before .before .before .before .before .before .before .before .before .before .before .before .before .before .before .loop in
+    let a′ = c .before .before .before .before .before .before .before .before .before .before .before .before .before .before .before .before .before .args in
+    turns.bad-head _ _ _ (l .inv) (c .before .before .before .before .before .before .before .before .before .before .before .before .before .before .loop-test .taken) (omega arith) _
+    (c .before .before .before .before .before .before .before .before .before .skip .ensures ∙ ap (λ x. code (itemEnd (l .left) x)) (part-to-end (a′ .s .now) (l .at)))
+    (omega (arith, c .before .before .before .before .before .before .before .before .if3 .left)) (l .left - 1)
     (omega (arith, c .before .before .before .before .before .before .before .before .before .before .before .before .if1 .left))
-    (omega (arith, c .before .before .before .before .before .before .before .if4 .left))
-    (omega (arith, c .before .before .before .before .before .before .if5 .left)) _ _
-    (ap (λ (a : Argued). a .size) (c .before .before .before .before .head .ensures
-    ∙ ap headOf
-    (part-to-end (c .before .before .before .before .before .before .before .before .before .before .before .before .before .before .before .before .before .args .s .now) (c .before .before .before .before .before .before .before .before .before .before .before .before .before .before .before .loop .at)))) (c .before .before .if6 .taken) (c .at-head .ensures
-    ∙ ap headLeft
-    (part-to-end (c .before .before .before .before .before .before .before .before .before .before .before .before .before .before .before .before .before .args .s .now) (c .before .before .before .before .before .before .before .before .before .before .before .before .before .before .before .loop .at)))
+    (omega (arith, c .before .before .before .before .before .before .before .if4 .left)) (omega (arith, c .before .before .before .before .before .before .if5 .left)) _ _
+    (ap (λ (a : Argued). a .size) (c .before .before .before .before .head .ensures ∙ ap headOf (part-to-end (a′ .s .now) (l .at)))) (c .before .before .if6 .taken)
+    (c .at-head .ensures ∙ ap headLeft (part-to-end (a′ .s .now) (l .at)))
 
 -- src/lib.rt:94:20
 sub-result-3 : tie.Need-sub-result-3 Inv-loop μ-loop
@@ -196,12 +195,13 @@ sub-result-3 c = search needs
 
 -- src/lib.rt:94:13
 returns-6 : tie.Need-returns-6 Inv-loop μ-loop
-returns-6 c = turns.bad-tag _ _ _ (c .before .before .before .before .before .before .before .before .before .before .before .before .before .before .loop .inv) (c .before .before .before .before .before .before .before .before .before .before .before .before .before .loop-test .taken) (omega arith) _ (c .before .before .before .before .before .before .before .before .skip .ensures
-    ∙ ap (λ x. code (itemEnd (c .before .before .before .before .before .before .before .before .before .before .before .before .before .before .loop .left) x))
-    (part-to-end (c .before .before .before .before .before .before .before .before .before .before .before .before .before .before .before .before .args .s .now) (c .before .before .before .before .before .before .before .before .before .before .before .before .before .before .loop .at)))
-    (omega (arith, c .before .before .before .before .before .before .before .if3 .left)) (c .before .before .before .before .before .before .before .before .before .before .before .before .before .before .loop .left - 1)
-    (omega (arith, c .before .before .before .before .before .before .before .before .before .before .before .if1 .left))
-    (omega (arith, c .before .before .before .before .before .before .if4 .left))
+returns-6 c =
+    let l = c .before .before .before .before .before .before .before .before .before .before .before .before .before .before .loop in
+    let a = c .before .before .before .before .before .before .before .before .before .before .before .before .before .before .before .before .args in
+    turns.bad-tag _ _ _ (l .inv) (c .before .before .before .before .before .before .before .before .before .before .before .before .before .loop-test .taken) (omega arith) _
+    (c .before .before .before .before .before .before .before .before .skip .ensures ∙ ap (λ x. code (itemEnd (l .left) x)) (part-to-end (a .s .now) (l .at)))
+    (omega (arith, c .before .before .before .before .before .before .before .if3 .left)) (l .left - 1)
+    (omega (arith, c .before .before .before .before .before .before .before .before .before .before .before .if1 .left)) (omega (arith, c .before .before .before .before .before .before .if4 .left))
     (omega (arith, c .before .before .before .before .before .if5 .left)) (c .if7 .taken)
 
 -- src/lib.rt:96:9
@@ -214,21 +214,22 @@ sub-left c = search needs
 
 -- src/lib.rt:70:5
 loop-less-2 : tie.Need-loop-less-2 Inv-loop μ-loop
-loop-less-2 c = omega (arith, turns.some-head _ _ (ap (λ (a : Argued). a .size) (c .before .before .before .before .head .ensures ∙ ap headOf (part-to-end (c .before .before .before .before .before .before .before .before .before .before .before .before .before .before .before .before .before .args .s .now) (c .before .before .before .before .before .before .before .before .before .before .before .before .before .before .before .loop .at)))), c .before .before .if6 .left)
+loop-less-2 c =
+    let b2 = c .before .before in let b4 = b2 .before .before in let b15 = b4 .before .before .before .before .before .before .before .before .before .before .before in let l = b15 .loop in
+    let a′ = b15 .before .before .args in
+    omega (arith, turns.some-head _ _ (ap (λ (a : Argued). a .size) (b4 .head .ensures ∙ ap headOf (part-to-end (a′ .s .now) (l .at)))), b2 .if6 .left)
 
 -- src/lib.rt:70:5
 loop-again-2 : tie.Need-loop-again-2 Inv-loop μ-loop
-loop-again-2 c = turns.into-it _ _ _ (c .before .before .before .before .before .before .before .before .before .before .before .before .before .before .before .loop .inv) (c .before .before .before .before .before .before .before .before .before .before .before .before .before .before .loop-test .taken) (omega arith) _ (c .before .before .before .before .before .before .before .before .before .skip .ensures
-    ∙ ap (λ x. code (itemEnd (c .before .before .before .before .before .before .before .before .before .before .before .before .before .before .before .loop .left) x))
-    (part-to-end (c .before .before .before .before .before .before .before .before .before .before .before .before .before .before .before .before .before .args .s .now) (c .before .before .before .before .before .before .before .before .before .before .before .before .before .before .before .loop .at)))
-    (omega (arith, c .before .before .before .before .before .before .before .before .if3 .left)) (c .before .before .before .before .before .before .before .before .before .before .before .before .before .before .before .loop .left - 1)
+loop-again-2 c =
+    let l = c .before .before .before .before .before .before .before .before .before .before .before .before .before .before .before .loop in
+    let a′ = c .before .before .before .before .before .before .before .before .before .before .before .before .before .before .before .before .before .args in
+    turns.into-it _ _ _ (l .inv) (c .before .before .before .before .before .before .before .before .before .before .before .before .before .before .loop-test .taken) (omega arith) _
+    (c .before .before .before .before .before .before .before .before .before .skip .ensures ∙ ap (λ x. code (itemEnd (l .left) x)) (part-to-end (a′ .s .now) (l .at)))
+    (omega (arith, c .before .before .before .before .before .before .before .before .if3 .left)) (l .left - 1)
     (omega (arith, c .before .before .before .before .before .before .before .before .before .before .before .before .if1 .left))
-    (omega (arith, c .before .before .before .before .before .before .before .if4 .left))
-    (omega (arith, c .before .before .before .before .before .before .if5 .left)) _ (c .before .if7 .left)
-    (ap (λ (a : Argued). a .size) (c .before .before .before .before .head .ensures
-    ∙ ap headOf
-    (part-to-end (c .before .before .before .before .before .before .before .before .before .before .before .before .before .before .before .before .before .args .s .now) (c .before .before .before .before .before .before .before .before .before .before .before .before .before .before .before .loop .at))))
-    (omega (arith, c .before .before .if6 .left))
+    (omega (arith, c .before .before .before .before .before .before .before .if4 .left)) (omega (arith, c .before .before .before .before .before .before .if5 .left)) _ (c .before .if7 .left)
+    (ap (λ (a : Argued). a .size) (c .before .before .before .before .head .ensures ∙ ap headOf (part-to-end (a′ .s .now) (l .at)))) (omega (arith, c .before .before .if6 .left))
 
 -- src/lib.rt:65:1
 returns-7 : tie.Need-returns-7 Inv-loop μ-loop

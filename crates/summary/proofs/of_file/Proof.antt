@@ -18,6 +18,30 @@ of-file-spec =
     (λ c κs. search needs)
     (λ c. search needs)
     (λ c. search needs)
-    (λ c. (showing.answer-is (layoutOf (c .before .before .before .before .before .before .before .before .before .before .before .before .before .before .before .before .before .before .before .before .before .before .args .layout)) (size-back (c .before .before .before .before .before .before .before .before .before .before .before .before .before .before .before .before .before .before .before .before .before .before .args .layout)) _ (c .before .before .before .before .before .before .before .before .before .before .before .before .before .before .before .before .before .before .before .before .before .before .args .work .now) _ _ _ _ (c .before .before .before .before .before .before .before .before .before .before .before .before .before .before .before .before .before .of-file .ensures .0) (c .before .before .before .before .before .before .before .before .before .before .before .before .before .before .before .before .before .of-file .ensures .1) (c .before .before .before .before .before .before .before .before .before .before .before .read-as .ensures .0) (c .before .before .before .before .before .before .before .before .before .before .before .read-as .ensures .1) (c .before .before .before .before .before .before .before .before .before .before .before .before .before .if1 .taken) _ _ (c .before .before .before .before .before .before .summary .ensures .0), (showing.written-is (layoutOf (c .before .before .before .before .before .before .before .before .before .before .before .before .before .before .before .before .before .before .before .before .before .before .args .layout)) (size-back (c .before .before .before .before .before .before .before .before .before .before .before .before .before .before .before .before .before .before .before .before .before .before .args .layout)) _ (c .before .before .before .before .before .before .before .before .before .before .before .before .before .before .before .before .before .before .before .before .before .before .args .work .now) _ _ _ _ (c .before .before .before .before .before .before .before .before .before .before .before .before .before .before .before .before .before .of-file .ensures .0) (c .before .before .before .before .before .before .before .before .before .before .before .before .before .before .before .before .before .of-file .ensures .1) (c .before .before .before .before .before .before .before .before .before .before .before .read-as .ensures .0) (c .before .before .before .before .before .before .before .before .before .before .before .read-as .ensures .1) (c .before .before .before .before .before .before .before .before .before .before .before .before .before .if1 .taken) _ (c .before .before .before .before .before .before .summary .ensures .1), clearing.as-many (c .before .before .before .before .before .before .before .before .before .before .before .read-as .last .1 .1 .0) (c .before .before .before .before .before .before .before .before .before .before .before .before .before .before .before .before .before .before .before .before .before .before .args .work .now) (c .before .before .clear .ensures) (search needs))))
+    (λ c. (
+      showing.answer-is (layoutOf (c .before .before .before .before .before .before .before .before .before .before .before .before .before .before .before .before .before .before .before .before .before .before .args .layout))
+          (size-back (c .before .before .before .before .before .before .before .before .before .before .before .before .before .before .before .before .before .before .before .before .before .before .args .layout)) _
+          (c .before .before .before .before .before .before .before .before .before .before .before .before .before .before .before .before .before .before .before .before .before .before .args .work .now) _ _ _ _
+          (c .before .before .before .before .before .before .before .before .before .before .before .before .before .before .before .before .before .of-file .ensures .0)
+          (c .before .before .before .before .before .before .before .before .before .before .before .before .before .before .before .before .before .of-file .ensures .1)
+          (c .before .before .before .before .before .before .before .before .before .before .before .read-as .ensures .0)
+          (c .before .before .before .before .before .before .before .before .before .before .before .read-as .ensures .1)
+          (c .before .before .before .before .before .before .before .before .before .before .before .before .before .if1 .taken) _ _ (c .before .before .before .before .before .before .summary .ensures .0),
+      (
+        showing.written-is (layoutOf (c .before .before .before .before .before .before .before .before .before .before .before .before .before .before .before .before .before .before .before .before .before .before .args .layout))
+            (size-back (c .before .before .before .before .before .before .before .before .before .before .before .before .before .before .before .before .before .before .before .before .before .before .args .layout)) _
+            (c .before .before .before .before .before .before .before .before .before .before .before .before .before .before .before .before .before .before .before .before .before .before .args .work .now) _ _ _ _
+            (c .before .before .before .before .before .before .before .before .before .before .before .before .before .before .before .before .before .of-file .ensures .0)
+            (c .before .before .before .before .before .before .before .before .before .before .before .before .before .before .before .before .before .of-file .ensures .1)
+            (c .before .before .before .before .before .before .before .before .before .before .before .read-as .ensures .0)
+            (c .before .before .before .before .before .before .before .before .before .before .before .read-as .ensures .1)
+            (c .before .before .before .before .before .before .before .before .before .before .before .before .before .if1 .taken) _ (c .before .before .before .before .before .before .summary .ensures .1),
+        clearing.as-many
+            (c .before .before .before .before .before .before .before .before .before .before .before .read-as .last .1 .1 .0)
+            (c .before .before .before .before .before .before .before .before .before .before .before .before .before .before .before .before .before .before .before .before .before .before .args .work .now)
+            (c .before .before .clear .ensures) (search needs),
+      ),
+    ))
     (λ c. search needs)
-    (λ c. (showing.refused (layoutOf (c .before .before .before .before .before .before .before .before .before .args .layout)) _ (c .before .before .before .before .before .before .before .before .before .args .work .now) _ (c .before .before .before .before .of-file .ensures .0) (length (c .before .before .before .before .before .before .before .before .before .args .text .now)) (c .if1 .left), (showing.refused-text (layoutOf (c .before .before .before .before .before .before .before .before .before .args .layout)) _ (c .before .before .before .before .before .before .before .before .before .args .work .now) _ (c .before .before .before .before .of-file .ensures .0) (c .before .before .before .before .before .before .before .before .before .args .text .now) (c .if1 .left), (c .before .before .before .before .of-file .ensures .1)))))
+    (λ c. let b4 = c .before .before .before .before in let a = b4 .before .before .before .before .before .args in
+    (showing.refused (layoutOf (a .layout)) _ (a .work .now) _ (b4 .of-file .ensures .0) (length (a .text .now)) (c .if1 .left), (showing.refused-text (layoutOf (a .layout)) _ (a .work .now) _ (b4 .of-file .ensures .0) (a .text .now) (c .if1 .left), (b4 .of-file .ensures .1)))))

@@ -28,25 +28,57 @@ pass-objects-spec =
     (λ c. search needs)
     (λ c. search needs)
     (λ c. search needs)
-    (λ c κs. walked.still-due 30 ((c .before .before .before .before .args .mode)) ((c .before .before .before .before .args .count)) ((c .before .before .before .before .args .s .now)) (c .before .before .before .before .pre) ((c .before .loop .inv .1)) ((c .before .loop .at)) ((c .before .loop .due)) _ ((c .before .loop .inv .0)))
+    (λ c κs. let b4 = c .before .before .before .before in let l = c .before .loop in let a = b4 .args in
+    walked.still-due 30 ((a .mode)) ((a .count)) ((a .s .now)) (b4 .pre) ((l .inv .1)) ((l .at)) ((l .due)) _ ((l .inv .0)))
     (λ c. search needs)
     (λ c. (c .before .before .before .before .loop .inv .2))
-    (λ c. objecting.all-laid (c .before .before .before .before .before .before .before .args .layout) (c .before .before .before .before .before .before .before .args .start) ((c .before .before .before .before .before .before .before .args .end)) ((c .before .before .before .before .before .before .before .args .from)) ((c .before .before .before .before .before .before .before .args .mode)) ((c .before .before .before .before .before .before .before .args .count)) ((c .before .before .before .before .before .before .before .args .s .now)) ((c .before .before .before .before .before .before .before .args .t .now)) (c .before .before .before .before .before .before .before .pre) ((c .before .before .before .before .loop .inv .1)) ((c .before .before .before .before .loop .at)) ((c .before .before .before .before .loop .due)) ((c .before .before .before .before .loop .n)) ((c .before .before .before .before .loop .row)) ((c .before .before .before .before .loop .next)) ((c .before .before .before .before .loop .t)) ((c .before .before .before .before .loop .inv .0)) _ ((c .before .before .past-key .ensures)) _ ((c .enum-told .given .1)))
+    (λ c. let b2 = c .before .before in let b4 = b2 .before .before in let b7 = b4 .before .before .before in let l = b4 .loop in let a = b7 .args in
+    objecting.all-laid (a .layout) (a .start) ((a .end)) ((a .from)) ((a .mode)) ((a .count)) ((a .s .now)) ((a .t .now)) (b7 .pre) ((l .inv .1)) ((l .at)) ((l .due)) ((l .n)) ((l .row)) ((l .next))
+    ((l .t)) ((l .inv .0)) _ ((b2 .past-key .ensures)) _ ((c .enum-told .given .1)))
     (λ c. search needs)
-    (λ c. omega (arith, walked.value-inside 30 ((c .before .before .before .before .before .before .before .before .args .mode)) ((c .before .before .before .before .before .before .before .before .args .count)) ((c .before .before .before .before .before .before .before .before .args .s .now)) (c .before .before .before .before .before .before .before .before .pre) ((c .before .before .before .before .before .loop .inv .1)) ((c .before .before .before .before .before .loop .at)) ((c .before .before .before .before .before .loop .due)) _ ((c .before .before .before .before .before .loop .inv .0)) _ ((c .before .before .before .past-key .ensures)) _ ((c .before .k .given .1))))
+    (λ c. let b3 = c .before .before .before in let b5 = b3 .before .before in let b8 = b5 .before .before .before in let l = b5 .loop in let a = b8 .args in
+    omega (arith, walked.value-inside 30 ((a .mode)) ((a .count)) ((a .s .now)) (b8 .pre) ((l .inv .1)) ((l .at)) ((l .due)) _ ((l .inv .0)) _ ((b3 .past-key .ensures)) _ ((c .before .k .given .1))))
     (λ c. search needs)
     (λ c. search needs)
     (λ c. search needs)
-    (λ c. omega (arith, walked.value-inside 30 ((c .before .before .before .before .before .before .before .before .before .args .mode)) ((c .before .before .before .before .before .before .before .before .before .args .count)) ((c .before .before .before .before .before .before .before .before .before .args .s .now)) (c .before .before .before .before .before .before .before .before .before .pre) ((c .before .before .before .before .before .before .loop .inv .1)) ((c .before .before .before .before .before .before .loop .at)) ((c .before .before .before .before .before .before .loop .due)) _ ((c .before .before .before .before .before .before .loop .inv .0)) _ ((c .before .before .before .before .past-key .ensures)) _ ((c .before .before .k .given .1))))
-    (λ c. omega (arith, walked.value-inside 30 ((c .before .before .before .before .before .before .before .before .before .args .mode)) ((c .before .before .before .before .before .before .before .before .before .args .count)) ((c .before .before .before .before .before .before .before .before .before .args .s .now)) (c .before .before .before .before .before .before .before .before .before .pre) ((c .before .before .before .before .before .before .loop .inv .1)) ((c .before .before .before .before .before .before .loop .at)) ((c .before .before .before .before .before .before .loop .due)) _ ((c .before .before .before .before .before .before .loop .inv .0)) _ ((c .before .before .before .before .past-key .ensures)) _ ((c .before .before .k .given .1))))
-    (λ c. omega (arith, walked.value-inside 30 ((c .before .before .before .before .before .before .before .before .before .args .mode)) ((c .before .before .before .before .before .before .before .before .before .args .count)) ((c .before .before .before .before .before .before .before .before .before .args .s .now)) (c .before .before .before .before .before .before .before .before .before .pre) ((c .before .before .before .before .before .before .loop .inv .1)) ((c .before .before .before .before .before .before .loop .at)) ((c .before .before .before .before .before .before .loop .due)) _ ((c .before .before .before .before .before .before .loop .inv .0)) _ ((c .before .before .before .before .past-key .ensures)) _ ((c .before .before .k .given .1))))
+    (λ c. let b2 = c .before .before in let b4 = b2 .before .before in let b6 = b4 .before .before in let b9 = b6 .before .before .before in let l = b6 .loop in let a = b9 .args in
+    omega (arith, walked.value-inside 30 ((a .mode)) ((a .count)) ((a .s .now)) (b9 .pre) ((l .inv .1)) ((l .at)) ((l .due)) _ ((l .inv .0)) _ ((b4 .past-key .ensures)) _ ((b2 .k .given .1))))
+    (λ c. let b2 = c .before .before in let b4 = b2 .before .before in let b6 = b4 .before .before in let b9 = b6 .before .before .before in let l = b6 .loop in let a = b9 .args in
+    omega (arith, walked.value-inside 30 ((a .mode)) ((a .count)) ((a .s .now)) (b9 .pre) ((l .inv .1)) ((l .at)) ((l .due)) _ ((l .inv .0)) _ ((b4 .past-key .ensures)) _ ((b2 .k .given .1))))
+    (λ c. let b2 = c .before .before in let b4 = b2 .before .before in let b6 = b4 .before .before in let b9 = b6 .before .before .before in let l = b6 .loop in let a = b9 .args in
+    omega (arith, walked.value-inside 30 ((a .mode)) ((a .count)) ((a .s .now)) (b9 .pre) ((l .inv .1)) ((l .at)) ((l .due)) _ ((l .inv .0)) _ ((b4 .past-key .ensures)) _ ((b2 .k .given .1))))
     (λ c κs. search needs)
-    (λ c. omega (arith, walked.value-inside 30 ((c .before .before .before .before .before .before .before .before .before .before .before .before .before .before .args .mode)) ((c .before .before .before .before .before .before .before .before .before .before .before .before .before .before .args .count)) ((c .before .before .before .before .before .before .before .before .before .before .before .before .before .before .args .s .now)) (c .before .before .before .before .before .before .before .before .before .before .before .before .before .before .pre) ((c .before .before .before .before .before .before .before .before .before .before .before .loop .inv .1)) ((c .before .before .before .before .before .before .before .before .before .before .before .loop .at)) ((c .before .before .before .before .before .before .before .before .before .before .before .loop .due)) _ ((c .before .before .before .before .before .before .before .before .before .before .before .loop .inv .0)) _ ((c .before .before .before .before .before .before .before .before .before .past-key .ensures)) _ ((c .before .before .before .before .before .before .before .k .given .1))))
-    (λ c. ((c .before .before .before .before .put-whole .kept .1 .1 .1 .1 .1 .1 .1 .1 .0)) ∙ ((c .before .before .before .before .before .before .before .before .before .before .before .before .before .loop .inv .2)))
-    (λ c. objecting.none-read (c .before .before .before .before .before .before .before .before .before .before .before .before .before .before .before .before .args .layout) (c .before .before .before .before .before .before .before .before .before .before .before .before .before .before .before .before .args .start) ((c .before .before .before .before .before .before .before .before .before .before .before .before .before .before .before .before .args .end)) ((c .before .before .before .before .before .before .before .before .before .before .before .before .before .before .before .before .args .from)) ((c .before .before .before .before .before .before .before .before .before .before .before .before .before .before .before .before .args .mode)) ((c .before .before .before .before .before .before .before .before .before .before .before .before .before .before .before .before .args .count)) ((c .before .before .before .before .before .before .before .before .before .before .before .before .before .before .before .before .args .s .now)) ((c .before .before .before .before .before .before .before .before .before .before .before .before .before .before .before .before .args .t .now)) (c .before .before .before .before .before .before .before .before .before .before .before .before .before .before .before .before .pre) ((c .before .before .before .before .before .before .before .before .before .before .before .before .before .loop .inv .1)) ((c .before .before .before .before .before .before .before .before .before .before .before .before .before .loop .at)) ((c .before .before .before .before .before .before .before .before .before .before .before .before .before .loop .due)) ((c .before .before .before .before .before .before .before .before .before .before .before .before .before .loop .n)) ((c .before .before .before .before .before .before .before .before .before .before .before .before .before .loop .row)) ((c .before .before .before .before .before .before .before .before .before .before .before .before .before .loop .next)) ((c .before .before .before .before .before .before .before .before .before .before .before .before .before .loop .t)) ((c .before .before .before .before .before .before .before .before .before .before .before .before .before .loop .inv .0)) _ ((c .before .before .before .before .before .before .before .before .before .before .before .past-key .ensures)) _ ((c .before .before .before .before .before .before .before .before .before .k .given .1)) _ ((c .before .before .before .before .put-whole .ensures .0)) ((c .if1 .taken)) _)
+    (λ c. let b7 = c .before .before .before .before .before .before .before in let b9 = b7 .before .before in let b11 = b9 .before .before in let b14 = b11 .before .before .before in let l = b11 .loop in
+    let a = b14 .args in
+    omega (arith, walked.value-inside 30 ((a .mode)) ((a .count)) ((a .s .now)) (b14 .pre) ((l .inv .1)) ((l .at)) ((l .due)) _ ((l .inv .0)) _ ((b9 .past-key .ensures)) _ ((b7 .k .given .1))))
+    (λ c. let b4 = c .before .before .before .before in let l = b4 .before .before .before .before .before .before .before .before .before .loop in
+    ((b4 .put-whole .kept .1 .1 .1 .1 .1 .1 .1 .1 .0)) ∙ ((l .inv .2)))
+    (λ c. let b4 = c .before .before .before .before in let b9 = b4 .before .before .before .before .before in let b11 = b9 .before .before in let b13 = b11 .before .before in
+    let b16 = b13 .before .before .before in let l = b13 .loop in let a = b16 .args in
+    objecting.none-read (a .layout) (a .start) ((a .end)) ((a .from)) ((a .mode)) ((a .count)) ((a .s .now)) ((a .t .now)) (b16 .pre) ((l .inv .1)) ((l .at)) ((l .due)) ((l .n)) ((l .row)) ((l .next))
+    ((l .t)) ((l .inv .0)) _ ((b11 .past-key .ensures)) _ ((b9 .k .given .1)) _ ((b4 .put-whole .ensures .0)) ((c .if1 .taken)) _)
     (λ c κs. search needs)
-    (λ c. let a = ((c .before .before .before .before .before .before .before .before .before .before .before .before .before .before .loop .inv .0 .holds .counted)) in let b = ((c .before .before .before .before .before .before .before .before .before .before .before .before .before .before .loop .inv .0 .few)) in let d = ((c .before .before .before .before .before .before .before .before .before .before .before .before .before .before .loop .inv .0 .walking .within)) in omega arith)
-    (λ c. let a = walked.value-inside 30 ((c .before .before .before .before .before .before .before .before .before .before .before .before .before .before .before .before .before .before .args .mode)) ((c .before .before .before .before .before .before .before .before .before .before .before .before .before .before .before .before .before .before .args .count)) ((c .before .before .before .before .before .before .before .before .before .before .before .before .before .before .before .before .before .before .args .s .now)) (c .before .before .before .before .before .before .before .before .before .before .before .before .before .before .before .before .before .before .pre) ((c .before .before .before .before .before .before .before .before .before .before .before .before .before .before .before .loop .inv .1)) ((c .before .before .before .before .before .before .before .before .before .before .before .before .before .before .before .loop .at)) ((c .before .before .before .before .before .before .before .before .before .before .before .before .before .before .before .loop .due)) _ ((c .before .before .before .before .before .before .before .before .before .before .before .before .before .before .before .loop .inv .0)) _ ((c .before .before .before .before .before .before .before .before .before .before .before .before .before .past-key .ensures)) _ ((c .before .before .before .before .before .before .before .before .before .before .before .k .given .1)) in let b = ((c .before .before .if1 .left)) in let d = ((c .before .before .before .before .before .before .before .before .before .before .before .before .before .before .before .loop .inv .1)) in omega arith)
-    (λ c. omega (arith, walked.two-due 30 ((c .before .before .before .before .before .before .before .before .before .before .before .before .before .before .before .before .before .before .args .mode)) ((c .before .before .before .before .before .before .before .before .before .before .before .before .before .before .before .before .before .before .args .count)) ((c .before .before .before .before .before .before .before .before .before .before .before .before .before .before .before .before .before .before .args .s .now)) (c .before .before .before .before .before .before .before .before .before .before .before .before .before .before .before .before .before .before .pre) ((c .before .before .before .before .before .before .before .before .before .before .before .before .before .before .before .loop .inv .1)) ((c .before .before .before .before .before .before .before .before .before .before .before .before .before .before .before .loop .at)) ((c .before .before .before .before .before .before .before .before .before .before .before .before .before .before .before .loop .due)) _ ((c .before .before .before .before .before .before .before .before .before .before .before .before .before .before .before .loop .inv .0)) _ ((c .before .before .before .before .before .before .before .before .before .before .before .before .before .past-key .ensures)) _ ((c .before .before .before .before .before .before .before .before .before .before .before .k .given .1)) _ ((c .before .before .before .before .before .before .put-whole .ensures .0))))
-    (λ c. omega (arith, walked.value-inside 30 ((c .before .before .before .before .before .before .before .before .before .before .before .before .before .before .before .before .before .before .args .mode)) ((c .before .before .before .before .before .before .before .before .before .before .before .before .before .before .before .before .before .before .args .count)) ((c .before .before .before .before .before .before .before .before .before .before .before .before .before .before .before .before .before .before .args .s .now)) (c .before .before .before .before .before .before .before .before .before .before .before .before .before .before .before .before .before .before .pre) ((c .before .before .before .before .before .before .before .before .before .before .before .before .before .before .before .loop .inv .1)) ((c .before .before .before .before .before .before .before .before .before .before .before .before .before .before .before .loop .at)) ((c .before .before .before .before .before .before .before .before .before .before .before .before .before .before .before .loop .due)) _ ((c .before .before .before .before .before .before .before .before .before .before .before .before .before .before .before .loop .inv .0)) _ ((c .before .before .before .before .before .before .before .before .before .before .before .before .before .past-key .ensures)) _ ((c .before .before .before .before .before .before .before .before .before .before .before .k .given .1)), walked.goes-on 30 ((c .before .before .before .before .before .before .before .before .before .before .before .before .before .before .before .before .before .before .args .mode)) ((c .before .before .before .before .before .before .before .before .before .before .before .before .before .before .before .before .before .before .args .count)) ((c .before .before .before .before .before .before .before .before .before .before .before .before .before .before .before .before .before .before .args .s .now)) (c .before .before .before .before .before .before .before .before .before .before .before .before .before .before .before .before .before .before .pre) ((c .before .before .before .before .before .before .before .before .before .before .before .before .before .before .before .loop .inv .1)) ((c .before .before .before .before .before .before .before .before .before .before .before .before .before .before .before .loop .at)) ((c .before .before .before .before .before .before .before .before .before .before .before .before .before .before .before .loop .due)) _ ((c .before .before .before .before .before .before .before .before .before .before .before .before .before .before .before .loop .inv .0)) _ ((c .before .before .before .before .before .before .before .before .before .before .before .before .before .past-key .ensures)) _ ((c .before .before .before .before .before .before .before .before .before .before .before .k .given .1)) _ ((c .before .before .before .before .before .before .put-whole .ensures .0)) ((c .before .before .if1 .left))))
-    (λ c. (walked.one-more 30 ((c .before .before .before .before .before .before .before .before .before .before .before .before .before .before .before .before .before .before .args .mode)) ((c .before .before .before .before .before .before .before .before .before .before .before .before .before .before .before .before .before .before .args .count)) ((c .before .before .before .before .before .before .before .before .before .before .before .before .before .before .before .before .before .before .args .s .now)) (c .before .before .before .before .before .before .before .before .before .before .before .before .before .before .before .before .before .before .pre) ((c .before .before .before .before .before .before .before .before .before .before .before .before .before .before .before .loop .inv .1)) ((c .before .before .before .before .before .before .before .before .before .before .before .before .before .before .before .loop .at)) ((c .before .before .before .before .before .before .before .before .before .before .before .before .before .before .before .loop .due)) _ ((c .before .before .before .before .before .before .before .before .before .before .before .before .before .before .before .loop .inv .0)) _ ((c .before .before .before .before .before .before .before .before .before .before .before .before .before .past-key .ensures)) _ ((c .before .before .before .before .before .before .before .before .before .before .before .k .given .1)) _ ((c .before .before .before .before .before .before .put-whole .ensures .0)) ((c .before .before .if1 .left)) _ (λ done p few key value kept. objecting.one-more-laid (c .before .before .before .before .before .before .before .before .before .before .before .before .before .before .before .before .before .before .args .layout) (c .before .before .before .before .before .before .before .before .before .before .before .before .before .before .before .before .before .before .args .start) ((c .before .before .before .before .before .before .before .before .before .before .before .before .before .before .before .before .before .before .args .end)) ((c .before .before .before .before .before .before .before .before .before .before .before .before .before .before .before .before .before .before .args .from)) _ ((c .before .before .before .before .before .before .before .before .before .before .before .before .before .before .before .before .before .before .args .s .now)) ((c .before .before .before .before .before .before .before .before .before .before .before .before .before .before .before .loop .at)) _ _ _ _ _ _ _ _ ((c .before .before .before .before .before .before .before .before .before .before .before .before .before .before .before .loop .inv .2)) ((c .before .before .before .before .before .before .put-whole .ensures .1)) _ refl ((c .before .before .before .before .before .before .put-whole .kept .1 .1 .1 .1 .1 .1 .1 .1 .0)) ((c .before .ahead .ensures)) done p _ _ key value kept), (c .before .before .before .before .before .before .before .before .before .before .before .before .before .before .before .loop .inv .1), ((c .before .before .before .before .before .before .put-whole .kept .1 .1 .1 .1 .1 .1 .1 .1 .0)) ∙ ((c .before .before .before .before .before .before .before .before .before .before .before .before .before .before .before .loop .inv .2)))))
+    (λ c. let l = c .before .before .before .before .before .before .before .before .before .before .before .before .before .before .loop in
+    let a = ((l .inv .0 .holds .counted)) in let b = ((l .inv .0 .few)) in let d = ((l .inv .0 .walking .within)) in omega arith)
+    (λ c. let l = c .before .before .before .before .before .before .before .before .before .before .before .before .before .before .before .loop in
+    let a′ = c .before .before .before .before .before .before .before .before .before .before .before .before .before .before .before .before .before .before .args in
+    let a = walked.value-inside 30 ((a′ .mode)) ((a′ .count)) ((a′ .s .now))
+    (c .before .before .before .before .before .before .before .before .before .before .before .before .before .before .before .before .before .before .pre) ((l .inv .1)) ((l .at)) ((l .due)) _
+    ((l .inv .0)) _ ((c .before .before .before .before .before .before .before .before .before .before .before .before .before .past-key .ensures)) _
+    ((c .before .before .before .before .before .before .before .before .before .before .before .k .given .1)) in let b = ((c .before .before .if1 .left)) in let d = ((l .inv .1)) in omega arith)
+    (λ c. let b6 = c .before .before .before .before .before .before in let b11 = b6 .before .before .before .before .before in let b13 = b11 .before .before in let b15 = b13 .before .before in
+    let b18 = b15 .before .before .before in let l = b15 .loop in let a = b18 .args in
+    omega
+    (arith, walked.two-due 30 ((a .mode)) ((a .count)) ((a .s .now)) (b18 .pre) ((l .inv .1)) ((l .at)) ((l .due)) _ ((l .inv .0)) _ ((b13 .past-key .ensures)) _ ((b11 .k .given .1)) _ ((b6 .put-whole .ensures .0))))
+    (λ c. let b2 = c .before .before in let b6 = b2 .before .before .before .before in let b11 = b6 .before .before .before .before .before in let b13 = b11 .before .before in let b15 = b13 .before .before in
+    let b18 = b15 .before .before .before in let l = b15 .loop in let a = b18 .args in
+    omega
+    (arith, walked.value-inside 30 ((a .mode)) ((a .count)) ((a .s .now)) (b18 .pre) ((l .inv .1)) ((l .at)) ((l .due)) _ ((l .inv .0)) _ ((b13 .past-key .ensures)) _ ((b11 .k .given .1)), walked.goes-on 30 ((a .mode)) ((a .count)) ((a .s .now)) (b18 .pre) ((l .inv .1)) ((l .at)) ((l .due)) _ ((l .inv .0)) _ ((b13 .past-key .ensures)) _ ((b11 .k .given .1)) _ ((b6 .put-whole .ensures .0)) ((b2 .if1 .left))))
+    (λ c. let b2 = c .before .before in let b6 = b2 .before .before .before .before in let b11 = b6 .before .before .before .before .before in let b13 = b11 .before .before in let b15 = b13 .before .before in
+    let b18 = b15 .before .before .before in let l = b15 .loop in let a = b18 .args in (
+      walked.one-more 30 ((a .mode)) ((a .count)) ((a .s .now)) (b18 .pre) ((l .inv .1)) ((l .at)) ((l .due)) _ ((l .inv .0)) _ ((b13 .past-key .ensures)) _ ((b11 .k .given .1)) _ ((b6 .put-whole .ensures .0))
+          ((b2 .if1 .left)) _ (λ done p few key value kept. objecting.one-more-laid (a .layout) (a .start) ((a .end)) ((a .from)) _ ((a .s .now)) ((l .at)) _ _ _ _ _ _ _ _ ((l .inv .2)) ((b6 .put-whole .ensures .1)) _ refl
+          ((b6 .put-whole .kept .1 .1 .1 .1 .1 .1 .1 .1 .0)) ((c .before .ahead .ensures)) done p _ _ key value kept),
+      (l .inv .1),
+      ((b6 .put-whole .kept .1 .1 .1 .1 .1 .1 .1 .1 .0)) ∙ ((l .inv .2)),
+    )))

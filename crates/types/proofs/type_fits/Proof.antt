@@ -19,4 +19,5 @@ type-fits-spec =
     (λ c κs. search needs)
     (λ c κs. search needs)
     (λ c. unfold logicals u8 f32 f64 in ap (λ n. eqb n (c .before .before .before .before .before .args .code)) ((c .digit .ensures) ∙ digits (λ i. getD (map (λ l. l .needs) logicals) i 0) _ 6 refl _ (c .before .if1 .taken)) ∙ fits-in (c .before .before .before .before .before .args .k .now) _ (c .before .before .logical-index .ensures) (record { called = []; needs = 0; ratio = 0 }) (c .before .if1 .taken) (c .before .before .before .before .before .args .code))
-    (λ c. unfold logicals in fits-out (c .before .before .before .before .args .k .now) _ (c .before .logical-index .ensures) (c .if1 .left) (c .before .before .before .before .args .code)))
+    (λ c. let a = c .before .before .before .before .args in
+    unfold logicals in fits-out (a .k .now) _ (c .before .logical-index .ensures) (c .if1 .left) (a .code)))

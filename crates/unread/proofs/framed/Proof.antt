@@ -21,4 +21,6 @@ framed-spec =
     (λ c κs. search needs)
     (λ c κs. search needs)
     (λ c κs. search needs)
-    (λ c. let a = c .before .before .before .before .before .before .before .args in λ e room. (c .alone4 .ensures) ∙ ap (λ (p : ℕ). lone (a .n) p 8) (c .before .place-of2 .ensures) ∙ sym (frames.the-size (a .layout) (a .file .now) (a .n) (c .before .before .before .before .before .if1 .left) (c .before .before .before .before .if2 .left) (c .before .before .before .if3 .left) _ (c .before .before .size-back .ensures .0) e room)))
+    (λ c. let b2 = c .before .before in let b3 = b2 .before in let b4 = b3 .before in let b5 = b4 .before in let a′ = b5 .before .before .args in
+    let a = a′ in λ e room. (c .alone4 .ensures) ∙ ap (λ (p : ℕ). lone (a .n) p 8) (c .before .place-of2 .ensures) ∙ sym
+    (frames.the-size (a .layout) (a .file .now) (a .n) (b5 .if1 .left) (b4 .if2 .left) (b3 .if3 .left) _ (b2 .size-back .ensures .0) e room)))

@@ -11,13 +11,16 @@ part-spec =
     (λ c. search needs)
     (λ c. search needs)
     (λ c. search needs)
-    (λ c. parts.part-none (c .before .before .args .file .now) (c .before .before .args .place) (c .before .before .args .size) (c .before .if1 .taken))
+    (λ c. let a = c .before .before .args in
+    parts.part-none (a .file .now) (a .place) (a .size) (c .before .if1 .taken))
     (λ c. search needs)
     (λ c. search needs)
     (λ c. search needs)
-    (λ c. parts.part-rest (c .before .before .before .args .file .now) (c .before .before .before .args .place) (c .before .before .before .args .size) (c .before .before .if1 .left) (c .before .if2 .taken))
+    (λ c. let b2 = c .before .before in let a = b2 .before .args in
+    parts.part-rest (a .file .now) (a .place) (a .size) (b2 .if1 .left) (c .before .if2 .taken))
     (λ c. search needs)
     (λ c. search needs)
     (λ c. search needs)
     (λ c. search needs)
-    (λ c. parts.part-whole (c .before .before .before .args .file .now) (c .before .before .before .args .place) (c .before .before .before .args .size)))
+    (λ c. let a = c .before .before .before .args in
+    parts.part-whole (a .file .now) (a .place) (a .size)))

@@ -15,10 +15,18 @@ range-spec =
     (λ c. search needs)
     (λ c. omega (arith, extents.at-fits _ _ _ _ _ (sym (c .before .before .before .row-of .ensures) ∙ (c .before .at .given .1))))
     (λ c. omega (arith, extents.at-fits _ _ _ _ _ (sym (c .before .before .before .row-of .ensures) ∙ (c .before .at .given .1))))
-    (λ c. omega (arith, extents.at-fits _ _ _ _ _ (sym (c .before .before .before .before .row-of .ensures) ∙ (c .before .before .at .given .1))))
-    (λ c. omega (arith, extents.at-fits _ _ _ _ _ (sym (c .before .before .before .before .row-of .ensures) ∙ (c .before .before .at .given .1))))
-    (λ c. omega (arith, extents.at-fits _ _ _ _ _ (sym (c .before .before .before .before .row-of .ensures) ∙ (c .before .before .at .given .1))))
-    (λ c. omega (arith, extents.at-fits _ _ _ _ _ (sym (c .before .before .before .before .before .row-of .ensures) ∙ (c .before .before .before .at .given .1))))
+    (λ c. let b2 = c .before .before in
+    omega (arith, extents.at-fits _ _ _ _ _ (sym (b2 .before .before .row-of .ensures) ∙ (b2 .at .given .1))))
+    (λ c. let b2 = c .before .before in
+    omega (arith, extents.at-fits _ _ _ _ _ (sym (b2 .before .before .row-of .ensures) ∙ (b2 .at .given .1))))
+    (λ c. let b2 = c .before .before in
+    omega (arith, extents.at-fits _ _ _ _ _ (sym (b2 .before .before .row-of .ensures) ∙ (b2 .at .given .1))))
+    (λ c. let b3 = c .before .before .before in
+    omega (arith, extents.at-fits _ _ _ _ _ (sym (b3 .before .before .row-of .ensures) ∙ (b3 .at .given .1))))
     (λ c κs. search needs)
-    (λ c. unfold extents.extentAt extents.nowhere in sym (extents.told-is (c .before .before .before .before .before .args .file .now) (c .before .before .before .before .before .args .table .now) _ _ _ ∙ ap (extents.extentAt (c .before .before .before .before .before .args .file .now) (c .before .before .before .before .before .args .table .now)) (sym (c .before .before .row-of .ensures) ∙ (c .enum-told .given .1))))
-    (λ c. unfold extents.extentAt in (c .inside .ensures) ∙ sym (extents.told-is (c .before .before .before .before .before .before .before .before .before .args .file .now) (c .before .before .before .before .before .before .before .before .before .args .table .now) _ _ _ ∙ ap (extents.extentAt (c .before .before .before .before .before .before .before .before .before .args .file .now) (c .before .before .before .before .before .before .before .before .before .args .table .now)) (sym (c .before .before .before .before .before .before .row-of .ensures) ∙ (c .before .before .before .before .at .given .1)))))
+    (λ c. let b2 = c .before .before in let a = b2 .before .before .before .args in
+    unfold extents.extentAt extents.nowhere in sym
+    (extents.told-is (a .file .now) (a .table .now) _ _ _ ∙ ap (extents.extentAt (a .file .now) (a .table .now)) (sym (b2 .row-of .ensures) ∙ (c .enum-told .given .1))))
+    (λ c. let b4 = c .before .before .before .before in let b6 = b4 .before .before in let a = b6 .before .before .before .args in
+    unfold extents.extentAt in (c .inside .ensures) ∙ sym
+    (extents.told-is (a .file .now) (a .table .now) _ _ _ ∙ ap (extents.extentAt (a .file .now) (a .table .now)) (sym (b6 .row-of .ensures) ∙ (b4 .at .given .1)))))

@@ -17,8 +17,11 @@ view-spec =
     (λ c. search needs)
     (λ c. search needs)
     (λ c κs. search needs)
-    (λ c. omega (arith, extents.viewed-fits (c .before .before .before .before .before .args .file .now) (c .before .before .before .before .before .args .table .now) _ _ _ _ (c .range .ensures)))
+    (λ c. let a = c .before .before .before .before .before .args in
+    omega (arith, extents.viewed-fits (a .file .now) (a .table .now) _ _ _ _ (c .range .ensures)))
     (λ c. search needs)
     (λ c. search needs)
-    (λ c. omega (arith, extents.viewed-fits (c .before .before .before .before .before .args .file .now) (c .before .before .before .before .before .args .table .now) _ _ _ _ (c .range .ensures)))
-    (λ c. extents.viewed-is (c .before .before .before .before .before .before .args .file .now) (c .before .before .before .before .before .before .args .table .now) _ _ _ _ (c .before .range .ensures)))
+    (λ c. let a = c .before .before .before .before .before .args in
+    omega (arith, extents.viewed-fits (a .file .now) (a .table .now) _ _ _ _ (c .range .ensures)))
+    (λ c. let a = c .before .before .before .before .before .before .args in
+    extents.viewed-is (a .file .now) (a .table .now) _ _ _ _ (c .before .range .ensures)))

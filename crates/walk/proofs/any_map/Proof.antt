@@ -21,6 +21,11 @@ any-map-spec =
     (λ c. search needs)
     (λ c κs. search needs)
     (λ c. let s = (c .before .before .before .before .before .before .before .before .before .args .s .now) in let z : (c .before .before .head .result .size) ≡ headOf s .size = ap (λ a. a .size) ((c .before .before .head .ensures) ∙ ap headOf (part-to-end s 0)) in λ d t r e. absurd (maps.no-head s (omega arith) (omega arith) d t r e))
-    (λ c. let s = (c .before .before .before .before .before .before .before .before .before .before .args .s .now) in let z : (c .before .before .before .head .result .size) ≡ headOf s .size = ap (λ a. a .size) ((c .before .before .before .head .ensures) ∙ ap headOf (part-to-end s 0)) in subst (λ a. OpenMap s 2 (a .value) (a .size)) (sym ((c .before .before .before .head .ensures) ∙ ap headOf (part-to-end s 0))) (maps.map-broken s (omega arith) (omega arith) (omega arith) (omega arith)))
+    (λ c. let s = (c .before .before .before .before .before .before .before .before .before .before .args .s .now) in let z : (c .before .before .before .head .result .size) ≡ headOf s .size = ap (λ a. a .size)
+    ((c .before .before .before .head .ensures) ∙ ap headOf (part-to-end s 0)) in subst (λ a. OpenMap s 2 (a .value) (a .size)) (sym ((c .before .before .before .head .ensures) ∙ ap headOf (part-to-end s 0)))
+    (maps.map-broken s (omega arith) (omega arith) (omega arith) (omega arith)))
     (λ c κs. search needs)
-    (λ c. let s = (c .before .before .before .before .before .before .before .before .before .before .before .args .s .now) in let z : (c .before .before .before .before .head .result .size) ≡ headOf s .size = ap (λ a. a .size) ((c .before .before .before .before .head .ensures) ∙ ap headOf (part-to-end s 0)) in subst (λ n. OpenMap s 0 n ((c .before .before .before .before .head .result .size))) (sym ((c .doubled .ensures))) (subst (λ a. OpenMap s 0 (doubled (a .value)) (a .size)) (sym ((c .before .before .before .before .head .ensures) ∙ ap headOf (part-to-end s 0))) (maps.map-counted s (omega arith) (omega arith) (omega arith) (omega arith) (λ e. omega arith) (omega arith)))))
+    (λ c. let s = (c .before .before .before .before .before .before .before .before .before .before .before .args .s .now) in let z : (c .before .before .before .before .head .result .size) ≡ headOf s .size = ap
+    (λ a. a .size) ((c .before .before .before .before .head .ensures) ∙ ap headOf (part-to-end s 0)) in subst (λ n. OpenMap s 0 n ((c .before .before .before .before .head .result .size))) (sym ((c .doubled .ensures)))
+    (subst (λ a. OpenMap s 0 (doubled (a .value)) (a .size)) (sym ((c .before .before .before .before .head .ensures) ∙ ap headOf (part-to-end s 0)))
+    (maps.map-counted s (omega arith) (omega arith) (omega arith) (omega arith) (λ e. omega arith) (omega arith)))))

@@ -24,5 +24,7 @@ any-text-spec =
     (λ c κs. search needs)
     (λ c. let s = (c .before .before .before .before .before .before .before .before .before .args .s .now) in let z : (c .before .before .head .result .size) ≡ headOf s .size = ap (λ a. a .size) ((c .before .before .head .ensures) ∙ ap headOf (part-to-end s 0)) in (tt, found.text-short s (omega arith) (omega arith) (omega arith) (omega arith)))
     (λ c. search needs)
-    (λ c. let s = (c .before .before .before .before .before .before .before .before .before .before .before .before .args .s .now) in let z : (c .before .before .before .before .before .head .result .size) ≡ headOf s .size = ap (λ a. a .size) ((c .before .before .before .before .before .head .ensures) ∙ ap headOf (part-to-end s 0)) in let y : (c .before .before .before .before .before .head .result .value) ≡ headOf s .value = ap (λ a. a .value) ((c .before .before .before .before .before .head .ensures) ∙ ap headOf (part-to-end s 0)) in (tt, found.text-short s (omega arith) (omega arith) (omega arith) (omega arith)))
+    (λ c. let s = (c .before .before .before .before .before .before .before .before .before .before .before .before .args .s .now) in let z : (c .before .before .before .before .before .head .result .size) ≡ headOf
+    s .size = ap (λ a. a .size) ((c .before .before .before .before .before .head .ensures) ∙ ap headOf (part-to-end s 0)) in let y : (c .before .before .before .before .before .head .result .value) ≡ headOf s .value = ap
+    (λ a. a .value) ((c .before .before .before .before .before .head .ensures) ∙ ap headOf (part-to-end s 0)) in (tt, found.text-short s (omega arith) (omega arith) (omega arith) (omega arith)))
     (λ c. let s = (c .before .before .before .before .before .before .before .before .before .before .before .before .args .s .now) in (omega arith, λ d t r e. found.text-here s (omega arith) (omega arith) (omega arith) d t r e ∙ ap (λ a. pass (record { note = ends s r; letters = take (a .value) (drop (a .size) s) })) (sym ((c .before .before .before .before .before .head .ensures) ∙ ap headOf (part-to-end s 0))))))

@@ -11,14 +11,21 @@ pub past-key-spec : {M : Type 1} → statement M
 past-key-spec =
     tie.close
     (tie.spec
-    (λ c. turns.end-none ((c .before .before .args .left)) ((c .before .before .args .mode)) ((c .before .before .args .due)) ((c .before .before .args .s .now)) ((c .before .before .pre)) (omega arith))
-    (λ c. turns.end-missing ((c .before .before .before .args .left)) ((c .before .before .before .args .mode)) ((c .before .before .before .args .due)) ((c .before .before .before .args .s .now)) (omega arith) (omega arith))
+    (λ c. let a = c .before .before .args in
+    turns.end-none ((a .left)) ((a .mode)) ((a .due)) ((a .s .now)) ((c .before .before .pre)) (omega arith))
+    (λ c. let a = c .before .before .before .args in
+    turns.end-missing ((a .left)) ((a .mode)) ((a .due)) ((a .s .now)) (omega arith) (omega arith))
     (λ c. search needs)
     (λ c κs. search needs)
-    (λ c. turns.end-breaks ((c .before .before .before .before .before .before .args .left)) ((c .before .before .before .before .before .before .args .mode)) ((c .before .before .before .before .before .before .args .due)) ((c .before .before .before .before .before .before .args .s .now)) ((c .broken .result)) (omega arith) (omega arith) (omega arith) ((c .broken .ensures)))
+    (λ c. let a = c .before .before .before .before .before .before .args in
+    turns.end-breaks ((a .left)) ((a .mode)) ((a .due)) ((a .s .now)) ((c .broken .result)) (omega arith) (omega arith) (omega arith) ((c .broken .ensures)))
     (λ c. search needs)
     (λ c. search needs)
     (λ c. search needs)
     (λ c κs. search needs)
-    (λ c. let s = (c .before .before .before .before .before .before .before .before .args .s .now) in turns.end-faulty ((c .before .before .before .before .before .before .before .before .args .left)) ((c .before .before .before .before .before .before .before .before .args .mode)) ((c .before .before .before .before .before .before .before .before .args .due)) s (omega arith) (omega arith) (omega arith) (λ e. omega arith) ((c .before .skip .result)) ((c .before .skip .ensures) ∙ ap (λ p. code (itemEnd ((c .before .before .before .before .before .before .before .before .args .left)) p)) (part-to-end s 0)) (omega arith))
-    (λ c. let s = (c .before .before .before .before .before .before .before .before .args .s .now) in turns.a-value ((c .before .before .before .before .before .before .before .before .args .left)) ((c .before .before .before .before .before .before .before .before .args .mode)) ((c .before .before .before .before .before .before .before .before .args .due)) s (omega arith) (omega arith) (omega arith) (λ e. omega arith) ((c .before .skip .result)) ((c .before .skip .ensures) ∙ ap (λ p. code (itemEnd ((c .before .before .before .before .before .before .before .before .args .left)) p)) (part-to-end s 0)) (omega arith)))
+    (λ c. let a = c .before .before .before .before .before .before .before .before .args in
+    let s = (a .s .now) in turns.end-faulty ((a .left)) ((a .mode)) ((a .due)) s (omega arith) (omega arith) (omega arith) (λ e. omega arith) ((c .before .skip .result))
+    ((c .before .skip .ensures) ∙ ap (λ p. code (itemEnd ((a .left)) p)) (part-to-end s 0)) (omega arith))
+    (λ c. let a = c .before .before .before .before .before .before .before .before .args in
+    let s = (a .s .now) in turns.a-value ((a .left)) ((a .mode)) ((a .due)) s (omega arith) (omega arith) (omega arith) (λ e. omega arith) ((c .before .skip .result))
+    ((c .before .skip .ensures) ∙ ap (λ p. code (itemEnd ((a .left)) p)) (part-to-end s 0)) (omega arith)))

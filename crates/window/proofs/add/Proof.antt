@@ -20,19 +20,24 @@ add-spec =
     tie.close
     (tie.spec
     (λ c. search needs)
-    (λ c. (law.too-many ((c .before .before .before .args .t .now)) ((c .before .before .before .args .place)) ((c .before .before .before .args .total)) ((c .if1 .taken)) _ _, (c .before .before .before .pre .1)))
+    (λ c. let b3 = c .before .before .before in let a = b3 .args in
+    (law.too-many ((a .t .now)) ((a .place)) ((a .total)) ((c .if1 .taken)) _ _, (b3 .pre .1)))
     (λ c. search needs)
-    (λ c. (law.too-ranked ((c .before .before .before .before .before .args .t .now)) ((c .before .before .before .before .before .args .place)) ((c .before .before .before .before .before .args .total)) ((c .if2 .taken)) _ _, (c .before .before .before .before .before .pre .1)))
-    (λ c. (law.past-already ((c .before .before .before .before .before .before .args .t .now)) ((c .before .before .before .before .before .before .args .place)) ((c .before .before .before .before .before .before .args .total)) ((c .if3 .taken)) ((c .before .before .before .before .before .before .pre .1 .0)), (c .before .before .before .before .before .before .pre .1)))
+    (λ c. let b5 = c .before .before .before .before .before in let a = b5 .args in
+    (law.too-ranked ((a .t .now)) ((a .place)) ((a .total)) ((c .if2 .taken)) _ _, (b5 .pre .1)))
+    (λ c. let b6 = c .before .before .before .before .before .before in let a = b6 .args in
+    (law.past-already ((a .t .now)) ((a .place)) ((a .total)) ((c .if3 .taken)) ((b6 .pre .1 .0)), (b6 .pre .1)))
     (λ c. search needs)
     (λ c. search needs)
     (λ c. search needs)
     (λ c κs. search needs)
-    (λ c. (law.passes-limit ((c .before .before .before .before .before .before .before .before .before .args .t .now)) ((c .before .before .before .before .before .before .before .before .before .args .place)) ((c .before .before .before .before .before .before .before .before .before .args .total)) _ ((c .before .end .ensures)) ((c .if4 .taken)), (omega (arith, (c .before .end .ensures)), (c .before .before .before .before .before .before .before .before .before .pre .1 .1))))
+    (λ c. let b1 = c .before in let b9 = b1 .before .before .before .before .before .before .before .before in let a = b9 .args in
+    (law.passes-limit ((a .t .now)) ((a .place)) ((a .total)) _ ((b1 .end .ensures)) ((c .if4 .taken)), (omega (arith, (b1 .end .ensures)), (b9 .pre .1 .1))))
     (λ c. search needs)
     (λ c. search needs)
     (λ c. search needs)
-    (λ c κs. law.object-there ((c .before .before .before .before .before .before .before .before .before .before .args .t .now)) ((c .before .before .before .before .before .before .before .before .before .before .args .place)) ((c .before .before .before .before .before .before .before .before .before .before .args .total)) ((c .before .before .before .before .before .before .before .before .before .before .pre .0)) ((c .before .before .before .before .before .if2 .left)))
+    (λ c κs. let b5 = c .before .before .before .before .before in let b10 = b5 .before .before .before .before .before in let a = b10 .args in
+    law.object-there ((a .t .now)) ((a .place)) ((a .total)) ((b10 .pre .0)) ((b5 .if2 .left)))
     (λ c κs. search needs)
     (λ c. omega (arith, (c .before .object .ensures), (c .head .ensures), heads.head-small (getD (c .before .before .before .before .before .before .before .before .before .before .before .before .args .t .now) countColumn 0)))
     (λ c. search needs)
@@ -41,8 +46,12 @@ add-spec =
     (λ c. search needs)
     (λ c. search needs)
     (λ c. search needs)
-    (λ c κs. law.parts-there ((c .before .before .before .before .before .before .before .before .before .before .before .before .before .before .args .t .now)) ((c .before .before .before .before .before .before .before .before .before .before .before .before .before .before .args .place)) ((c .before .before .before .before .before .before .before .before .before .before .before .before .before .before .args .total)) ((c .before .before .before .before .before .before .before .before .before .before .before .before .before .before .pre .0)) ((c .before .before .before .before .before .before .before .before .before .before .before .if1 .left)) _ ((c .before .before .before .before .before .before .end .ensures)) ((c .before .before .before .before .before .if4 .left)))
-    (λ c. let l = (c .before .before .before .before .before .before .before .before .before .before .before .before .before .before .before .pre .1 .1) in omega (arith, l, (c .before .before .before .before .object .ensures), (c .before .before .before .head .ensures), heads.head-small (getD (c .before .before .before .before .before .before .before .before .before .before .before .before .before .before .before .args .t .now) countColumn 0)))
-    (λ c. let l = (c .before .before .before .before .before .before .before .before .before .before .before .before .before .before .before .pre .1 .1) in omega (arith, l, (c .before .before .before .before .object .ensures), (c .before .before .before .head .ensures), (c .components .ensures), heads.head-small (getD (c .before .before .before .before .before .before .before .before .before .before .before .before .before .before .before .args .t .now) countColumn 0)))
+    (λ c κs. let b5 = c .before .before .before .before .before in let b6 = b5 .before in let b11 = b6 .before .before .before .before .before in let b14 = b11 .before .before .before in let a = b14 .args in
+    law.parts-there ((a .t .now)) ((a .place)) ((a .total)) ((b14 .pre .0)) ((b11 .if1 .left)) _ ((b6 .end .ensures)) ((b5 .if4 .left)))
+    (λ c. let b3 = c .before .before .before in let b4 = b3 .before in let b15 = b4 .before .before .before .before .before .before .before .before .before .before .before in let a = b15 .args in
+    let l = (b15 .pre .1 .1) in omega (arith, l, (b4 .object .ensures), (b3 .head .ensures), heads.head-small (getD (a .t .now) countColumn 0)))
+    (λ c. let b3 = c .before .before .before in let b4 = b3 .before in let b15 = b4 .before .before .before .before .before .before .before .before .before .before .before in let a = b15 .args in
+    let l = (b15 .pre .1 .1) in omega (arith, l, (b4 .object .ensures), (b3 .head .ensures), (c .components .ensures), heads.head-small (getD (a .t .now) countColumn 0)))
     (λ c κs. search needs)
-    (λ c. (law.added ((c .before .before .before .before .before .before .before .before .before .before .before .before .before .before .before .before .args .t .now)) ((c .before .before .before .before .before .before .before .before .before .before .before .before .before .before .before .before .args .place)) ((c .before .before .before .before .before .before .before .before .before .before .before .before .before .before .before .before .args .total)) _ ((c .before .before .before .before .before .before .before .before .end .ensures)) _ _ _ _ ((c .before .before .before .before .before .object .ensures)) ((c .before .before .before .before .head .ensures)) ((c .before .components .ensures)) ((c .capped .ensures)), (omega (arith, (c .before .before .before .before .before .before .before .before .end .ensures)), omega (arith, (c .capped .ensures))))))
+    (λ c. let b4 = c .before .before .before .before in let b5 = b4 .before in let b8 = b5 .before .before .before in let a = b8 .before .before .before .before .before .before .before .before .args in
+    (law.added ((a .t .now)) ((a .place)) ((a .total)) _ ((b8 .end .ensures)) _ _ _ _ ((b5 .object .ensures)) ((b4 .head .ensures)) ((c .before .components .ensures)) ((c .capped .ensures)), (omega (arith, (b8 .end .ensures)), omega (arith, (c .capped .ensures))))))

@@ -37,30 +37,65 @@ each-spec =
     (λ c. search needs)
     (λ c. search needs)
     (λ c. search needs)
-    (λ c κs. walked.still-due 30 ((c .before .before .before .before .args .mode)) ((c .before .before .before .before .args .count)) ((c .before .before .before .before .args .s .now)) ((c .before .before .before .before .pre .0)) ((c .before .loop .inv .1)) ((c .before .loop .at)) ((c .before .loop .due)) _ ((c .before .loop .inv .0)))
+    (λ c κs. let b4 = c .before .before .before .before in let l = c .before .loop in let a = b4 .args in
+    walked.still-due 30 ((a .mode)) ((a .count)) ((a .s .now)) ((b4 .pre .0)) ((l .inv .1)) ((l .at)) ((l .due)) _ ((l .inv .0)))
     (λ c. search needs)
     (λ c. (c .before .before .before .before .loop .inv .2))
-    (λ c. (summing.all-summed ((c .before .before .before .before .before .before .before .args .layout)) ((c .before .before .before .before .before .before .before .args .start)) ((c .before .before .before .before .before .before .before .args .end)) ((c .before .before .before .before .before .before .before .args .mode)) ((c .before .before .before .before .before .before .before .args .count)) ((c .before .before .before .before .before .before .before .args .first)) ((c .before .before .before .before .before .before .before .args .before)) ((c .before .before .before .before .before .before .before .args .from)) ((c .before .before .before .before .before .before .before .args .s .now)) ((c .before .before .before .before .before .before .before .args .names .now)) ((c .before .before .before .before .before .before .before .pre .0)) ((c .before .before .before .before .loop .inv .1)) ((c .before .before .before .before .loop .at)) ((c .before .before .before .before .loop .due)) _ _ ((c .before .before .before .before .loop .next)) ((c .before .before .before .before .loop .names)) ((c .before .before .before .before .loop .inv .0)) _ ((c .before .before .past-key .ensures)) _ ((c .enum-told .given .1)), (c .before .before .before .before .loop .inv .3)))
+    (λ c. let b2 = c .before .before in let b4 = b2 .before .before in let b7 = b4 .before .before .before in let l = b4 .loop in let a = b7 .args in
+    (summing.all-summed ((a .layout)) ((a .start)) ((a .end)) ((a .mode)) ((a .count)) ((a .first)) ((a .before)) ((a .from)) ((a .s .now)) ((a .names .now)) ((b7 .pre .0)) ((l .inv .1)) ((l .at)) ((l .due)) _ _ ((l .next)) ((l .names)) ((l .inv .0)) _ ((b2 .past-key .ensures)) _ ((c .enum-told .given .1)), (l .inv .3)))
     (λ c. search needs)
-    (λ c. omega (arith, walked.value-inside 30 ((c .before .before .before .before .before .before .before .before .args .mode)) ((c .before .before .before .before .before .before .before .before .args .count)) ((c .before .before .before .before .before .before .before .before .args .s .now)) ((c .before .before .before .before .before .before .before .before .pre .0)) ((c .before .before .before .before .before .loop .inv .1)) ((c .before .before .before .before .before .loop .at)) ((c .before .before .before .before .before .loop .due)) _ ((c .before .before .before .before .before .loop .inv .0)) _ ((c .before .before .before .past-key .ensures)) _ ((c .before .k .given .1))))
+    (λ c. let b3 = c .before .before .before in let b5 = b3 .before .before in let b8 = b5 .before .before .before in let l = b5 .loop in let a = b8 .args in
+    omega (arith, walked.value-inside 30 ((a .mode)) ((a .count)) ((a .s .now)) ((b8 .pre .0)) ((l .inv .1)) ((l .at)) ((l .due)) _ ((l .inv .0)) _ ((b3 .past-key .ensures)) _ ((c .before .k .given .1))))
     (λ c. search needs)
     (λ c. search needs)
     (λ c. search needs)
-    (λ c. omega (arith, walked.value-inside 30 ((c .before .before .before .before .before .before .before .before .before .args .mode)) ((c .before .before .before .before .before .before .before .before .before .args .count)) ((c .before .before .before .before .before .before .before .before .before .args .s .now)) ((c .before .before .before .before .before .before .before .before .before .pre .0)) ((c .before .before .before .before .before .before .loop .inv .1)) ((c .before .before .before .before .before .before .loop .at)) ((c .before .before .before .before .before .before .loop .due)) _ ((c .before .before .before .before .before .before .loop .inv .0)) _ ((c .before .before .before .before .past-key .ensures)) _ ((c .before .before .k .given .1))))
-    (λ c. omega (arith, walked.value-inside 30 ((c .before .before .before .before .before .before .before .before .before .args .mode)) ((c .before .before .before .before .before .before .before .before .before .args .count)) ((c .before .before .before .before .before .before .before .before .before .args .s .now)) ((c .before .before .before .before .before .before .before .before .before .pre .0)) ((c .before .before .before .before .before .before .loop .inv .1)) ((c .before .before .before .before .before .before .loop .at)) ((c .before .before .before .before .before .before .loop .due)) _ ((c .before .before .before .before .before .before .loop .inv .0)) _ ((c .before .before .before .before .past-key .ensures)) _ ((c .before .before .k .given .1))))
-    (λ c. omega (arith, walked.value-inside 30 ((c .before .before .before .before .before .before .before .before .before .args .mode)) ((c .before .before .before .before .before .before .before .before .before .args .count)) ((c .before .before .before .before .before .before .before .before .before .args .s .now)) ((c .before .before .before .before .before .before .before .before .before .pre .0)) ((c .before .before .before .before .before .before .loop .inv .1)) ((c .before .before .before .before .before .before .loop .at)) ((c .before .before .before .before .before .before .loop .due)) _ ((c .before .before .before .before .before .before .loop .inv .0)) _ ((c .before .before .before .before .past-key .ensures)) _ ((c .before .before .k .given .1))))
+    (λ c. let b2 = c .before .before in let b4 = b2 .before .before in let b6 = b4 .before .before in let b9 = b6 .before .before .before in let l = b6 .loop in let a = b9 .args in
+    omega (arith, walked.value-inside 30 ((a .mode)) ((a .count)) ((a .s .now)) ((b9 .pre .0)) ((l .inv .1)) ((l .at)) ((l .due)) _ ((l .inv .0)) _ ((b4 .past-key .ensures)) _ ((b2 .k .given .1))))
+    (λ c. let b2 = c .before .before in let b4 = b2 .before .before in let b6 = b4 .before .before in let b9 = b6 .before .before .before in let l = b6 .loop in let a = b9 .args in
+    omega (arith, walked.value-inside 30 ((a .mode)) ((a .count)) ((a .s .now)) ((b9 .pre .0)) ((l .inv .1)) ((l .at)) ((l .due)) _ ((l .inv .0)) _ ((b4 .past-key .ensures)) _ ((b2 .k .given .1))))
+    (λ c. let b2 = c .before .before in let b4 = b2 .before .before in let b6 = b4 .before .before in let b9 = b6 .before .before .before in let l = b6 .loop in let a = b9 .args in
+    omega (arith, walked.value-inside 30 ((a .mode)) ((a .count)) ((a .s .now)) ((b9 .pre .0)) ((l .inv .1)) ((l .at)) ((l .due)) _ ((l .inv .0)) _ ((b4 .past-key .ensures)) _ ((b2 .k .given .1))))
     (λ c. search needs)
     (λ c κs. search needs)
-    (λ c. omega (arith, walked.value-inside 30 ((c .before .before .before .before .before .before .before .before .before .before .before .before .before .args .mode)) ((c .before .before .before .before .before .before .before .before .before .before .before .before .before .args .count)) ((c .before .before .before .before .before .before .before .before .before .before .before .before .before .args .s .now)) ((c .before .before .before .before .before .before .before .before .before .before .before .before .before .pre .0)) ((c .before .before .before .before .before .before .before .before .before .before .loop .inv .1)) ((c .before .before .before .before .before .before .before .before .before .before .loop .at)) ((c .before .before .before .before .before .before .before .before .before .before .loop .due)) _ ((c .before .before .before .before .before .before .before .before .before .before .loop .inv .0)) _ ((c .before .before .before .before .before .before .before .before .past-key .ensures)) _ ((c .before .before .before .before .before .before .k .given .1))))
+    (λ c. let b6 = c .before .before .before .before .before .before in let b8 = b6 .before .before in let b10 = b8 .before .before in let b13 = b10 .before .before .before in let l = b10 .loop in
+    let a = b13 .args in
+    omega (arith, walked.value-inside 30 ((a .mode)) ((a .count)) ((a .s .now)) ((b13 .pre .0)) ((l .inv .1)) ((l .at)) ((l .due)) _ ((l .inv .0)) _ ((b8 .past-key .ensures)) _ ((b6 .k .given .1))))
     (λ c. (c .before .before .before .before .before .before .before .before .before .before .before .before .loop .inv .2))
-    (λ c. (summing.none-read ((c .before .before .before .before .before .before .before .before .before .before .before .before .before .before .before .args .layout)) ((c .before .before .before .before .before .before .before .before .before .before .before .before .before .before .before .args .start)) ((c .before .before .before .before .before .before .before .before .before .before .before .before .before .before .before .args .end)) ((c .before .before .before .before .before .before .before .before .before .before .before .before .before .before .before .args .mode)) ((c .before .before .before .before .before .before .before .before .before .before .before .before .before .before .before .args .count)) ((c .before .before .before .before .before .before .before .before .before .before .before .before .before .before .before .args .first)) ((c .before .before .before .before .before .before .before .before .before .before .before .before .before .before .before .args .before)) ((c .before .before .before .before .before .before .before .before .before .before .before .before .before .before .before .args .from)) ((c .before .before .before .before .before .before .before .before .before .before .before .before .before .before .before .args .s .now)) ((c .before .before .before .before .before .before .before .before .before .before .before .before .before .before .before .args .names .now)) ((c .before .before .before .before .before .before .before .before .before .before .before .before .before .before .before .pre .0)) ((c .before .before .before .before .before .before .before .before .before .before .before .before .loop .inv .1)) ((c .before .before .before .before .before .before .before .before .before .before .before .before .loop .at)) ((c .before .before .before .before .before .before .before .before .before .before .before .before .loop .due)) _ _ ((c .before .before .before .before .before .before .before .before .before .before .before .before .loop .next)) ((c .before .before .before .before .before .before .before .before .before .before .before .before .loop .names)) ((c .before .before .before .before .before .before .before .before .before .before .before .before .loop .inv .0)) _ ((c .before .before .before .before .before .before .before .before .before .before .past-key .ensures)) _ ((c .before .before .before .before .before .before .before .before .k .given .1)) _ ((c .before .before .before .put-whole .ensures .0)) ((c .if1 .taken)) _ _ _, (c .before .before .before .before .before .before .before .before .before .before .before .before .loop .inv .3)))
+    (λ c. let b3 = c .before .before .before in let b8 = b3 .before .before .before .before .before in let b10 = b8 .before .before in let b12 = b10 .before .before in let b15 = b12 .before .before .before in
+    let l = b12 .loop in let a = b15 .args in
+    (summing.none-read ((a .layout)) ((a .start)) ((a .end)) ((a .mode)) ((a .count)) ((a .first)) ((a .before)) ((a .from)) ((a .s .now)) ((a .names .now)) ((b15 .pre .0)) ((l .inv .1)) ((l .at)) ((l .due)) _ _ ((l .next)) ((l .names)) ((l .inv .0)) _ ((b10 .past-key .ensures)) _ ((b8 .k .given .1)) _ ((b3 .put-whole .ensures .0)) ((c .if1 .taken)) _ _ _, (l .inv .3)))
     (λ c. search needs)
-    (λ c κs. (let l = ((c .before .before .before .before .put-whole .kept .1 .1 .1 .1 .1 .1 .1 .1 .0)) in let m = (c .before .before .before .before .before .before .before .before .before .before .before .before .before .loop .inv .4) in omega (arith, l, m), (c .before .before .before .before .before .before .before .before .before .before .before .before .before .loop .inv .3)))
+    (λ c κs. let b4 = c .before .before .before .before in let l′ = b4 .before .before .before .before .before .before .before .before .before .loop in
+    (let l = ((b4 .put-whole .kept .1 .1 .1 .1 .1 .1 .1 .1 .0)) in let m = (l′ .inv .4) in omega (arith, l, m), (l′ .inv .3)))
     (λ c. search needs)
     (λ c. search needs)
     (λ c κs. search needs)
     (λ c κs. search needs)
-    (λ c. let a = walked.value-inside 30 ((c .before .before .before .before .before .before .before .before .before .before .before .before .before .before .before .before .before .before .before .before .before .before .before .args .mode)) ((c .before .before .before .before .before .before .before .before .before .before .before .before .before .before .before .before .before .before .before .before .before .before .before .args .count)) ((c .before .before .before .before .before .before .before .before .before .before .before .before .before .before .before .before .before .before .before .before .before .before .before .args .s .now)) ((c .before .before .before .before .before .before .before .before .before .before .before .before .before .before .before .before .before .before .before .before .before .before .before .pre .0)) ((c .before .before .before .before .before .before .before .before .before .before .before .before .before .before .before .before .before .before .before .before .loop .inv .1)) ((c .before .before .before .before .before .before .before .before .before .before .before .before .before .before .before .before .before .before .before .before .loop .at)) ((c .before .before .before .before .before .before .before .before .before .before .before .before .before .before .before .before .before .before .before .before .loop .due)) _ ((c .before .before .before .before .before .before .before .before .before .before .before .before .before .before .before .before .before .before .before .before .loop .inv .0)) _ ((c .before .before .before .before .before .before .before .before .before .before .before .before .before .before .before .before .before .before .past-key .ensures)) _ ((c .before .before .before .before .before .before .before .before .before .before .before .before .before .before .before .before .k .given .1)) in let b = (c .before .before .before .before .before .before .before .before .if1 .left) in let d = (c .before .before .before .before .before .before .before .before .before .before .before .before .before .before .before .before .before .before .before .before .loop .inv .1) in omega arith)
-    (λ c. omega (arith, walked.two-due 30 ((c .before .before .before .before .before .before .before .before .before .before .before .before .before .before .before .before .before .before .before .before .before .before .before .args .mode)) ((c .before .before .before .before .before .before .before .before .before .before .before .before .before .before .before .before .before .before .before .before .before .before .before .args .count)) ((c .before .before .before .before .before .before .before .before .before .before .before .before .before .before .before .before .before .before .before .before .before .before .before .args .s .now)) ((c .before .before .before .before .before .before .before .before .before .before .before .before .before .before .before .before .before .before .before .before .before .before .before .pre .0)) ((c .before .before .before .before .before .before .before .before .before .before .before .before .before .before .before .before .before .before .before .before .loop .inv .1)) ((c .before .before .before .before .before .before .before .before .before .before .before .before .before .before .before .before .before .before .before .before .loop .at)) ((c .before .before .before .before .before .before .before .before .before .before .before .before .before .before .before .before .before .before .before .before .loop .due)) _ ((c .before .before .before .before .before .before .before .before .before .before .before .before .before .before .before .before .before .before .before .before .loop .inv .0)) _ ((c .before .before .before .before .before .before .before .before .before .before .before .before .before .before .before .before .before .before .past-key .ensures)) _ ((c .before .before .before .before .before .before .before .before .before .before .before .before .before .before .before .before .k .given .1)) _ ((c .before .before .before .before .before .before .before .before .before .before .before .put-whole .ensures .0))))
-    (λ c. omega (arith, walked.value-inside 30 ((c .before .before .before .before .before .before .before .before .before .before .before .before .before .before .before .before .before .before .before .before .before .before .before .args .mode)) ((c .before .before .before .before .before .before .before .before .before .before .before .before .before .before .before .before .before .before .before .before .before .before .before .args .count)) ((c .before .before .before .before .before .before .before .before .before .before .before .before .before .before .before .before .before .before .before .before .before .before .before .args .s .now)) ((c .before .before .before .before .before .before .before .before .before .before .before .before .before .before .before .before .before .before .before .before .before .before .before .pre .0)) ((c .before .before .before .before .before .before .before .before .before .before .before .before .before .before .before .before .before .before .before .before .loop .inv .1)) ((c .before .before .before .before .before .before .before .before .before .before .before .before .before .before .before .before .before .before .before .before .loop .at)) ((c .before .before .before .before .before .before .before .before .before .before .before .before .before .before .before .before .before .before .before .before .loop .due)) _ ((c .before .before .before .before .before .before .before .before .before .before .before .before .before .before .before .before .before .before .before .before .loop .inv .0)) _ ((c .before .before .before .before .before .before .before .before .before .before .before .before .before .before .before .before .before .before .past-key .ensures)) _ ((c .before .before .before .before .before .before .before .before .before .before .before .before .before .before .before .before .k .given .1)), walked.goes-on 30 ((c .before .before .before .before .before .before .before .before .before .before .before .before .before .before .before .before .before .before .before .before .before .before .before .args .mode)) ((c .before .before .before .before .before .before .before .before .before .before .before .before .before .before .before .before .before .before .before .before .before .before .before .args .count)) ((c .before .before .before .before .before .before .before .before .before .before .before .before .before .before .before .before .before .before .before .before .before .before .before .args .s .now)) ((c .before .before .before .before .before .before .before .before .before .before .before .before .before .before .before .before .before .before .before .before .before .before .before .pre .0)) ((c .before .before .before .before .before .before .before .before .before .before .before .before .before .before .before .before .before .before .before .before .loop .inv .1)) ((c .before .before .before .before .before .before .before .before .before .before .before .before .before .before .before .before .before .before .before .before .loop .at)) ((c .before .before .before .before .before .before .before .before .before .before .before .before .before .before .before .before .before .before .before .before .loop .due)) _ ((c .before .before .before .before .before .before .before .before .before .before .before .before .before .before .before .before .before .before .before .before .loop .inv .0)) _ ((c .before .before .before .before .before .before .before .before .before .before .before .before .before .before .before .before .before .before .past-key .ensures)) _ ((c .before .before .before .before .before .before .before .before .before .before .before .before .before .before .before .before .k .given .1)) _ ((c .before .before .before .before .before .before .before .before .before .before .before .put-whole .ensures .0)) ((c .before .before .before .before .before .before .before .before .if1 .left))))
-    (λ c. (walked.one-more 30 ((c .before .before .before .before .before .before .before .before .before .before .before .before .before .before .before .before .before .before .before .before .before .before .before .args .mode)) ((c .before .before .before .before .before .before .before .before .before .before .before .before .before .before .before .before .before .before .before .before .before .before .before .args .count)) ((c .before .before .before .before .before .before .before .before .before .before .before .before .before .before .before .before .before .before .before .before .before .before .before .args .s .now)) ((c .before .before .before .before .before .before .before .before .before .before .before .before .before .before .before .before .before .before .before .before .before .before .before .pre .0)) ((c .before .before .before .before .before .before .before .before .before .before .before .before .before .before .before .before .before .before .before .before .loop .inv .1)) ((c .before .before .before .before .before .before .before .before .before .before .before .before .before .before .before .before .before .before .before .before .loop .at)) ((c .before .before .before .before .before .before .before .before .before .before .before .before .before .before .before .before .before .before .before .before .loop .due)) _ ((c .before .before .before .before .before .before .before .before .before .before .before .before .before .before .before .before .before .before .before .before .loop .inv .0)) _ ((c .before .before .before .before .before .before .before .before .before .before .before .before .before .before .before .before .before .before .past-key .ensures)) _ ((c .before .before .before .before .before .before .before .before .before .before .before .before .before .before .before .before .k .given .1)) _ ((c .before .before .before .before .before .before .before .before .before .before .before .put-whole .ensures .0)) ((c .before .before .before .before .before .before .before .before .if1 .left)) _ (λ done x few key value kept. summing.one-more-summed ((c .before .before .before .before .before .before .before .before .before .before .before .before .before .before .before .before .before .before .before .before .before .before .before .args .layout)) ((c .before .before .before .before .before .before .before .before .before .before .before .before .before .before .before .before .before .before .before .before .before .before .before .args .start)) ((c .before .before .before .before .before .before .before .before .before .before .before .before .before .before .before .before .before .before .before .before .before .before .before .args .end)) ((c .before .before .before .before .before .before .before .before .before .before .before .before .before .before .before .before .before .before .before .before .before .before .before .args .first)) ((c .before .before .before .before .before .before .before .before .before .before .before .before .before .before .before .before .before .before .before .before .before .before .before .args .before)) ((c .before .before .before .before .before .before .before .before .before .before .before .before .before .before .before .before .before .before .before .before .before .before .before .args .from)) ((c .before .before .before .before .before .before .before .before .before .before .before .before .before .before .before .before .before .before .before .before .before .before .before .args .names .now)) ((c .before .before .before .before .before .before .before .before .before .before .before .before .before .before .before .before .before .before .before .before .before .before .before .args .s .now)) ((c .before .before .before .before .before .before .before .before .before .before .before .before .before .before .before .before .before .before .before .before .loop .at)) _ _ _ ((c .before .before .before .before .before .before .before .before .before .before .before .before .before .before .before .before .before .before .before .before .loop .next)) ((c .before .before .before .before .before .before .before .before .before .before .before .before .before .before .before .before .before .before .before .before .loop .names)) ((c .before .before .before .before .before .before .before .before .before .before .before .before .before .before .before .before .before .before .before .before .loop .t)) _ (let m = (c .before .before .before .before .before .before .before .before .before .before .before .before .before .before .before .before .before .before .before .before .loop .inv .4) in omega (arith, m)) _ ((c .before .before .before .before .before .before .before .before .before .before .before .put-whole .ensures .1)) _ _ ((c .before .before .before .before .before .before .add .ensures .0)) _ ((c .before .before .before .before .two .ensures)) _ (λ l. ((c .before .ahead .ensures)) (let m = (c .before .before .before .before .before .before .before .before .before .before .before .before .before .before .before .before .before .before .before .before .loop .inv .2) in let k = ((c .before .before .before .before .two .kept .0)) in omega (arith, l, m, k))) done x _ _ key value kept), (c .before .before .before .before .before .before .before .before .before .before .before .before .before .before .before .before .before .before .before .before .loop .inv .1), ((c .before .before .before .before .two .kept .0)) ∙ ((c .before .before .before .before .before .before .before .before .before .before .before .before .before .before .before .before .before .before .before .before .loop .inv .2)), (c .before .before .before .before .before .before .add .ensures .1), ((c .before .before .before .before .before .before .before .before .before .before .before .put-whole .kept .1 .1 .1 .1 .1 .1 .1 .1 .0)) ∙ ((c .before .before .before .before .before .before .before .before .before .before .before .before .before .before .before .before .before .before .before .before .loop .inv .4)))))
+    (λ c. let l = c .before .before .before .before .before .before .before .before .before .before .before .before .before .before .before .before .before .before .before .before .loop in
+    let a′ = c .before .before .before .before .before .before .before .before .before .before .before .before .before .before .before .before .before .before .before .before .before .before .before .args in
+    let a = walked.value-inside 30 ((a′ .mode)) ((a′ .count)) ((a′ .s .now))
+    ((c .before .before .before .before .before .before .before .before .before .before .before .before .before .before .before .before .before .before .before .before .before .before .before .pre .0))
+    ((l .inv .1)) ((l .at)) ((l .due)) _ ((l .inv .0)) _
+    ((c .before .before .before .before .before .before .before .before .before .before .before .before .before .before .before .before .before .before .past-key .ensures)) _
+    ((c .before .before .before .before .before .before .before .before .before .before .before .before .before .before .before .before .k .given .1)) in let b = (c .before .before .before .before .before .before .before .before .if1 .left)
+    in let d = (l .inv .1) in omega arith)
+    (λ c. let b11 = c .before .before .before .before .before .before .before .before .before .before .before in let b16 = b11 .before .before .before .before .before in let b18 = b16 .before .before in
+    let b20 = b18 .before .before in let b23 = b20 .before .before .before in let l = b20 .loop in let a = b23 .args in
+    omega
+    (arith, walked.two-due 30 ((a .mode)) ((a .count)) ((a .s .now)) ((b23 .pre .0)) ((l .inv .1)) ((l .at)) ((l .due)) _ ((l .inv .0)) _ ((b18 .past-key .ensures)) _ ((b16 .k .given .1)) _ ((b11 .put-whole .ensures .0))))
+    (λ c. let b8 = c .before .before .before .before .before .before .before .before in let b11 = b8 .before .before .before in let b16 = b11 .before .before .before .before .before in
+    let b18 = b16 .before .before in let b20 = b18 .before .before in let b23 = b20 .before .before .before in let l = b20 .loop in let a = b23 .args in
+    omega
+    (arith, walked.value-inside 30 ((a .mode)) ((a .count)) ((a .s .now)) ((b23 .pre .0)) ((l .inv .1)) ((l .at)) ((l .due)) _ ((l .inv .0)) _ ((b18 .past-key .ensures)) _ ((b16 .k .given .1)), walked.goes-on 30 ((a .mode)) ((a .count)) ((a .s .now)) ((b23 .pre .0)) ((l .inv .1)) ((l .at)) ((l .due)) _ ((l .inv .0)) _ ((b18 .past-key .ensures)) _ ((b16 .k .given .1)) _ ((b11 .put-whole .ensures .0)) ((b8 .if1 .left))))
+    (λ c. let b4 = c .before .before .before .before in let b6 = b4 .before .before in let b8 = b6 .before .before in let b11 = b8 .before .before .before in
+    let b16 = b11 .before .before .before .before .before in let b18 = b16 .before .before in let b20 = b18 .before .before in let b23 = b20 .before .before .before in let l′ = b20 .loop in
+    let a = b23 .args in (
+      walked.one-more 30 ((a .mode)) ((a .count)) ((a .s .now)) ((b23 .pre .0)) ((l′ .inv .1)) ((l′ .at)) ((l′ .due)) _ ((l′ .inv .0)) _ ((b18 .past-key .ensures)) _ ((b16 .k .given .1)) _ ((b11 .put-whole .ensures .0))
+          ((b8 .if1 .left)) _ (λ done x few key value kept. summing.one-more-summed ((a .layout)) ((a .start)) ((a .end)) ((a .first)) ((a .before)) ((a .from)) ((a .names .now)) ((a .s .now)) ((l′ .at)) _ _ _ ((l′ .next))
+          ((l′ .names)) ((l′ .t)) _ (let m = (l′ .inv .4) in omega (arith, m)) _ ((b11 .put-whole .ensures .1)) _ _ ((b6 .add .ensures .0)) _ ((b4 .two .ensures)) _
+          (λ l. ((c .before .ahead .ensures)) (let m = (l′ .inv .2) in let k = ((b4 .two .kept .0)) in omega (arith, l, m, k))) done x _ _ key value kept),
+      (l′ .inv .1),
+      ((b4 .two .kept .0)) ∙ ((l′ .inv .2)),
+      (b6 .add .ensures .1),
+      ((b11 .put-whole .kept .1 .1 .1 .1 .1 .1 .1 .1 .0)) ∙ ((l′ .inv .4)),
+    )))

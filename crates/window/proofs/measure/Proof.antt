@@ -22,7 +22,10 @@ measure-spec =
     (λ c. opens.size-inside ((c .before .before .before .before .before .before .before .args .s .now)) _ ((c .before .before .before .map .ensures)) _ _ _ ((c .before .mode .given .1)))
     (λ c. opens.size-inside ((c .before .before .before .before .before .before .before .args .s .now)) _ ((c .before .before .before .map .ensures)) _ _ _ ((c .before .mode .given .1)))
     (λ c. search needs)
-    (λ c κs. (opens.modes ((c .before .before .before .before .before .before .before .before .before .args .s .now)) _ ((c .before .before .before .before .before .map .ensures)) _ _ _ ((c .before .before .before .mode .given .1)), (c .before .before .before .before .before .before .before .before .before .pre)))
-    (λ c. (summing.no-map ((c .before .before .before .before .before .before .args .layout)) ((c .before .before .before .before .before .before .args .s .now)) ((c .before .before .before .before .before .before .args .start)) ((c .before .before .before .before .before .before .args .end)) ((c .before .before .before .before .before .before .args .first)) ((c .before .before .before .before .before .before .args .before)) ((c .before .before .before .before .before .before .args .from)) ((c .before .before .before .before .before .before .args .names .now)) _ _ _ _ ((c .before .before .map .ensures)) ((c .enum-told .given .1)), (c .before .before .before .before .before .before .pre)))
+    (λ c κs. let b3 = c .before .before .before in let b5 = b3 .before .before in let b9 = b5 .before .before .before .before in let a = b9 .args in
+    (opens.modes ((a .s .now)) _ ((b5 .map .ensures)) _ _ _ ((b3 .mode .given .1)), (b9 .pre)))
+    (λ c. let b2 = c .before .before in let b6 = b2 .before .before .before .before in let a = b6 .args in
+    (summing.no-map ((a .layout)) ((a .s .now)) ((a .start)) ((a .end)) ((a .first)) ((a .before)) ((a .from)) ((a .names .now)) _ _ _ _ ((b2 .map .ensures)) ((c .enum-told .given .1)), (b6 .pre)))
     (λ c. search needs)
-    (λ c. (summing.map-measured ((c .before .before .before .before .before .before .before .before .before .before .before .before .args .layout)) ((c .before .before .before .before .before .before .before .before .before .before .before .before .args .s .now)) ((c .before .before .before .before .before .before .before .before .before .before .before .before .args .start)) ((c .before .before .before .before .before .before .before .before .before .before .before .before .args .end)) ((c .before .before .before .before .before .before .before .before .before .before .before .before .args .first)) ((c .before .before .before .before .before .before .before .before .before .before .before .before .args .before)) ((c .before .before .before .before .before .before .before .before .before .before .before .before .args .from)) ((c .before .before .before .before .before .before .before .before .before .before .before .before .args .names .now)) _ _ _ _ ((c .before .before .before .before .before .before .before .before .map .ensures)) _ _ _ ((c .before .before .before .before .before .before .mode .given .1)) ((c .before .before .each .ensures .0)), (c .before .before .each .ensures .1))))
+    (λ c. let b2 = c .before .before in let b6 = b2 .before .before .before .before in let b8 = b6 .before .before in let a = b8 .before .before .before .before .args in
+    (summing.map-measured ((a .layout)) ((a .s .now)) ((a .start)) ((a .end)) ((a .first)) ((a .before)) ((a .from)) ((a .names .now)) _ _ _ _ ((b8 .map .ensures)) _ _ _ ((b6 .mode .given .1)) ((b2 .each .ensures .0)), (b2 .each .ensures .1))))

@@ -44,7 +44,10 @@ part-verdict-end : tie.Need-part-verdict-end
 part-verdict-end c = search needs
 
 verdict-requires : tie.Need-verdict-requires
-verdict-requires c κs = let a = (c .before .before .before .before .before .before .before .args) in let g = (c .before .before .before .before .before .before .before .good) in let sound = (sym ((c .before .before .sound .ensures)) ∙ not-false _ ((c .before .if1 .left))) in checks.rows-lent (a .plan .now) (a .ceiling) (a .rows .now) (a .objects) (a .components) (a .place) (a .size) (a .buffer .now) sound
+verdict-requires c κs =
+    let b2 = c .before .before in let b7 = b2 .before .before .before .before .before in let a′ = b7 .args in
+    let a = (a′) in let g = (b7 .good) in let sound = (sym ((b2 .sound .ensures)) ∙ not-false _ ((c .before .if1 .left))) in checks.rows-lent (a .plan .now) (a .ceiling) (a .rows .now) (a .objects)
+    (a .components) (a .place) (a .size) (a .buffer .now) sound
 
 enum-known-row : tie.Need-enum-known-row
 enum-known-row c = search needs
@@ -53,16 +56,41 @@ enum-known-end : tie.Need-enum-known-end
 enum-known-end c = search needs
 
 manifest-requires : tie.Need-manifest-requires
-manifest-requires c κs = let a = (c .before .before .before .before .before .before .before .before .before .before .before .args) in let g = (c .before .before .before .before .before .before .before .before .before .before .before .good) in let sound = (sym ((c .before .before .before .before .before .before .sound .ensures)) ∙ not-false _ ((c .before .before .before .before .before .if1 .left))) in checks.can-be-measured (a .plan .now) (a .ceiling) (a .rows .now) (a .objects) (a .components) (a .place) (a .size) (a .buffer .now) sound ((c .before .before .before .before .before .before .before .all-below .ensures)) (omega arith) (omega arith) _ ((c .before .before .before .verdict .result)) ((c .before .before .before .verdict .ensures)) ((c .before .end .given .1))
+manifest-requires c κs = let a = (c .before .before .before .before .before .before .before .before .before .before .before .args) in
+    let g = (c .before .before .before .before .before .before .before .before .before .before .before .good) in
+    let sound = (sym ((c .before .before .before .before .before .before .sound .ensures)) ∙ not-false _ ((c .before .before .before .before .before .if1 .left))) in checks.can-be-measured (a .plan .now) (a .ceiling)
+    (a .rows .now) (a .objects) (a .components) (a .place) (a .size) (a .buffer .now) sound ((c .before .before .before .before .before .before .before .all-below .ensures)) (omega arith) (omega arith) _
+    ((c .before .before .before .verdict .result)) ((c .before .before .before .verdict .ensures)) ((c .before .end .given .1))
 
 returns-2 : tie.Need-returns-2
-returns-2 c = let a = (c .before .before .before .before .before .before .before .before .before .before .before .before .before .args) in let g = (c .before .before .before .before .before .before .before .before .before .before .before .before .before .good) in let sound = (sym ((c .before .before .before .before .before .before .before .before .sound .ensures)) ∙ not-false _ ((c .before .before .before .before .before .before .before .if1 .left))) in (checks.big-by (a .plan .now) (a .ceiling) (a .rows .now) (a .objects) (a .components) (a .place) (a .size) (a .buffer .now) sound ((c .before .before .before .before .before .before .before .before .before .all-below .ensures)) (omega arith) (omega arith) _ ((c .before .before .before .before .before .verdict .result)) ((c .before .before .before .before .before .verdict .ensures)) ((c .before .before .before .end .given .1)) ((c .before .manifest .result)) ((c .before .manifest .ensures) (a .buffer .now) sound) ((c .if2 .taken)), checks.lent (a .rows .now) (a .buffer .now) ((c .before .before .before .before .before .before .before .before .before .all-below .ensures)) (omega arith) (omega arith))
+returns-2 c = let a = (c .before .before .before .before .before .before .before .before .before .before .before .before .before .args) in
+    let g = (c .before .before .before .before .before .before .before .before .before .before .before .before .before .good) in
+    let sound = (sym ((c .before .before .before .before .before .before .before .before .sound .ensures)) ∙ not-false _ ((c .before .before .before .before .before .before .before .if1 .left))) in (
+      checks.big-by (a .plan .now) (a .ceiling) (a .rows .now) (a .objects) (a .components) (a .place) (a .size) (a .buffer .now) sound
+          ((c .before .before .before .before .before .before .before .before .before .all-below .ensures)) (omega arith) (omega arith) _ ((c .before .before .before .before .before .verdict .result))
+          ((c .before .before .before .before .before .verdict .ensures)) ((c .before .before .before .end .given .1)) ((c .before .manifest .result)) ((c .before .manifest .ensures) (a .buffer .now) sound) ((c .if2 .taken)),
+      checks.lent (a .rows .now) (a .buffer .now) ((c .before .before .before .before .before .before .before .before .before .all-below .ensures)) (omega arith) (omega arith),
+    )
 
 returns-3 : tie.Need-returns-3
-returns-3 c = let a = (c .before .before .before .before .before .before .before .before .before .before .before .args) in let g = (c .before .before .before .before .before .before .before .before .before .before .before .good) in let sound = (sym ((c .before .before .before .before .before .before .sound .ensures)) ∙ not-false _ ((c .before .before .before .before .before .if1 .left))) in (checks.refused-by (a .plan .now) (a .ceiling) (a .rows .now) (a .objects) (a .components) (a .place) (a .size) (a .buffer .now) sound _ ((c .before .before .before .verdict .result)) ((c .before .before .before .verdict .ensures)) ((c .before .row .given .1)), checks.lent (a .rows .now) (a .buffer .now) ((c .before .before .before .before .before .before .before .all-below .ensures)) (omega arith) (omega arith))
+returns-3 c = let a = (c .before .before .before .before .before .before .before .before .before .before .before .args) in
+    let g = (c .before .before .before .before .before .before .before .before .before .before .before .good) in
+    let sound = (sym ((c .before .before .before .before .before .before .sound .ensures)) ∙ not-false _ ((c .before .before .before .before .before .if1 .left))) in (
+      checks.refused-by (a .plan .now) (a .ceiling) (a .rows .now) (a .objects) (a .components) (a .place) (a .size) (a .buffer .now) sound _ ((c .before .before .before .verdict .result))
+          ((c .before .before .before .verdict .ensures)) ((c .before .row .given .1)),
+      checks.lent (a .rows .now) (a .buffer .now) ((c .before .before .before .before .before .before .before .all-below .ensures)) (omega arith)
+          (omega arith),
+    )
 
 returns-4 : tie.Need-returns-4
-returns-4 c = let a = (c .before .before .before .before .before .before .before .before .before .before .before .before .before .args) in let g = (c .before .before .before .before .before .before .before .before .before .before .before .before .before .good) in let sound = (sym ((c .before .before .before .before .before .before .before .before .sound .ensures)) ∙ not-false _ ((c .before .before .before .before .before .before .before .if1 .left))) in (checks.fit-by (a .plan .now) (a .ceiling) (a .rows .now) (a .objects) (a .components) (a .place) (a .size) (a .buffer .now) sound ((c .before .before .before .before .before .before .before .before .before .all-below .ensures)) (omega arith) (omega arith) _ ((c .before .before .before .before .before .verdict .result)) ((c .before .before .before .before .before .verdict .ensures)) ((c .before .before .before .end .given .1)) ((c .before .manifest .result)) ((c .before .manifest .ensures) (a .buffer .now) sound) ((c .if2 .left)), checks.lent (a .rows .now) (a .buffer .now) ((c .before .before .before .before .before .before .before .before .before .all-below .ensures)) (omega arith) (omega arith))
+returns-4 c = let a = (c .before .before .before .before .before .before .before .before .before .before .before .before .before .args) in
+    let g = (c .before .before .before .before .before .before .before .before .before .before .before .before .before .good) in
+    let sound = (sym ((c .before .before .before .before .before .before .before .before .sound .ensures)) ∙ not-false _ ((c .before .before .before .before .before .before .before .if1 .left))) in (
+      checks.fit-by (a .plan .now) (a .ceiling) (a .rows .now) (a .objects) (a .components) (a .place) (a .size) (a .buffer .now) sound
+          ((c .before .before .before .before .before .before .before .before .before .all-below .ensures)) (omega arith) (omega arith) _ ((c .before .before .before .before .before .verdict .result))
+          ((c .before .before .before .before .before .verdict .ensures)) ((c .before .before .before .end .given .1)) ((c .before .manifest .result)) ((c .before .manifest .ensures) (a .buffer .now) sound) ((c .if2 .left)),
+      checks.lent (a .rows .now) (a .buffer .now) ((c .before .before .before .before .before .before .before .before .before .all-below .ensures)) (omega arith) (omega arith),
+    )
 
 pub measured-by-spec : {M : Type 1} → statement M
 measured-by-spec =

@@ -33,16 +33,28 @@ part-fill-end : tie.Need-part-fill-end
 part-fill-end c = search needs
 
 fill-requires : tie.Need-fill-requires
-fill-requires c κs = let a = (c .before .before .before .before .before .before .before .before .before .args) in checks.measured-yes [] (a .rows .now) (a .objects) (a .components) (a .place) (a .size) (a .buffer .now) (written (a .rows .now) (a .objects) (a .components) (record { place = a .place; size = a .size }) (a .buffer .now)) ((c .before .before .before .before .before .measured .result)) ((c .before .before .before .before .before .measured .ensures .0)) _ _ ((c .before .before .before .end .given .1))
+fill-requires c κs = let a = (c .before .before .before .before .before .before .before .before .before .args) in checks.measured-yes [] (a .rows .now) (a .objects) (a .components) (a .place) (a .size) (a .buffer .now)
+    (written (a .rows .now) (a .objects) (a .components) (record { place = a .place; size = a .size }) (a .buffer .now)) ((c .before .before .before .before .before .measured .result))
+    ((c .before .before .before .before .before .measured .ensures .0)) _ _ ((c .before .before .before .end .given .1))
 
 returns : tie.Need-returns
-returns c = let a = (c .before .before .before .before .before .before .before .before .args) in (checks.measured-no [] (a .rows .now) (a .objects) (a .components) (a .place) (a .size) (a .buffer .now) (written (a .rows .now) (a .objects) (a .components) (record { place = a .place; size = a .size }) (a .buffer .now)) ((c .before .before .before .before .measured .result)) ((c .before .before .before .before .measured .ensures .0)) _ _ ((c .before .before .n .given .1)) _ ((c .refused .ensures)) (a .out .now), (c .before .before .before .before .measured .ensures .1))
+returns c = let a = (c .before .before .before .before .before .before .before .before .args) in (
+  checks.measured-no [] (a .rows .now) (a .objects) (a .components) (a .place) (a .size) (a .buffer .now)
+      (written (a .rows .now) (a .objects) (a .components) (record { place = a .place; size = a .size }) (a .buffer .now)) ((c .before .before .before .before .measured .result))
+      ((c .before .before .before .before .measured .ensures .0)) _ _ ((c .before .before .n .given .1)) _ ((c .refused .ensures)) (a .out .now),
+  (c .before .before .before .before .measured .ensures .1),
+)
 
 same-length : tie.Need-same-length
 same-length c = search needs
 
 returns-2 : tie.Need-returns-2
-returns-2 c = let a = (c .before .before .before .before .before .before .before .before .before .before .before .before .args) in (checks.filled [] (a .rows .now) (a .objects) (a .components) (a .place) (a .size) (a .buffer .now) (written (a .rows .now) (a .objects) (a .components) (record { place = a .place; size = a .size }) (a .buffer .now)) ((c .before .before .before .before .before .before .before .before .measured .result)) ((c .before .before .before .before .before .before .before .before .measured .ensures .0)) _ _ ((c .before .before .before .before .before .before .end .given .1)) _ (a .out .now) _ ((c .before .before .fill .ensures)), (c .before .before .before .before .before .before .before .before .measured .ensures .1))
+returns-2 c = let a = (c .before .before .before .before .before .before .before .before .before .before .before .before .args) in (
+  checks.filled [] (a .rows .now) (a .objects) (a .components) (a .place) (a .size) (a .buffer .now) (written (a .rows .now) (a .objects) (a .components) (record { place = a .place; size = a .size }) (a .buffer .now))
+      ((c .before .before .before .before .before .before .before .before .measured .result)) ((c .before .before .before .before .before .before .before .before .measured .ensures .0)) _ _
+      ((c .before .before .before .before .before .before .end .given .1)) _ (a .out .now) _ ((c .before .before .fill .ensures)),
+  (c .before .before .before .before .before .before .before .before .measured .ensures .1),
+)
 
 pub write-spec : {M : Type 1} → statement M
 write-spec =

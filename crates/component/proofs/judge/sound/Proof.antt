@@ -36,7 +36,15 @@ sound-spec =
     (λ c. search needs)
     (λ c. search needs)
     (λ c κs. search needs)
-    (λ c. sound.no-storage (layoutOf (c .before .before .before .before .before .before .before .before .before .args .layout)) (given (c .before .before .before .before .before .before .before .before .before .args .above)) (c .before .before .before .before .before .before .before .before .before .args .s .now) (c .before .before .before .before .before .before .before .before .before .args .start) (c .before .before .before .before .before .before .before .before .before .args .p .now) _ (c .before .before .before .storage .ensures) _ (c .before .n .given .1))
-    (λ c. sound.no-extent (layoutOf (c .before .before .before .before .before .before .before .before .before .before .before .before .before .before .before .before .args .layout)) (given (c .before .before .before .before .before .before .before .before .before .before .before .before .before .before .before .before .args .above)) (c .before .before .before .before .before .before .before .before .before .before .before .before .before .before .before .before .args .s .now) (c .before .before .before .before .before .before .before .before .before .before .before .before .before .before .before .before .args .start) (c .before .before .before .before .before .before .before .before .before .before .before .before .before .before .before .before .args .p .now) _ (c .before .before .before .before .before .before .before .before .before .before .storage .ensures) _ _ (c .before .before .before .before .before .before .before .before .code .given .1) _ (c .before .before .before .extent .ensures) _ (c .before .n2 .given .1))
-    (λ c. sound.no-extras (layoutOf (c .before .before .before .before .before .before .before .before .before .before .before .before .before .before .before .before .before .before .before .before .before .before .before .before .args .layout)) (given (c .before .before .before .before .before .before .before .before .before .before .before .before .before .before .before .before .before .before .before .before .before .before .before .before .args .above)) (c .before .before .before .before .before .before .before .before .before .before .before .before .before .before .before .before .before .before .before .before .before .before .before .before .args .s .now) (c .before .before .before .before .before .before .before .before .before .before .before .before .before .before .before .before .before .before .before .before .before .before .before .before .args .start) (c .before .before .before .before .before .before .before .before .before .before .before .before .before .before .before .before .before .before .before .before .before .before .before .before .args .p .now) _ (c .before .before .before .before .before .before .before .before .before .before .before .before .before .before .before .before .before .before .storage .ensures) _ _ (c .before .before .before .before .before .before .before .before .before .before .before .before .before .before .before .before .code .given .1) _ (c .before .before .before .before .before .before .before .before .before .before .before .extent .ensures) _ _ (c .before .before .before .before .before .before .before .before .before .o .given .1) _ (c .before .before .before .extras .ensures) _ (c .before .n3 .given .1))
-    (λ c. sound.all-placed (layoutOf (c .before .before .before .before .before .before .before .before .before .before .before .before .before .before .before .before .before .before .before .before .before .before .before .before .before .args .layout)) (given (c .before .before .before .before .before .before .before .before .before .before .before .before .before .before .before .before .before .before .before .before .before .before .before .before .before .args .above)) (c .before .before .before .before .before .before .before .before .before .before .before .before .before .before .before .before .before .before .before .before .before .before .before .before .before .args .s .now) (c .before .before .before .before .before .before .before .before .before .before .before .before .before .before .before .before .before .before .before .before .before .before .before .before .before .args .start) (c .before .before .before .before .before .before .before .before .before .before .before .before .before .before .before .before .before .before .before .before .before .before .before .before .before .args .p .now) _ (c .before .before .before .before .before .before .before .before .before .before .before .before .before .before .before .before .before .before .before .storage .ensures) _ _ (c .before .before .before .before .before .before .before .before .before .before .before .before .before .before .before .before .before .code .given .1) _ (c .before .before .before .before .before .before .before .before .before .before .before .before .extent .ensures) _ _ (c .before .before .before .before .before .before .before .before .before .before .o .given .1) _ (c .before .before .before .before .extras .ensures) _ (c .before .before .g .given .1) _ (c .placed .ensures)))
+    (λ c. let b3 = c .before .before .before in let a = b3 .before .before .before .before .before .before .args in
+    sound.no-storage (layoutOf (a .layout)) (given (a .above)) (a .s .now) (a .start) (a .p .now) _ (b3 .storage .ensures) _ (c .before .n .given .1))
+    (λ c. let b3 = c .before .before .before in let b8 = b3 .before .before .before .before .before in let b10 = b8 .before .before in let a = b10 .before .before .before .before .before .before .args in
+    sound.no-extent (layoutOf (a .layout)) (given (a .above)) (a .s .now) (a .start) (a .p .now) _ (b10 .storage .ensures) _ _ (b8 .code .given .1) _ (b3 .extent .ensures) _ (c .before .n2 .given .1))
+    (λ c. let b3 = c .before .before .before in let b9 = b3 .before .before .before .before .before .before in let b11 = b9 .before .before in let b16 = b11 .before .before .before .before .before in
+    let b18 = b16 .before .before in let a = b18 .before .before .before .before .before .before .args in
+    sound.no-extras (layoutOf (a .layout)) (given (a .above)) (a .s .now) (a .start) (a .p .now) _ (b18 .storage .ensures) _ _ (b16 .code .given .1) _ (b11 .extent .ensures) _ _ (b9 .o .given .1) _
+    (b3 .extras .ensures) _ (c .before .n3 .given .1))
+    (λ c. let b2 = c .before .before in let b4 = b2 .before .before in let b10 = b4 .before .before .before .before .before .before in let b12 = b10 .before .before in
+    let b17 = b12 .before .before .before .before .before in let b19 = b17 .before .before in let a = b19 .before .before .before .before .before .before .args in
+    sound.all-placed (layoutOf (a .layout)) (given (a .above)) (a .s .now) (a .start) (a .p .now) _ (b19 .storage .ensures) _ _ (b17 .code .given .1) _ (b12 .extent .ensures) _ _ (b10 .o .given .1) _
+    (b4 .extras .ensures) _ (b2 .g .given .1) _ (c .placed .ensures)))

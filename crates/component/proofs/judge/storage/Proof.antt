@@ -22,6 +22,9 @@ storage-spec =
     (λ c κs. search needs)
     (λ c. search needs)
     (λ c. search needs)
-    (λ c. pieces.no-dtype (layoutOf (c .before .before .before .before .before .before .args .layout)) (given (c .before .before .before .before .before .before .args .above)) (c .before .before .before .before .before .before .args .s .now) _ _ _ (c .before .before .before .dtype-at .ensures) _ (c .before .n .given .1))
-    (λ c. pieces.no-type (layoutOf (c .before .before .before .before .before .before .before .before .before .before .before .args .layout)) (given (c .before .before .before .before .before .before .before .before .before .before .before .args .above)) (c .before .before .before .before .before .before .before .before .before .before .before .args .s .now) _ _ _ (c .before .before .before .before .before .before .before .before .dtype-at .ensures) _ (c .before .before .before .before .before .before .code .given .1) _ (c .before .before .before .typed .ensures) _ (c .before .n2 .given .1))
-    (λ c. pieces.both-types (layoutOf (c .before .before .before .before .before .before .before .before .before .before .before .args .layout)) (given (c .before .before .before .before .before .before .before .before .before .before .before .args .above)) (c .before .before .before .before .before .before .before .before .before .before .before .args .s .now) _ _ _ (c .before .before .before .before .before .before .before .before .dtype-at .ensures) _ (c .before .before .before .before .before .before .code .given .1) _ (c .before .before .before .typed .ensures) _ (c .before .t .given .1)))
+    (λ c. let b3 = c .before .before .before in let a = b3 .before .before .before .args in
+    pieces.no-dtype (layoutOf (a .layout)) (given (a .above)) (a .s .now) _ _ _ (b3 .dtype-at .ensures) _ (c .before .n .given .1))
+    (λ c. let b3 = c .before .before .before in let b6 = b3 .before .before .before in let b8 = b6 .before .before in let a = b8 .before .before .before .args in
+    pieces.no-type (layoutOf (a .layout)) (given (a .above)) (a .s .now) _ _ _ (b8 .dtype-at .ensures) _ (b6 .code .given .1) _ (b3 .typed .ensures) _ (c .before .n2 .given .1))
+    (λ c. let b3 = c .before .before .before in let b6 = b3 .before .before .before in let b8 = b6 .before .before in let a = b8 .before .before .before .args in
+    pieces.both-types (layoutOf (a .layout)) (given (a .above)) (a .s .now) _ _ _ (b8 .dtype-at .ensures) _ (b6 .code .given .1) _ (b3 .typed .ensures) _ (c .before .t .given .1)))

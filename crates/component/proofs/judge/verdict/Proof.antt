@@ -22,5 +22,7 @@ verdict-spec =
     (λ c. search needs)
     (λ c. search needs)
     (λ c κs. search needs)
-    (λ c. verdicts.refused (c .before .before .before .before .before .before .before .args .layout) (given (c .before .before .before .before .before .before .before .args .above)) (c .before .before .before .before .before .before .before .args .s .now) (c .before .before .before .before .before .before .before .args .start) (c .before .before .before .before .before .before .before .args .p .now) _ (c .before .before .before .known .ensures) _ (c .before .n .given .1))
-    (λ c. verdicts.as-sound (c .before .before .before .before .before .before .before .before .before .args .layout) (given (c .before .before .before .before .before .before .before .before .before .args .above)) (c .before .before .before .before .before .before .before .before .before .args .s .now) (c .before .before .before .before .before .before .before .before .before .args .start) (c .before .before .before .before .before .before .before .before .before .args .p .now) _ (c .before .before .before .before .before .known .ensures) (c .before .before .before .enum-told .given .1) _ (c .sound .ensures)))
+    (λ c. let b3 = c .before .before .before in let a = b3 .before .before .before .before .args in
+    verdicts.refused (a .layout) (given (a .above)) (a .s .now) (a .start) (a .p .now) _ (b3 .known .ensures) _ (c .before .n .given .1))
+    (λ c. let b3 = c .before .before .before in let b5 = b3 .before .before in let a = b5 .before .before .before .before .args in
+    verdicts.as-sound (a .layout) (given (a .above)) (a .s .now) (a .start) (a .p .now) _ (b5 .known .ensures) (b3 .enum-told .given .1) _ (c .sound .ensures)))

@@ -24,30 +24,80 @@ entries-spec =
     (λ c. search needs)
     (λ c. search needs)
     (λ c. search needs)
-    (λ c κs. entries.still-due (layoutOf (c .before .before .before .before .args .layout)) (c .before .before .before .before .args .mode) (c .before .before .before .before .args .count) (c .before .before .before .before .args .s .now) _ (c .before .before .before .before .pre .1) (omega arith) (c .before .loop .at) (c .before .loop .due) _ (c .before .loop .inv))
+    (λ c κs. let l = c .before .loop in let a = c .before .before .before .before .args in
+    entries.still-due (layoutOf (a .layout)) (a .mode) (a .count) (a .s .now) _ (c .before .before .before .before .pre .1) (omega arith) (l .at) (l .due) _ (l .inv))
     (λ c. search needs)
     (λ c. search needs)
     (λ c. search needs)
-    (λ c. entries.ends-faulty (layoutOf (c .before .before .before .before .before .before .before .before .before .args .layout)) (c .before .before .before .before .before .before .before .before .before .args .mode) (c .before .before .before .before .before .before .before .before .before .args .count) (c .before .before .before .before .before .before .before .before .before .args .s .now) _ (c .before .before .before .before .before .before .before .before .before .pre .1) (omega arith) (c .before .before .before .before .before .before .loop .at) (c .before .before .before .before .before .before .loop .due) _ (c .before .before .before .before .before .before .loop .inv) _ (c .before .before .before .before .past-key .ensures) _ (c .before .before .e .given .1) (c .if1 .taken))
+    (λ c. let l = c .before .before .before .before .before .before .loop in let a = c .before .before .before .before .before .before .before .before .before .args in
+    entries.ends-faulty (layoutOf (a .layout)) (a .mode) (a .count) (a .s .now) _ (c .before .before .before .before .before .before .before .before .before .pre .1) (omega arith) (l .at) (l .due) _
+    (l .inv) _ (c .before .before .before .before .past-key .ensures) _ (c .before .before .e .given .1) (c .if1 .taken))
     (λ c. search needs)
     (λ c. search needs)
-    (λ c. entries.ends-inside (layoutOf (c .before .before .before .before .before .before .before .before .before .args .layout)) (c .before .before .before .before .before .before .before .before .before .args .mode) (c .before .before .before .before .before .before .before .before .before .args .count) (c .before .before .before .before .before .before .before .before .before .args .s .now) _ (c .before .before .before .before .before .before .before .before .before .pre .1) (omega arith) (c .before .before .before .before .before .before .loop .at) (c .before .before .before .before .before .before .loop .due) _ (c .before .before .before .before .before .before .loop .inv) _ (c .before .before .before .before .past-key .ensures) _ (c .before .before .e .given .1) (c .if1 .left))
+    (λ c. let l = c .before .before .before .before .before .before .loop in let a = c .before .before .before .before .before .before .before .before .before .args in
+    entries.ends-inside (layoutOf (a .layout)) (a .mode) (a .count) (a .s .now) _ (c .before .before .before .before .before .before .before .before .before .pre .1) (omega arith) (l .at) (l .due) _
+    (l .inv) _ (c .before .before .before .before .past-key .ensures) _ (c .before .before .e .given .1) (c .if1 .left))
     (λ c. search needs)
-    (λ c. omega (arith, entries.value-inside (layoutOf (c .before .before .before .before .before .before .before .before .args .layout)) (c .before .before .before .before .before .before .before .before .args .mode) (c .before .before .before .before .before .before .before .before .args .count) (c .before .before .before .before .before .before .before .before .args .s .now) _ (c .before .before .before .before .before .before .before .before .pre .1) (omega arith) (c .before .before .before .before .before .loop .at) (c .before .before .before .before .before .loop .due) _ (c .before .before .before .before .before .loop .inv) _ (c .before .before .before .past-key .ensures) _ (c .before .k .given .1)))
-    (λ c. omega (arith, entries.value-inside (layoutOf (c .before .before .before .before .before .before .before .before .args .layout)) (c .before .before .before .before .before .before .before .before .args .mode) (c .before .before .before .before .before .before .before .before .args .count) (c .before .before .before .before .before .before .before .before .args .s .now) _ (c .before .before .before .before .before .before .before .before .pre .1) (omega arith) (c .before .before .before .before .before .loop .at) (c .before .before .before .before .before .loop .due) _ (c .before .before .before .before .before .loop .inv) _ (c .before .before .before .past-key .ensures) _ (c .before .k .given .1)))
-    (λ c. omega (arith, entries.value-inside (layoutOf (c .before .before .before .before .before .before .before .before .args .layout)) (c .before .before .before .before .before .before .before .before .args .mode) (c .before .before .before .before .before .before .before .before .args .count) (c .before .before .before .before .before .before .before .before .args .s .now) _ (c .before .before .before .before .before .before .before .before .pre .1) (omega arith) (c .before .before .before .before .before .loop .at) (c .before .before .before .before .before .loop .due) _ (c .before .before .before .before .before .loop .inv) _ (c .before .before .before .past-key .ensures) _ (c .before .k .given .1)))
+    (λ c. let l = c .before .before .before .before .before .loop in let a = c .before .before .before .before .before .before .before .before .args in
+    omega
+    (arith, entries.value-inside (layoutOf (a .layout)) (a .mode) (a .count) (a .s .now) _ (c .before .before .before .before .before .before .before .before .pre .1) (omega arith) (l .at) (l .due) _ (l .inv) _ (c .before .before .before .past-key .ensures) _ (c .before .k .given .1)))
+    (λ c. let l = c .before .before .before .before .before .loop in let a = c .before .before .before .before .before .before .before .before .args in
+    omega
+    (arith, entries.value-inside (layoutOf (a .layout)) (a .mode) (a .count) (a .s .now) _ (c .before .before .before .before .before .before .before .before .pre .1) (omega arith) (l .at) (l .due) _ (l .inv) _ (c .before .before .before .past-key .ensures) _ (c .before .k .given .1)))
+    (λ c. let l = c .before .before .before .before .before .loop in let a = c .before .before .before .before .before .before .before .before .args in
+    omega
+    (arith, entries.value-inside (layoutOf (a .layout)) (a .mode) (a .count) (a .s .now) _ (c .before .before .before .before .before .before .before .before .pre .1) (omega arith) (l .at) (l .due) _ (l .inv) _ (c .before .before .before .past-key .ensures) _ (c .before .k .given .1)))
     (λ c. search needs)
     (λ c κs. search needs)
-    (λ c. omega (arith, entries.value-inside (layoutOf (c .before .before .before .before .before .before .before .before .before .before .args .layout)) (c .before .before .before .before .before .before .before .before .before .before .args .mode) (c .before .before .before .before .before .before .before .before .before .before .args .count) (c .before .before .before .before .before .before .before .before .before .before .args .s .now) _ (c .before .before .before .before .before .before .before .before .before .before .pre .1) (omega arith) (c .before .before .before .before .before .before .before .loop .at) (c .before .before .before .before .before .before .before .loop .due) _ (c .before .before .before .before .before .before .before .loop .inv) _ (c .before .before .before .before .before .past-key .ensures) _ (c .before .before .before .k .given .1)))
+    (λ c. let l = c .before .before .before .before .before .before .before .loop in let a = c .before .before .before .before .before .before .before .before .before .before .args in
+    omega
+    (arith, entries.value-inside (layoutOf (a .layout)) (a .mode) (a .count) (a .s .now) _ (c .before .before .before .before .before .before .before .before .before .before .pre .1) (omega arith) (l .at) (l .due) _ (l .inv) _ (c .before .before .before .before .before .past-key .ensures) _ (c .before .before .before .k .given .1)))
     (λ c. search needs)
-    (λ c. entries.value-faulty (layoutOf (c .before .before .before .before .before .before .before .before .before .before .before .args .layout)) (c .before .before .before .before .before .before .before .before .before .before .before .args .mode) (c .before .before .before .before .before .before .before .before .before .before .before .args .count) (c .before .before .before .before .before .before .before .before .before .before .before .args .s .now) _ (c .before .before .before .before .before .before .before .before .before .before .before .pre .1) (omega arith) (c .before .before .before .before .before .before .before .before .loop .at) (c .before .before .before .before .before .before .before .before .loop .due) _ (c .before .before .before .before .before .before .before .before .loop .inv) _ (c .before .before .before .before .before .before .past-key .ensures) _ (c .before .before .before .before .k .given .1) _ (c .before .skip .ensures) (c .if2 .taken))
+    (λ c. let l = c .before .before .before .before .before .before .before .before .loop in let a = c .before .before .before .before .before .before .before .before .before .before .before .args in
+    entries.value-faulty (layoutOf (a .layout)) (a .mode) (a .count) (a .s .now) _ (c .before .before .before .before .before .before .before .before .before .before .before .pre .1) (omega arith) (l .at)
+    (l .due) _ (l .inv) _ (c .before .before .before .before .before .before .past-key .ensures) _ (c .before .before .before .before .k .given .1) _ (c .before .skip .ensures) (c .if2 .taken))
     (λ c. search needs)
     (λ c. search needs)
     (λ c. search needs)
     (λ c κs. search needs)
-    (λ c. omega (arith, entries.value-inside (layoutOf (c .before .before .before .before .before .before .before .before .before .before .before .before .before .before .args .layout)) (c .before .before .before .before .before .before .before .before .before .before .before .before .before .before .args .mode) (c .before .before .before .before .before .before .before .before .before .before .before .before .before .before .args .count) (c .before .before .before .before .before .before .before .before .before .before .before .before .before .before .args .s .now) _ (c .before .before .before .before .before .before .before .before .before .before .before .before .before .before .pre .1) (omega arith) (c .before .before .before .before .before .before .before .before .before .before .before .loop .at) (c .before .before .before .before .before .before .before .before .before .before .before .loop .due) _ (c .before .before .before .before .before .before .before .before .before .before .before .loop .inv) _ (c .before .before .before .before .before .before .before .before .before .past-key .ensures) _ (c .before .before .before .before .before .before .before .k .given .1)))
+    (λ c. let l = c .before .before .before .before .before .before .before .before .before .before .before .loop in
+    let a = c .before .before .before .before .before .before .before .before .before .before .before .before .before .before .args in
+    omega
+    (arith, entries.value-inside (layoutOf (a .layout)) (a .mode) (a .count) (a .s .now) _ (c .before .before .before .before .before .before .before .before .before .before .before .before .before .before .pre .1) (omega arith) (l .at) (l .due) _ (l .inv) _ (c .before .before .before .before .before .before .before .before .before .past-key .ensures) _ (c .before .before .before .before .before .before .before .k .given .1)))
     (λ c κs. (let z = (c .before .before .before .before .before .before .before .before .before .before .before .loop .inv .slots) in omega arith, (c .slot .ensures .0)))
-    (λ c. omega (arith, entries.value-inside (layoutOf (c .before .before .before .before .before .before .before .before .before .before .before .before .before .before .before .before .before .args .layout)) (c .before .before .before .before .before .before .before .before .before .before .before .before .before .before .before .before .before .args .mode) (c .before .before .before .before .before .before .before .before .before .before .before .before .before .before .before .before .before .args .count) (c .before .before .before .before .before .before .before .before .before .before .before .before .before .before .before .before .before .args .s .now) _ (c .before .before .before .before .before .before .before .before .before .before .before .before .before .before .before .before .before .pre .1) (omega arith) (c .before .before .before .before .before .before .before .before .before .before .before .before .before .before .loop .at) (c .before .before .before .before .before .before .before .before .before .before .before .before .before .before .loop .due) _ (c .before .before .before .before .before .before .before .before .before .before .before .before .before .before .loop .inv) _ (c .before .before .before .before .before .before .before .before .before .before .before .before .past-key .ensures) _ (c .before .before .before .before .before .before .before .before .before .before .k .given .1)))
-    (λ c. omega (arith, entries.two-due (layoutOf (c .before .before .before .before .before .before .before .before .before .before .before .before .before .before .before .before .before .args .layout)) (c .before .before .before .before .before .before .before .before .before .before .before .before .before .before .before .before .before .args .mode) (c .before .before .before .before .before .before .before .before .before .before .before .before .before .before .before .before .before .args .count) (c .before .before .before .before .before .before .before .before .before .before .before .before .before .before .before .before .before .args .s .now) _ (c .before .before .before .before .before .before .before .before .before .before .before .before .before .before .before .before .before .pre .1) (omega arith) (c .before .before .before .before .before .before .before .before .before .before .before .before .before .before .loop .at) (c .before .before .before .before .before .before .before .before .before .before .before .before .before .before .loop .due) _ (c .before .before .before .before .before .before .before .before .before .before .before .before .before .before .loop .inv) _ (c .before .before .before .before .before .before .before .before .before .before .before .before .past-key .ensures) _ (c .before .before .before .before .before .before .before .before .before .before .k .given .1) _ (c .before .before .before .before .before .before .before .skip .ensures)))
-    (λ c. omega (arith, entries.value-inside (layoutOf (c .before .before .before .before .before .before .before .before .before .before .before .before .before .before .before .before .before .args .layout)) (c .before .before .before .before .before .before .before .before .before .before .before .before .before .before .before .before .before .args .mode) (c .before .before .before .before .before .before .before .before .before .before .before .before .before .before .before .before .before .args .count) (c .before .before .before .before .before .before .before .before .before .before .before .before .before .before .before .before .before .args .s .now) _ (c .before .before .before .before .before .before .before .before .before .before .before .before .before .before .before .before .before .pre .1) (omega arith) (c .before .before .before .before .before .before .before .before .before .before .before .before .before .before .loop .at) (c .before .before .before .before .before .before .before .before .before .before .before .before .before .before .loop .due) _ (c .before .before .before .before .before .before .before .before .before .before .before .before .before .before .loop .inv) _ (c .before .before .before .before .before .before .before .before .before .before .before .before .past-key .ensures) _ (c .before .before .before .before .before .before .before .before .before .before .k .given .1), entries.goes-on (layoutOf (c .before .before .before .before .before .before .before .before .before .before .before .before .before .before .before .before .before .args .layout)) (c .before .before .before .before .before .before .before .before .before .before .before .before .before .before .before .before .before .args .mode) (c .before .before .before .before .before .before .before .before .before .before .before .before .before .before .before .before .before .args .count) (c .before .before .before .before .before .before .before .before .before .before .before .before .before .before .before .before .before .args .s .now) _ (c .before .before .before .before .before .before .before .before .before .before .before .before .before .before .before .before .before .pre .1) (omega arith) (c .before .before .before .before .before .before .before .before .before .before .before .before .before .before .loop .at) (c .before .before .before .before .before .before .before .before .before .before .before .before .before .before .loop .due) _ (c .before .before .before .before .before .before .before .before .before .before .before .before .before .before .loop .inv) _ (c .before .before .before .before .before .before .before .before .before .before .before .before .past-key .ensures) _ (c .before .before .before .before .before .before .before .before .before .before .k .given .1) _ (c .before .before .before .before .before .before .before .skip .ensures) (c .before .before .before .before .before .before .if2 .left)))
-    (λ c. entries.noting-goes-on (layoutOf (c .before .before .before .before .before .before .before .before .before .before .before .before .before .before .before .before .before .args .layout)) (c .before .before .before .before .before .before .before .before .before .before .before .before .before .before .before .before .before .args .mode) (c .before .before .before .before .before .before .before .before .before .before .before .before .before .before .before .before .before .args .count) (c .before .before .before .before .before .before .before .before .before .before .before .before .before .before .before .before .before .args .s .now) _ (c .before .before .before .before .before .before .before .before .before .before .before .before .before .before .before .before .before .pre .1) (omega arith) (c .before .before .before .before .before .before .before .before .before .before .before .before .before .before .loop .at) (c .before .before .before .before .before .before .before .before .before .before .before .before .before .before .loop .due) _ (c .before .before .before .before .before .before .before .before .before .before .before .before .before .before .loop .inv) _ (c .before .before .before .before .before .before .before .before .before .before .before .before .past-key .ensures) _ (c .before .before .before .before .before .before .before .before .before .before .k .given .1) _ (c .before .before .before .before .before .before .before .skip .ensures) (c .before .before .before .before .before .before .if2 .left) _ (c .before .before .before .slot .ensures .1) _ (c .before .before .mark .ensures)))
+    (λ c. let l = c .before .before .before .before .before .before .before .before .before .before .before .before .before .before .loop in
+    let a = c .before .before .before .before .before .before .before .before .before .before .before .before .before .before .before .before .before .args in
+    omega (
+      arith,
+      entries.value-inside (layoutOf (a .layout)) (a .mode) (a .count) (a .s .now) _
+          (c .before .before .before .before .before .before .before .before .before .before .before .before .before .before .before .before .before .pre .1) (omega arith) (l .at) (l .due) _ (l .inv) _
+          (c .before .before .before .before .before .before .before .before .before .before .before .before .past-key .ensures) _ (c .before .before .before .before .before .before .before .before .before .before .k .given .1),
+    ))
+    (λ c. let l = c .before .before .before .before .before .before .before .before .before .before .before .before .before .before .loop in
+    let a = c .before .before .before .before .before .before .before .before .before .before .before .before .before .before .before .before .before .args in
+    omega (
+      arith,
+      entries.two-due (layoutOf (a .layout)) (a .mode) (a .count) (a .s .now) _
+          (c .before .before .before .before .before .before .before .before .before .before .before .before .before .before .before .before .before .pre .1) (omega arith) (l .at) (l .due) _ (l .inv) _
+          (c .before .before .before .before .before .before .before .before .before .before .before .before .past-key .ensures) _ (c .before .before .before .before .before .before .before .before .before .before .k .given .1) _
+          (c .before .before .before .before .before .before .before .skip .ensures),
+    ))
+    (λ c. let l = c .before .before .before .before .before .before .before .before .before .before .before .before .before .before .loop in
+    let a = c .before .before .before .before .before .before .before .before .before .before .before .before .before .before .before .before .before .args in
+    omega (
+      arith,
+      entries.value-inside (layoutOf (a .layout)) (a .mode) (a .count) (a .s .now) _
+          (c .before .before .before .before .before .before .before .before .before .before .before .before .before .before .before .before .before .pre .1) (omega arith) (l .at) (l .due) _ (l .inv) _
+          (c .before .before .before .before .before .before .before .before .before .before .before .before .past-key .ensures) _ (c .before .before .before .before .before .before .before .before .before .before .k .given .1),
+      entries.goes-on (layoutOf (a .layout)) (a .mode) (a .count) (a .s .now) _
+          (c .before .before .before .before .before .before .before .before .before .before .before .before .before .before .before .before .before .pre .1) (omega arith) (l .at) (l .due) _ (l .inv) _
+          (c .before .before .before .before .before .before .before .before .before .before .before .before .past-key .ensures) _ (c .before .before .before .before .before .before .before .before .before .before .k .given .1) _
+          (c .before .before .before .before .before .before .before .skip .ensures) (c .before .before .before .before .before .before .if2 .left),
+    ))
+    (λ c. let l = c .before .before .before .before .before .before .before .before .before .before .before .before .before .before .loop in
+    let a = c .before .before .before .before .before .before .before .before .before .before .before .before .before .before .before .before .before .args in
+    entries.noting-goes-on (layoutOf (a .layout)) (a .mode) (a .count) (a .s .now) _
+    (c .before .before .before .before .before .before .before .before .before .before .before .before .before .before .before .before .before .pre .1) (omega arith) (l .at) (l .due) _ (l .inv) _
+    (c .before .before .before .before .before .before .before .before .before .before .before .before .past-key .ensures) _
+    (c .before .before .before .before .before .before .before .before .before .before .k .given .1) _ (c .before .before .before .before .before .before .before .skip .ensures)
+    (c .before .before .before .before .before .before .if2 .left) _ (c .before .before .before .slot .ensures .1) _ (c .before .before .mark .ensures)))

@@ -11,11 +11,15 @@ pub dtype-at-spec : {M : Type 1} → statement M
 dtype-at-spec =
     tie.close
     (tie.spec
-    (λ c. places.nothing-there (c .before .before .before .args .s .now) (c .before .before .before .args .left) (codeOf (layoutOf (c .before .before .before .args .layout)) (given (c .before .before .before .args .above))) _ (c .before .if1 .taken) (values.code-given _ _ (c .if2 .taken)))
-    (λ c. places.nothing-there (c .before .before .before .args .s .now) (c .before .before .before .args .left) (codeOf (layoutOf (c .before .before .before .args .layout)) (given (c .before .before .before .args .above))) _ (c .before .if1 .taken) (values.no-code _ _ (c .if2 .left)))
+    (λ c. let a = c .before .before .before .args in
+    places.nothing-there (a .s .now) (a .left) (codeOf (layoutOf (a .layout)) (given (a .above))) _ (c .before .if1 .taken) (values.code-given _ _ (c .if2 .taken)))
+    (λ c. let a = c .before .before .before .args in
+    places.nothing-there (a .s .now) (a .left) (codeOf (layoutOf (a .layout)) (given (a .above))) _ (c .before .if1 .taken) (values.no-code _ _ (c .if2 .left)))
     (λ c κs. search needs)
     (λ c. search needs)
     (λ c. search needs)
     (λ c. search needs)
     (λ c κs. search needs)
-    (λ c. places.something-there (c .before .before .before .before .before .args .s .now) (c .before .before .before .before .before .args .left) (codeOf (layoutOf (c .before .before .before .before .before .args .layout)) (given (c .before .before .before .before .before .args .above))) _ _ (c .before .before .place-of .ensures) (c .before .before .before .if1 .left) (values.own-code _ _ _ (c .dtype-of .result) (c .dtype-of .ensures))))
+    (λ c. let b2 = c .before .before in let b3 = b2 .before in let a = b3 .before .before .args in
+    places.something-there (a .s .now) (a .left) (codeOf (layoutOf (a .layout)) (given (a .above))) _ _ (b2 .place-of .ensures) (b3 .if1 .left)
+    (values.own-code _ _ _ (c .dtype-of .result) (c .dtype-of .ensures))))

@@ -18,4 +18,5 @@ encoded-spec =
     (λ c. search needs)
     (λ c. search needs)
     (λ c κs. search needs)
-    (λ c. places.something-there (c .before .before .before .before .before .args .s .now) (c .before .before .before .before .before .args .left) (λ o. passes (optional raw o)) _ _ (c .before .before .place-of .ensures) (c .before .before .before .if1 .left) (c .raw-of .ensures)))
+    (λ c. let b2 = c .before .before in let b3 = b2 .before in let a = b3 .before .before .args in
+    places.something-there (a .s .now) (a .left) (λ o. passes (optional raw o)) _ _ (b2 .place-of .ensures) (b3 .if1 .left) (c .raw-of .ensures)))

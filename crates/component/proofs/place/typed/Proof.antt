@@ -13,15 +13,18 @@ pub typed-spec : {M : Type 1} → statement M
 typed-spec =
     tie.close
     (tie.spec
-    (λ c. unfold present in places.nothing-there (c .before .before .args .s .now) (c .before .before .args .left) (λ o. placeOf (optional (aType (c .before .before .args .code)) (present o))) _ (c .if1 .taken) refl)
+    (λ c. let a = c .before .before .args in
+    unfold present in places.nothing-there (a .s .now) (a .left) (λ o. placeOf (optional (aType (a .code)) (present o))) _ (c .if1 .taken) refl)
     (λ c κs. search needs)
     (λ c. search needs)
     (λ c. search needs)
     (λ c. search needs)
     (λ c κs. search needs)
-    (λ c. places.null-there (c .before .before .before .before .before .before .args .s .now) (c .before .before .before .before .before .before .args .left) (λ o. placeOf (optional (aType (c .before .before .before .before .before .before .args .code)) o)) _ _ (c .before .before .before .place-of .ensures) (c .before .before .before .before .if1 .left) _ (c .before .null .ensures) (c .if2 .taken) refl)
+    (λ c. let b3 = c .before .before .before in let b4 = b3 .before in let a = b4 .before .before .args in
+    places.null-there (a .s .now) (a .left) (λ o. placeOf (optional (aType (a .code)) o)) _ _ (b3 .place-of .ensures) (b4 .if1 .left) _ (c .before .null .ensures) (c .if2 .taken) refl)
     (λ c. search needs)
     (λ c. search needs)
     (λ c. search needs)
     (λ c κs. search needs)
-    (λ c. places.item-there (c .before .before .before .before .before .before .before .before .args .s .now) (c .before .before .before .before .before .before .before .before .args .left) (λ o. placeOf (optional (aType (c .before .before .before .before .before .before .before .before .args .code)) o)) _ _ (c .before .before .before .before .before .place-of .ensures) (c .before .before .before .before .before .before .if1 .left) _ (c .before .before .before .null .ensures) (c .before .before .if2 .left) (c .type-of .ensures)))
+    (λ c. let b2 = c .before .before in let b3 = b2 .before in let b5 = b3 .before .before in let b6 = b5 .before in let a = b6 .before .before .args in
+    places.item-there (a .s .now) (a .left) (λ o. placeOf (optional (aType (a .code)) o)) _ _ (b5 .place-of .ensures) (b6 .if1 .left) _ (b3 .null .ensures) (b2 .if2 .left) (c .type-of .ensures)))

@@ -19,12 +19,17 @@ unpacked-spec =
     (λ c. search needs)
     (λ c. search needs)
     (λ c κs. search needs)
-    (λ c. places.null-there (c .before .before .before .before .before .before .args .s .now) (c .before .before .before .before .before .before .args .left) (λ o. passes (optional aNumber o)) _ _ (c .before .before .before .place-of .ensures) (c .before .before .before .before .if1 .left) _ (c .before .null .ensures) (c .if2 .taken) refl)
+    (λ c. let b3 = c .before .before .before in let b4 = b3 .before in let a = b4 .before .before .args in
+    places.null-there (a .s .now) (a .left) (λ o. passes (optional aNumber o)) _ _ (b3 .place-of .ensures) (b4 .if1 .left) _ (c .before .null .ensures) (c .if2 .taken) refl)
     (λ c. search needs)
     (λ c. search needs)
     (λ c. search needs)
     (λ c κs. search needs)
     (λ c. search needs)
     (λ c. search needs)
-    (λ c. places.item-there (c .before .before .before .before .before .before .before .before .before .before .args .s .now) (c .before .before .before .before .before .before .before .before .before .before .args .left) (λ o. passes (optional aNumber o)) _ _ (c .before .before .before .before .before .before .before .place-of .ensures) (c .before .before .before .before .before .before .before .before .if1 .left) _ (c .before .before .before .before .before .null .ensures) (c .before .before .before .before .if2 .left) (values.number-none _ _ (c .before .before .number .ensures) (c .enum-told .given .1)))
-    (λ c. places.item-there (c .before .before .before .before .before .before .before .before .before .before .args .s .now) (c .before .before .before .before .before .before .before .before .before .before .args .left) (λ o. passes (optional aNumber o)) _ _ (c .before .before .before .before .before .before .before .place-of .ensures) (c .before .before .before .before .before .before .before .before .if1 .left) _ (c .before .before .before .before .before .null .ensures) (c .before .before .before .before .if2 .left) (values.number-some _ _ (c .before .before .number .ensures) _ (c .enum-told2 .given .1))))
+    (λ c. let b2 = c .before .before in let b4 = b2 .before .before in let b5 = b4 .before in let b7 = b5 .before .before in let b8 = b7 .before in let a = b8 .before .before .args in
+    places.item-there (a .s .now) (a .left) (λ o. passes (optional aNumber o)) _ _ (b7 .place-of .ensures) (b8 .if1 .left) _ (b5 .null .ensures) (b4 .if2 .left)
+    (values.number-none _ _ (b2 .number .ensures) (c .enum-told .given .1)))
+    (λ c. let b2 = c .before .before in let b4 = b2 .before .before in let b5 = b4 .before in let b7 = b5 .before .before in let b8 = b7 .before in let a = b8 .before .before .args in
+    places.item-there (a .s .now) (a .left) (λ o. passes (optional aNumber o)) _ _ (b7 .place-of .ensures) (b8 .if1 .left) _ (b5 .null .ensures) (b4 .if2 .left)
+    (values.number-some _ _ (b2 .number .ensures) _ (c .enum-told2 .given .1))))

@@ -21,6 +21,8 @@ dtype-of-spec =
     (λ c. search needs)
     (λ c. omega (arith, letters-in (c .before .before .before .before .before .before .args .s .now) _ (c .before .before .before .text .ensures .0) _ _ (c .before .at .given .1)))
     (λ c κs. search needs)
-    (λ c. values.dtype-some (c .before .before .before .before .before .before .before .before .before .args .s .now) _ (c .before .before .before .before .before .before .text .ensures .1) _ _ (c .before .before .before .before .at .given .1) _ _ (c .before .dtype-code .ensures) (c .if1 .taken))
+    (λ c. let b4 = c .before .before .before .before in let b6 = b4 .before .before in let a = b6 .before .before .before .args in
+    values.dtype-some (a .s .now) _ (b6 .text .ensures .1) _ _ (b4 .at .given .1) _ _ (c .before .dtype-code .ensures) (c .if1 .taken))
     (λ c. values.dtype-kind (c .before .before .before .before .before .args .s .now) _ (c .before .before .text .ensures .1) (c .enum-told .given .1) _)
-    (λ c. values.dtype-other (c .before .before .before .before .before .before .before .before .before .args .s .now) _ (c .before .before .before .before .before .before .text .ensures .1) _ _ (c .before .before .before .before .at .given .1) _ _ (c .before .dtype-code .ensures) (c .if1 .left)))
+    (λ c. let b4 = c .before .before .before .before in let b6 = b4 .before .before in let a = b6 .before .before .before .args in
+    values.dtype-other (a .s .now) _ (b6 .text .ensures .1) _ _ (b4 .at .given .1) _ _ (c .before .dtype-code .ensures) (c .if1 .left)))

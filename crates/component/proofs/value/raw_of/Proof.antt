@@ -21,6 +21,8 @@ raw-of-spec =
     (λ c. search needs)
     (λ c. omega (arith, letters-in (c .before .before .before .before .before .before .args .s .now) _ (c .before .before .before .text .ensures .0) _ _ (c .before .at .given .1)))
     (λ c κs. search needs)
-    (λ c. values.raw-some (c .before .before .before .before .before .before .before .before .before .args .s .now) _ (c .before .before .before .before .before .before .text .ensures .1) _ _ (c .before .before .before .before .at .given .1) _ (c .before .is-raw .ensures) (c .if1 .taken))
+    (λ c. let b4 = c .before .before .before .before in let b6 = b4 .before .before in let a = b6 .before .before .before .args in
+    values.raw-some (a .s .now) _ (b6 .text .ensures .1) _ _ (b4 .at .given .1) _ (c .before .is-raw .ensures) (c .if1 .taken))
     (λ c. values.raw-kind (c .before .before .before .before .before .args .s .now) _ (c .before .before .text .ensures .1) (c .enum-told .given .1))
-    (λ c. values.raw-other (c .before .before .before .before .before .before .before .before .before .args .s .now) _ (c .before .before .before .before .before .before .text .ensures .1) _ _ (c .before .before .before .before .at .given .1) _ (c .before .is-raw .ensures) (c .if1 .left)))
+    (λ c. let b4 = c .before .before .before .before in let b6 = b4 .before .before in let a = b6 .before .before .before .args in
+    values.raw-other (a .s .now) _ (b6 .text .ensures .1) _ _ (b4 .at .given .1) _ (c .before .is-raw .ensures) (c .if1 .left)))

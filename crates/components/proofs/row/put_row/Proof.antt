@@ -15,13 +15,16 @@ put-row-spec =
     (λ c. search needs)
     (λ c. search needs)
     (λ c. search needs)
-    (λ c. let z = (rows.sizes (c .before .args .rows .now) (c .before .pre) (c .before .args .j) (c .before .args .role) (c .before .args .unit) (c .before .args .plain) (c .before .args .size) .0) in omega arith)
+    (λ c. let a = c .before .args in
+    let z = (rows.sizes (a .rows .now) (c .before .pre) (a .j) (a .role) (a .unit) (a .plain) (a .size) .0) in omega arith)
     (λ c. search needs)
     (λ c. search needs)
-    (λ c. let z = (rows.sizes (c .before .args .rows .now) (c .before .pre) (c .before .args .j) (c .before .args .role) (c .before .args .unit) (c .before .args .plain) (c .before .args .size) .1) in omega arith)
+    (λ c. let a = c .before .args in
+    let z = (rows.sizes (a .rows .now) (c .before .pre) (a .j) (a .role) (a .unit) (a .plain) (a .size) .1) in omega arith)
     (λ c. search needs)
     (λ c. search needs)
-    (λ c. let z = (rows.sizes (c .before .args .rows .now) (c .before .pre) (c .before .args .j) (c .before .args .role) (c .before .args .unit) (c .before .args .plain) (c .before .args .size) .2) in omega arith)
+    (λ c. let a = c .before .args in
+    let z = (rows.sizes (a .rows .now) (c .before .pre) (a .j) (a .role) (a .unit) (a .plain) (a .size) .2) in omega arith)
     (λ c. search needs)
     (λ c. rw (lt-ltb ((c .before .args .j)) 16 (omega arith)) refl)
     (λ c. rw (le-ltb ((c .before .args .j)) 16 (omega arith)) refl))

@@ -21,4 +21,5 @@ role-spec =
     (λ c. omega (arith, letters-in ((c .before .before .before .before .before .before .args .s .now)) _ ((c .before .before .before .text .ensures .0)) _ _ ((c .before .at .given .1))))
     (λ c κs. search needs)
     (λ c. rows.role-odd ((c .before .before .before .before .before .args .s .now)) _ ((c .before .before .text .ensures .1)) ((c .enum-told .given .1)))
-    (λ c. rows.role-named ((c .before .before .before .before .before .before .before .before .args .s .now)) _ ((c .before .before .before .before .before .text .ensures .1)) _ _ ((c .before .before .before .at .given .1)) _ ((c .role-code .ensures))))
+    (λ c. let b3 = c .before .before .before in let b5 = b3 .before .before in let a = b5 .before .before .before .args in
+    rows.role-named ((a .s .now)) _ ((b5 .text .ensures .1)) _ _ ((b3 .at .given .1)) _ ((c .role-code .ensures))))

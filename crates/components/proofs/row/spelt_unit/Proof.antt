@@ -20,5 +20,7 @@ spelt-unit-spec =
     (λ c. search needs)
     (λ c. omega (arith, letters-in ((c .before .before .before .before .before .before .args .s .now)) _ ((c .before .before .before .text .ensures .0)) _ _ ((c .before .at .given .1))))
     (λ c κs. search needs)
-    (λ c. units.unit-kind ((c .before .before .before .before .before .args .s .now)) _ ((c .before .before .text .ensures .1)) ((c .before .before .before .before .before .args .code)) ((c .enum-told .given .1)))
-    (λ c. units.unit-word ((c .before .before .before .before .before .before .before .before .args .s .now)) _ ((c .before .before .before .before .before .text .ensures .1)) ((c .before .before .before .before .before .before .before .before .args .code)) _ _ ((c .before .before .before .at .given .1)) _ ((c .unit-of .ensures))))
+    (λ c. let b2 = c .before .before in let a = b2 .before .before .before .args in
+    units.unit-kind ((a .s .now)) _ ((b2 .text .ensures .1)) ((a .code)) ((c .enum-told .given .1)))
+    (λ c. let b3 = c .before .before .before in let b5 = b3 .before .before in let a = b5 .before .before .before .args in
+    units.unit-word ((a .s .now)) _ ((b5 .text .ensures .1)) ((a .code)) _ _ ((b3 .at .given .1)) _ ((c .unit-of .ensures))))

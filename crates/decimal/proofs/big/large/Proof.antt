@@ -23,9 +23,11 @@ large-spec =
     (λ c. looked-first ((c .args .a .now)))
     (λ c. search needs)
     (λ c. search needs)
-    (λ c. looked-met ((c .before .before .before .before .args .a .now)) ((c .before .before .before .before .pre)) ((c .before .before .before .loop .i)) ((c .before .before .before .loop .inv)) ((c .before .before .loop-test .taken)) (omega arith))
+    (λ c. let l = c .before .before .before .loop in let a = c .before .before .before .before .args in
+    looked-met ((a .a .now)) ((c .before .before .before .before .pre)) ((l .i)) ((l .inv)) ((c .before .before .loop-test .taken)) (omega arith))
     (λ c. search needs)
     (λ c. search needs)
-    (λ c. looked-next ((c .before .before .before .before .args .a .now)) ((c .before .before .before .before .pre)) ((c .before .before .before .loop .i)) ((c .before .before .before .loop .inv)) ((c .before .before .loop-test .taken)) (omega arith))
+    (λ c. let l = c .before .before .before .loop in let a = c .before .before .before .before .args in
+    looked-next ((a .a .now)) ((c .before .before .before .before .pre)) ((l .i)) ((l .inv)) ((c .before .before .loop-test .taken)) (omega arith))
     (λ c. search needs)
     (λ c. looked-done ((c .before .before .before .args .a .now)) ((c .before .before .before .pre)) ((c .before .before .loop .i)) ((c .before .before .loop .inv)) (omega arith)))

@@ -13,14 +13,20 @@ nearest-spec =
     (tie.spec
     (λ c. search needs)
     (λ c. search needs)
-    (λ c. units.near-down ((c .before .before .before .args .a .now)) ((c .before .before .before .pre .0)) ((c .before .before .before .pre .1 .0)) ((c .before .before .before .args .left)) ((c .before .before .before .pre .1 .1)) ((c .if1 .taken)))
+    (λ c. let b3 = c .before .before .before in let a = b3 .args in
+    units.near-down ((a .a .now)) ((b3 .pre .0)) ((b3 .pre .1 .0)) ((a .left)) ((b3 .pre .1 .1)) ((c .if1 .taken)))
     (λ c. search needs)
     (λ c. search needs)
-    (λ c. omega (arith, (c .before .before .before .before .before .before .pre .0 .each) 1, (c .before .before .before .before .before .before .pre .0 .each) 0))
-    (λ c. omega (arith, (c .before .before .before .before .before .before .pre .0 .each) 1, (c .before .before .before .before .before .before .pre .0 .each) 0))
+    (λ c. let b6 = c .before .before .before .before .before .before in
+    omega (arith, (b6 .pre .0 .each) 1, (b6 .pre .0 .each) 0))
+    (λ c. let b6 = c .before .before .before .before .before .before in
+    omega (arith, (b6 .pre .0 .each) 1, (b6 .pre .0 .each) 0))
     (λ c. omega (arith, (c .before .before .before .before .before .before .before .pre .0 .each) 3))
-    (λ c. units.near-even ((c .before .before .before .before .before .before .before .args .a .now)) ((c .before .before .before .before .before .before .before .pre .0)) ((c .before .before .before .before .before .before .before .pre .1 .0)) ((c .before .before .before .before .before .before .before .args .left)) ((c .before .before .before .before .before .before .before .pre .1 .1)) ((c .before .before .before .if2 .taken)) ((c .if3 .taken)))
+    (λ c. let b3 = c .before .before .before in let b7 = b3 .before .before .before .before in let a = b7 .args in
+    units.near-even ((a .a .now)) ((b7 .pre .0)) ((b7 .pre .1 .0)) ((a .left)) ((b7 .pre .1 .1)) ((b3 .if2 .taken)) ((c .if3 .taken)))
     (λ c. omega (arith, (c .before .before .before .before .before .before .before .pre .0 .each) 3))
-    (λ c. units.near-up ((c .before .before .before .before .before .before .before .args .a .now)) ((c .before .before .before .before .before .before .before .pre .0)) ((c .before .before .before .before .before .before .before .pre .1 .0)) ((c .before .before .before .before .before .before .before .args .left)) ((c .before .before .before .before .before .before .before .pre .1 .1)) (omega (arith, (c .before .before .before .if2 .taken), (c .if3 .left))))
+    (λ c. let b3 = c .before .before .before in let b7 = b3 .before .before .before .before in let a = b7 .args in
+    units.near-up ((a .a .now)) ((b7 .pre .0)) ((b7 .pre .1 .0)) ((a .left)) ((b7 .pre .1 .1)) (omega (arith, (b3 .if2 .taken), (c .if3 .left))))
     (λ c. omega (arith, (c .before .before .before .before .pre .0 .each) 3))
-    (λ c. units.near-up ((c .before .before .before .before .args .a .now)) ((c .before .before .before .before .pre .0)) ((c .before .before .before .before .pre .1 .0)) ((c .before .before .before .before .args .left)) ((c .before .before .before .before .pre .1 .1)) (omega (arith, (c .if2 .left), (c .before .if1 .left)))))
+    (λ c. let b4 = c .before .before .before .before in let a = b4 .args in
+    units.near-up ((a .a .now)) ((b4 .pre .0)) ((b4 .pre .1 .0)) ((a .left)) ((b4 .pre .1 .1)) (omega (arith, (c .if2 .left), (c .before .if1 .left)))))

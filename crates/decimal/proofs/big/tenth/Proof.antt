@@ -26,7 +26,8 @@ tenth-spec =
     (λ c. search needs)
     (λ c. search needs)
     (λ c. search needs)
-    (λ c. omega (arith, (c .before .before .loop .inv .limbs .each) ((c .before .before .loop .i) - 1), (c .before .before .loop .inv .low)))
+    (λ c. let l = c .before .before .loop in
+    omega (arith, (l .inv .limbs .each) ((l .i) - 1), (l .inv .low)))
     (λ c. search needs)
     (λ c. search needs)
     (λ c. search needs)

@@ -30,15 +30,23 @@ nine-spec =
     μ-loop
     (λ c. search needs)
     (λ c κs. (cut.first-limbs ((c .before .args .m)) ((c .before .pre .0)), rw (cut.first-value ((c .before .args .m))) ((c .before .pre .0))))
-    (λ c κs. ((c .before .fives .ensures .0), (cut.five-low _ _ (rw (cut.first-value ((c .before .before .before .args .m))) ((c .before .before .before .pre .0))) ((c .before .fives .ensures .1)), (c .before .before .before .pre .1))))
-    (λ c. cut.cut-first _ _ ((c .twos .ensures .0)) (cut.scaled ((c .before .before .before .before .args .m)) ((c .before .before .before .before .args .j)) _ _ _ (cut.first-value ((c .before .before .before .before .args .m))) ((c .before .before .fives .ensures .1)) ((c .twos .ensures .1))))
+    (λ c κs. let b1 = c .before in let b3 = b1 .before .before in let a = b3 .args in
+    ((b1 .fives .ensures .0), (cut.five-low _ _ (rw (cut.first-value ((a .m))) ((b3 .pre .0))) ((b1 .fives .ensures .1)), (b3 .pre .1))))
+    (λ c. let b2 = c .before .before in let a = b2 .before .before .args in
+    cut.cut-first _ _ ((c .twos .ensures .0)) (cut.scaled ((a .m)) ((a .j)) _ _ _ (cut.first-value ((a .m))) ((b2 .fives .ensures .1)) ((c .twos .ensures .1))))
     (λ c κs. (c .before .loop .inv .limbs))
     (λ c κs. (c .before .before .before .before .loop .inv .limbs))
     (λ c κs. search needs)
     (λ c. record { fits = cut.few-places _ (cut.cut-soon ((c .before .before .before .before .before .before .loop .inv)) (cut.scaled-low _ _ ((c .before .before .before .before .before .before .before .before .before .before .before .pre .0)) ((c .before .before .before .before .before .before .before .before .before .before .before .pre .1)))) })
-    (λ c. cut.tenth-less _ _ _ (sym ((c .before .before .before .before .large .ensures)) ∙ (c .before .before .before .if1 .taken)) ((c .before .tenth .ensures .1 .0)))
-    (λ c. cut.cut-next ((c .before .before .before .before .before .before .loop .inv)) _ _ _ (sym ((c .before .before .before .before .large .ensures)) ∙ (c .before .before .before .if1 .taken)) ((c .before .tenth .ensures .0)) ((c .before .tenth .ensures .1 .0)) ((c .before .tenth .ensures .1 .1)) ((c .noted .ensures .0)) ((c .noted .ensures .1)))
-    (λ c κs. ((c .before .before .before .before .loop .inv .limbs), (cut.not-large _ (sym ((c .before .before .large .ensures)) ∙ (c .before .if1 .left)), (c .before .before .before .before .loop .inv .bit))))
+    (λ c. let b3 = c .before .before .before in
+    cut.tenth-less _ _ _ (sym ((b3 .before .large .ensures)) ∙ (b3 .if1 .taken)) ((c .before .tenth .ensures .1 .0)))
+    (λ c. let b1 = c .before in let b3 = b1 .before .before in let b4 = b3 .before in let l = b4 .before .before .loop in
+    cut.cut-next ((l .inv)) _ _ _ (sym ((b4 .large .ensures)) ∙ (b3 .if1 .taken)) ((b1 .tenth .ensures .0)) ((b1 .tenth .ensures .1 .0)) ((b1 .tenth .ensures .1 .1)) ((c .noted .ensures .0))
+    ((c .noted .ensures .1)))
+    (λ c κs. let b2 = c .before .before in let l = b2 .before .before .loop in
+    ((l .inv .limbs), (cut.not-large _ (sym ((b2 .large .ensures)) ∙ (c .before .if1 .left)), (l .inv .bit))))
     (λ c. record { fits = cut.few-places _ (cut.cut-soon ((c .before .before .before .before .before .before .loop .inv)) (cut.scaled-low _ _ ((c .before .before .before .before .before .before .before .before .before .before .before .pre .0)) ((c .before .before .before .before .before .before .before .before .before .before .before .pre .1)))) })
-    (λ c. cut.found-up ((c .before .before .before .before .before .before .before .before .before .before .before .args .m) * 2 ^ (c .before .before .before .before .before .before .before .before .before .before .before .args .j)) ((c .before .before .before .before .before .before .loop .inv)) (sym ((c .before .before .before .before .large .ensures)) ∙ (c .before .before .before .if1 .left)) (cut.scaled-low _ _ ((c .before .before .before .before .before .before .before .before .before .before .before .pre .0)) ((c .before .before .before .before .before .before .before .before .before .before .before .pre .1))) _ ((c .before .nearest .ensures)) ((c .if2 .taken)))
-    (λ c. cut.found-as ((c .before .before .before .before .before .before .before .before .before .before .before .args .m) * 2 ^ (c .before .before .before .before .before .before .before .before .before .before .before .args .j)) ((c .before .before .before .before .before .before .loop .inv)) (sym ((c .before .before .before .before .large .ensures)) ∙ (c .before .before .before .if1 .left)) (cut.scaled-low _ _ ((c .before .before .before .before .before .before .before .before .before .before .before .pre .0)) ((c .before .before .before .before .before .before .before .before .before .before .before .pre .1))) _ ((c .before .nearest .ensures)) ((c .if2 .left))))
+    (λ c. let b3 = c .before .before .before in let b4 = b3 .before in let b6 = b4 .before .before in let b11 = b6 .before .before .before .before .before in let l = b6 .loop in let a = b11 .args in
+    cut.found-up ((a .m) * 2 ^ (a .j)) ((l .inv)) (sym ((b4 .large .ensures)) ∙ (b3 .if1 .left)) (cut.scaled-low _ _ ((b11 .pre .0)) ((b11 .pre .1))) _ ((c .before .nearest .ensures)) ((c .if2 .taken)))
+    (λ c. let b3 = c .before .before .before in let b4 = b3 .before in let b6 = b4 .before .before in let b11 = b6 .before .before .before .before .before in let l = b6 .loop in let a = b11 .args in
+    cut.found-as ((a .m) * 2 ^ (a .j)) ((l .inv)) (sym ((b4 .large .ensures)) ∙ (b3 .if1 .left)) (cut.scaled-low _ _ ((b11 .pre .0)) ((b11 .pre .1))) _ ((c .before .nearest .ensures)) ((c .if2 .left))))

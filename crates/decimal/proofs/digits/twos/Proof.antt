@@ -33,11 +33,13 @@ twos-spec =
     Inv-loop2
     μ-loop2
     (λ c. doubling-first ((c .args .a .now)) ((c .args .j)) ((c .pre .0)))
-    (λ c κs. (lit< tt, (lit< tt, ((c .before .before .loop .inv .limbs), doubling-fits ((c .before .before .loop .inv)) 16 ((c .before .loop-test .taken)) (all-fits _ _ ((c .before .before .before .pre .1 .1)) ((c .before .before .before .pre .1 .0)))))))
+    (λ c κs. let b2 = c .before .before in let b3 = b2 .before in let l = b2 .loop in
+    (lit< tt, (lit< tt, ((l .inv .limbs), doubling-fits ((l .inv)) 16 ((c .before .loop-test .taken)) (all-fits _ _ ((b3 .pre .1 .1)) ((b3 .pre .1 .0)))))))
     (λ c. search needs)
     (λ c. doubling-next ((c .before .before .before .loop .inv)) 16 _ _ (less 16 _ ((c .before .before .loop-test .taken))) ((c .times .ensures .0)) ((c .times .ensures .1)))
     (λ c. doubling-first _ _ ((c .before .loop .inv .limbs)))
-    (λ c κs. (lit< tt, (lit< tt, ((c .before .before .loop2 .inv .limbs), doubling-fits ((c .before .before .loop2 .inv)) 1 ((c .before .loop2-test .taken)) (as-low ((c .before .before .before .before .loop .inv .stands)) (all-fits _ _ ((c .before .before .before .before .before .pre .1 .1)) ((c .before .before .before .before .before .pre .1 .0))))))))
+    (λ c κs. let b2 = c .before .before in let b4 = b2 .before .before in let b5 = b4 .before in let l = b4 .loop in
+    (lit< tt, (lit< tt, ((b2 .loop2 .inv .limbs), doubling-fits ((b2 .loop2 .inv)) 1 ((c .before .loop2-test .taken)) (as-low ((l .inv .stands)) (all-fits _ _ ((b5 .pre .1 .1)) ((b5 .pre .1 .0))))))))
     (λ c. search needs)
     (λ c. search needs)
     (λ c. doubling-next ((c .before .before .before .loop2 .inv)) 1 _ _ (less 1 _ ((c .before .before .loop2-test .taken))) ((c .times2 .ensures .0)) ((c .times2 .ensures .1)))

@@ -17,8 +17,10 @@ exponent-spec =
     (λ c. search needs)
     (λ c κs. search needs)
     (λ c. search needs)
-    (λ c. writing.as-bytes (letters.exponent-minus ((c .before .before .before .before .before .before .before .before .before .before .args .place)) ((c .before .before .before .before .before .before .before .before .if1 .taken))) (writing.then ((c .before .before .before .before .before .before .byte .ensures)) ((c .before .before .low-digits .ensures))))
+    (λ c. let b2 = c .before .before in let b6 = b2 .before .before .before .before in let b8 = b6 .before .before in let a = b8 .before .before .args in
+    writing.as-bytes (letters.exponent-minus ((a .place)) ((b8 .if1 .taken))) (writing.then ((b6 .byte .ensures)) ((b2 .low-digits .ensures))))
     (λ c κs. search needs)
     (λ c κs. search needs)
     (λ c. search needs)
-    (λ c. writing.as-bytes (letters.exponent-plus ((c .before .before .before .before .before .before .before .before .before .before .args .place)) ((c .before .before .before .before .before .before .before .before .if1 .left))) (writing.then ((c .before .before .before .before .before .before .byte2 .ensures)) ((c .before .before .low-digits2 .ensures)))))
+    (λ c. let b2 = c .before .before in let b6 = b2 .before .before .before .before in let b8 = b6 .before .before in let a = b8 .before .before .args in
+    writing.as-bytes (letters.exponent-plus ((a .place)) ((b8 .if1 .left))) (writing.then ((b6 .byte2 .ensures)) ((b2 .low-digits2 .ensures)))))

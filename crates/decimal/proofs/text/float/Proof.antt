@@ -15,8 +15,10 @@ float-spec =
     (tie.spec
     (λ c κs. search needs)
     (λ c. search needs)
-    (λ c. writing.as-bytes (letters.text-plus ((c .before .before .before .before .before .before .args .n)) ((c .before .before .before .before .if1 .taken))) ((c .before .before .unsigned .ensures)))
+    (λ c. let b2 = c .before .before in let b4 = b2 .before .before in let a = b4 .before .before .args in
+    writing.as-bytes (letters.text-plus ((a .n)) ((b4 .if1 .taken))) ((b2 .unsigned .ensures)))
     (λ c κs. search needs)
     (λ c κs. search needs)
     (λ c. search needs)
-    (λ c. writing.as-bytes (letters.text-minus ((c .before .before .before .before .before .before .before .before .before .before .args .n)) ((c .before .before .before .before .before .before .before .before .if1 .left))) (writing.then ((c .before .before .before .before .before .before .byte .ensures)) ((c .before .before .unsigned2 .ensures)))))
+    (λ c. let b2 = c .before .before in let b6 = b2 .before .before .before .before in let b8 = b6 .before .before in let a = b8 .before .before .args in
+    writing.as-bytes (letters.text-minus ((a .n)) ((b8 .if1 .left))) (writing.then ((b6 .byte .ensures)) ((b2 .unsigned2 .ensures)))))

@@ -17,14 +17,17 @@ number-spec =
     (λ c. search needs)
     (λ c κs. search needs)
     (λ c. search needs)
-    (λ c. writing.as-bytes (letters.number-zero ((c .before .before .before .before .before .before .before .before .args .x)) ((c .before .before .before .before .before .before .before .before .args .t)) ((c .before .before .before .before .before .before .if1 .taken)) ((c .before .before .before .before .before .if2 .taken))) ((c .before .before .word .ensures)))
+    (λ c. let b2 = c .before .before in let b5 = b2 .before .before .before in let b6 = b5 .before in let a = b6 .before .before .args in
+    writing.as-bytes (letters.number-zero ((a .x)) ((a .t)) ((b6 .if1 .taken)) ((b5 .if2 .taken))) ((b2 .word .ensures)))
     (λ c κs. search needs)
     (λ c κs. search needs)
     (λ c. search needs)
-    (λ c. writing.as-bytes (letters.number-small ((c .before .before .before .before .before .before .before .before .args .x)) ((c .before .before .before .before .before .before .before .before .args .t)) ((c .before .before .before .before .before .before .if1 .taken)) ((c .before .before .before .before .before .if2 .left)) _ ((c .before .before .before .nine .ensures))) ((c .before .before .written .ensures)))
+    (λ c. let b2 = c .before .before in let b3 = b2 .before in let b5 = b3 .before .before in let b6 = b5 .before in let a = b6 .before .before .args in
+    writing.as-bytes (letters.number-small ((a .x)) ((a .t)) ((b6 .if1 .taken)) ((b5 .if2 .left)) _ ((b3 .nine .ensures))) ((b2 .written .ensures)))
     (λ c. search needs)
     (λ c. search needs)
     (λ c κs. search needs)
     (λ c κs. search needs)
     (λ c. search needs)
-    (λ c. writing.as-bytes (letters.number-large ((c .before .before .before .before .before .before .before .args .x)) ((c .before .before .before .before .before .before .before .args .t)) ((c .before .before .before .before .before .if1 .left)) _ ((c .before .before .before .nine2 .ensures))) ((c .before .before .written2 .ensures))))
+    (λ c. let b2 = c .before .before in let b3 = b2 .before in let b5 = b3 .before .before in let a = b5 .before .before .args in
+    writing.as-bytes (letters.number-large ((a .x)) ((a .t)) ((b5 .if1 .left)) _ ((b3 .nine2 .ensures))) ((b2 .written2 .ensures))))

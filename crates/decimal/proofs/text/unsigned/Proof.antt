@@ -16,11 +16,14 @@ unsigned-spec =
     (λ c. search needs)
     (λ c κs. search needs)
     (λ c. search needs)
-    (λ c. writing.as-bytes (letters.unsigned-inf ((c .before .before .before .before .before .before .before .before .args .x)) ((c .before .before .before .before .before .before .before .before .args .t)) ((c .before .before .before .before .before .before .if1 .taken)) ((c .before .before .before .before .before .if2 .taken))) ((c .before .before .word .ensures)))
+    (λ c. let b2 = c .before .before in let b5 = b2 .before .before .before in let b6 = b5 .before in let a = b6 .before .before .args in
+    writing.as-bytes (letters.unsigned-inf ((a .x)) ((a .t)) ((b6 .if1 .taken)) ((b5 .if2 .taken))) ((b2 .word .ensures)))
     (λ c. search needs)
     (λ c κs. search needs)
     (λ c. search needs)
-    (λ c. writing.as-bytes (letters.unsigned-nan ((c .before .before .before .before .before .before .before .before .args .x)) ((c .before .before .before .before .before .before .before .before .args .t)) ((c .before .before .before .before .before .before .if1 .taken)) ((c .before .before .before .before .before .if2 .left))) ((c .before .before .word2 .ensures)))
+    (λ c. let b2 = c .before .before in let b5 = b2 .before .before .before in let b6 = b5 .before in let a = b6 .before .before .args in
+    writing.as-bytes (letters.unsigned-nan ((a .x)) ((a .t)) ((b6 .if1 .taken)) ((b5 .if2 .left))) ((b2 .word2 .ensures)))
     (λ c κs. search needs)
     (λ c. search needs)
-    (λ c. writing.as-bytes (letters.unsigned-number ((c .before .before .before .before .before .before .args .x)) ((c .before .before .before .before .before .before .args .t)) ((c .before .before .before .before .if1 .left))) ((c .before .before .number .ensures))))
+    (λ c. let b2 = c .before .before in let b4 = b2 .before .before in let a = b4 .before .before .args in
+    writing.as-bytes (letters.unsigned-number ((a .x)) ((a .t)) ((b4 .if1 .left))) ((b2 .number .ensures))))

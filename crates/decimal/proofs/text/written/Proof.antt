@@ -20,4 +20,7 @@ written-spec =
     (λ c κs. search needs)
     (λ c κs. search needs)
     (λ c. search needs)
-    (λ c. writing.as-bytes (letters.written-is ((c .before .before .before .before .before .before .before .before .before .before .before .before .before .before .before .before .before .before .before .before .before .args .d))) (writing.then ((c .before .before .before .before .before .before .before .before .before .before .before .before .before .before .before .before .before .before .low-digits .ensures)) (writing.then ((c .before .before .before .before .before .before .before .before .before .before .before .before .before .before .byte .ensures)) (writing.then ((c .before .before .before .before .before .before .before .before .before .before .low-digits2 .ensures)) (writing.then ((c .before .before .before .before .before .before .byte2 .ensures)) ((c .before .before .exponent .ensures))))))))
+    (λ c. let b2 = c .before .before in let b6 = b2 .before .before .before .before in let b10 = b6 .before .before .before .before in let b14 = b10 .before .before .before .before in
+    let b18 = b14 .before .before .before .before in let a = b18 .before .before .before .args in
+    writing.as-bytes (letters.written-is ((a .d)))
+    (writing.then ((b18 .low-digits .ensures)) (writing.then ((b14 .byte .ensures)) (writing.then ((b10 .low-digits2 .ensures)) (writing.then ((b6 .byte2 .ensures)) ((b2 .exponent .ensures))))))))

@@ -30,5 +30,7 @@ at-row-spec =
     (λ c. search needs)
     (λ c κs. search needs)
     (λ c κs. search needs)
-    (λ c. rows.is-due ((c .before .before .before .before .before .before .before .before .before .before .args .file .now)) ((c .before .before .before .before .before .before .before .before .before .before .args .table .now)) ((c .before .before .before .before .before .before .before .before .before .before .args .row)) _ _ (sym ((c .before .before .before .before .before .before .due .ensures)) ∙ (c .before .before .before .before .before .if1 .taken)) ((c .before .part .ensures)) ((c .finding-of .ensures)))
-    (λ c. unfold undue in rows.not-due ((c .before .before .before .before .before .args .file .now)) ((c .before .before .before .before .before .args .table .now)) ((c .before .before .before .before .before .args .row)) (sym ((c .before .due .ensures)) ∙ (c .if1 .left))))
+    (λ c. let b5 = c .before .before .before .before .before in let b6 = b5 .before in let a = b6 .before .before .before .before .args in
+    rows.is-due ((a .file .now)) ((a .table .now)) ((a .row)) _ _ (sym ((b6 .due .ensures)) ∙ (b5 .if1 .taken)) ((c .before .part .ensures)) ((c .finding-of .ensures)))
+    (λ c. let a = c .before .before .before .before .before .args in
+    unfold undue in rows.not-due ((a .file .now)) ((a .table .now)) ((a .row)) (sym ((c .before .due .ensures)) ∙ (c .if1 .left))))

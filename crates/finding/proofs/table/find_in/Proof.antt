@@ -20,15 +20,22 @@ find-in-spec =
     (λ c. search needs)
     (λ c. search needs)
     (λ c κs. search needs)
-    (λ c. omega (arith, rows.asked ((c .before .before .before .before .before .before .before .args .file .now)) ((c .before .before .before .before .before .before .before .args .table .now)) ((c .before .before .before .before .before .before .before .args .objects)) ((c .before .before .before .before .before .before .before .args .components)) ((c .before .before .before .before .before .before .before .args .index)) _ ((c .before .before .range .ensures)) .lies ((c .if1 .taken))))
-    (λ c. omega (arith, rows.asked ((c .before .before .before .before .before .before .before .args .file .now)) ((c .before .before .before .before .before .before .before .args .table .now)) ((c .before .before .before .before .before .before .before .args .objects)) ((c .before .before .before .before .before .before .before .args .components)) ((c .before .before .before .before .before .before .before .args .index)) _ ((c .before .before .range .ensures)) .lies ((c .if1 .taken))))
-    (λ c. omega (arith, rows.asked ((c .before .before .before .before .before .before .before .args .file .now)) ((c .before .before .before .before .before .before .before .args .table .now)) ((c .before .before .before .before .before .before .before .args .objects)) ((c .before .before .before .before .before .before .before .args .components)) ((c .before .before .before .before .before .before .before .args .index)) _ ((c .before .before .range .ensures)) .lies ((c .if1 .taken))))
+    (λ c. let b2 = c .before .before in let a = b2 .before .before .before .before .before .args in
+    omega (arith, rows.asked ((a .file .now)) ((a .table .now)) ((a .objects)) ((a .components)) ((a .index)) _ ((b2 .range .ensures)) .lies ((c .if1 .taken))))
+    (λ c. let b2 = c .before .before in let a = b2 .before .before .before .before .before .args in
+    omega (arith, rows.asked ((a .file .now)) ((a .table .now)) ((a .objects)) ((a .components)) ((a .index)) _ ((b2 .range .ensures)) .lies ((c .if1 .taken))))
+    (λ c. let b2 = c .before .before in let a = b2 .before .before .before .before .before .args in
+    omega (arith, rows.asked ((a .file .now)) ((a .table .now)) ((a .objects)) ((a .components)) ((a .index)) _ ((b2 .range .ensures)) .lies ((c .if1 .taken))))
     (λ c. search needs)
     (λ c. search needs)
     (λ c. search needs)
     (λ c. search needs)
     (λ c. search needs)
     (λ c. search needs)
-    (λ c κs. omega (arith, rows.asked ((c .before .before .before .before .before .before .before .before .before .args .file .now)) ((c .before .before .before .before .before .before .before .before .before .args .table .now)) ((c .before .before .before .before .before .before .before .before .before .args .objects)) ((c .before .before .before .before .before .before .before .before .before .args .components)) ((c .before .before .before .before .before .before .before .before .before .args .index)) _ ((c .before .before .before .before .range .ensures)) .lies ((c .before .before .if1 .taken))))
-    (λ c. rows.asked ((c .before .before .before .before .before .before .before .before .before .before .args .file .now)) ((c .before .before .before .before .before .before .before .before .before .before .args .table .now)) ((c .before .before .before .before .before .before .before .before .before .before .args .objects)) ((c .before .before .before .before .before .before .before .before .before .before .args .components)) ((c .before .before .before .before .before .before .before .before .before .before .args .index)) _ ((c .before .before .before .before .before .range .ensures)) .some _ ((c .before .before .before .if1 .taken)) (rows.lent-row ((c .before .before .before .before .before .before .before .before .before .before .args .file .now)) ((c .before .before .before .before .before .before .before .before .before .before .args .table .now)) _ _ ((c .at-row .ensures))))
-    (λ c. rows.asked ((c .before .before .before .before .before .before .before .args .file .now)) ((c .before .before .before .before .before .before .before .args .table .now)) ((c .before .before .before .before .before .before .before .args .objects)) ((c .before .before .before .before .before .before .before .args .components)) ((c .before .before .before .before .before .before .before .args .index)) _ ((c .before .before .range .ensures)) .none ((c .if1 .left))))
+    (λ c κs. let b2 = c .before .before in let b4 = b2 .before .before in let a = b4 .before .before .before .before .before .args in
+    omega (arith, rows.asked ((a .file .now)) ((a .table .now)) ((a .objects)) ((a .components)) ((a .index)) _ ((b4 .range .ensures)) .lies ((b2 .if1 .taken))))
+    (λ c. let b3 = c .before .before .before in let b5 = b3 .before .before in let a = b5 .before .before .before .before .before .args in
+    rows.asked ((a .file .now)) ((a .table .now)) ((a .objects)) ((a .components)) ((a .index)) _ ((b5 .range .ensures)) .some _ ((b3 .if1 .taken))
+    (rows.lent-row ((a .file .now)) ((a .table .now)) _ _ ((c .at-row .ensures))))
+    (λ c. let b2 = c .before .before in let a = b2 .before .before .before .before .before .args in
+    rows.asked ((a .file .now)) ((a .table .now)) ((a .objects)) ((a .components)) ((a .index)) _ ((b2 .range .ensures)) .none ((c .if1 .left))))

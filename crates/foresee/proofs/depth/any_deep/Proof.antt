@@ -34,9 +34,17 @@ any-deep-spec =
     (λ c. search needs)
     (λ c. search needs)
     (λ c κs. search needs)
-    (λ c. (c .before .before .before .before .before .loop .inv .1) true (λ cs. law.first-is-deep (c .before .before .before .before .before .before .before .before .args .buffer .now) (c .before .before .before .before .before .before .before .before .args .rows .now) (c .before .before .before .before .before .loop .left) (c .before .before .before .before .before .loop .at) (c .before .before .before .before .loop-test .taken) cs (sym (c .if1 .taken) ∙ (c .before .deep .ensures))))
+    (λ c. let b4 = c .before .before .before .before in let b5 = b4 .before in let l = b5 .loop in let a = b5 .before .before .before .args in
+    (l .inv .1) true (λ cs. law.first-is-deep (a .buffer .now) (a .rows .now) (l .left) (l .at) (b4 .loop-test .taken) cs (sym (c .if1 .taken) ∙ (c .before .deep .ensures))))
     (λ c. search needs)
     (λ c. search needs)
     (λ c. search needs)
-    (λ c. (search needs, λ r f. (c .before .before .before .before .before .loop .inv .1) r (λ cs. f (drop (askedObject (drop (c .before .before .before .before .before .loop .at) (c .before .before .before .before .before .before .before .before .args .rows .now)) .count) cs) ∙ law.others-deep (c .before .before .before .before .before .before .before .before .args .buffer .now) (c .before .before .before .before .before .before .before .before .args .rows .now) (c .before .before .before .before .before .loop .left) (c .before .before .before .before .before .loop .at) (c .before .before .before .before .loop-test .taken) cs (sym (c .if1 .left) ∙ (c .before .deep .ensures)))))
-    (λ c. (c .before .loop .inv .1) false (λ cs. law.none-deep (c .before .before .before .before .args .buffer .now) (c .before .before .before .before .args .rows .now) (c .before .loop .left) (c .before .loop .at) (c .loop-test .left) cs)))
+    (λ c. (
+      search needs,
+      λ r f. (c .before .before .before .before .before .loop .inv .1) r
+          (λ cs. f (drop (askedObject (drop (c .before .before .before .before .before .loop .at) (c .before .before .before .before .before .before .before .before .args .rows .now)) .count) cs) ∙ law.others-deep
+          (c .before .before .before .before .before .before .before .before .args .buffer .now) (c .before .before .before .before .before .before .before .before .args .rows .now)
+          (c .before .before .before .before .before .loop .left) (c .before .before .before .before .before .loop .at) (c .before .before .before .before .loop-test .taken) cs (sym (c .if1 .left) ∙ (c .before .deep .ensures))),
+    ))
+    (λ c. let l = c .before .loop in let a = c .before .before .before .before .args in
+    (l .inv .1) false (λ cs. law.none-deep (a .buffer .now) (a .rows .now) (l .left) (l .at) (c .loop-test .left) cs)))

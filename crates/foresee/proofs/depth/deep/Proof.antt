@@ -7,4 +7,7 @@ use Rattle.foresee.proofs.depth.deep.Statement.{statement}
 use Rattle.foresee.proofs.depth.deep.Tie as tie
 
 pub deep-spec : {M : Type 1} → statement M
-deep-spec = tie.close (tie.spec (λ c κs. search needs) (λ c. law.never-deep (c .before .before .before .args .buffer .now) (c .before .before .before .args .place) (c .before .before .before .args .size) (c .before .before .before .args .levels) (sym (c .before .absent .ensures) ∙ (c .if1 .taken))) (λ c κs. search needs) (λ c κs. search needs) (λ c. law.skipped-deep (c .before .before .before .before .before .args .buffer .now) (c .before .before .before .before .before .args .place) (c .before .before .before .before .before .args .size) (c .before .before .before .before .before .args .levels) (sym (c .before .before .before .absent .ensures) ∙ (c .before .before .if1 .left)) _ (c .before .part .ensures) (let g = (c .before .before .before .before .before .good) in omega arith) _ (c .skip .ensures)))
+deep-spec = tie.close (tie.spec (λ c κs. search needs) (λ c. let a = c .before .before .before .args in
+    law.never-deep (a .buffer .now) (a .place) (a .size) (a .levels) (sym (c .before .absent .ensures) ∙ (c .if1 .taken))) (λ c κs. search needs) (λ c κs. search needs) (λ c. let a = c .before .before .before .before .before .args in
+    law.skipped-deep (a .buffer .now) (a .place) (a .size) (a .levels) (sym (c .before .before .before .absent .ensures) ∙ (c .before .before .if1 .left)) _ (c .before .part .ensures)
+    (let g = (c .before .before .before .before .before .good) in omega arith) _ (c .skip .ensures)))

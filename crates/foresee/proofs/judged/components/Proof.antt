@@ -35,10 +35,26 @@ components-spec =
     (λ c. search needs)
     (λ c κs. search needs)
     (λ c. search needs)
-    (λ c. (c .before .before .before .before .before .before .loop .inv .1) ∙ law.component-faulty (c .before .before .before .before .before .before .before .before .before .args .buffer .now) (c .before .before .before .before .before .before .before .before .before .args .rows .now) (c .before .before .before .before .before .before .loop .j) ((c .before .before .before .before .before .before .before .before .before .args .n) - (c .before .before .before .before .before .before .loop .j)) (c .before .before .before .before .before .before .loop .at) (omega (arith, (c .before .before .before .before .before .loop-test .taken))) (c .before .before .before .component .result) (sym (ap (λ (s : List ℕ). judgedComponent (describedComponent (c .before .before .before .before .before .before .before .before .before .args .buffer .now) (askedComponent s))) (part-to-end (c .before .before .before .before .before .before .before .before .before .args .rows .now) (c .before .before .before .before .before .before .loop .at))) ∙ (c .before .before .before .component .ensures)) _ (c .before .c .given .1))
+    (λ c. let b3 = c .before .before .before in let b5 = b3 .before .before in let b6 = b5 .before in let l = b6 .loop in let a = b6 .before .before .before .args in
+    (l .inv .1) ∙ law.component-faulty (a .buffer .now) (a .rows .now) (l .j) ((a .n) - (l .j)) (l .at) (omega (arith, (b5 .loop-test .taken))) (b3 .component .result)
+    (sym (ap (λ (s : List ℕ). judgedComponent (describedComponent (a .buffer .now) (askedComponent s))) (part-to-end (a .rows .now) (l .at))) ∙ (b3 .component .ensures)) _ (c .before .c .given .1))
     (λ c. search needs)
     (λ c. search needs)
     (λ c. search needs)
     (λ c. search needs)
-    (λ c. (search needs, (c .before .before .before .before .before .loop .inv .1) ∙ law.component-passes (c .before .before .before .before .before .before .before .before .args .buffer .now) (c .before .before .before .before .before .before .before .before .args .rows .now) (c .before .before .before .before .before .loop .j) ((c .before .before .before .before .before .before .before .before .args .n) - (c .before .before .before .before .before .loop .j)) (c .before .before .before .before .before .loop .at) (omega (arith, (c .before .before .before .before .loop-test .taken))) (c .before .before .component .result) (sym (ap (λ (s : List ℕ). judgedComponent (describedComponent (c .before .before .before .before .before .before .before .before .args .buffer .now) (askedComponent s))) (part-to-end (c .before .before .before .before .before .before .before .before .args .rows .now) (c .before .before .before .before .before .loop .at))) ∙ (c .before .before .component .ensures)) (c .enum-told .given .1) ∙ (let z : (c .before .before .before .before .before .before .before .before .args .n) - (c .before .before .before .before .before .loop .j) - 1 ≡ (c .before .before .before .before .before .before .before .before .args .n) - ((c .before .before .before .before .before .loop .j) + 1) = omega arith in ap (λ (k : ℕ). eachComponent ((c .before .before .before .before .before .loop .j) + 1) (map (describedComponent (c .before .before .before .before .before .before .before .before .args .buffer .now)) (eachRow askedComponent componentWidth k (drop ((c .before .before .before .before .before .loop .at) + componentWidth) (c .before .before .before .before .before .before .before .before .args .rows .now))))) z)))
-    (λ c. (c .before .loop .inv .1) ∙ law.components-end (c .before .before .before .before .args .buffer .now) (c .before .before .before .before .args .rows .now) (c .before .loop .j) ((c .before .before .before .before .args .n) - (c .before .loop .j)) (c .before .loop .at) (omega (arith, (c .loop-test .left)))))
+    (λ c. (
+      search needs,
+      (c .before .before .before .before .before .loop .inv .1) ∙ law.component-passes (c .before .before .before .before .before .before .before .before .args .buffer .now)
+          (c .before .before .before .before .before .before .before .before .args .rows .now) (c .before .before .before .before .before .loop .j)
+          ((c .before .before .before .before .before .before .before .before .args .n) - (c .before .before .before .before .before .loop .j)) (c .before .before .before .before .before .loop .at)
+          (omega (arith, (c .before .before .before .before .loop-test .taken))) (c .before .before .component .result)
+          (sym (ap (λ (s : List ℕ). judgedComponent (describedComponent (c .before .before .before .before .before .before .before .before .args .buffer .now) (askedComponent s)))
+          (part-to-end (c .before .before .before .before .before .before .before .before .args .rows .now) (c .before .before .before .before .before .loop .at))) ∙ (c .before .before .component .ensures))
+          (c .enum-told .given .1) ∙ (let z : (c .before .before .before .before .before .before .before .before .args .n) - (c .before .before .before .before .before .loop .j) - 1 ≡
+          (c .before .before .before .before .before .before .before .before .args .n) - ((c .before .before .before .before .before .loop .j) + 1) = omega arith in ap
+          (λ (k : ℕ). eachComponent ((c .before .before .before .before .before .loop .j) + 1)
+          (map (describedComponent (c .before .before .before .before .before .before .before .before .args .buffer .now))
+          (eachRow askedComponent componentWidth k (drop ((c .before .before .before .before .before .loop .at) + componentWidth) (c .before .before .before .before .before .before .before .before .args .rows .now))))) z),
+    ))
+    (λ c. let l = c .before .loop in let a = c .before .before .before .before .args in
+    (l .inv .1) ∙ law.components-end (a .buffer .now) (a .rows .now) (l .j) ((a .n) - (l .j)) (l .at) (omega (arith, (c .loop-test .left)))))

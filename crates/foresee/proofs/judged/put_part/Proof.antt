@@ -28,4 +28,7 @@ put-part-spec =
     (λ c κs. search needs)
     (λ c κs. search needs)
     (λ c. search needs)
-    (λ c. (c .before .before .put-row .ensures) ∙ law.part-put (c .before .before .before .before .before .before .before .before .before .before .before .before .before .before .before .before .before .before .before .before .before .before .args .buffer .now) (c .before .before .before .before .before .before .before .before .before .before .before .before .before .before .before .before .before .before .before .before .before .before .args .row .now) (c .before .before .before .before .before .before .before .before .before .before .before .before .before .before .before .before .before .before .before .before .before .before .args .out .now) (c .before .before .before .before .before .before .before .before .before .before .before .before .before .before .before .before .before .before .before .before .before .before .args .j) _ _ _ _ ((c .before .before .before .before .before .before .before .before .before .before .before .before .before .before .before .role-code .ensures) ∙ ap (position roleNames) (c .before .before .before .before .before .before .before .before .before .before .before .before .before .before .before .before .part .ensures)) (c .before .before .before .before .before .before .before .before .before .before .before .unit .ensures) (c .before .before .before .plain .ensures) (ap length (c .before .before .before .before .before .before .before .before .part2 .ensures))))
+    (λ c. let b2 = c .before .before in let b3 = b2 .before in let b8 = b3 .before .before .before .before .before in let b11 = b8 .before .before .before in let b15 = b11 .before .before .before .before in
+    let b16 = b15 .before in let a = b16 .before .before .before .before .before .before .args in
+    (b2 .put-row .ensures) ∙ law.part-put (a .buffer .now) (a .row .now) (a .out .now) (a .j) _ _ _ _ ((b15 .role-code .ensures) ∙ ap (position roleNames) (b16 .part .ensures)) (b11 .unit .ensures)
+    (b3 .plain .ensures) (ap length (b8 .part2 .ensures))))

@@ -33,6 +33,22 @@ put-parts-spec =
     (λ c. search needs)
     (λ c. search needs)
     (λ c. search needs)
-    (λ c. (search needs, search needs, law.still-room (c .before .before .before .before .before .before .before .before .before .before .args .buffer .now) (c .before .before .before .before .before .before .before .before .before .before .args .rows .now) (c .before .before .before .before .before .before .loop .j) (c .before .before .before .before .before .before .loop .out) (c .before .before .before .before .before .before .loop .inv .2) _ (part-to-end (c .before .before .before .before .before .before .before .before .before .before .args .rows .now) (c .before .before .before .before .before .before .loop .at) ∙ ap (λ (k : ℕ). drop k (c .before .before .before .before .before .before .before .before .before .before .args .rows .now)) (c .before .before .before .before .before .before .loop .inv .0)) _ (c .before .before .put-part .ensures), law.parts-next (c .before .before .before .before .before .before .before .before .before .before .args .buffer .now) (c .before .before .before .before .before .before .before .before .before .before .args .rows .now) (c .before .before .before .before .before .before .loop .j) (c .before .before .before .before .before .before .loop .out) (c .before .before .before .before .before .before .loop .inv .2) _ (part-to-end (c .before .before .before .before .before .before .before .before .before .before .args .rows .now) (c .before .before .before .before .before .before .loop .at) ∙ ap (λ (k : ℕ). drop k (c .before .before .before .before .before .before .before .before .before .before .args .rows .now)) (c .before .before .before .before .before .before .loop .inv .0)) _ (c .before .before .put-part .ensures) (omega arith) (c .before .before .before .before .before .before .loop .inv .3)))
+    (λ c. (
+      search needs,
+      search needs,
+      law.still-room (c .before .before .before .before .before .before .before .before .before .before .args .buffer .now)
+          (c .before .before .before .before .before .before .before .before .before .before .args .rows .now) (c .before .before .before .before .before .before .loop .j)
+          (c .before .before .before .before .before .before .loop .out) (c .before .before .before .before .before .before .loop .inv .2) _
+          (part-to-end (c .before .before .before .before .before .before .before .before .before .before .args .rows .now) (c .before .before .before .before .before .before .loop .at) ∙ ap
+          (λ (k : ℕ). drop k (c .before .before .before .before .before .before .before .before .before .before .args .rows .now)) (c .before .before .before .before .before .before .loop .inv .0)) _
+          (c .before .before .put-part .ensures),
+      law.parts-next (c .before .before .before .before .before .before .before .before .before .before .args .buffer .now)
+          (c .before .before .before .before .before .before .before .before .before .before .args .rows .now) (c .before .before .before .before .before .before .loop .j)
+          (c .before .before .before .before .before .before .loop .out) (c .before .before .before .before .before .before .loop .inv .2) _
+          (part-to-end (c .before .before .before .before .before .before .before .before .before .before .args .rows .now) (c .before .before .before .before .before .before .loop .at) ∙ ap
+          (λ (k : ℕ). drop k (c .before .before .before .before .before .before .before .before .before .before .args .rows .now)) (c .before .before .before .before .before .before .loop .inv .0)) _
+          (c .before .before .put-part .ensures) (omega arith) (c .before .before .before .before .before .before .loop .inv .3),
+    ))
     (λ c. search needs)
-    (λ c. ((c .before .loop .inv .2), subst (λ (k : ℕ). take (4 * k) (c .before .loop .out) ≡ partRows (partsOf (c .before .before .before .before .before .args .buffer .now) k (c .before .before .before .before .before .args .rows .now))) (omega arith) (c .before .loop .inv .3))))
+    (λ c. let l = c .before .loop in let a = c .before .before .before .before .before .args in
+    ((l .inv .2), subst (λ (k : ℕ). take (4 * k) (l .out) ≡ partRows (partsOf (a .buffer .now) k (a .rows .now))) (omega arith) (l .inv .3))))

@@ -27,4 +27,6 @@ ruled-spec =
     (λ c. search needs)
     (λ c. sym (length-take-le (4 * (c .before .before .before .before .before .before .before .before .before .before .before .args .n)) _ (omega arith)))
     (λ c κs. search needs)
-    (λ c. ap (λ (s : List ℕ). formatRules (c .before .before .before .before .before .before .before .before .before .before .before .before .args .format .now) s (partsOf (c .before .before .before .before .before .before .before .before .before .before .before .before .args .buffer .now) (c .before .before .before .before .before .before .before .before .before .before .before .before .args .n) (c .before .before .before .before .before .before .before .before .before .before .before .before .args .rows .now))) (law.lent-shape (c .before .before .before .before .before .before .before .before .before .before .before .before .args .row .now)) ∙ (c .judge .ensures) (c .before .before .before .before .before .before .before .before .before .before .before .before .args .format .now) (partsOf (c .before .before .before .before .before .before .before .before .before .before .before .before .args .buffer .now) (c .before .before .before .before .before .before .before .before .before .before .before .before .args .n) (c .before .before .before .before .before .before .before .before .before .before .before .before .args .rows .now)) (c .before .before .before .before .format-code .ensures) (c .before .before .before .before .before .before .put-parts .ensures .1)))
+    (λ c. let b4 = c .before .before .before .before in let b6 = b4 .before .before in let a = b6 .before .before .before .before .before .before .args in
+    ap (λ (s : List ℕ). formatRules (a .format .now) s (partsOf (a .buffer .now) (a .n) (a .rows .now))) (law.lent-shape (a .row .now)) ∙ (c .judge .ensures) (a .format .now)
+    (partsOf (a .buffer .now) (a .n) (a .rows .now)) (b4 .format-code .ensures) (b6 .put-parts .ensures .1)))

@@ -12,4 +12,7 @@ use Rattle.foresee.proofs.judged.unit.Tie as tie
 pub unit-spec : {M : Type 1} → statement M
 unit-spec =
     tie.close
-    (tie.spec (λ c κs. search needs) (λ c κs. search needs) (λ c. (c .width-of .ensures) ∙ law.untyped-unit (c .before .before .before .before .args .buffer .now) (c .before .before .before .before .args .place) (c .before .before .before .before .args .size) (c .before .before .before .before .args .code) (sym (c .before .before .absent .ensures) ∙ (c .before .if1 .taken))) (λ c κs. search needs) (λ c κs. search needs) (λ c. (c .unit-of .ensures) ∙ ap (λ (s : List ℕ). unitNumber (ratioOf (listed logicals s)) (widthOf (c .before .before .before .before .before .args .code))) (c .before .part .ensures) ∙ law.typed-unit (c .before .before .before .before .before .args .buffer .now) (c .before .before .before .before .before .args .place) (c .before .before .before .before .before .args .size) (c .before .before .before .before .before .args .code) (sym (c .before .before .before .absent .ensures) ∙ (c .before .before .if1 .left))))
+    (tie.spec (λ c κs. search needs) (λ c κs. search needs) (λ c. let b2 = c .before .before in let a = b2 .before .before .args in
+    (c .width-of .ensures) ∙ law.untyped-unit (a .buffer .now) (a .place) (a .size) (a .code) (sym (b2 .absent .ensures) ∙ (c .before .if1 .taken))) (λ c κs. search needs) (λ c κs. search needs) (λ c. let b2 = c .before .before in let b3 = b2 .before in let a = b3 .before .before .args in
+    (c .unit-of .ensures) ∙ ap (λ (s : List ℕ). unitNumber (ratioOf (listed logicals s)) (widthOf (a .code))) (c .before .part .ensures) ∙ law.typed-unit (a .buffer .now) (a .place) (a .size) (a .code)
+    (sym (b3 .absent .ensures) ∙ (b2 .if1 .left))))

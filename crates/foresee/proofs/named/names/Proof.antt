@@ -14,16 +14,24 @@ names-spec =
     (λ c κs. search needs)
     (λ c. search needs)
     (λ c. search needs)
-    (λ c. law.odd-names (length (c .before .before .before .before .before .before .before .before .before .before .before .before .before .args .left .now)) (namesOf (c .before .before .before .before .before .before .before .before .before .before .before .before .before .args .buffer .now) (c .before .before .before .before .before .before .before .before .before .before .before .before .before .args .width) (c .before .before .before .before .before .before .before .before .before .before .before .before .before .args .n) (c .before .before .before .before .before .before .before .before .before .before .before .before .before .args .rows .now)) ((c .before .before .before .before .before .note .ensures .1 .odd) (not-true _ (c .if1 .taken))))
+    (λ c. let b5 = c .before .before .before .before .before in let a = b5 .before .before .before .before .before .before .before .before .args in
+    law.odd-names (length (a .left .now)) (namesOf (a .buffer .now) (a .width) (a .n) (a .rows .now)) ((b5 .note .ensures .1 .odd) (not-true _ (c .if1 .taken))))
     (λ c. search needs)
     (λ c. search needs)
-    (λ c. law.too-many (c .before .before .before .before .before .before .before .before .before .before .before .before .before .before .args .buffer .now) (c .before .before .before .before .before .before .before .before .before .before .before .before .before .before .args .rows .now) _ _ (c .before .before .before .before .before .before .before .before .before .before .before .before .before .before .args .width) (c .before .before .before .before .before .before .before .before .before .before .before .before .before .before .args .n) ((c .before .before .before .before .before .before .note .ensures .1 .well) (not-false _ (c .before .if1 .left))) (length (c .before .before .before .before .before .before .before .before .before .before .before .before .before .before .args .left .now)) (c .before .before .before .before .before .before .note .ensures .0) (c .if2 .taken))
+    (λ c. let b6 = c .before .before .before .before .before .before in let a = b6 .before .before .before .before .before .before .before .before .args in
+    law.too-many (a .buffer .now) (a .rows .now) _ _ (a .width) (a .n) ((b6 .note .ensures .1 .well) (not-false _ (c .before .if1 .left))) (length (a .left .now)) (b6 .note .ensures .0) (c .if2 .taken))
     (λ c κs. search needs)
     (λ c. search needs)
     (λ c. search needs)
     (λ c. search needs)
-    (λ c. law.all-once (c .before .before .before .before .before .before .before .before .before .before .before .before .before .before .before .before .before .before .before .before .before .args .buffer .now) (c .before .before .before .before .before .before .before .before .before .before .before .before .before .before .before .before .before .before .before .before .before .args .rows .now) _ _ (c .before .before .before .before .before .before .before .before .before .before .before .before .before .before .before .before .before .before .before .before .before .args .width) (c .before .before .before .before .before .before .before .before .before .before .before .before .before .before .before .before .before .before .before .before .before .args .n) ((c .before .before .before .before .before .before .before .before .before .before .before .before .before .note .ensures .1 .well) (not-false _ (c .before .before .before .before .before .before .before .before .if1 .left))) (length (c .before .before .before .before .before .before .before .before .before .before .before .before .before .before .before .before .before .before .before .before .before .args .left .now)) (c .before .before .before .before .before .before .before .before .before .before .before .before .before .note .ensures .0) (c .before .before .before .before .before .before .before .if2 .left) (c .before .before .before .no-twice .result) (c .before .before .before .no-twice .ensures) (c .if3 .taken))
+    (λ c. let b3 = c .before .before .before in let b7 = b3 .before .before .before .before in let b8 = b7 .before in let b13 = b8 .before .before .before .before .before in
+    let a = b13 .before .before .before .before .before .before .before .before .args in
+    law.all-once (a .buffer .now) (a .rows .now) _ _ (a .width) (a .n) ((b13 .note .ensures .1 .well) (not-false _ (b8 .if1 .left))) (length (a .left .now)) (b13 .note .ensures .0) (b7 .if2 .left)
+    (b3 .no-twice .result) (b3 .no-twice .ensures) (c .if3 .taken))
     (λ c. search needs)
     (λ c. search needs)
     (λ c. search needs)
-    (λ c. law.one-twice (c .before .before .before .before .before .before .before .before .before .before .before .before .before .before .before .before .before .before .before .before .before .args .buffer .now) (c .before .before .before .before .before .before .before .before .before .before .before .before .before .before .before .before .before .before .before .before .before .args .rows .now) _ _ (c .before .before .before .before .before .before .before .before .before .before .before .before .before .before .before .before .before .before .before .before .before .args .width) (c .before .before .before .before .before .before .before .before .before .before .before .before .before .before .before .before .before .before .before .before .before .args .n) ((c .before .before .before .before .before .before .before .before .before .before .before .before .before .note .ensures .1 .well) (not-false _ (c .before .before .before .before .before .before .before .before .if1 .left))) (length (c .before .before .before .before .before .before .before .before .before .before .before .before .before .before .before .before .before .before .before .before .before .args .left .now)) (c .before .before .before .before .before .before .before .before .before .before .before .before .before .note .ensures .0) (c .before .before .before .before .before .before .before .if2 .left) (c .before .before .before .no-twice .result) (c .before .before .before .no-twice .ensures) (c .if3 .left)))
+    (λ c. let b3 = c .before .before .before in let b7 = b3 .before .before .before .before in let b8 = b7 .before in let b13 = b8 .before .before .before .before .before in
+    let a = b13 .before .before .before .before .before .before .before .before .args in
+    law.one-twice (a .buffer .now) (a .rows .now) _ _ (a .width) (a .n) ((b13 .note .ensures .1 .well) (not-false _ (b8 .if1 .left))) (length (a .left .now)) (b13 .note .ensures .0) (b7 .if2 .left)
+    (b3 .no-twice .result) (b3 .no-twice .ensures) (c .if3 .left)))

@@ -18,5 +18,7 @@ component-spec =
     (λ c. search needs)
     (λ c. search needs)
     (λ c κs. search needs)
-    (λ c. unfold askedComponent in law.wrong-type (c .before .before .before .before .before .before .before .before .before .args .buffer .now) (c .before .before .before .before .before .before .before .before .before .args .row .now) _ (c .before .n .given .1) (c .before .before .before .logical .ensures))
-    (λ c. unfold askedComponent in law.then-digest (c .before .before .before .before .before .before .before .before .before .before .before .args .buffer .now) (c .before .before .before .before .before .before .before .before .before .before .before .args .row .now) (c .digest .result) (c .before .before .before .enum-told .given .1) (c .before .before .before .before .before .logical .ensures) (c .digest .ensures)))
+    (λ c. let b3 = c .before .before .before in let a = b3 .before .before .before .before .before .before .args in
+    unfold askedComponent in law.wrong-type (a .buffer .now) (a .row .now) _ (c .before .n .given .1) (b3 .logical .ensures))
+    (λ c. let b3 = c .before .before .before in let b5 = b3 .before .before in let a = b5 .before .before .before .before .before .before .args in
+    unfold askedComponent in law.then-digest (a .buffer .now) (a .row .now) (c .digest .result) (b3 .enum-told .given .1) (b5 .logical .ensures) (c .digest .ensures)))

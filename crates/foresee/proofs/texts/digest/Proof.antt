@@ -8,4 +8,7 @@ use Rattle.foresee.proofs.texts.digest.Tie as tie
 
 pub digest-spec : {M : Type 1} → statement M
 digest-spec =
-    tie.close (tie.spec (λ c κs. search needs) (λ c. law.text-none (c .before .before .before .args .buffer .now) (c .before .before .before .args .place) (c .before .before .before .args .size) (sym (c .before .absent .ensures) ∙ (c .if1 .taken))) (λ c κs. search needs) (λ c κs. search needs) (λ c. law.text-fine (c .before .before .before .before .before .before .args .buffer .now) (c .before .before .before .before .before .before .args .place) (c .before .before .before .before .before .before .args .size) (sym (c .before .before .before .before .absent .ensures) ∙ (c .before .before .before .if1 .left)) (sym (ap utf8 (c .before .before .part .ensures)) ∙ sym (c .before .utf8 .ensures) ∙ (c .if2 .taken))) (λ c. law.text-odd (c .before .before .before .before .before .before .args .buffer .now) (c .before .before .before .before .before .before .args .place) (c .before .before .before .before .before .before .args .size) (sym (c .before .before .before .before .absent .ensures) ∙ (c .before .before .before .if1 .left)) (sym (ap utf8 (c .before .before .part .ensures)) ∙ sym (c .before .utf8 .ensures) ∙ (c .if2 .left))))
+    tie.close (tie.spec (λ c κs. search needs) (λ c. let a = c .before .before .before .args in
+    law.text-none (a .buffer .now) (a .place) (a .size) (sym (c .before .absent .ensures) ∙ (c .if1 .taken))) (λ c κs. search needs) (λ c κs. search needs) (λ c. let b2 = c .before .before in let b3 = b2 .before in let b4 = b3 .before in let a = b4 .before .before .args in
+    law.text-fine (a .buffer .now) (a .place) (a .size) (sym (b4 .absent .ensures) ∙ (b3 .if1 .left)) (sym (ap utf8 (b2 .part .ensures)) ∙ sym (c .before .utf8 .ensures) ∙ (c .if2 .taken))) (λ c. let b2 = c .before .before in let b3 = b2 .before in let b4 = b3 .before in let a = b4 .before .before .args in
+    law.text-odd (a .buffer .now) (a .place) (a .size) (sym (b4 .absent .ensures) ∙ (b3 .if1 .left)) (sym (ap utf8 (b2 .part .ensures)) ∙ sym (c .before .utf8 .ensures) ∙ (c .if2 .left))))

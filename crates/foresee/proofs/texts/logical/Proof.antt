@@ -15,10 +15,17 @@ logical-spec =
     tie.close
     (tie.spec
     (λ c κs. search needs)
-    (λ c. law.type-none (c .before .before .before .args .buffer .now) (c .before .before .before .args .place) (c .before .before .before .args .size) (c .before .before .before .args .code) (sym (c .before .absent .ensures) ∙ (c .if1 .taken)))
+    (λ c. let a = c .before .before .before .args in
+    law.type-none (a .buffer .now) (a .place) (a .size) (a .code) (sym (c .before .absent .ensures) ∙ (c .if1 .taken)))
     (λ c κs. search needs)
     (λ c κs. search needs)
-    (λ c. law.type-odd (c .before .before .before .before .before .before .args .buffer .now) (c .before .before .before .before .before .before .args .place) (c .before .before .before .before .before .before .args .size) (c .before .before .before .before .before .before .args .code) (sym (c .before .before .before .before .absent .ensures) ∙ (c .before .before .before .if1 .left)) (sym (ap utf8 (c .before .before .part .ensures)) ∙ sym (c .before .utf8 .ensures) ∙ not-true _ (c .if2 .taken)))
+    (λ c. let b2 = c .before .before in let b3 = b2 .before in let b4 = b3 .before in let a = b4 .before .before .args in
+    law.type-odd (a .buffer .now) (a .place) (a .size) (a .code) (sym (b4 .absent .ensures) ∙ (b3 .if1 .left))
+    (sym (ap utf8 (b2 .part .ensures)) ∙ sym (c .before .utf8 .ensures) ∙ not-true _ (c .if2 .taken)))
     (λ c κs. search needs)
-    (λ c. law.type-fits (c .before .before .before .before .before .before .before .before .args .buffer .now) (c .before .before .before .before .before .before .before .before .args .place) (c .before .before .before .before .before .before .before .before .args .size) (c .before .before .before .before .before .before .before .before .args .code) (sym (c .before .before .before .before .before .before .absent .ensures) ∙ (c .before .before .before .before .before .if1 .left)) (sym (ap utf8 (c .before .before .before .before .part .ensures)) ∙ sym (c .before .before .before .utf8 .ensures) ∙ not-false _ (c .before .before .if2 .left)) (sym (ap (λ (s : List ℕ). fitsOver (c .before .before .before .before .before .before .before .before .args .code) (listed logicals s)) (c .before .before .before .before .part .ensures)) ∙ sym (c .before .type-fits .ensures) ∙ (c .if3 .taken)))
-    (λ c. law.type-unfit (c .before .before .before .before .before .before .before .before .args .buffer .now) (c .before .before .before .before .before .before .before .before .args .place) (c .before .before .before .before .before .before .before .before .args .size) (c .before .before .before .before .before .before .before .before .args .code) (sym (c .before .before .before .before .before .before .absent .ensures) ∙ (c .before .before .before .before .before .if1 .left)) (sym (ap utf8 (c .before .before .before .before .part .ensures)) ∙ sym (c .before .before .before .utf8 .ensures) ∙ not-false _ (c .before .before .if2 .left)) (sym (ap (λ (s : List ℕ). fitsOver (c .before .before .before .before .before .before .before .before .args .code) (listed logicals s)) (c .before .before .before .before .part .ensures)) ∙ sym (c .before .type-fits .ensures) ∙ (c .if3 .left))))
+    (λ c. let b2 = c .before .before in let b3 = b2 .before in let b4 = b3 .before in let b5 = b4 .before in let b6 = b5 .before in let a = b6 .before .before .args in
+    law.type-fits (a .buffer .now) (a .place) (a .size) (a .code) (sym (b6 .absent .ensures) ∙ (b5 .if1 .left)) (sym (ap utf8 (b4 .part .ensures)) ∙ sym (b3 .utf8 .ensures) ∙ not-false _ (b2 .if2 .left))
+    (sym (ap (λ (s : List ℕ). fitsOver (a .code) (listed logicals s)) (b4 .part .ensures)) ∙ sym (c .before .type-fits .ensures) ∙ (c .if3 .taken)))
+    (λ c. let b2 = c .before .before in let b3 = b2 .before in let b4 = b3 .before in let b5 = b4 .before in let b6 = b5 .before in let a = b6 .before .before .args in
+    law.type-unfit (a .buffer .now) (a .place) (a .size) (a .code) (sym (b6 .absent .ensures) ∙ (b5 .if1 .left)) (sym (ap utf8 (b4 .part .ensures)) ∙ sym (b3 .utf8 .ensures) ∙ not-false _ (b2 .if2 .left))
+    (sym (ap (λ (s : List ℕ). fitsOver (a .code) (listed logicals s)) (b4 .part .ensures)) ∙ sym (c .before .type-fits .ensures) ∙ (c .if3 .left))))

@@ -21,7 +21,9 @@ abbrev μ-loop : tie.MeasureT-loop
 μ-loop out₀ at buffer plan rows n first turn past₀ row₀ left₀ next₀ out past row left next = left
 
 loop-holds : tie.Need-loop-holds Inv-loop μ-loop
-loop-holds c = turns.blobs-begin ((c .before .before .before .before .pre .0)) ((c .before .before .before .before .pre .1))
+loop-holds c =
+    let b4 = c .before .before .before .before in
+    turns.blobs-begin ((b4 .pre .0)) ((b4 .pre .1))
 
 offset-at-requires : tie.Need-offset-at-requires Inv-loop μ-loop
 offset-at-requires c κs = walking.reached-low ((c .before .loop .inv .rest))
@@ -42,13 +44,19 @@ mul-blob-at : tie.Need-mul-blob-at Inv-loop μ-loop
 mul-blob-at c = let l = walking.first-long ((c .before .before .before .before .loop .inv .rest)) ((c .before .before .before .loop-test .taken)) in let g = (c .before .before .before .before .before .before .before .before .before .good) in omega arith
 
 shared-slice-read-blob-at : tie.Need-shared-slice-read-blob-at Inv-loop μ-loop
-shared-slice-read-blob-at c = omega (arith, walking.first-long ((c .before .before .before .before .before .loop .inv .rest)) ((c .before .before .before .before .loop-test .taken)))
+shared-slice-read-blob-at c =
+    let b4 = c .before .before .before .before in let l = b4 .before .loop in
+    omega (arith, walking.first-long ((l .inv .rest)) ((b4 .loop-test .taken)))
 
 blob-at-requires : tie.Need-blob-at-requires Inv-loop μ-loop
-blob-at-requires c κs = (walking.first-blob ((c .before .before .before .before .before .loop .inv .rest)) ((c .before .before .before .before .loop-test .taken)), turns.room-for-blob ((c .before .before .before .before .before .loop .inv)) ((c .before .before .before .before .loop-test .taken)) ((c .before .before .before .offset-at .ensures)))
+blob-at-requires c κs =
+    let b3 = c .before .before .before in let b4 = b3 .before in let l = b4 .before .loop in
+    (walking.first-blob ((l .inv .rest)) ((b4 .loop-test .taken)), turns.room-for-blob ((l .inv)) ((b4 .loop-test .taken)) ((b3 .offset-at .ensures)))
 
 stepped-requires : tie.Need-stepped-requires Inv-loop μ-loop
-stepped-requires c κs = walking.next-low ((c .before .before .before .before .before .before .before .before .loop .inv .rest)) ((c .before .before .before .before .before .before .before .loop-test .taken))
+stepped-requires c κs =
+    let b7 = c .before .before .before .before .before .before .before in let l = b7 .before .loop in
+    walking.next-low ((l .inv .rest)) ((b7 .loop-test .taken))
 
 add-row : tie.Need-add-row Inv-loop μ-loop
 add-row c = let l = walking.first-long ((c .before .before .before .before .before .before .before .before .before .loop .inv .rest)) ((c .before .before .before .before .before .before .before .before .loop-test .taken)) in let g = (c .before .before .before .before .before .before .before .before .before .before .before .before .before .before .good) in omega arith
@@ -60,7 +68,9 @@ loop-less : tie.Need-loop-less Inv-loop μ-loop
 loop-less c = search needs
 
 loop-again : tie.Need-loop-again Inv-loop μ-loop
-loop-again c = turns.blob-turn ((c .before .before .before .before .before .before .before .before .before .loop .inv)) ((c .before .before .before .before .before .before .before .before .loop-test .taken)) ((c .before .before .before .before .before .before .before .offset-at .ensures)) ((c .before .before .before .blob-at .ensures)) ((c .stepped .ensures))
+loop-again c =
+    let b3 = c .before .before .before in let b7 = b3 .before .before .before .before in let b8 = b7 .before in let l = b8 .before .loop in
+    turns.blob-turn ((l .inv)) ((b8 .loop-test .taken)) ((b7 .offset-at .ensures)) ((b3 .blob-at .ensures)) ((c .stepped .ensures))
 
 same-length : tie.Need-same-length Inv-loop μ-loop
 same-length c = laying.same-length ((c .before .loop .inv .laid))

@@ -52,7 +52,9 @@ part-component-at-end-2 : tie.Need-part-component-at-end-2 Inv-loop μ-loop
 part-component-at-end-2 c = search needs
 
 component-at-requires : tie.Need-component-at-requires Inv-loop μ-loop
-component-at-requires c κs = (walking.as-lent ((c .before .before .before .before .before .before .before .before .before .before .args .buffer .now)) ((c .before .before .before .before .before .before .before .before .before .before .args .rows .now)) ((c .before .before .before .before .before .loop .row)) ComponentRow (walking.first-component ((c .before .before .before .before .before .loop .inv .rest)) ((c .before .before .before .before .loop-test .taken))), laying.room-as (sym (rows.lent-both ((c .before .before .before .before .before .before .before .before .before .before .args .buffer .now)) ((c .before .before .before .before .before .before .before .before .before .before .args .rows .now)) ((c .before .before .before .before .before .loop .row)) (λ b r. componentAt b r ((c .before .before .before .offset-at .result))))) (laying.room-as (ap (componentAt ((c .before .before .before .before .before .before .before .before .before .before .args .buffer .now)) (drop ((c .before .before .before .before .before .loop .row)) ((c .before .before .before .before .before .before .before .before .before .before .args .rows .now)))) (sym ((c .before .before .before .offset-at .ensures)))) (turns.room-for-component ((c .before .before .before .before .before .loop .inv)) ((c .before .before .before .before .loop-test .taken)))))
+component-at-requires c κs =
+    let b3 = c .before .before .before in let b4 = b3 .before in let b5 = b4 .before in let l = b5 .loop in let a = b5 .before .before .before .before .before .args in
+    (walking.as-lent ((a .buffer .now)) ((a .rows .now)) ((l .row)) ComponentRow (walking.first-component ((l .inv .rest)) ((b4 .loop-test .taken))), laying.room-as (sym (rows.lent-both ((a .buffer .now)) ((a .rows .now)) ((l .row)) (λ b r. componentAt b r ((b3 .offset-at .result))))) (laying.room-as (ap (componentAt ((a .buffer .now)) (drop ((l .row)) ((a .rows .now)))) (sym ((b3 .offset-at .ensures)))) (turns.room-for-component ((l .inv)) ((b4 .loop-test .taken)))))
 
 add-stepped : tie.Need-add-stepped Inv-loop μ-loop
 add-stepped c = let l = walking.first-long ((c .before .before .before .before .before .before .before .before .loop .inv .rest)) ((c .before .before .before .before .before .before .before .loop-test .taken)) in let g = (c .before .before .before .before .before .before .before .before .before .before .before .before .before .good) in omega arith
@@ -61,10 +63,14 @@ mul-stepped : tie.Need-mul-stepped Inv-loop μ-loop
 mul-stepped c = let l = walking.first-long ((c .before .before .before .before .before .before .before .before .loop .inv .rest)) ((c .before .before .before .before .before .before .before .loop-test .taken)) in let g = (c .before .before .before .before .before .before .before .before .before .before .before .before .before .good) in omega arith
 
 shared-slice-read-stepped : tie.Need-shared-slice-read-stepped Inv-loop μ-loop
-shared-slice-read-stepped c = omega (arith, walking.first-long ((c .before .before .before .before .before .before .before .before .before .loop .inv .rest)) ((c .before .before .before .before .before .before .before .before .loop-test .taken)))
+shared-slice-read-stepped c =
+    let b8 = c .before .before .before .before .before .before .before .before in let l = b8 .before .loop in
+    omega (arith, walking.first-long ((l .inv .rest)) ((b8 .loop-test .taken)))
 
 stepped-requires : tie.Need-stepped-requires Inv-loop μ-loop
-stepped-requires c κs = walking.next-low ((c .before .before .before .before .before .before .before .before .before .loop .inv .rest)) ((c .before .before .before .before .before .before .before .before .loop-test .taken))
+stepped-requires c κs =
+    let b8 = c .before .before .before .before .before .before .before .before in let l = b8 .before .loop in
+    walking.next-low ((l .inv .rest)) ((b8 .loop-test .taken))
 
 add-row : tie.Need-add-row Inv-loop μ-loop
 add-row c = let l = walking.first-long ((c .before .before .before .before .before .before .before .before .before .before .loop .inv .rest)) ((c .before .before .before .before .before .before .before .before .before .loop-test .taken)) in let g = (c .before .before .before .before .before .before .before .before .before .before .before .before .before .before .before .good) in omega arith
@@ -76,13 +82,19 @@ loop-less : tie.Need-loop-less Inv-loop μ-loop
 loop-less c = search needs
 
 loop-again : tie.Need-loop-again Inv-loop μ-loop
-loop-again c = turns.component-turn ((c .before .before .before .before .before .before .before .before .before .before .loop .inv)) ((c .before .before .before .before .before .before .before .before .before .loop-test .taken)) ((c .before .before .before .before .before .before .before .before .offset-at .ensures)) (laying.as-bytes (rows.lent-both ((c .before .before .before .before .before .before .before .before .before .before .before .before .before .before .before .args .buffer .now)) ((c .before .before .before .before .before .before .before .before .before .before .before .before .before .before .before .args .rows .now)) ((c .before .before .before .before .before .before .before .before .before .before .loop .row)) (λ b r. componentAt b r ((c .before .before .before .before .before .before .before .before .offset-at .result)))) ((c .before .before .before .before .component-at .ensures))) ((c .stepped .ensures))
+loop-again c =
+    let b4 = c .before .before .before .before in let b8 = b4 .before .before .before .before in let b9 = b8 .before in let b10 = b9 .before in let l = b10 .loop in
+    let a = b10 .before .before .before .before .before .args in
+    turns.component-turn ((l .inv)) ((b9 .loop-test .taken)) ((b8 .offset-at .ensures))
+    (laying.as-bytes (rows.lent-both ((a .buffer .now)) ((a .rows .now)) ((l .row)) (λ b r. componentAt b r ((b8 .offset-at .result)))) ((b4 .component-at .ensures))) ((c .stepped .ensures))
 
 same-length : tie.Need-same-length Inv-loop μ-loop
 same-length c = laying.same-so-far ((c .before .loop .inv .going))
 
 returns : tie.Need-returns Inv-loop μ-loop
-returns c = (laying.all-laid ((c .before .loop .inv .going)) (walking.components-none _ _ _ _ _ _ ((c .loop-test .left))), sym (running.reached-none ((c .before .before .before .before .before .before .args .plan .now)) ((c .before .loop .left)) ((c .before .loop .row)) ((c .before .loop .next)) ((c .before .before .before .before .before .before .args .rows .now)) ((c .loop-test .left))) ∙ (c .before .loop .inv .ends))
+returns c =
+    let l = c .before .loop in let a = c .before .before .before .before .before .before .args in
+    (laying.all-laid ((l .inv .going)) (walking.components-none _ _ _ _ _ _ ((c .loop-test .left))), sym (running.reached-none ((a .plan .now)) ((l .left)) ((l .row)) ((l .next)) ((a .rows .now)) ((c .loop-test .left))) ∙ (l .inv .ends))
 
 pub components-at-spec : {M : Type 1} → statement M
 components-at-spec =

@@ -14,6 +14,8 @@ range-at-spec =
     (λ c. omega arith)
     (λ c. omega arith)
     (λ c. omega (arith, (c .before .before .before .pre .0 .inside)))
-    (λ c κs. laying.room-as (sym (laws.ranged (c .before .before .before .before .args .buffer .now) (c .before .before .before .before .args .place) (c .before .before .before .before .args .size))) (c .before .before .before .before .pre .1))
+    (λ c κs. let b4 = c .before .before .before .before in let a = b4 .args in
+    laying.room-as (sym (laws.ranged (a .buffer .now) (a .place) (a .size))) (b4 .pre .1))
     (λ c. laying.same-length (c .before .before .bytes-at .ensures))
-    (λ c. laying.as-bytes (laws.ranged (c .before .before .before .before .before .before .before .args .buffer .now) (c .before .before .before .before .before .before .before .args .place) (c .before .before .before .before .before .before .before .args .size)) (c .before .before .bytes-at .ensures)))
+    (λ c. let b2 = c .before .before in let a = b2 .before .before .before .before .before .args in
+    laying.as-bytes (laws.ranged (a .buffer .now) (a .place) (a .size)) (b2 .bytes-at .ensures)))

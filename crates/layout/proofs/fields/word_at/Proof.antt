@@ -15,6 +15,8 @@ word-at-spec =
     (λ c. omega arith)
     (λ c. omega arith)
     (λ c. omega (arith, (c .before .before .before .pre .0 .inside)))
-    (λ c κs. laying.room-as (ap textBytes (sym (laws.ranged (c .before .before .before .before .args .buffer .now) (c .before .before .before .before .args .place) (c .before .before .before .before .args .size)))) (c .before .before .before .before .pre .1))
+    (λ c κs. let b4 = c .before .before .before .before in let a = b4 .args in
+    laying.room-as (ap textBytes (sym (laws.ranged (a .buffer .now) (a .place) (a .size)))) (b4 .pre .1))
     (λ c. laying.same-length (c .before .before .text-at .ensures))
-    (λ c. laying.as-bytes (ap textBytes (laws.ranged (c .before .before .before .before .before .before .before .args .buffer .now) (c .before .before .before .before .before .before .before .args .place) (c .before .before .before .before .before .before .before .args .size))) (c .before .before .text-at .ensures)))
+    (λ c. let b2 = c .before .before in let a = b2 .before .before .before .before .before .args in
+    laying.as-bytes (ap textBytes (laws.ranged (a .buffer .now) (a .place) (a .size))) (b2 .text-at .ensures)))

@@ -4,4 +4,7 @@ use Rattle.layout.proofs.fields.word_field.Statement.{statement}
 use Rattle.layout.proofs.fields.word_field.Tie as tie
 
 pub word-field-spec : {M : Type 1} → statement M
-word-field-spec = tie.close (tie.spec (λ c κs. laying.room-first _ (c .before .before .before .before .pre .1)) (λ c κs. ((c .before .before .before .before .before .before .before .before .pre .0), laying.room-next (c .before .before .before .text-at .ensures) (c .before .before .before .before .before .before .before .before .pre .1))) (λ c. laying.same-length (laying.then (c .before .before .before .before .before .before .text-at .ensures) (c .before .before .word-at .ensures))) (λ c. laying.then (c .before .before .before .before .before .before .text-at .ensures) (c .before .before .word-at .ensures)))
+word-field-spec = tie.close (tie.spec (λ c κs. laying.room-first _ (c .before .before .before .before .pre .1)) (λ c κs. let b3 = c .before .before .before in let b8 = b3 .before .before .before .before .before in
+    ((b8 .pre .0), laying.room-next (b3 .text-at .ensures) (b8 .pre .1))) (λ c. let b2 = c .before .before in
+    laying.same-length (laying.then (b2 .before .before .before .before .text-at .ensures) (b2 .word-at .ensures))) (λ c. let b2 = c .before .before in
+    laying.then (b2 .before .before .before .before .text-at .ensures) (b2 .word-at .ensures)))

@@ -27,7 +27,9 @@ part-root-end c = search needs
 
 root-requires : tie.Need-root-requires
 unfolding manifestFrom
-root-requires c κs = (turns.as-whole ((c .before .before .before .before .before .before .args .buffer .now)) (λ b. Within b ((c .before .before .before .before .before .before .args .place)) ((c .before .before .before .before .before .before .args .size))) ((c .before .before .before .before .before .before .pre .0)), laying.room-as (sym (turns.whole ((c .before .before .before .before .before .before .args .buffer .now)) (λ b. rootFront b ((c .before .before .before .before .before .before .args .objects)) ((c .before .before .before .before .before .before .args .place)) ((c .before .before .before .before .before .before .args .size))))) (laying.room-first _ ((c .before .before .before .before .before .before .pre .1 .1))))
+root-requires c κs =
+    let b6 = c .before .before .before .before .before .before in let a = b6 .args in
+    (turns.as-whole ((a .buffer .now)) (λ b. Within b ((a .place)) ((a .size))) ((b6 .pre .0)), laying.room-as (sym (turns.whole ((a .buffer .now)) (λ b. rootFront b ((a .objects)) ((a .place)) ((a .size))))) (laying.room-first _ ((b6 .pre .1 .1))))
 
 first-turn-requires : tie.Need-first-turn-requires
 first-turn-requires c κs = search needs
@@ -52,14 +54,25 @@ part-objects-at-end-2 c = search needs
 
 objects-at-requires : tie.Need-objects-at-requires
 unfolding manifestFrom
-objects-at-requires c κs = rw (c .before .before .before .first-turn .ensures) ((walking.as-lent ((c .before .before .before .before .before .before .before .before .before .before .before .before .before .args .buffer .now)) ((c .before .before .before .before .before .before .before .before .before .before .before .before .before .args .rows .now)) 0 (λ b r. ObjectRows b ((c .before .before .before .before .before .before .before .before .before .before .before .before .before .args .plan .now)) r ((c .before .before .before .before .before .before .before .before .before .before .before .before .before .args .objects)) 0 ((c .before .before .before .before .before .before .before .before .before .before .before .before .before .args .first)) (begun ((c .before .before .before .before .before .before .before .before .before .before .before .before .before .args .plan .now)))) ((c .before .before .before .before .before .before .before .before .before .before .before .before .before .pre .1 .0)), laying.room-as (sym (rows.lent-both ((c .before .before .before .before .before .before .before .before .before .before .before .before .before .args .buffer .now)) ((c .before .before .before .before .before .before .before .before .before .before .before .before .before .args .rows .now)) 0 (λ b r. objectsOf b ((c .before .before .before .before .before .before .before .before .before .before .before .before .before .args .plan .now)) r ((c .before .before .before .before .before .before .before .before .before .before .before .before .before .args .objects)) 0 ((c .before .before .before .before .before .before .before .before .before .before .before .before .before .args .first)) (begun ((c .before .before .before .before .before .before .before .before .before .before .before .before .before .args .plan .now)))))) (laying.room-next (laying.as-bytes (turns.whole ((c .before .before .before .before .before .before .before .before .before .before .before .before .before .args .buffer .now)) (λ b. rootFront b ((c .before .before .before .before .before .before .before .before .before .before .before .before .before .args .objects)) ((c .before .before .before .before .before .before .before .before .before .before .before .before .before .args .place)) ((c .before .before .before .before .before .before .before .before .before .before .before .before .before .args .size)))) ((c .before .before .before .before .before .before .root .ensures))) ((c .before .before .before .before .before .before .before .before .before .before .before .before .before .pre .1 .1)))))
+objects-at-requires c κs =
+    let b3 = c .before .before .before in let b6 = b3 .before .before .before in let b13 = b6 .before .before .before .before .before .before .before in let a = b13 .args in
+    rw (b3 .first-turn .ensures)
+    ((
+      walking.as-lent ((a .buffer .now)) ((a .rows .now)) 0 (λ b r. ObjectRows b ((a .plan .now)) r ((a .objects)) 0 ((a .first)) (begun ((a .plan .now)))) ((b13 .pre .1 .0)),
+      laying.room-as
+          (sym (rows.lent-both ((a .buffer .now)) ((a .rows .now)) 0 (λ b r. objectsOf b ((a .plan .now)) r ((a .objects)) 0 ((a .first)) (begun ((a .plan .now))))))
+          (laying.room-next (laying.as-bytes (turns.whole ((a .buffer .now)) (λ b. rootFront b ((a .objects)) ((a .place)) ((a .size)))) ((b6 .root .ensures))) ((b13 .pre .1 .1))),
+    ))
 
 same-length : tie.Need-same-length
 same-length c = search needs
 
 returns : tie.Need-returns
 unfolding manifestFrom
-returns c = laying.then (laying.as-bytes (turns.whole ((c .before .before .before .before .before .before .before .before .before .before .before .before .before .before .before .before .args .buffer .now)) (λ b. rootFront b ((c .before .before .before .before .before .before .before .before .before .before .before .before .before .before .before .before .args .objects)) ((c .before .before .before .before .before .before .before .before .before .before .before .before .before .before .before .before .args .place)) ((c .before .before .before .before .before .before .before .before .before .before .before .before .before .before .before .before .args .size)))) ((c .before .before .before .before .before .before .before .before .before .root .ensures))) (laying.as-bytes (rows.lent-both ((c .before .before .before .before .before .before .before .before .before .before .before .before .before .before .before .before .args .buffer .now)) ((c .before .before .before .before .before .before .before .before .before .before .before .before .before .before .before .before .args .rows .now)) 0 (λ b r. objectsOf b ((c .before .before .before .before .before .before .before .before .before .before .before .before .before .before .before .before .args .plan .now)) r ((c .before .before .before .before .before .before .before .before .before .before .before .before .before .before .before .before .args .objects)) 0 ((c .before .before .before .before .before .before .before .before .before .before .before .before .before .before .before .before .args .first)) (begun ((c .before .before .before .before .before .before .before .before .before .before .before .before .before .before .before .before .args .plan .now))))) (rw (c .before .before .before .before .before .before .first-turn .ensures) at (c .before .before .objects-at .ensures)))
+returns c =
+    let b2 = c .before .before in let b6 = b2 .before .before .before .before in let b9 = b6 .before .before .before in let a = b9 .before .before .before .before .before .before .before .args in
+    laying.then (laying.as-bytes (turns.whole ((a .buffer .now)) (λ b. rootFront b ((a .objects)) ((a .place)) ((a .size)))) ((b9 .root .ensures)))
+    (laying.as-bytes (rows.lent-both ((a .buffer .now)) ((a .rows .now)) 0 (λ b r. objectsOf b ((a .plan .now)) r ((a .objects)) 0 ((a .first)) (begun ((a .plan .now))))) (rw (b6 .first-turn .ensures) at (b2 .objects-at .ensures)))
 
 pub manifest-spec : {M : Type 1} → statement M
 manifest-spec =

@@ -29,7 +29,9 @@ first-turn-requires : tie.Need-first-turn-requires
 first-turn-requires c κs = search needs
 
 magic-at-requires : tie.Need-magic-at-requires
-magic-at-requires c κs = frames.room-magic ((c .before .before .before .before .before .before .pre .0)) ((c .before .before .before .before .before .before .pre .1))
+magic-at-requires c κs =
+    let b6 = c .before .before .before .before .before .before in
+    frames.room-magic ((b6 .pre .0)) ((b6 .pre .1))
 
 sub-blobs-at : tie.Need-sub-blobs-at
 sub-blobs-at c = search needs
@@ -50,7 +52,10 @@ part-blobs-at-end-2 : tie.Need-part-blobs-at-end-2
 part-blobs-at-end-2 c = search needs
 
 blobs-at-requires : tie.Need-blobs-at-requires
-blobs-at-requires c κs = rw (c .before .before .before .before .before .before .before .first-turn .ensures) ((walking.as-lent ((c .before .before .before .before .before .before .before .before .before .before .before .before .args .buffer .now)) ((c .before .before .before .before .before .before .before .before .before .before .before .before .args .rows .now)) 0 (λ b r. ComponentRows b ((c .before .before .before .before .before .before .before .before .before .before .before .before .args .plan .now)) r ((c .before .before .before .before .before .before .before .before .before .before .before .before .args .components)) (objectWidth * (c .before .before .before .before .before .before .before .before .before .before .before .before .args .objects)) (begun ((c .before .before .before .before .before .before .before .before .before .before .before .before .args .plan .now)))) ((c .before .before .before .before .before .before .before .before .before .before .before .before .pre .0 .blobs)), frames.room-blobs ((c .before .before .before .before .before .before .before .before .before .before .before .before .pre .0)) ((c .before .before .before .before .before .before .before .before .before .before .before .before .pre .1)) ((c .before .before .before .before .before .magic-at .ensures))))
+blobs-at-requires c κs =
+    let b5 = c .before .before .before .before .before in let b7 = b5 .before .before in let b12 = b7 .before .before .before .before .before in let a = b12 .args in
+    rw (b7 .first-turn .ensures)
+    ((walking.as-lent ((a .buffer .now)) ((a .rows .now)) 0 (λ b r. ComponentRows b ((a .plan .now)) r ((a .components)) (objectWidth * (a .objects)) (begun ((a .plan .now)))) ((b12 .pre .0 .blobs)), frames.room-blobs ((b12 .pre .0)) ((b12 .pre .1)) ((b5 .magic-at .ensures))))
 
 sub-manifest : tie.Need-sub-manifest
 sub-manifest c = search needs
@@ -80,22 +85,46 @@ part-manifest-end-3 : tie.Need-part-manifest-end-3
 part-manifest-end-3 c = search needs
 
 manifest-requires : tie.Need-manifest-requires
-manifest-requires c κs = (turns.as-whole ((c .before .before .before .before .before .before .before .before .before .before .before .before .before .before .before .before .before .before .args .buffer .now)) (λ b. Within b ((c .before .before .before .before .before .before .before .before .before .before .before .before .before .before .before .before .before .before .args .place)) ((c .before .before .before .before .before .before .before .before .before .before .before .before .before .before .before .before .before .before .args .size))) ((c .before .before .before .before .before .before .before .before .before .before .before .before .before .before .before .before .before .before .pre .0 .attributes)), (walking.as-lent ((c .before .before .before .before .before .before .before .before .before .before .before .before .before .before .before .before .before .before .args .buffer .now)) ((c .before .before .before .before .before .before .before .before .before .before .before .before .before .before .before .before .before .before .args .rows .now)) 0 (λ b r. ObjectRows b ((c .before .before .before .before .before .before .before .before .before .before .before .before .before .before .before .before .before .before .args .plan .now)) r ((c .before .before .before .before .before .before .before .before .before .before .before .before .before .before .before .before .before .before .args .objects)) 0 (objectWidth * (c .before .before .before .before .before .before .before .before .before .before .before .before .before .before .before .before .before .before .args .objects)) (begun ((c .before .before .before .before .before .before .before .before .before .before .before .before .before .before .before .before .before .before .args .plan .now)))) ((c .before .before .before .before .before .before .before .before .before .before .before .before .before .before .before .before .before .before .pre .0 .each)), laying.room-as (sym (rows.lent-both ((c .before .before .before .before .before .before .before .before .before .before .before .before .before .before .before .before .before .before .args .buffer .now)) ((c .before .before .before .before .before .before .before .before .before .before .before .before .before .before .before .before .before .before .args .rows .now)) 0 (λ b r. manifestFrom b ((c .before .before .before .before .before .before .before .before .before .before .before .before .before .before .before .before .before .before .args .plan .now)) r ((c .before .before .before .before .before .before .before .before .before .before .before .before .before .before .before .before .before .before .args .objects)) (objectWidth * (c .before .before .before .before .before .before .before .before .before .before .before .before .before .before .before .before .before .before .args .objects)) ((c .before .before .before .before .before .before .before .before .before .before .before .before .before .before .before .before .before .before .args .place)) ((c .before .before .before .before .before .before .before .before .before .before .before .before .before .before .before .before .before .before .args .size))))) (laying.room-lent (frames.room-manifest ((c .before .before .before .before .before .before .before .before .before .before .before .before .before .before .before .before .before .before .pre .0)) ((c .before .before .before .before .before .before .before .before .before .before .before .before .before .before .before .before .before .before .pre .1)) ((c .before .before .before .before .before .before .before .before .before .before .before .magic-at .ensures)) (rw (c .before .before .before .before .before .before .before .before .before .before .before .before .before .first-turn .ensures) at (c .before .before .before .before .before .blobs-at .ensures))))))
+manifest-requires c κs =
+    let b5 = c .before .before .before .before .before in let b11 = b5 .before .before .before .before .before .before in let b13 = b11 .before .before in
+    let b18 = b13 .before .before .before .before .before in let a = b18 .args in (
+      turns.as-whole ((a .buffer .now)) (λ b. Within b ((a .place)) ((a .size))) ((b18 .pre .0 .attributes)),
+      (
+        walking.as-lent ((a .buffer .now)) ((a .rows .now)) 0 (λ b r. ObjectRows b ((a .plan .now)) r ((a .objects)) 0 (objectWidth * (a .objects)) (begun ((a .plan .now)))) ((b18 .pre .0 .each)),
+        laying.room-as
+            (sym (rows.lent-both ((a .buffer .now)) ((a .rows .now)) 0 (λ b r. manifestFrom b ((a .plan .now)) r ((a .objects)) (objectWidth * (a .objects)) ((a .place)) ((a .size)))))
+            (laying.room-lent (frames.room-manifest ((b18 .pre .0)) ((b18 .pre .1)) ((b11 .magic-at .ensures)) (rw (b13 .first-turn .ensures) at (b5 .blobs-at .ensures)))),
+      ),
+    )
 
 add-size-at : tie.Need-add-size-at
 add-size-at c = search needs
 
 size-at-requires : tie.Need-size-at-requires
-size-at-requires c κs = frames.room-size ((c .before .before .before .before .before .before .before .before .before .before .before .before .before .before .before .before .before .before .before .before .before .before .pre .0)) ((c .before .before .before .before .before .before .before .before .before .before .before .before .before .before .before .before .before .before .before .before .before .before .pre .1)) ((c .before .before .before .before .before .before .before .before .before .before .before .before .before .before .before .magic-at .ensures)) (rw (c .before .before .before .before .before .before .before .before .before .before .before .before .before .before .before .before .before .first-turn .ensures) at (c .before .before .before .before .before .before .before .before .before .blobs-at .ensures)) (laying.as-bytes (rows.lent-both ((c .before .before .before .before .before .before .before .before .before .before .before .before .before .before .before .before .before .before .before .before .before .before .args .buffer .now)) ((c .before .before .before .before .before .before .before .before .before .before .before .before .before .before .before .before .before .before .before .before .before .before .args .rows .now)) 0 (λ b r. manifestFrom b ((c .before .before .before .before .before .before .before .before .before .before .before .before .before .before .before .before .before .before .before .before .before .before .args .plan .now)) r ((c .before .before .before .before .before .before .before .before .before .before .before .before .before .before .before .before .before .before .before .before .before .before .args .objects)) (objectWidth * (c .before .before .before .before .before .before .before .before .before .before .before .before .before .before .before .before .before .before .before .before .before .before .args .objects)) ((c .before .before .before .before .before .before .before .before .before .before .before .before .before .before .before .before .before .before .before .before .before .before .args .place)) ((c .before .before .before .before .before .before .before .before .before .before .before .before .before .before .before .before .before .before .before .before .before .before .args .size)))) ((c .before .before .before .manifest .ensures)))
+size-at-requires c κs =
+    let b3 = c .before .before .before in let b9 = b3 .before .before .before .before .before .before in let b15 = b9 .before .before .before .before .before .before in let b17 = b15 .before .before in
+    let b22 = b17 .before .before .before .before .before in let a = b22 .args in
+    frames.room-size ((b22 .pre .0)) ((b22 .pre .1)) ((b15 .magic-at .ensures)) (rw (b17 .first-turn .ensures) at (b9 .blobs-at .ensures))
+    (laying.as-bytes (rows.lent-both ((a .buffer .now)) ((a .rows .now)) 0 (λ b r. manifestFrom b ((a .plan .now)) r ((a .objects)) (objectWidth * (a .objects)) ((a .place)) ((a .size)))) ((b3 .manifest .ensures)))
 
 magic-at-requires-2 : tie.Need-magic-at-requires-2
-magic-at-requires-2 c κs = frames.room-footer ((c .before .before .before .before .before .before .before .before .before .before .before .before .before .before .before .before .before .before .before .before .before .before .before .before .before .before .pre .0)) ((c .before .before .before .before .before .before .before .before .before .before .before .before .before .before .before .before .before .before .before .before .before .before .before .before .before .before .pre .1)) ((c .before .before .before .before .before .before .before .before .before .before .before .before .before .before .before .before .before .before .before .magic-at .ensures)) (rw (c .before .before .before .before .before .before .before .before .before .before .before .before .before .before .before .before .before .before .before .before .before .first-turn .ensures) at (c .before .before .before .before .before .before .before .before .before .before .before .before .before .blobs-at .ensures)) (laying.as-bytes (rows.lent-both ((c .before .before .before .before .before .before .before .before .before .before .before .before .before .before .before .before .before .before .before .before .before .before .before .before .before .before .args .buffer .now)) ((c .before .before .before .before .before .before .before .before .before .before .before .before .before .before .before .before .before .before .before .before .before .before .before .before .before .before .args .rows .now)) 0 (λ b r. manifestFrom b ((c .before .before .before .before .before .before .before .before .before .before .before .before .before .before .before .before .before .before .before .before .before .before .before .before .before .before .args .plan .now)) r ((c .before .before .before .before .before .before .before .before .before .before .before .before .before .before .before .before .before .before .before .before .before .before .before .before .before .before .args .objects)) (objectWidth * (c .before .before .before .before .before .before .before .before .before .before .before .before .before .before .before .before .before .before .before .before .before .before .before .before .before .before .args .objects)) ((c .before .before .before .before .before .before .before .before .before .before .before .before .before .before .before .before .before .before .before .before .before .before .before .before .before .before .args .place)) ((c .before .before .before .before .before .before .before .before .before .before .before .before .before .before .before .before .before .before .before .before .before .before .before .before .before .before .args .size)))) ((c .before .before .before .before .before .before .before .manifest .ensures))) ((c .before .before .before .size-at .ensures))
+magic-at-requires-2 c κs =
+    let b3 = c .before .before .before in let b7 = b3 .before .before .before .before in let b13 = b7 .before .before .before .before .before .before in
+    let b19 = b13 .before .before .before .before .before .before in let b21 = b19 .before .before in let b26 = b21 .before .before .before .before .before in let a = b26 .args in
+    frames.room-footer ((b26 .pre .0)) ((b26 .pre .1)) ((b19 .magic-at .ensures)) (rw (b21 .first-turn .ensures) at (b13 .blobs-at .ensures))
+    (laying.as-bytes (rows.lent-both ((a .buffer .now)) ((a .rows .now)) 0 (λ b r. manifestFrom b ((a .plan .now)) r ((a .objects)) (objectWidth * (a .objects)) ((a .place)) ((a .size)))) ((b7 .manifest .ensures)))
+    ((b3 .size-at .ensures))
 
 same-length : tie.Need-same-length
 same-length c = search needs
 
 returns : tie.Need-returns
-returns c = frames.whole-laid ((c .before .before .before .before .before .before .before .before .before .before .before .before .before .before .before .before .before .before .before .before .before .before .before .before .before .before .before .before .before .pre .0)) ((c .before .before .before .before .before .before .before .before .before .before .before .before .before .before .before .before .before .before .before .before .before .before .before .before .before .before .before .before .before .pre .1)) ((c .before .before .before .before .before .before .before .before .before .before .before .before .before .before .before .before .before .before .before .before .before .before .magic-at .ensures)) (rw (c .before .before .before .before .before .before .before .before .before .before .before .before .before .before .before .before .before .before .before .before .before .before .before .before .first-turn .ensures) at (c .before .before .before .before .before .before .before .before .before .before .before .before .before .before .before .before .blobs-at .ensures)) (laying.as-bytes (rows.lent-both ((c .before .before .before .before .before .before .before .before .before .before .before .before .before .before .before .before .before .before .before .before .before .before .before .before .before .before .before .before .before .args .buffer .now)) ((c .before .before .before .before .before .before .before .before .before .before .before .before .before .before .before .before .before .before .before .before .before .before .before .before .before .before .before .before .before .args .rows .now)) 0 (λ b r. manifestFrom b ((c .before .before .before .before .before .before .before .before .before .before .before .before .before .before .before .before .before .before .before .before .before .before .before .before .before .before .before .before .before .args .plan .now)) r ((c .before .before .before .before .before .before .before .before .before .before .before .before .before .before .before .before .before .before .before .before .before .before .before .before .before .before .before .before .before .args .objects)) (objectWidth * (c .before .before .before .before .before .before .before .before .before .before .before .before .before .before .before .before .before .before .before .before .before .before .before .before .before .before .before .before .before .args .objects)) ((c .before .before .before .before .before .before .before .before .before .before .before .before .before .before .before .before .before .before .before .before .before .before .before .before .before .before .before .before .before .args .place)) ((c .before .before .before .before .before .before .before .before .before .before .before .before .before .before .before .before .before .before .before .before .before .before .before .before .before .before .before .before .before .args .size)))) ((c .before .before .before .before .before .before .before .before .before .before .manifest .ensures))) ((c .before .before .before .before .before .before .size-at .ensures)) ((c .before .before .magic-at2 .ensures))
+returns c =
+    let b2 = c .before .before in let b6 = b2 .before .before .before .before in let b10 = b6 .before .before .before .before in let b16 = b10 .before .before .before .before .before .before in
+    let b22 = b16 .before .before .before .before .before .before in let b24 = b22 .before .before in let b29 = b24 .before .before .before .before .before in let a = b29 .args in
+    frames.whole-laid ((b29 .pre .0)) ((b29 .pre .1)) ((b22 .magic-at .ensures)) (rw (b24 .first-turn .ensures) at (b16 .blobs-at .ensures))
+    (laying.as-bytes (rows.lent-both ((a .buffer .now)) ((a .rows .now)) 0 (λ b r. manifestFrom b ((a .plan .now)) r ((a .objects)) (objectWidth * (a .objects)) ((a .place)) ((a .size)))) ((b10 .manifest .ensures)))
+    ((b6 .size-at .ensures)) ((b2 .magic-at2 .ensures))
 
 pub whole-spec : {M : Type 1} → statement M
 whole-spec =

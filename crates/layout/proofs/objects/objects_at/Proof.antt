@@ -27,7 +27,9 @@ abbrev μ-loop : tie.MeasureT-loop
 μ-loop out₀ at buffer plan rows n first turn past₀ row₀ from₀ next₀ left₀ out past row from next left = left
 
 loop-holds : tie.Need-loop-holds Inv-loop μ-loop
-loop-holds c = turns.objects-begin ((c .before .before .before .before .pre .0)) ((c .before .before .before .before .pre .1))
+loop-holds c =
+    let b4 = c .before .before .before .before in
+    turns.objects-begin ((b4 .pre .0)) ((b4 .pre .1))
 
 add-count : tie.Need-add-count Inv-loop μ-loop
 add-count c = let l = walking.object-long ((c .before .loop .inv .rest)) ((c .loop-test .taken)) in let g = (c .before .before .before .before .before .before .good) in omega arith
@@ -60,7 +62,9 @@ part-front-at-end-2 : tie.Need-part-front-at-end-2 Inv-loop μ-loop
 part-front-at-end-2 c = search needs
 
 front-at-requires : tie.Need-front-at-requires Inv-loop μ-loop
-front-at-requires c κs = (walking.as-lent ((c .before .before .before .before .before .before .before .before .before .before .args .buffer .now)) ((c .before .before .before .before .before .before .before .before .before .before .args .rows .now)) ((c .before .before .before .before .before .loop .row)) ObjectRow (walking.first-object ((c .before .before .before .before .before .loop .inv .rest)) ((c .before .before .before .before .loop-test .taken))), laying.room-as (sym (rows.lent-both ((c .before .before .before .before .before .before .before .before .before .before .args .buffer .now)) ((c .before .before .before .before .before .before .before .before .before .before .args .rows .now)) ((c .before .before .before .before .before .loop .row)) objectFront)) (turns.room-for-front ((c .before .before .before .before .before .loop .inv)) ((c .before .before .before .before .loop-test .taken))))
+front-at-requires c κs =
+    let b4 = c .before .before .before .before in let b5 = b4 .before in let l = b5 .loop in let a = b5 .before .before .before .before .before .args in
+    (walking.as-lent ((a .buffer .now)) ((a .rows .now)) ((l .row)) ObjectRow (walking.first-object ((l .inv .rest)) ((b4 .loop-test .taken))), laying.room-as (sym (rows.lent-both ((a .buffer .now)) ((a .rows .now)) ((l .row)) objectFront)) (turns.room-for-front ((l .inv)) ((b4 .loop-test .taken))))
 
 sub-rest-at : tie.Need-sub-rest-at Inv-loop μ-loop
 sub-rest-at c = search needs
@@ -75,16 +79,23 @@ mul-rest-at : tie.Need-mul-rest-at Inv-loop μ-loop
 mul-rest-at c = let l = walking.object-long ((c .before .before .before .before .before .before .before .before .before .before .loop .inv .rest)) ((c .before .before .before .before .before .before .before .before .before .loop-test .taken)) in let g = (c .before .before .before .before .before .before .before .before .before .before .before .before .before .before .before .good) in omega arith
 
 sub-rest-at-2 : tie.Need-sub-rest-at-2 Inv-loop μ-loop
-sub-rest-at-2 c = omega (arith, walking.object-long ((c .before .before .before .before .before .before .before .before .before .before .loop .inv .rest)) ((c .before .before .before .before .before .before .before .before .before .loop-test .taken)))
+sub-rest-at-2 c =
+    let b9 = c .before .before .before .before .before .before .before .before .before in let l = b9 .before .loop in
+    omega (arith, walking.object-long ((l .inv .rest)) ((b9 .loop-test .taken)))
 
 part-rest-at-start-2 : tie.Need-part-rest-at-start-2 Inv-loop μ-loop
-part-rest-at-start-2 c = omega (arith, walking.object-long ((c .before .before .before .before .before .before .before .before .before .before .loop .inv .rest)) ((c .before .before .before .before .before .before .before .before .before .loop-test .taken)))
+part-rest-at-start-2 c =
+    let b9 = c .before .before .before .before .before .before .before .before .before in let l = b9 .before .loop in
+    omega (arith, walking.object-long ((l .inv .rest)) ((b9 .loop-test .taken)))
 
 part-rest-at-end-2 : tie.Need-part-rest-at-end-2 Inv-loop μ-loop
 part-rest-at-end-2 c = search needs
 
 rest-at-requires : tie.Need-rest-at-requires Inv-loop μ-loop
-rest-at-requires c κs = (walking.as-lent ((c .before .before .before .before .before .before .before .before .before .before .before .before .before .before .before .before .args .buffer .now)) ((c .before .before .before .before .before .before .before .before .before .before .before .before .before .before .before .before .args .rows .now)) ((c .before .before .before .before .before .before .before .before .before .before .before .loop .row)) ObjectRow (walking.first-object ((c .before .before .before .before .before .before .before .before .before .before .before .loop .inv .rest)) ((c .before .before .before .before .before .before .before .before .before .before .loop-test .taken))), laying.room-as (sym (rows.lent-both ((c .before .before .before .before .before .before .before .before .before .before .before .before .before .before .before .before .args .buffer .now)) ((c .before .before .before .before .before .before .before .before .before .before .before .before .before .before .before .before .args .rows .now)) ((c .before .before .before .before .before .before .before .before .before .before .before .loop .row)) objectRest)) (turns.room-for-rest ((c .before .before .before .before .before .before .before .before .before .before .before .loop .inv)) ((c .before .before .before .before .before .before .before .before .before .before .loop-test .taken)) (laying.as-bytes (rows.lent-both ((c .before .before .before .before .before .before .before .before .before .before .before .before .before .before .before .before .args .buffer .now)) ((c .before .before .before .before .before .before .before .before .before .before .before .before .before .before .before .before .args .rows .now)) ((c .before .before .before .before .before .before .before .before .before .before .before .loop .row)) objectFront) ((c .before .before .before .before .before .front-at .ensures)))))
+rest-at-requires c κs =
+    let b5 = c .before .before .before .before .before in let b10 = b5 .before .before .before .before .before in let b11 = b10 .before in let l = b11 .loop in
+    let a = b11 .before .before .before .before .before .args in
+    (walking.as-lent ((a .buffer .now)) ((a .rows .now)) ((l .row)) ObjectRow (walking.first-object ((l .inv .rest)) ((b10 .loop-test .taken))), laying.room-as (sym (rows.lent-both ((a .buffer .now)) ((a .rows .now)) ((l .row)) objectRest)) (turns.room-for-rest ((l .inv)) ((b10 .loop-test .taken)) (laying.as-bytes (rows.lent-both ((a .buffer .now)) ((a .rows .now)) ((l .row)) objectFront) ((b5 .front-at .ensures)))))
 
 sub-components-at : tie.Need-sub-components-at Inv-loop μ-loop
 sub-components-at c = search needs
@@ -105,19 +116,32 @@ part-components-at-end-2 : tie.Need-part-components-at-end-2 Inv-loop μ-loop
 part-components-at-end-2 c = search needs
 
 components-at-requires : tie.Need-components-at-requires Inv-loop μ-loop
-components-at-requires c κs = (
-  walking.as-lent ((c .before .before .before .before .before .before .before .before .before .before .before .before .before .before .before .before .before .before .before .before .before .before .args .buffer .now)) ((c .before .before .before .before .before .before .before .before .before .before .before .before .before .before .before .before .before .before .before .before .before .before .args .rows .now)) 0 (λ b r. ComponentRows b ((c .before .before .before .before .before .before .before .before .before .before .before .before .before .before .before .before .before .before .before .before .before .before .args .plan .now)) r (getD ((c .before .before .before .before .before .before .before .before .before .before .before .before .before .before .before .before .before .before .before .before .before .before .args .rows .now)) ((c .before .before .before .before .before .before .before .before .before .before .before .before .before .before .before .before .before .loop .row) + countColumn) 0) ((c .before .before .before .before .before .before .before .before .before .before .before .before .before .before .before .before .before .loop .from)) ((c .before .before .before .before .before .before .before .before .before .before .before .before .before .before .before .before .before .loop .next))) (walking.its-components ((c .before .before .before .before .before .before .before .before .before .before .before .before .before .before .before .before .before .loop .inv .rest)) ((c .before .before .before .before .before .before .before .before .before .before .before .before .before .before .before .before .loop-test .taken))),
-  laying.room-as (sym (rows.lent-both ((c .before .before .before .before .before .before .before .before .before .before .before .before .before .before .before .before .before .before .before .before .before .before .args .buffer .now)) ((c .before .before .before .before .before .before .before .before .before .before .before .before .before .before .before .before .before .before .before .before .before .before .args .rows .now)) 0 (λ b r. componentsOf b ((c .before .before .before .before .before .before .before .before .before .before .before .before .before .before .before .before .before .before .before .before .before .before .args .plan .now)) r (getD ((c .before .before .before .before .before .before .before .before .before .before .before .before .before .before .before .before .before .before .before .before .before .before .args .rows .now)) ((c .before .before .before .before .before .before .before .before .before .before .before .before .before .before .before .before .before .loop .row) + countColumn) 0) ((c .before .before .before .before .before .before .before .before .before .before .before .before .before .before .before .before .before .loop .from)) ((c .before .before .before .before .before .before .before .before .before .before .before .before .before .before .before .before .before .loop .next))))) (turns.room-for-components ((c .before .before .before .before .before .before .before .before .before .before .before .before .before .before .before .before .before .loop .inv)) ((c .before .before .before .before .before .before .before .before .before .before .before .before .before .before .before .before .loop-test .taken)) (laying.as-bytes (rows.lent-both ((c .before .before .before .before .before .before .before .before .before .before .before .before .before .before .before .before .before .before .before .before .before .before .args .buffer .now)) ((c .before .before .before .before .before .before .before .before .before .before .before .before .before .before .before .before .before .before .before .before .before .before .args .rows .now)) ((c .before .before .before .before .before .before .before .before .before .before .before .before .before .before .before .before .before .loop .row)) objectFront) ((c .before .before .before .before .before .before .before .before .before .before .before .front-at .ensures))) (laying.as-bytes (rows.lent-both ((c .before .before .before .before .before .before .before .before .before .before .before .before .before .before .before .before .before .before .before .before .before .before .args .buffer .now)) ((c .before .before .before .before .before .before .before .before .before .before .before .before .before .before .before .before .before .before .before .before .before .before .args .rows .now)) ((c .before .before .before .before .before .before .before .before .before .before .before .before .before .before .before .before .before .loop .row)) objectRest) ((c .before .before .before .before .before .rest-at .ensures)))),
-)
+components-at-requires c κs =
+    let b5 = c .before .before .before .before .before in let b11 = b5 .before .before .before .before .before .before in let b16 = b11 .before .before .before .before .before in let b17 = b16 .before in
+    let l = b17 .loop in let a = b17 .before .before .before .before .before .args in (
+      walking.as-lent ((a .buffer .now)) ((a .rows .now)) 0 (λ b r. ComponentRows b ((a .plan .now)) r (getD ((a .rows .now)) ((l .row) + countColumn) 0) ((l .from)) ((l .next))) (walking.its-components ((l .inv .rest)) ((b16 .loop-test .taken))),
+      laying.room-as (sym (rows.lent-both ((a .buffer .now)) ((a .rows .now)) 0 (λ b r. componentsOf b ((a .plan .now)) r (getD ((a .rows .now)) ((l .row) + countColumn) 0) ((l .from)) ((l .next)))))
+          (turns.room-for-components ((l .inv)) ((b16 .loop-test .taken)) (laying.as-bytes (rows.lent-both ((a .buffer .now)) ((a .rows .now)) ((l .row)) objectFront) ((b11 .front-at .ensures)))
+          (laying.as-bytes (rows.lent-both ((a .buffer .now)) ((a .rows .now)) ((l .row)) objectRest) ((b5 .rest-at .ensures)))),
+    )
 
 mul-from : tie.Need-mul-from Inv-loop μ-loop
-mul-from c = let l = (walking.its-components ((c .before .before .before .before .before .before .before .before .before .before .before .before .before .before .before .before .before .before .before .before .loop .inv .rest)) ((c .before .before .before .before .before .before .before .before .before .before .before .before .before .before .before .before .before .before .before .loop-test .taken))) .lie in let g = (c .before .before .before .before .before .before .before .before .before .before .before .before .before .before .before .before .before .before .before .before .before .before .before .before .before .good) in omega arith
+mul-from c = let l = (walking.its-components ((c .before .before .before .before .before .before .before .before .before .before .before .before .before .before .before .before .before .before .before .before .loop .inv .rest))
+    ((c .before .before .before .before .before .before .before .before .before .before .before .before .before .before .before .before .before .before .before .loop-test .taken))) .lie in
+    let g = (c .before .before .before .before .before .before .before .before .before .before .before .before .before .before .before .before .before .before .before .before .before .before .before .before .before .good) in
+    omega arith
 
 add-from : tie.Need-add-from Inv-loop μ-loop
-add-from c = let l = (walking.its-components ((c .before .before .before .before .before .before .before .before .before .before .before .before .before .before .before .before .before .before .before .before .loop .inv .rest)) ((c .before .before .before .before .before .before .before .before .before .before .before .before .before .before .before .before .before .before .before .loop-test .taken))) .lie in let g = (c .before .before .before .before .before .before .before .before .before .before .before .before .before .before .before .before .before .before .before .before .before .before .before .before .before .good) in omega arith
+add-from c = let l = (walking.its-components ((c .before .before .before .before .before .before .before .before .before .before .before .before .before .before .before .before .before .before .before .before .loop .inv .rest))
+    ((c .before .before .before .before .before .before .before .before .before .before .before .before .before .before .before .before .before .before .before .loop-test .taken))) .lie in
+    let g = (c .before .before .before .before .before .before .before .before .before .before .before .before .before .before .before .before .before .before .before .before .before .before .before .before .before .good) in
+    omega arith
 
 add-row : tie.Need-add-row Inv-loop μ-loop
-add-row c = let l = walking.object-long ((c .before .before .before .before .before .before .before .before .before .before .before .before .before .before .before .before .before .before .before .before .loop .inv .rest)) ((c .before .before .before .before .before .before .before .before .before .before .before .before .before .before .before .before .before .before .before .loop-test .taken)) in let g = (c .before .before .before .before .before .before .before .before .before .before .before .before .before .before .before .before .before .before .before .before .before .before .before .before .before .good) in omega arith
+add-row c = let l = walking.object-long ((c .before .before .before .before .before .before .before .before .before .before .before .before .before .before .before .before .before .before .before .before .loop .inv .rest))
+    ((c .before .before .before .before .before .before .before .before .before .before .before .before .before .before .before .before .before .before .before .loop-test .taken)) in
+    let g = (c .before .before .before .before .before .before .before .before .before .before .before .before .before .before .before .before .before .before .before .before .before .before .before .before .before .good) in
+    omega arith
 
 sub-left : tie.Need-sub-left Inv-loop μ-loop
 sub-left c = search needs
@@ -126,8 +150,13 @@ loop-less : tie.Need-loop-less Inv-loop μ-loop
 loop-less c = omega (arith, (c .before .before .before .before .before .before .before .before .before .before .before .before .before .before .before .before .before .before .before .loop-test .taken))
 
 loop-again : tie.Need-loop-again Inv-loop μ-loop
-loop-again c = turns.object-turn ((c .before .before .before .before .before .before .before .before .before .before .before .before .before .before .before .before .before .before .before .before .loop .inv)) ((c .before .before .before .before .before .before .before .before .before .before .before .before .before .before .before .before .before .before .before .loop-test .taken)) (laying.as-bytes (rows.lent-both ((c .before .before .before .before .before .before .before .before .before .before .before .before .before .before .before .before .before .before .before .before .before .before .before .before .before .args .buffer .now)) ((c .before .before .before .before .before .before .before .before .before .before .before .before .before .before .before .before .before .before .before .before .before .before .before .before .before .args .rows .now)) ((c .before .before .before .before .before .before .before .before .before .before .before .before .before .before .before .before .before .before .before .before .loop .row)) objectFront) ((c .before .before .before .before .before .before .before .before .before .before .before .before .before .before .front-at .ensures))) (laying.as-bytes (rows.lent-both ((c .before .before .before .before .before .before .before .before .before .before .before .before .before .before .before .before .before .before .before .before .before .before .before .before .before .args .buffer .now)) ((c .before .before .before .before .before .before .before .before .before .before .before .before .before .before .before .before .before .before .before .before .before .before .before .before .before .args .rows .now)) ((c .before .before .before .before .before .before .before .before .before .before .before .before .before .before .before .before .before .before .before .before .loop .row)) objectRest) ((c .before .before .before .before .before .before .before .before .rest-at .ensures)))
-    (laying.as-bytes (rows.lent-both ((c .before .before .before .before .before .before .before .before .before .before .before .before .before .before .before .before .before .before .before .before .before .before .before .before .before .args .buffer .now)) ((c .before .before .before .before .before .before .before .before .before .before .before .before .before .before .before .before .before .before .before .before .before .before .before .before .before .args .rows .now)) 0 (λ b r. componentsOf b ((c .before .before .before .before .before .before .before .before .before .before .before .before .before .before .before .before .before .before .before .before .before .before .before .before .before .args .plan .now)) r (getD ((c .before .before .before .before .before .before .before .before .before .before .before .before .before .before .before .before .before .before .before .before .before .before .before .before .before .args .rows .now)) ((c .before .before .before .before .before .before .before .before .before .before .before .before .before .before .before .before .before .before .before .before .loop .row) + countColumn) 0) ((c .before .before .before .before .before .before .before .before .before .before .before .before .before .before .before .before .before .before .before .before .loop .from)) ((c .before .before .before .before .before .before .before .before .before .before .before .before .before .before .before .before .before .before .before .before .loop .next)))) ((c .before .before .components-at .ensures .0))) (((c .before .before .components-at .ensures .1)) ∙ rows.lent-both ((c .before .before .before .before .before .before .before .before .before .before .before .before .before .before .before .before .before .before .before .before .before .before .before .before .before .args .buffer .now)) ((c .before .before .before .before .before .before .before .before .before .before .before .before .before .before .before .before .before .before .before .before .before .before .before .before .before .args .rows .now)) 0 (λ b r. reachedPast ((c .before .before .before .before .before .before .before .before .before .before .before .before .before .before .before .before .before .before .before .before .before .before .before .before .before .args .plan .now)) r (getD ((c .before .before .before .before .before .before .before .before .before .before .before .before .before .before .before .before .before .before .before .before .before .before .before .before .before .args .rows .now)) ((c .before .before .before .before .before .before .before .before .before .before .before .before .before .before .before .before .before .before .before .before .loop .row) + countColumn) 0) ((c .before .before .before .before .before .before .before .before .before .before .before .before .before .before .before .before .before .before .before .before .loop .from)) ((c .before .before .before .before .before .before .before .before .before .before .before .before .before .before .before .before .before .before .before .before .loop .next))))
+loop-again c =
+    let b2 = c .before .before in let b8 = b2 .before .before .before .before .before .before in let b14 = b8 .before .before .before .before .before .before in
+    let b19 = b14 .before .before .before .before .before in let b20 = b19 .before in let l = b20 .loop in let a = b20 .before .before .before .before .before .args in
+    turns.object-turn ((l .inv)) ((b19 .loop-test .taken)) (laying.as-bytes (rows.lent-both ((a .buffer .now)) ((a .rows .now)) ((l .row)) objectFront) ((b14 .front-at .ensures)))
+    (laying.as-bytes (rows.lent-both ((a .buffer .now)) ((a .rows .now)) ((l .row)) objectRest) ((b8 .rest-at .ensures)))
+    (laying.as-bytes (rows.lent-both ((a .buffer .now)) ((a .rows .now)) 0 (λ b r. componentsOf b ((a .plan .now)) r (getD ((a .rows .now)) ((l .row) + countColumn) 0) ((l .from)) ((l .next)))) ((b2 .components-at .ensures .0)))
+    (((b2 .components-at .ensures .1)) ∙ rows.lent-both ((a .buffer .now)) ((a .rows .now)) 0 (λ b r. reachedPast ((a .plan .now)) r (getD ((a .rows .now)) ((l .row) + countColumn) 0) ((l .from)) ((l .next))))
 
 same-length : tie.Need-same-length Inv-loop μ-loop
 same-length c = laying.same-so-far ((c .before .loop .inv .going))

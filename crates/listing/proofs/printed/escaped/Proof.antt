@@ -8,4 +8,5 @@ use Rattle.listing.proofs.printed.escaped.Lts as lts
 use Rattle.put.proofs.text.Reads as text-reads
 
 pub escaped-spec : {M : Type 1} → statement M
-escaped-spec = tie.close (tie.spec (λ c κs. search needs) (λ c. search needs) (λ c. texts.escaped-stands (c .before .before .before .before .before .before .args .path .now) (c .before .before .before .before .before .before .args .text .now) (c .before .before .before .before .before .before .pre) (c .before .before .text .ensures)))
+escaped-spec = tie.close (tie.spec (λ c κs. search needs) (λ c. search needs) (λ c. let b2 = c .before .before in let b6 = b2 .before .before .before .before in let a = b6 .args in
+    texts.escaped-stands (a .path .now) (a .text .now) (b6 .pre) (b2 .text .ensures)))

@@ -16,4 +16,5 @@ heading-spec =
     (λ c. search needs)
     (λ c κs. search needs)
     (λ c. search needs)
-    (λ c. let s = c .before .before .before .before .before .before .before .before .before .before .before in texts.heading-stands (s .args .path .now) (s .args .text .now) (s .pre .0) (s .pre .1) (c .before .before .before .before .before .before .before .text .ensures) (c .before .before .word .ensures)))
+    (λ c. let b2 = c .before .before in let b7 = b2 .before .before .before .before .before in
+    let s = b7 .before .before .before .before in texts.heading-stands (s .args .path .now) (s .args .text .now) (s .pre .0) (s .pre .1) (b7 .text .ensures) (b2 .word .ensures)))

@@ -8,4 +8,5 @@ use Rattle.listing.proofs.printed.whole.Lts as lts
 use Rattle.listing.proofs.printed.print.Reads as print-reads
 
 pub whole-spec : {M : Type 1} → statement M
-whole-spec = tie.close (tie.spec (λ c κs. search needs) (λ c. search needs) (λ c. texts.printed-stands (c .before .before .before .before .before .before .args .file .now) (c .before .before .before .before .before .before .args .text .now) (c .before .before .before .before .before .before .pre) (c .before .before .print .ensures .0) (c .before .before .print .ensures .1 .0)))
+whole-spec = tie.close (tie.spec (λ c κs. search needs) (λ c. search needs) (λ c. let b2 = c .before .before in let b6 = b2 .before .before .before .before in let a = b6 .args in
+    texts.printed-stands (a .file .now) (a .text .now) (b6 .pre) (b2 .print .ensures .0) (b2 .print .ensures .1 .0)))

@@ -24,4 +24,6 @@ name-of-spec =
     (λ c. search needs)
     (λ c. search needs)
     (λ c. search needs)
-    (λ c. parts.name-part (c .before .before .before .before .before .before .before .before .before .before .args .m .now) (c .before .before .before .before .before .before .before .before .before .before .args .left .now) (c .before .before .before .before .before .before .before .before .before .before .args .size .now) (c .before .before .before .before .before .before .before .before .before .before .args .i) _ _ _ _ ((c .before .before .before .before .before .at .ensures) ∙ ap (λ s. getD s (c .before .before .before .before .before .before .before .before .before .before .args .i) 0) (whole (c .before .before .before .before .before .before .before .before .before .before .args .left .now))) (c .before .before .before .before .from .ensures) ((c .before .before .at2 .ensures) ∙ ap (λ s. getD s (c .before .before .before .before .before .before .before .before .before .before .args .i) 0) (whole (c .before .before .before .before .before .before .before .before .before .before .args .size .now))) (c .before .up-to .ensures)))
+    (λ c. let b2 = c .before .before in let b4 = b2 .before .before in let b5 = b4 .before in let a = b5 .before .before .before .before .before .args in
+    parts.name-part (a .m .now) (a .left .now) (a .size .now) (a .i) _ _ _ _ ((b5 .at .ensures) ∙ ap (λ s. getD s (a .i) 0) (whole (a .left .now))) (b4 .from .ensures)
+    ((b2 .at2 .ensures) ∙ ap (λ s. getD s (a .i) 0) (whole (a .size .now))) (c .before .up-to .ensures)))

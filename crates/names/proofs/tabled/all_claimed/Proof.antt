@@ -22,7 +22,8 @@ all-claimed-spec =
     (tie.spec
     Inv-loop
     μ-loop
-    (λ c. (refl, tabled.tabled-none (name (c .before .before .before .before .args .m .now) (c .before .before .before .before .args .left .now) (c .before .before .before .before .args .size .now)) _ (c .before .before .before .before .args .n)))
+    (λ c. let a = c .before .before .before .before .args in
+    (refl, tabled.tabled-none (name (a .m .now) (a .left .now) (a .size .now)) _ (a .n)))
     (λ c. search needs)
     (λ c. search needs)
     (λ c. search needs)

@@ -33,11 +33,13 @@ claim-spec =
     (λ c. omega (arith, ap length (c .before .before .before .before .loop .inv .0)))
     (λ c. search needs)
     (λ c. simp length-set (ap length (c .before .before .before .before .loop .inv .0)))
-    (λ c. subst (λ (u : List ℕ). Claimed u (set (c .before .before .before .before .loop .table) (c .before .before .before .before .loop .p) (c .before .before .before .before .before .args .h)) (c .before .before .before .before .before .args .h) true) (c .before .before .before .before .loop .inv .0) (tabled.claimed (c .before .before .before .before .loop .inv .1) (c .before .before .before .before .before .pre .0) (omega arith) (c .if2 .taken)))
+    (λ c. let l = c .before .before .before .before .loop in let a = c .before .before .before .before .before .args in
+    subst (λ (u : List ℕ). Claimed u (set (l .table) (l .p) (a .h)) (a .h) true) (l .inv .0) (tabled.claimed (l .inv .1) (c .before .before .before .before .before .pre .0) (omega arith) (c .if2 .taken)))
     (λ c. ap length (c .before .before .before .before .before .loop .inv .0))
     (λ c. tabled.unclaimed _ _ (c .before .before .before .before .before .before .args .h))
     (λ c. omega (arith, ap length (c .before .before .before .before .before .loop .inv .0)))
     (λ c. search needs)
-    (λ c. ((c .before .before .before .before .before .loop .inv .0), tabled.probed-more (c .before .before .before .before .before .loop .inv .1) (c .before .if2 .left) (c .if3 .left)))
+    (λ c. let l = c .before .before .before .before .before .loop in
+    ((l .inv .0), tabled.probed-more (l .inv .1) (c .before .if2 .left) (c .if3 .left)))
     (λ c. ap length (c .before .loop .inv .0))
     (λ c. tabled.unclaimed _ _ (c .before .before .args .h)))

@@ -21,4 +21,5 @@ digest-of-spec =
     (λ c. search needs)
     (λ c κs. search needs)
     (λ c κs. search needs)
-    (λ c. ((c .digest .ensures .0) ∙ ap digest ((c .before .name-of .ensures) ∙ parts.name-whole (c .before .before .before .before .before .before .before .before .args .m .now) (c .before .before .before .before .before .before .before .before .args .left .now) (c .before .before .before .before .before .before .before .before .args .size .now) (c .before .before .before .before .before .before .before .before .args .i)), (c .digest .ensures .1), (c .digest .ensures .2))))
+    (λ c. let a = c .before .before .before .before .before .before .before .before .args in
+    ((c .digest .ensures .0) ∙ ap digest ((c .before .name-of .ensures) ∙ parts.name-whole (a .m .now) (a .left .now) (a .size .now) (a .i)), (c .digest .ensures .1), (c .digest .ensures .2))))

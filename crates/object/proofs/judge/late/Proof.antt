@@ -14,5 +14,7 @@ late-spec =
     (λ c. search needs)
     (λ c κs. search needs)
     (λ c. search needs)
-    (λ c. ((c .before .before .components .ensures .1), sound.late-now (c .before .before .before .before .before .before .before .before .before .args .layout) (c .before .before .before .before .before .before .before .before .before .args .format) (c .before .before .before .before .before .before .before .before .before .args .code) (c .before .before .before .before .before .before .before .before .before .args .s .now) (c .before .before .before .before .before .before .before .before .before .args .start) (c .before .before .before .before .before .before .before .before .before .args .left) (c .before .before .before .before .before .before .before .before .before .args .found) _ (c .before .before .before .before .before .before .if1 .taken) _ (c .before .before .before .before .before .place-of .ensures) (c .before .before .components .result .found) _ (c .before .before .components .ensures .2)))
-    (λ c. ((c .before .before .before .pre), sound.as-found (c .before .before .before .args .layout) (c .before .before .before .args .format) (c .before .before .before .args .code) (c .before .before .before .args .s .now) (c .before .before .before .args .start) (c .before .before .before .args .left) (c .before .before .before .args .found) (c .before .before .before .args .rows .now) (c .if1 .left))))
+    (λ c. let b2 = c .before .before in let b5 = b2 .before .before .before in let b6 = b5 .before in let a = b6 .before .before .before .args in
+    ((b2 .components .ensures .1), sound.late-now (a .layout) (a .format) (a .code) (a .s .now) (a .start) (a .left) (a .found) _ (b6 .if1 .taken) _ (b5 .place-of .ensures) (b2 .components .result .found) _ (b2 .components .ensures .2)))
+    (λ c. let b3 = c .before .before .before in let a = b3 .args in
+    ((b3 .pre), sound.as-found (a .layout) (a .format) (a .code) (a .s .now) (a .start) (a .left) (a .found) (a .rows .now) (c .if1 .left))))

@@ -20,5 +20,7 @@ ruled-spec =
     (λ c κs. search needs)
     (λ c. search needs)
     (λ c. search needs)
-    (λ c. pieces.rules-broken _ (c .before .before .before .before .before .before .before .before .before .before .args .dims .now) _ (c .before .before .before .before .before .before .before .before .before .before .args .rows .now) _ _ (c .before .before .before .judge .ensures) _ _ (c .before .n .given .1))
-    (λ c. pieces.rules-kept _ (c .before .before .before .before .before .before .before .before .before .args .dims .now) _ (c .before .before .before .before .before .before .before .before .before .args .rows .now) _ _ (c .before .before .judge .ensures) (c .enum-told .given .1)))
+    (λ c. let b3 = c .before .before .before in let a = b3 .before .before .before .before .before .before .before .args in
+    pieces.rules-broken _ (a .dims .now) _ (a .rows .now) _ _ (b3 .judge .ensures) _ _ (c .before .n .given .1))
+    (λ c. let b2 = c .before .before in let a = b2 .before .before .before .before .before .before .before .args in
+    pieces.rules-kept _ (a .dims .now) _ (a .rows .now) _ _ (b2 .judge .ensures) (c .enum-told .given .1)))

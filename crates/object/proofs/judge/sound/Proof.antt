@@ -22,6 +22,8 @@ sound-spec =
     (λ c. search needs)
     (λ c. search needs)
     (λ c κs. search needs)
-    (λ c. sound.no-tensor (c .before .before .before .before .before .before .before .before .before .args .layout) (c .before .before .before .before .before .before .before .before .before .args .s .now) (c .before .before .before .before .before .before .before .before .before .args .start) (c .before .before .before .before .before .before .before .before .before .args .p .now) (c .before .before .before .before .before .before .before .before .before .args .found) _ _ (c .before .before .before .tensor-at .ensures) _ (c .before .n .given .1))
+    (λ c. let b3 = c .before .before .before in let a = b3 .before .before .before .before .before .before .args in
+    sound.no-tensor (a .layout) (a .s .now) (a .start) (a .p .now) (a .found) _ _ (b3 .tensor-at .ensures) _ (c .before .n .given .1))
     (λ c. search needs)
-    (λ c. sound.as-shaped (c .before .before .before .before .before .before .before .before .before .before .before .before .before .before .before .args .layout) (c .before .before .before .before .before .before .before .before .before .before .before .before .before .before .before .args .s .now) (c .before .before .before .before .before .before .before .before .before .before .before .before .before .before .before .args .start) (c .before .before .before .before .before .before .before .before .before .before .before .before .before .before .before .args .p .now) (c .before .before .before .before .before .before .before .before .before .before .before .before .before .before .before .args .found) _ _ (c .before .before .before .before .before .before .before .before .before .tensor-at .ensures) _ (c .before .before .before .before .before .before .before .d .given .1) _ (c .before .before .shaped .ensures)))
+    (λ c. let b2 = c .before .before in let b7 = b2 .before .before .before .before .before in let b9 = b7 .before .before in let a = b9 .before .before .before .before .before .before .args in
+    sound.as-shaped (a .layout) (a .s .now) (a .start) (a .p .now) (a .found) _ _ (b9 .tensor-at .ensures) _ (b7 .d .given .1) _ (b2 .shaped .ensures)))

@@ -21,6 +21,8 @@ verdict-spec =
     (λ c. search needs)
     (λ c. search needs)
     (λ c κs. search needs)
-    (λ c. verdicts.refused (c .before .before .before .before .before .before .before .before .args .layout) (c .before .before .before .before .before .before .before .before .args .s .now) (c .before .before .before .before .before .before .before .before .args .start) (c .before .before .before .before .before .before .before .before .args .p .now) (c .before .before .before .before .before .before .before .before .args .found) _ _ (c .before .before .before .known .ensures) _ (c .before .n .given .1))
+    (λ c. let b3 = c .before .before .before in let a = b3 .before .before .before .before .before .args in
+    verdicts.refused (a .layout) (a .s .now) (a .start) (a .p .now) (a .found) _ _ (b3 .known .ensures) _ (c .before .n .given .1))
     (λ c. search needs)
-    (λ c. verdicts.as-sound (c .before .before .before .before .before .before .before .before .before .before .before .before .before .args .layout) (c .before .before .before .before .before .before .before .before .before .before .before .before .before .args .s .now) (c .before .before .before .before .before .before .before .before .before .before .before .before .before .args .start) (c .before .before .before .before .before .before .before .before .before .before .before .before .before .args .p .now) (c .before .before .before .before .before .before .before .before .before .before .before .before .before .args .found) _ _ (c .before .before .before .before .before .before .before .before .known .ensures) (c .before .before .before .before .before .before .enum-told .given .1) _ (c .before .before .sound .ensures)))
+    (λ c. let b2 = c .before .before in let b6 = b2 .before .before .before .before in let b8 = b6 .before .before in let a = b8 .before .before .before .before .before .args in
+    verdicts.as-sound (a .layout) (a .s .now) (a .start) (a .p .now) (a .found) _ _ (b8 .known .ensures) (b6 .enum-told .given .1) _ (b2 .sound .ensures)))

@@ -16,10 +16,12 @@ value-spec =
     (λ c. search needs)
     (λ c. search needs)
     (λ c κs. search needs)
-    (λ c. ((c .skip .ensures) ∙ ap (λ s. code (itemEnd 29 s)) (part-to-end (c .before .before .before .before .before .before .args .c .now) 0), (c .before .before .before .before .before .before .pre), looping.as-found (c .before .before .before .before .before .before .args .layout) (c .before .before .before .before .before .before .args .start) (c .before .before .before .before .before .before .args .k) (c .before .before .before .before .before .before .args .seen) (c .before .before .before .before .before .before .args .c .now) _ _ _ (c .before .before .before .waits .ensures) (c .before .before .if1 .taken)))
+    (λ c. let b2 = c .before .before in let b3 = b2 .before in let b6 = b3 .before .before .before in let a = b6 .args in
+    ((c .skip .ensures) ∙ ap (λ s. code (itemEnd 29 s)) (part-to-end (a .c .now) 0), (b6 .pre), looping.as-found (a .layout) (a .start) (a .k) (a .seen) (a .c .now) _ _ _ (b3 .waits .ensures) (b2 .if1 .taken)))
     (λ c. search needs)
     (λ c. search needs)
     (λ c. search needs)
     (λ c κs. search needs)
     (λ c. search needs)
-    (λ c. ((c .before .before .components .ensures .0) ∙ ap (λ s. code (itemEnd 29 s)) (part-to-end (c .before .before .before .before .before .before .before .before .before .args .c .now) 0), (c .before .before .components .ensures .1), looping.first-judged (c .before .before .before .before .before .before .before .before .before .args .layout) (c .before .before .before .before .before .before .before .before .before .args .start) (c .before .before .before .before .before .before .before .before .before .args .k) (c .before .before .before .before .before .before .before .before .before .args .seen) (c .before .before .before .before .before .before .before .before .before .args .c .now) _ _ _ (c .before .before .before .before .before .before .waits .ensures) (c .before .before .before .before .before .if1 .left) _ _ (c .before .before .components .ensures .2))))
+    (λ c. let b2 = c .before .before in let b5 = b2 .before .before .before in let b6 = b5 .before in let a = b6 .before .before .before .args in
+    ((b2 .components .ensures .0) ∙ ap (λ s. code (itemEnd 29 s)) (part-to-end (a .c .now) 0), (b2 .components .ensures .1), looping.first-judged (a .layout) (a .start) (a .k) (a .seen) (a .c .now) _ _ _ (b6 .waits .ensures) (b5 .if1 .left) _ _ (b2 .components .ensures .2))))

@@ -14,4 +14,5 @@ shape-at-spec =
     (λ c. search needs)
     (λ c κs. search needs)
     (λ c. search needs)
-    (λ c. places.shape-there (c .before .before .before .before .before .before .before .before .args .s .now) (c .before .before .before .before .before .before .before .before .args .left) _ (c .before .before .before .before .before .place-of .ensures) _ _ (c .before .before .shape .ensures)))
+    (λ c. let b2 = c .before .before in let b5 = b2 .before .before .before in let a = b5 .before .before .before .args in
+    places.shape-there (a .s .now) (a .left) _ (b5 .place-of .ensures) _ _ (b2 .shape .ensures)))

@@ -12,10 +12,12 @@ pub tensor-at-spec : {M : Type 1} → statement M
 tensor-at-spec =
     tie.close
     (tie.spec
-    (λ c. places.nothing-there (c .before .before .args .s .now) (c .before .before .args .left) (optional (aDtype (layoutOf (c .before .before .args .layout)))) _ (c .if1 .taken) (tensors.no-tensor (layoutOf (c .before .before .args .layout))))
+    (λ c. let a = c .before .before .args in
+    places.nothing-there (a .s .now) (a .left) (optional (aDtype (layoutOf (a .layout)))) _ (c .if1 .taken) (tensors.no-tensor (layoutOf (a .layout))))
     (λ c κs. search needs)
     (λ c. search needs)
     (λ c. search needs)
     (λ c. search needs)
     (λ c κs. search needs)
-    (λ c. places.something-there (c .before .before .before .before .before .args .s .now) (c .before .before .before .before .before .args .left) (optional (aDtype (layoutOf (c .before .before .before .before .before .args .layout)))) _ _ (c .before .before .place-of .ensures) (c .before .before .before .if1 .left) (c .tensor-of .ensures)))
+    (λ c. let b2 = c .before .before in let b3 = b2 .before in let a = b3 .before .before .args in
+    places.something-there (a .s .now) (a .left) (optional (aDtype (layoutOf (a .layout)))) _ _ (b2 .place-of .ensures) (b3 .if1 .left) (c .tensor-of .ensures)))

@@ -22,6 +22,9 @@ tensor-of-spec =
     (λ c. search needs)
     (λ c. omega (arith, letters-in (c .before .before .before .before .before .before .args .s .now) _ (c .before .before .before .text .ensures .0) _ _ (c .before .at .given .1)))
     (λ c κs. search needs)
-    (λ c. tensors.tensor-some (layoutOf (c .before .before .before .before .before .before .before .before .before .args .layout)) (c .before .before .before .before .before .before .before .before .before .args .s .now) _ (c .before .before .before .before .before .before .text .ensures .1) _ _ (c .before .before .before .before .at .given .1) _ (c .before .dtype-code .ensures) (c .if1 .taken))
-    (λ c. tensors.tensor-kind (layoutOf (c .before .before .before .before .before .args .layout)) (c .before .before .before .before .before .args .s .now) _ (c .before .before .text .ensures .1) (c .enum-told .given .1))
-    (λ c. tensors.tensor-other (layoutOf (c .before .before .before .before .before .before .before .before .before .args .layout)) (c .before .before .before .before .before .before .before .before .before .args .s .now) _ (c .before .before .before .before .before .before .text .ensures .1) _ _ (c .before .before .before .before .at .given .1) _ (c .before .dtype-code .ensures) (c .if1 .left)))
+    (λ c. let b4 = c .before .before .before .before in let b6 = b4 .before .before in let a = b6 .before .before .before .args in
+    tensors.tensor-some (layoutOf (a .layout)) (a .s .now) _ (b6 .text .ensures .1) _ _ (b4 .at .given .1) _ (c .before .dtype-code .ensures) (c .if1 .taken))
+    (λ c. let b2 = c .before .before in let a = b2 .before .before .before .args in
+    tensors.tensor-kind (layoutOf (a .layout)) (a .s .now) _ (b2 .text .ensures .1) (c .enum-told .given .1))
+    (λ c. let b4 = c .before .before .before .before in let b6 = b4 .before .before in let a = b6 .before .before .before .args in
+    tensors.tensor-other (layoutOf (a .layout)) (a .s .now) _ (b6 .text .ensures .1) _ _ (b4 .at .given .1) _ (c .before .dtype-code .ensures) (c .if1 .left)))

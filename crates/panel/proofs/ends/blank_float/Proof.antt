@@ -10,4 +10,5 @@ use Rattle.decimal.proofs.text.float.Reads as float-reads
 use Rattle.put.proofs.byte.Reads as byte-reads
 
 pub blank-float-spec : {M : Type 1} → statement M
-blank-float-spec = tie.close (tie.spec (λ c κs. search needs) (λ c. search needs) (λ c κs. search needs) (λ c. search needs) (λ c. unfold blankFloat in writing.then ((c .before .before .before .before .before .before .byte .ensures)) ((c .before .before .float .ensures))))
+blank-float-spec = tie.close (tie.spec (λ c κs. search needs) (λ c. search needs) (λ c κs. search needs) (λ c. search needs) (λ c. let b2 = c .before .before in
+    unfold blankFloat in writing.then ((b2 .before .before .before .before .byte .ensures)) ((b2 .float .ensures))))

@@ -28,5 +28,13 @@ bytes-line-spec =
     (λ c κs. search needs)
     (λ c κs. search needs)
     (λ c κs. search needs)
-    (λ c. writing.same-length (writing.then ((c .before .before .before .before .before .before .before .before .before .before .before .before .before .before .before .before .before .before .before .before .before .before .before .before .before .before .before .before .before .before .before .before .before .before .before .before .before .word .ensures)) (writing.then ((c .before .before .before .before .before .before .before .before .before .before .before .before .before .before .before .before .before .before .before .before .before .before .before .before .before .before .before .before .before .before .before .before .before .blank-number .ensures)) (writing.then ((c .before .before .before .before .before .before .before .before .before .before .before .before .before .before .before .before .before .before .before .before .before .before .before .before .before .before .before .before .word2 .ensures)) (writing.then ((c .before .before .before .before .before .before .before .before .before .before .before .before .before .before .before .before .before .before .before .before .before .before .before .before .blank-number2 .ensures)) (writing.then ((c .before .before .before .before .before .before .before .before .before .before .before .before .before .before .before .before .before .before .before .word3 .ensures)) (writing.then ((c .before .before .before .before .before .before .before .before .before .before .before .before .before .before .before .blank-number3 .ensures)) (writing.then ((c .before .before .before .before .before .before .before .before .before .before .word4 .ensures)) (writing.then ((c .before .before .before .before .before .before .blank-number4 .ensures)) ((c .before .before .byte .ensures)))))))))))
-    (λ c. unfold line blanked bytesLine in writing.then ((c .before .before .before .before .before .before .before .before .before .before .before .before .before .before .before .before .before .before .before .before .before .before .before .before .before .before .before .before .before .before .before .before .before .before .before .before .before .word .ensures)) (writing.then ((c .before .before .before .before .before .before .before .before .before .before .before .before .before .before .before .before .before .before .before .before .before .before .before .before .before .before .before .before .before .before .before .before .before .blank-number .ensures)) (writing.then ((c .before .before .before .before .before .before .before .before .before .before .before .before .before .before .before .before .before .before .before .before .before .before .before .before .before .before .before .before .word2 .ensures)) (writing.then ((c .before .before .before .before .before .before .before .before .before .before .before .before .before .before .before .before .before .before .before .before .before .before .before .before .blank-number2 .ensures)) (writing.then ((c .before .before .before .before .before .before .before .before .before .before .before .before .before .before .before .before .before .before .before .word3 .ensures)) (writing.then ((c .before .before .before .before .before .before .before .before .before .before .before .before .before .before .before .blank-number3 .ensures)) (writing.then ((c .before .before .before .before .before .before .before .before .before .before .word4 .ensures)) (writing.then ((c .before .before .before .before .before .before .blank-number4 .ensures)) ((c .before .before .byte .ensures)))))))))))
+    (λ c. let b2 = c .before .before in let b6 = b2 .before .before .before .before in let b10 = b6 .before .before .before .before in let b15 = b10 .before .before .before .before .before in
+    let b19 = b15 .before .before .before .before in let b24 = b19 .before .before .before .before .before in let b28 = b24 .before .before .before .before in
+    let b33 = b28 .before .before .before .before .before in
+    writing.same-length
+    (writing.then ((b33 .before .before .before .before .word .ensures)) (writing.then ((b33 .blank-number .ensures)) (writing.then ((b28 .word2 .ensures)) (writing.then ((b24 .blank-number2 .ensures)) (writing.then ((b19 .word3 .ensures)) (writing.then ((b15 .blank-number3 .ensures)) (writing.then ((b10 .word4 .ensures)) (writing.then ((b6 .blank-number4 .ensures)) ((b2 .byte .ensures)))))))))))
+    (λ c. let b2 = c .before .before in let b6 = b2 .before .before .before .before in let b10 = b6 .before .before .before .before in let b15 = b10 .before .before .before .before .before in
+    let b19 = b15 .before .before .before .before in let b24 = b19 .before .before .before .before .before in let b28 = b24 .before .before .before .before in
+    let b33 = b28 .before .before .before .before .before in
+    unfold line blanked bytesLine in writing.then ((b33 .before .before .before .before .word .ensures))
+    (writing.then ((b33 .blank-number .ensures)) (writing.then ((b28 .word2 .ensures)) (writing.then ((b24 .blank-number2 .ensures)) (writing.then ((b19 .word3 .ensures)) (writing.then ((b15 .blank-number3 .ensures)) (writing.then ((b10 .word4 .ensures)) (writing.then ((b6 .blank-number4 .ensures)) ((b2 .byte .ensures)))))))))))

@@ -21,7 +21,9 @@ ending-spec =
     (λ c. search needs)
     (λ c κs. search needs)
     (λ c. search needs)
-    (λ c. writing.as-bytes (ends.with-found ((c .before .before .before .before .before .before .before .before .before .before .args .file .now)) ((c .before .before .before .before .before .before .before .before .before .before .args .table .now)) ((c .before .before .before .before .before .before .before .before .before .before .args .row)) ((c .before .before .before .before .before .before .before .before .before .before .args .summary)) ((c .before .before .before .before .before .before .if1 .taken))) ((c .before .before .found .ensures)))
+    (λ c. let b2 = c .before .before in let b6 = b2 .before .before .before .before in let a = b6 .before .before .before .before .args in
+    writing.as-bytes (ends.with-found ((a .file .now)) ((a .table .now)) ((a .row)) ((a .summary)) ((b6 .if1 .taken))) ((b2 .found .ensures)))
     (λ c κs. search needs)
     (λ c. search needs)
-    (λ c. writing.as-bytes (ends.without ((c .before .before .before .before .before .before .before .before .args .file .now)) ((c .before .before .before .before .before .before .before .before .args .table .now)) ((c .before .before .before .before .before .before .before .before .args .row)) ((c .before .before .before .before .before .before .before .before .args .summary)) ((c .before .before .before .before .if1 .left))) ((c .before .before .byte .ensures))))
+    (λ c. let b2 = c .before .before in let b4 = b2 .before .before in let a = b4 .before .before .before .before .args in
+    writing.as-bytes (ends.without ((a .file .now)) ((a .table .now)) ((a .row)) ((a .summary)) ((b4 .if1 .left))) ((b2 .byte .ensures))))

@@ -20,4 +20,5 @@ only-nan-spec =
     (λ c κs. search needs)
     (λ c κs. search needs)
     (λ c. search needs)
-    (λ c. unfold blanked nanWords in writing.then ((c .before .before .before .before .before .before .before .before .before .before .word .ensures)) (writing.then ((c .before .before .before .before .before .before .blank-number .ensures)) ((c .before .before .byte .ensures)))))
+    (λ c. let b2 = c .before .before in let b6 = b2 .before .before .before .before in
+    unfold blanked nanWords in writing.then ((b6 .before .before .before .before .word .ensures)) (writing.then ((b6 .blank-number .ensures)) ((b2 .byte .ensures)))))

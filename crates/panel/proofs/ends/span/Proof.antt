@@ -27,4 +27,7 @@ span-spec =
     (λ c κs. search needs)
     (λ c κs. search needs)
     (λ c. search needs)
-    (λ c. unfold blanked blankFloat spanWords in writing.then ((c .before .before .before .before .before .before .before .before .before .before .before .before .before .before .before .before .before .before .before .before .before .before .before .before .before .before .before .before .word .ensures)) (writing.then ((c .before .before .before .before .before .before .before .before .before .before .before .before .before .before .before .before .before .before .before .before .before .before .before .before .blank-float .ensures)) (writing.then ((c .before .before .before .before .before .before .before .before .before .before .before .before .before .before .before .before .before .before .before .word2 .ensures)) (writing.then ((c .before .before .before .before .before .before .before .before .before .before .before .before .before .before .before .blank-float2 .ensures)) (writing.then ((c .before .before .before .before .before .before .before .before .before .before .word3 .ensures)) (writing.then ((c .before .before .before .before .before .before .blank-number .ensures)) ((c .before .before .byte .ensures)))))))))
+    (λ c. let b2 = c .before .before in let b6 = b2 .before .before .before .before in let b10 = b6 .before .before .before .before in let b15 = b10 .before .before .before .before .before in
+    let b19 = b15 .before .before .before .before in let b24 = b19 .before .before .before .before .before in
+    unfold blanked blankFloat spanWords in writing.then ((b24 .before .before .before .before .word .ensures))
+    (writing.then ((b24 .blank-float .ensures)) (writing.then ((b19 .word2 .ensures)) (writing.then ((b15 .blank-float2 .ensures)) (writing.then ((b10 .word3 .ensures)) (writing.then ((b6 .blank-number .ensures)) ((b2 .byte .ensures)))))))))

@@ -44,4 +44,8 @@ blob-spec =
     (λ c. search needs)
     (λ c κs. search needs)
     (λ c. search needs)
-    (λ c. writing.as-bytes (following.blob-is ((c .before .before .before .before .before .before .before .before .before .before .before .before .before .before .before .before .before .before .before .before .args .file .now)) ((c .before .before .before .before .before .before .before .before .before .before .before .before .before .before .before .before .before .before .before .before .args .table .now)) (more ((c .before .before .before .before .before .before .before .before .before .before .before .before .before .before .before .before .before .before .before .before .args .summary)) ((c .before .before .before .before .before .before .before .before .before .before .before .before .before .before .before .before .before .before .before .before .args .file .now)) ((c .before .before .before .before .before .before .before .before .before .before .before .before .before .before .before .before .before .before .before .before .args .table .now))) ((c .before .before .before .before .before .before .before .before .before .before .before .before .before .before .before .before .before .before .before .before .args .row)) _ _ ((c .before .before .before .before .before .before .before .before .before .before .before .before .before .part .ensures)) (rows.lent ((c .before .before .before .before .before .before .before .before .before .before .before .before .before .before .before .before .before .before .before .before .args .file .now)) ((c .before .before .before .before .before .before .before .before .before .before .before .before .before .before .before .before .before .before .before .before .args .table .now)) (λ f t. blanked (more ((c .before .before .before .before .before .before .before .before .before .before .before .before .before .before .before .before .before .before .before .before .args .summary)) f t ((c .before .before .before .before .before .before .before .before .before .before .before .before .before .before .before .before .before .before .before .before .args .row)))))) (writing.then ((c .before .before .before .before .before .before .before .before .blob-words .ensures)) ((c .before .before .ending .ensures)))))
+    (λ c. let b2 = c .before .before in let b8 = b2 .before .before .before .before .before .before in let b13 = b8 .before .before .before .before .before in
+    let a = b13 .before .before .before .before .before .before .before .args in
+    writing.as-bytes
+    (following.blob-is ((a .file .now)) ((a .table .now)) (more ((a .summary)) ((a .file .now)) ((a .table .now))) ((a .row)) _ _ ((b13 .part .ensures)) (rows.lent ((a .file .now)) ((a .table .now)) (λ f t. blanked (more ((a .summary)) f t ((a .row))))))
+    (writing.then ((b8 .blob-words .ensures)) ((b2 .ending .ensures)))))

@@ -31,4 +31,7 @@ blob-words-spec =
     (λ c κs. search needs)
     (λ c κs. search needs)
     (λ c. search needs)
-    (λ c. unfold blobWords in writing.as-bytes (ap (λ (s : List ℕ). blobWords (shownText s) (storageOf ((c .before .before .before .before .before .before .before .before .before .before .before .before .before .before .before .before .before .before .before .before .before .before .before .before .args .code)) .called) (decimal ((c .before .before .before .before .before .before .before .before .before .before .before .before .before .before .before .before .before .before .before .before .before .before .before .before .args .offset))) (decimal ((c .before .before .before .before .before .before .before .before .before .before .before .before .before .before .before .before .before .before .before .before .before .before .before .before .args .size)))) (part-to-end ((c .before .before .before .before .before .before .before .before .before .before .before .before .before .before .before .before .before .before .before .before .before .before .before .before .args .name .now)) 0)) (writing.then ((c .before .before .before .before .before .before .before .before .before .before .before .before .before .before .before .before .before .before .before .word .ensures)) (writing.then ((c .before .before .before .before .before .before .before .before .before .before .before .before .before .before .blank-text .ensures)) (writing.then ((c .before .before .before .before .before .before .before .before .before .before .blank-storage .ensures)) (writing.then ((c .before .before .before .before .before .before .blank-number .ensures)) ((c .before .before .blank-number2 .ensures))))))))
+    (λ c. let b2 = c .before .before in let b6 = b2 .before .before .before .before in let b10 = b6 .before .before .before .before in let b14 = b10 .before .before .before .before in
+    let b19 = b14 .before .before .before .before .before in let a = b19 .before .before .before .before .before .args in
+    unfold blobWords in writing.as-bytes (ap (λ (s : List ℕ). blobWords (shownText s) (storageOf ((a .code)) .called) (decimal ((a .offset))) (decimal ((a .size)))) (part-to-end ((a .name .now)) 0))
+    (writing.then ((b19 .word .ensures)) (writing.then ((b14 .blank-text .ensures)) (writing.then ((b10 .blank-storage .ensures)) (writing.then ((b6 .blank-number .ensures)) ((b2 .blank-number2 .ensures))))))))

@@ -34,7 +34,12 @@ blobs-spec =
     (λ c. search needs)
     (λ c. search needs)
     (λ c. search needs)
-    (λ c. (search needs, writing.rest-less ((c .before .before .before .before .before .before .before .loop .inv .1)) (following.blobs-next (c .before .before .before .before .before .before .before .before .before .before .before .args .file .now) (c .before .before .before .before .before .before .before .before .before .before .before .args .table .now) (more (c .before .before .before .before .before .before .before .before .before .before .before .args .summary) (c .before .before .before .before .before .before .before .before .before .before .before .args .file .now) (c .before .before .before .before .before .before .before .before .before .before .before .args .table .now)) (c .before .before .before .before .before .before .before .loop .left) (c .before .before .before .before .before .before .before .loop .row) (c .before .before .before .before .before .before .loop-test .taken)) (writing.as-bytes (rows.lent (c .before .before .before .before .before .before .before .before .before .before .before .args .file .now) (c .before .before .before .before .before .before .before .before .before .before .before .args .table .now) (λ f t. blobLine f t (more (c .before .before .before .before .before .before .before .before .before .before .before .args .summary) f t) (c .before .before .before .before .before .before .before .loop .row))) (c .before .before .blob .ensures))))
+    (λ c. let b2 = c .before .before in let b6 = b2 .before .before .before .before in let b7 = b6 .before in let l = b7 .loop in let a = b7 .before .before .before .before .args in
+    (search needs, writing.rest-less ((l .inv .1)) (following.blobs-next (a .file .now) (a .table .now) (more (a .summary) (a .file .now) (a .table .now)) (l .left) (l .row) (b6 .loop-test .taken)) (writing.as-bytes (rows.lent (a .file .now) (a .table .now) (λ f t. blobLine f t (more (a .summary) f t) (l .row))) (b2 .blob .ensures))))
     (λ c κs. search needs)
-    (λ c. writing.same-length (writing.rest-none _ ((c .before .before .loop .inv .1)) (following.blobs-none (c .before .before .before .before .before .before .args .file .now) (c .before .before .before .before .before .before .args .table .now) (more (c .before .before .before .before .before .before .args .summary) (c .before .before .before .before .before .before .args .file .now) (c .before .before .before .before .before .before .args .table .now)) (c .before .before .loop .left) (c .before .before .loop .row) (c .before .loop-test .left)) (c .placed .ensures)))
-    (λ c. writing.rest-none _ ((c .before .before .loop .inv .1)) (following.blobs-none (c .before .before .before .before .before .before .args .file .now) (c .before .before .before .before .before .before .args .table .now) (more (c .before .before .before .before .before .before .args .summary) (c .before .before .before .before .before .before .args .file .now) (c .before .before .before .before .before .before .args .table .now)) (c .before .before .loop .left) (c .before .before .loop .row) (c .before .loop-test .left)) (c .placed .ensures)))
+    (λ c. let b2 = c .before .before in let l = b2 .loop in let a = b2 .before .before .before .before .args in
+    writing.same-length
+    (writing.rest-none _ ((l .inv .1)) (following.blobs-none (a .file .now) (a .table .now) (more (a .summary) (a .file .now) (a .table .now)) (l .left) (l .row) (c .before .loop-test .left)) (c .placed .ensures)))
+    (λ c. let b2 = c .before .before in let l = b2 .loop in let a = b2 .before .before .before .before .args in
+    writing.rest-none _ ((l .inv .1)) (following.blobs-none (a .file .now) (a .table .now) (more (a .summary) (a .file .now) (a .table .now)) (l .left) (l .row) (c .before .loop-test .left))
+    (c .placed .ensures)))

@@ -17,4 +17,6 @@ heading-spec =
     (λ c κs. search needs)
     (λ c κs. search needs)
     (λ c. search needs)
-    (λ c. unfold line blanked in writing.then (c .before .before .before .before .before .before .before .before .before .before .before .before .before .before .before .before .before .before .before .word .ensures) (writing.then (c .before .before .before .before .before .before .before .before .before .before .before .before .before .before .before .blank-number .ensures) (writing.then (c .before .before .before .before .before .before .before .before .before .before .word2 .ensures) (writing.then (c .before .before .before .before .before .before .blank-number2 .ensures) (c .before .before .byte .ensures))))))
+    (λ c. let b2 = c .before .before in let b6 = b2 .before .before .before .before in let b10 = b6 .before .before .before .before in let b15 = b10 .before .before .before .before .before in
+    unfold line blanked in writing.then (b15 .before .before .before .before .word .ensures)
+    (writing.then (b15 .blank-number .ensures) (writing.then (b10 .word2 .ensures) (writing.then (b6 .blank-number2 .ensures) (b2 .byte .ensures))))))

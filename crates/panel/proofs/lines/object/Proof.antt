@@ -30,4 +30,5 @@ object-spec =
     (λ c κs. search needs)
     (λ c κs. search needs)
     (λ c. search needs)
-    (λ c. writing.as-bytes (following.object-is (c .before .before .before .before .before .before .before .before .before .before .before .before .before .before .before .args .file .now) (c .before .before .before .before .before .before .before .before .before .before .before .before .before .before .before .args .table .now) (c .before .before .before .before .before .before .before .before .before .before .before .before .before .before .before .args .row) _ _ (c .before .before .before .before .before .before .before .before .part .ensures) (c .before .before .before .before .part2 .ensures)) (c .before .before .object-words .ensures)))
+    (λ c. let b2 = c .before .before in let b4 = b2 .before .before in let b8 = b4 .before .before .before .before in let a = b8 .before .before .before .before .before .before .before .args in
+    writing.as-bytes (following.object-is (a .file .now) (a .table .now) (a .row) _ _ (b8 .part .ensures) (b4 .part2 .ensures)) (b2 .object-words .ensures)))

@@ -27,4 +27,8 @@ object-words-spec =
     (λ c κs. search needs)
     (λ c κs. search needs)
     (λ c. search needs)
-    (λ c. unfold line blanked in writing.as-bytes (ap (λ (s : List ℕ). line (ascii "object") (shownText s ∷ shownText (take (length (c .before .before .before .before .before .before .before .before .before .before .before .before .before .before .before .before .before .before .before .before .before .before .args .format .now) - 0) (drop 0 (c .before .before .before .before .before .before .before .before .before .before .before .before .before .before .before .before .before .before .before .before .before .before .args .format .now))) ∷ [])) (part-to-end (c .before .before .before .before .before .before .before .before .before .before .before .before .before .before .before .before .before .before .before .before .before .before .args .name .now) 0) ∙ ap (λ (s : List ℕ). line (ascii "object") (shownText (c .before .before .before .before .before .before .before .before .before .before .before .before .before .before .before .before .before .before .before .before .before .before .args .name .now) ∷ shownText s ∷ [])) (part-to-end (c .before .before .before .before .before .before .before .before .before .before .before .before .before .before .before .before .before .before .before .before .before .before .args .format .now) 0)) (writing.then (c .before .before .before .before .before .before .before .before .before .before .before .before .before .before .before .before .word .ensures) (writing.then (c .before .before .before .before .before .before .before .before .before .before .before .blank-text .ensures) (writing.then (c .before .before .before .before .before .before .blank-text2 .ensures) (c .before .before .byte .ensures))))))
+    (λ c. let b2 = c .before .before in let b6 = b2 .before .before .before .before in let b11 = b6 .before .before .before .before .before in let b16 = b11 .before .before .before .before .before in
+    let a = b16 .before .before .before .before .before .before .args in
+    unfold line blanked in writing.as-bytes
+    (ap (λ (s : List ℕ). line (ascii "object") (shownText s ∷ shownText (take (length (a .format .now) - 0) (drop 0 (a .format .now))) ∷ [])) (part-to-end (a .name .now) 0) ∙ ap (λ (s : List ℕ). line (ascii "object") (shownText (a .name .now) ∷ shownText s ∷ [])) (part-to-end (a .format .now) 0))
+    (writing.then (b16 .word .ensures) (writing.then (b11 .blank-text .ensures) (writing.then (b6 .blank-text2 .ensures) (b2 .byte .ensures))))))

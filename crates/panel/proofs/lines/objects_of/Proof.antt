@@ -41,13 +41,30 @@ objects-of-spec =
     (λ c. search needs)
     (λ c. search needs)
     (λ c. search needs)
-    (λ c κs. omega (arith, rows.counted-next (c .before .before .before .before .before .before .before .before .before .before .before .before .before .before .before .args .table .now) (c .before .before .before .before .before .before .before .before .before .before .before .loop .left) (c .before .before .before .before .before .before .before .before .before .before .before .loop .row) (c .before .before .before .before .before .before .before .before .before .before .loop-test .taken)))
-    (λ c. omega (arith, rows.counted-next (c .before .before .before .before .before .before .before .before .before .before .before .before .before .before .before .before .before .before .args .table .now) (c .before .before .before .before .before .before .before .before .before .before .before .before .before .before .loop .left) (c .before .before .before .before .before .before .before .before .before .before .before .before .before .before .loop .row) (c .before .before .before .before .before .before .before .before .before .before .before .before .before .loop-test .taken)))
-    (λ c. omega (arith, rows.counted-next (c .before .before .before .before .before .before .before .before .before .before .before .before .before .before .before .before .before .before .args .table .now) (c .before .before .before .before .before .before .before .before .before .before .before .before .before .before .loop .left) (c .before .before .before .before .before .before .before .before .before .before .before .before .before .before .loop .row) (c .before .before .before .before .before .before .before .before .before .before .before .before .before .loop-test .taken)))
+    (λ c κs. let b10 = c .before .before .before .before .before .before .before .before .before .before in let b11 = b10 .before in let l = b11 .loop in let a = b11 .before .before .before .before .args in
+    omega (arith, rows.counted-next (a .table .now) (l .left) (l .row) (b10 .loop-test .taken)))
+    (λ c. let b13 = c .before .before .before .before .before .before .before .before .before .before .before .before .before in let b14 = b13 .before in let l = b14 .loop in
+    let a = b14 .before .before .before .before .args in
+    omega (arith, rows.counted-next (a .table .now) (l .left) (l .row) (b13 .loop-test .taken)))
+    (λ c. let b13 = c .before .before .before .before .before .before .before .before .before .before .before .before .before in let b14 = b13 .before in let l = b14 .loop in
+    let a = b14 .before .before .before .before .args in
+    omega (arith, rows.counted-next (a .table .now) (l .left) (l .row) (b13 .loop-test .taken)))
     (λ c. search needs)
     (λ c. search needs)
     (λ c. search needs)
-    (λ c. (search needs, omega (arith, rows.counted-next (c .before .before .before .before .before .before .before .before .before .before .before .before .before .before .before .before .before .before .args .table .now) (c .before .before .before .before .before .before .before .before .before .before .before .before .before .before .loop .left) (c .before .before .before .before .before .before .before .before .before .before .before .before .before .before .loop .row) (c .before .before .before .before .before .before .before .before .before .before .before .before .before .loop-test .taken)), writing.rest-less ((c .before .before .before .before .before .before .before .before .before .before .before .before .before .before .loop .inv .2)) (following.objects-next (c .before .before .before .before .before .before .before .before .before .before .before .before .before .before .before .before .before .before .args .file .now) (c .before .before .before .before .before .before .before .before .before .before .before .before .before .before .before .before .before .before .args .table .now) (more (c .before .before .before .before .before .before .before .before .before .before .before .before .before .before .before .before .before .before .args .summary) (c .before .before .before .before .before .before .before .before .before .before .before .before .before .before .before .before .before .before .args .file .now) (c .before .before .before .before .before .before .before .before .before .before .before .before .before .before .before .before .before .before .args .table .now)) (c .before .before .before .before .before .before .before .before .before .before .before .before .before .before .loop .left) (c .before .before .before .before .before .before .before .before .before .before .before .before .before .before .loop .row) (c .before .before .before .before .before .before .before .before .before .before .before .before .before .before .loop .from) (c .before .before .before .before .before .before .before .before .before .before .before .before .before .loop-test .taken)) (writing.then (writing.as-bytes (rows.lent (c .before .before .before .before .before .before .before .before .before .before .before .before .before .before .before .before .before .before .args .file .now) (c .before .before .before .before .before .before .before .before .before .before .before .before .before .before .before .before .before .before .args .table .now) (λ f t. objectLine f t (c .before .before .before .before .before .before .before .before .before .before .before .before .before .before .loop .row))) (c .before .before .before .before .before .before .before .before .object .ensures)) (writing.as-bytes (rows.lent (c .before .before .before .before .before .before .before .before .before .before .before .before .before .before .before .before .before .before .args .file .now) (c .before .before .before .before .before .before .before .before .before .before .before .before .before .before .before .before .before .before .args .table .now) (λ f t. blobLines f t (more (c .before .before .before .before .before .before .before .before .before .before .before .before .before .before .before .before .before .before .args .summary) f t) (countAt (c .before .before .before .before .before .before .before .before .before .before .before .before .before .before .before .before .before .before .args .table .now) (c .before .before .before .before .before .before .before .before .before .before .before .before .before .before .loop .row)) (c .before .before .before .before .before .before .before .before .before .before .before .before .before .before .loop .from))) (c .before .before .blobs .ensures)))))
+    (λ c. let b2 = c .before .before in let b8 = b2 .before .before .before .before .before .before in let b13 = b8 .before .before .before .before .before in let b14 = b13 .before in let l = b14 .loop in
+    let a = b14 .before .before .before .before .args in (
+      search needs,
+      omega (arith, rows.counted-next (a .table .now) (l .left) (l .row) (b13 .loop-test .taken)),
+      writing.rest-less ((l .inv .2))
+          (following.objects-next (a .file .now) (a .table .now) (more (a .summary) (a .file .now) (a .table .now)) (l .left) (l .row) (l .from) (b13 .loop-test .taken))
+          (writing.then (writing.as-bytes (rows.lent (a .file .now) (a .table .now) (λ f t. objectLine f t (l .row))) (b8 .object .ensures))
+          (writing.as-bytes (rows.lent (a .file .now) (a .table .now) (λ f t. blobLines f t (more (a .summary) f t) (countAt (a .table .now) (l .row)) (l .from))) (b2 .blobs .ensures))),
+    ))
     (λ c κs. search needs)
-    (λ c. writing.same-length (writing.rest-none _ ((c .before .before .loop .inv .2)) (following.objects-none (c .before .before .before .before .before .before .args .file .now) (c .before .before .before .before .before .before .args .table .now) (more (c .before .before .before .before .before .before .args .summary) (c .before .before .before .before .before .before .args .file .now) (c .before .before .before .before .before .before .args .table .now)) (c .before .before .loop .left) (c .before .before .loop .row) (c .before .before .loop .from) (c .before .loop-test .left)) (c .placed .ensures)))
-    (λ c. writing.rest-none _ ((c .before .before .loop .inv .2)) (following.objects-none (c .before .before .before .before .before .before .args .file .now) (c .before .before .before .before .before .before .args .table .now) (more (c .before .before .before .before .before .before .args .summary) (c .before .before .before .before .before .before .args .file .now) (c .before .before .before .before .before .before .args .table .now)) (c .before .before .loop .left) (c .before .before .loop .row) (c .before .before .loop .from) (c .before .loop-test .left)) (c .placed .ensures)))
+    (λ c. let b2 = c .before .before in let l = b2 .loop in let a = b2 .before .before .before .before .args in
+    writing.same-length
+    (writing.rest-none _ ((l .inv .2)) (following.objects-none (a .file .now) (a .table .now) (more (a .summary) (a .file .now) (a .table .now)) (l .left) (l .row) (l .from) (c .before .loop-test .left)) (c .placed .ensures)))
+    (λ c. let b2 = c .before .before in let l = b2 .loop in let a = b2 .before .before .before .before .args in
+    writing.rest-none _ ((l .inv .2)) (following.objects-none (a .file .now) (a .table .now) (more (a .summary) (a .file .now) (a .table .now)) (l .left) (l .row) (l .from) (c .before .loop-test .left))
+    (c .placed .ensures)))

@@ -21,4 +21,6 @@ refused-spec =
     (λ c κs. search needs)
     (λ c κs. search needs)
     (λ c. search needs)
-    (λ c. unfold line blanked in writing.then ((c .before .before .before .before .before .before .before .before .before .before .before .before .before .before .before .before .before .before .word .ensures)) (writing.then ((c .before .before .before .before .before .before .before .before .before .before .before .before .before .before .blank-number .ensures)) (writing.then ((c .before .before .before .before .before .before .before .before .before .before .blank-number2 .ensures)) (writing.then ((c .before .before .before .before .before .before .blank-number3 .ensures)) ((c .before .before .byte .ensures)))))))
+    (λ c. let b2 = c .before .before in let b6 = b2 .before .before .before .before in let b10 = b6 .before .before .before .before in let b14 = b10 .before .before .before .before in
+    unfold line blanked in writing.then ((b14 .before .before .before .before .word .ensures))
+    (writing.then ((b14 .blank-number .ensures)) (writing.then ((b10 .blank-number2 .ensures)) (writing.then ((b6 .blank-number3 .ensures)) ((b2 .byte .ensures)))))))

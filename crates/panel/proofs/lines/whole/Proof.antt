@@ -21,7 +21,11 @@ whole-spec =
     (λ c. search needs)
     (λ c. search needs)
     (λ c. search needs)
-    (λ c. omega (arith, rows.sound-lies (c .before .before .before .before .before .before .before .before .before .args .file .now) (c .before .before .before .before .before .before .before .before .before .args .table .now) (c .before .before .before .before .before .before .before .before .before .args .objects) (c .before .before .before .before .before .before .before .before .before .args .components) (c .before .before .before .before .before .before .before .before .before .pre)))
-    (λ c κs. rows.lines-lie (c .before .before .before .before .before .before .before .before .before .before .args .file .now) (c .before .before .before .before .before .before .before .before .before .before .args .table .now) (c .before .before .before .before .before .before .before .before .before .before .args .objects) (c .before .before .before .before .before .before .before .before .before .before .args .components) (c .before .before .before .before .before .before .before .before .before .before .pre))
+    (λ c. let b9 = c .before .before .before .before .before .before .before .before .before in let a = b9 .args in
+    omega (arith, rows.sound-lies (a .file .now) (a .table .now) (a .objects) (a .components) (b9 .pre)))
+    (λ c κs. let b10 = c .before .before .before .before .before .before .before .before .before .before in let a = b10 .args in
+    rows.lines-lie (a .file .now) (a .table .now) (a .objects) (a .components) (b10 .pre))
     (λ c. search needs)
-    (λ c. unfold text in writing.then (c .before .before .before .before .before .before .before .before .heading .ensures) (writing.as-bytes (rows.lent (c .before .before .before .before .before .before .before .before .before .before .before .before .before .args .file .now) (c .before .before .before .before .before .before .before .before .before .before .before .before .before .args .table .now) (λ f t. objectLines f t (more (c .before .before .before .before .before .before .before .before .before .before .before .before .before .args .summary) f t) (c .before .before .before .before .before .before .before .before .before .before .before .before .before .args .objects) 0 (objectWidth * (c .before .before .before .before .before .before .before .before .before .before .before .before .before .args .objects)))) (c .before .before .objects-of .ensures))))
+    (λ c. let b2 = c .before .before in let b8 = b2 .before .before .before .before .before .before in let a = b8 .before .before .before .before .before .args in
+    unfold text in writing.then (b8 .heading .ensures)
+    (writing.as-bytes (rows.lent (a .file .now) (a .table .now) (λ f t. objectLines f t (more (a .summary) f t) (a .objects) 0 (objectWidth * (a .objects)))) (b2 .objects-of .ensures))))

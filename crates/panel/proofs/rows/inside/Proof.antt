@@ -10,9 +10,12 @@ inside-spec =
     (tie.spec
     (λ c. search needs)
     (λ c. search needs)
-    (λ c. rows.begins-past (c .before .before .args .file .now) (c .before .before .args .table .now) (c .before .before .args .i) (c .if1 .taken))
+    (λ c. let a = c .before .before .args in
+    rows.begins-past (a .file .now) (a .table .now) (a .i) (c .if1 .taken))
     (λ c. search needs)
     (λ c. search needs)
     (λ c. search needs)
-    (λ c. rows.ends-past (c .before .before .before .before .args .file .now) (c .before .before .before .before .args .table .now) (c .before .before .before .before .args .i) (c .before .before .if1 .left) (c .if2 .taken))
-    (λ c. rows.lies (c .before .before .before .before .args .file .now) (c .before .before .before .before .args .table .now) (c .before .before .before .before .args .i) (c .before .before .if1 .left) (c .if2 .left)))
+    (λ c. let b2 = c .before .before in let a = b2 .before .before .args in
+    rows.ends-past (a .file .now) (a .table .now) (a .i) (b2 .if1 .left) (c .if2 .taken))
+    (λ c. let b2 = c .before .before in let a = b2 .before .before .args in
+    rows.lies (a .file .now) (a .table .now) (a .i) (b2 .if1 .left) (c .if2 .left)))

@@ -27,9 +27,12 @@ shared-out-spec =
     (λ c. search needs)
     (λ c. search needs)
     (λ c. search needs)
-    (λ c. sym (ne-eqb (counted (c .before .before .before .before .args .table .now) (c .before .before .before .before .args .n) 0) (c .before .before .before .before .args .components) (λ e. omega (arith, e, (c .before .before .before .loop .inv .1), rows.counted-next (c .before .before .before .before .args .table .now) (c .before .before .before .loop .left) (c .before .before .before .loop .row) (c .before .before .loop-test .taken)))))
+    (λ c. let b2 = c .before .before in let b3 = b2 .before in let l = b3 .loop in let a = b3 .before .args in
+    sym (ne-eqb (counted (a .table .now) (a .n) 0) (a .components) (λ e. omega (arith, e, (l .inv .1), rows.counted-next (a .table .now) (l .left) (l .row) (b2 .loop-test .taken)))))
     (λ c. search needs)
     (λ c. search needs)
     (λ c. search needs)
-    (λ c. (search needs, omega (arith, (c .before .before .before .loop .inv .1), rows.counted-next (c .before .before .before .before .args .table .now) (c .before .before .before .loop .left) (c .before .before .before .loop .row) (c .before .before .loop-test .taken))))
-    (λ c. rows.all-due (counted (c .before .before .args .table .now) (c .before .before .args .n) 0) (c .before .loop .due) (c .before .before .args .components) (omega (arith, (c .before .loop .inv .1), rows.counted-none (c .before .before .args .table .now) (c .before .loop .left) (c .before .loop .row) (c .loop-test .left)))))
+    (λ c. let b2 = c .before .before in let b3 = b2 .before in let l = b3 .loop in let a = b3 .before .args in
+    (search needs, omega (arith, (l .inv .1), rows.counted-next (a .table .now) (l .left) (l .row) (b2 .loop-test .taken))))
+    (λ c. let l = c .before .loop in let a = c .before .before .args in
+    rows.all-due (counted (a .table .now) (a .n) 0) (l .due) (a .components) (omega (arith, (l .inv .1), rows.counted-none (a .table .now) (l .left) (l .row) (c .loop-test .left)))))

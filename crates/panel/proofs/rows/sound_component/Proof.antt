@@ -30,6 +30,10 @@ sound-component-spec =
     (λ c. search needs)
     (λ c. search needs)
     (λ c κs. search needs)
-    (λ c. (c .inside2 .ensures) ∙ rows.lent (c .before .before .before .before .before .before .before .before .before .before .before .args .file .now) (c .before .before .before .before .before .before .before .before .before .before .before .args .table .now) (λ f t. rangeInside f t ((c .before .before .before .before .before .before .before .before .before .before .before .args .row) + offsetColumn)) ∙ rows.by-range (c .before .before .before .before .before .before .before .before .before .before .before .args .file .now) (c .before .before .before .before .before .before .before .before .before .before .before .args .table .now) (c .before .before .before .before .before .before .before .before .before .before .before .args .row) (sym (c .before .before .before .before .before .if1 .taken) ∙ (c .before .before .before .before .before .before .inside .ensures) ∙ rows.lent (c .before .before .before .before .before .before .before .before .before .before .before .args .file .now) (c .before .before .before .before .before .before .before .before .before .before .before .args .table .now) (λ f t. rangeInside f t (c .before .before .before .before .before .before .before .before .before .before .before .args .row))) (c .before .before .before .if2 .taken))
-    (λ c. rows.no-storage (c .before .before .before .before .before .before .before .before .args .file .now) (c .before .before .before .before .before .before .before .before .args .table .now) (c .before .before .before .before .before .before .before .before .args .row) (sym (c .before .before .if1 .taken) ∙ (c .before .before .before .inside .ensures) ∙ rows.lent (c .before .before .before .before .before .before .before .before .args .file .now) (c .before .before .before .before .before .before .before .before .args .table .now) (λ f t. rangeInside f t (c .before .before .before .before .before .before .before .before .args .row))) (c .if2 .left))
-    (λ c. rows.name-outside (c .before .before .before .before .before .before .args .file .now) (c .before .before .before .before .before .before .args .table .now) (c .before .before .before .before .before .before .args .row) (sym (c .if1 .left) ∙ (c .before .inside .ensures) ∙ rows.lent (c .before .before .before .before .before .before .args .file .now) (c .before .before .before .before .before .before .args .table .now) (λ f t. rangeInside f t (c .before .before .before .before .before .before .args .row)))))
+    (λ c. let b3 = c .before .before .before in let b5 = b3 .before .before in let b6 = b5 .before in let a = b6 .before .before .before .before .before .args in
+    (c .inside2 .ensures) ∙ rows.lent (a .file .now) (a .table .now) (λ f t. rangeInside f t ((a .row) + offsetColumn)) ∙ rows.by-range (a .file .now) (a .table .now) (a .row)
+    (sym (b5 .if1 .taken) ∙ (b6 .inside .ensures) ∙ rows.lent (a .file .now) (a .table .now) (λ f t. rangeInside f t (a .row))) (b3 .if2 .taken))
+    (λ c. let b2 = c .before .before in let b3 = b2 .before in let a = b3 .before .before .before .before .before .args in
+    rows.no-storage (a .file .now) (a .table .now) (a .row) (sym (b2 .if1 .taken) ∙ (b3 .inside .ensures) ∙ rows.lent (a .file .now) (a .table .now) (λ f t. rangeInside f t (a .row))) (c .if2 .left))
+    (λ c. let a = c .before .before .before .before .before .before .args in
+    rows.name-outside (a .file .now) (a .table .now) (a .row) (sym (c .if1 .left) ∙ (c .before .inside .ensures) ∙ rows.lent (a .file .now) (a .table .now) (λ f t. rangeInside f t (a .row)))))

@@ -27,5 +27,8 @@ sound-object-spec =
     (λ c. search needs)
     (λ c. search needs)
     (λ c κs. search needs)
-    (λ c. (c .inside2 .ensures) ∙ rows.lent (c .before .before .before .before .before .before .before .before .before .args .file .now) (c .before .before .before .before .before .before .before .before .before .args .table .now) (λ f t. rangeInside f t ((c .before .before .before .before .before .before .before .before .before .args .row) + formatColumn)) ∙ rows.by-format (c .before .before .before .before .before .before .before .before .before .args .file .now) (c .before .before .before .before .before .before .before .before .before .args .table .now) (c .before .before .before .before .before .before .before .before .before .args .row) (sym (c .before .before .before .if1 .taken) ∙ (c .before .before .before .before .inside .ensures) ∙ rows.lent (c .before .before .before .before .before .before .before .before .before .args .file .now) (c .before .before .before .before .before .before .before .before .before .args .table .now) (λ f t. rangeInside f t (c .before .before .before .before .before .before .before .before .before .args .row))))
-    (λ c. rows.object-outside (c .before .before .before .before .before .before .args .file .now) (c .before .before .before .before .before .before .args .table .now) (c .before .before .before .before .before .before .args .row) (sym (c .if1 .left) ∙ (c .before .inside .ensures) ∙ rows.lent (c .before .before .before .before .before .before .args .file .now) (c .before .before .before .before .before .before .args .table .now) (λ f t. rangeInside f t (c .before .before .before .before .before .before .args .row)))))
+    (λ c. let b3 = c .before .before .before in let b4 = b3 .before in let a = b4 .before .before .before .before .before .args in
+    (c .inside2 .ensures) ∙ rows.lent (a .file .now) (a .table .now) (λ f t. rangeInside f t ((a .row) + formatColumn)) ∙ rows.by-format (a .file .now) (a .table .now) (a .row)
+    (sym (b3 .if1 .taken) ∙ (b4 .inside .ensures) ∙ rows.lent (a .file .now) (a .table .now) (λ f t. rangeInside f t (a .row))))
+    (λ c. let a = c .before .before .before .before .before .before .args in
+    rows.object-outside (a .file .now) (a .table .now) (a .row) (sym (c .if1 .left) ∙ (c .before .inside .ensures) ∙ rows.lent (a .file .now) (a .table .now) (λ f t. rangeInside f t (a .row)))))

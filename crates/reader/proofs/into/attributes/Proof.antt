@@ -22,4 +22,5 @@ attributes-spec =
     (λ c. search needs)
     (λ c κs. search needs)
     (λ c κs. search needs)
-    (λ c. answers.attributes-are ((c .before .before .before .before .before .args .m .now)) ((c .before .before .before .before .before .args .left)) ((c .before .before .before .before .before .args .end)) _ (((c .before .skip .ensures)) ∙ ap (λ i. code (itemEnd 31 (Here ((c .before .before .before .before .before .args .m .now)) i))) ((c .before .before .before .place-of .ensures))) _ ((c .whole .ensures))))
+    (λ c. let b3 = c .before .before .before in let a = b3 .before .before .args in
+    answers.attributes-are ((a .m .now)) ((a .left)) ((a .end)) _ (((c .before .skip .ensures)) ∙ ap (λ i. code (itemEnd 31 (Here ((a .m .now)) i))) ((b3 .place-of .ensures))) _ ((c .whole .ensures))))

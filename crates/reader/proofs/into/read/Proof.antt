@@ -15,7 +15,5 @@ read-spec =
     (tie.spec
     (λ c κs. search needs)
     (λ c. search needs)
-    (λ c. (
-      (c .before .before .read-as .ensures .0) ∙ ap (λ (L : Layout). answered (readInto L (c .before .before .before .before .before .before .args .file .now) (length (c .before .before .before .before .before .before .args .t .now)))) at-zero,
-      (c .before .before .read-as .ensures .1) ∙ ap (λ (L : Layout). tableAfter (c .before .before .before .before .before .before .args .t .now) (readInto L (c .before .before .before .before .before .before .args .file .now) (length (c .before .before .before .before .before .before .args .t .now)))) at-zero,
-    )))
+    (λ c. let b2 = c .before .before in let a = b2 .before .before .before .before .args in
+    ((b2 .read-as .ensures .0) ∙ ap (λ (L : Layout). answered (readInto L (a .file .now) (length (a .t .now)))) at-zero, (b2 .read-as .ensures .1) ∙ ap (λ (L : Layout). tableAfter (a .t .now) (readInto L (a .file .now) (length (a .t .now)))) at-zero)))

@@ -16,4 +16,5 @@ version-at-spec =
     (λ c. search needs)
     (λ c. search needs)
     (λ c κs. search needs)
-    (λ c. places.there (c .before .before .before .before .args .s .now) (c .before .before .before .before .args .left) _ (c .before .before .place-of .ensures) (λ t. aVersion t ≡ fine (c .version .result)) (c .version .ensures)))
+    (λ c. let b2 = c .before .before in let a = b2 .before .before .args in
+    places.there (a .s .now) (a .left) _ (b2 .place-of .ensures) (λ t. aVersion t ≡ fine (c .version .result)) (c .version .ensures)))

@@ -21,35 +21,214 @@ entries-spec =
     (tie.spec
     Inv-loop
     μ-loop
-    (λ c. walks.loop-starts (c .before .before .args .deep) (layoutOf (c .before .before .args .layout)) (c .before .before .args .start) (c .before .before .args .mode) (c .before .before .args .count) (c .before .before .args .s .now) (c .before .before .pre .1) _ _ (c .before .before .pre .0))
+    (λ c. let b2 = c .before .before in let a = b2 .args in
+    walks.loop-starts (a .deep) (layoutOf (a .layout)) (a .start) (a .mode) (a .count) (a .s .now) (b2 .pre .1) _ _ (b2 .pre .0))
     (λ c. search needs)
     (λ c. search needs)
     (λ c. search needs)
-    (λ c κs. walks.still-due (c .before .before .before .before .args .deep) (layoutOf (c .before .before .before .before .args .layout)) (c .before .before .before .before .args .start) (c .before .before .before .before .args .mode) (c .before .before .before .before .args .count) (c .before .before .before .before .args .s .now) (c .before .before .before .before .pre .1) (omega arith) (c .before .loop .at) (c .before .loop .due) _ _ (c .before .loop .inv))
+    (λ c κs. walks.still-due (c .before .before .before .before .args .deep) (layoutOf (c .before .before .before .before .args .layout)) (c .before .before .before .before .args .start)
+    (c .before .before .before .before .args .mode) (c .before .before .before .before .args .count) (c .before .before .before .before .args .s .now) (c .before .before .before .before .pre .1)
+    (omega arith) (c .before .loop .at) (c .before .loop .due) _ _ (c .before .loop .inv))
     (λ c. search needs)
     (λ c. search needs)
-    (λ c. walks.six-slots (c .before .before .before .before .before .before .before .before .before .args .deep) (layoutOf (c .before .before .before .before .before .before .before .before .before .args .layout)) (c .before .before .before .before .before .before .before .before .before .args .start) (c .before .before .before .before .before .before .before .before .before .args .mode) (c .before .before .before .before .before .before .before .before .before .args .count) (c .before .before .before .before .before .before .before .before .before .args .s .now) (c .before .before .before .before .before .before .before .before .before .pre .1) (omega arith) (c .before .before .before .before .before .before .loop .at) (c .before .before .before .before .before .before .loop .due) _ _ (c .before .before .before .before .before .before .loop .inv) ∙ sym (ap length (c .before .before .before .before .before .before .before .before .before .pre .0)))
-    (λ c. walks.ends-faulty (c .before .before .before .before .before .before .before .before .before .args .deep) (layoutOf (c .before .before .before .before .before .before .before .before .before .args .layout)) (c .before .before .before .before .before .before .before .before .before .args .start) (c .before .before .before .before .before .before .before .before .before .args .mode) (c .before .before .before .before .before .before .before .before .before .args .count) (c .before .before .before .before .before .before .before .before .before .args .s .now) (c .before .before .before .before .before .before .before .before .before .pre .1) (omega arith) (c .before .before .before .before .before .before .loop .at) (c .before .before .before .before .before .before .loop .due) _ _ (c .before .before .before .before .before .before .loop .inv) _ (c .before .before .before .before .past-key .ensures) _ (c .before .before .e .given .1) (c .if1 .taken))
+    (λ c. walks.six-slots (c .before .before .before .before .before .before .before .before .before .args .deep)
+    (layoutOf (c .before .before .before .before .before .before .before .before .before .args .layout)) (c .before .before .before .before .before .before .before .before .before .args .start)
+    (c .before .before .before .before .before .before .before .before .before .args .mode) (c .before .before .before .before .before .before .before .before .before .args .count)
+    (c .before .before .before .before .before .before .before .before .before .args .s .now) (c .before .before .before .before .before .before .before .before .before .pre .1) (omega arith)
+    (c .before .before .before .before .before .before .loop .at) (c .before .before .before .before .before .before .loop .due) _ _ (c .before .before .before .before .before .before .loop .inv) ∙ sym
+    (ap length (c .before .before .before .before .before .before .before .before .before .pre .0)))
+    (λ c. walks.ends-faulty (c .before .before .before .before .before .before .before .before .before .args .deep)
+    (layoutOf (c .before .before .before .before .before .before .before .before .before .args .layout)) (c .before .before .before .before .before .before .before .before .before .args .start)
+    (c .before .before .before .before .before .before .before .before .before .args .mode) (c .before .before .before .before .before .before .before .before .before .args .count)
+    (c .before .before .before .before .before .before .before .before .before .args .s .now) (c .before .before .before .before .before .before .before .before .before .pre .1) (omega arith)
+    (c .before .before .before .before .before .before .loop .at) (c .before .before .before .before .before .before .loop .due) _ _ (c .before .before .before .before .before .before .loop .inv) _
+    (c .before .before .before .before .past-key .ensures) _ (c .before .before .e .given .1) (c .if1 .taken))
     (λ c. search needs)
-    (λ c. walks.six-slots (c .before .before .before .before .before .before .before .before .before .args .deep) (layoutOf (c .before .before .before .before .before .before .before .before .before .args .layout)) (c .before .before .before .before .before .before .before .before .before .args .start) (c .before .before .before .before .before .before .before .before .before .args .mode) (c .before .before .before .before .before .before .before .before .before .args .count) (c .before .before .before .before .before .before .before .before .before .args .s .now) (c .before .before .before .before .before .before .before .before .before .pre .1) (omega arith) (c .before .before .before .before .before .before .loop .at) (c .before .before .before .before .before .before .loop .due) _ _ (c .before .before .before .before .before .before .loop .inv) ∙ sym (ap length (c .before .before .before .before .before .before .before .before .before .pre .0)))
-    (λ c. walks.ends-inside (c .before .before .before .before .before .before .before .before .before .args .deep) (layoutOf (c .before .before .before .before .before .before .before .before .before .args .layout)) (c .before .before .before .before .before .before .before .before .before .args .start) (c .before .before .before .before .before .before .before .before .before .args .mode) (c .before .before .before .before .before .before .before .before .before .args .count) (c .before .before .before .before .before .before .before .before .before .args .s .now) (c .before .before .before .before .before .before .before .before .before .pre .1) (omega arith) (c .before .before .before .before .before .before .loop .at) (c .before .before .before .before .before .before .loop .due) _ _ (c .before .before .before .before .before .before .loop .inv) _ (c .before .before .before .before .past-key .ensures) _ (c .before .before .e .given .1) (c .if1 .left))
+    (λ c. walks.six-slots (c .before .before .before .before .before .before .before .before .before .args .deep)
+    (layoutOf (c .before .before .before .before .before .before .before .before .before .args .layout)) (c .before .before .before .before .before .before .before .before .before .args .start)
+    (c .before .before .before .before .before .before .before .before .before .args .mode) (c .before .before .before .before .before .before .before .before .before .args .count)
+    (c .before .before .before .before .before .before .before .before .before .args .s .now) (c .before .before .before .before .before .before .before .before .before .pre .1) (omega arith)
+    (c .before .before .before .before .before .before .loop .at) (c .before .before .before .before .before .before .loop .due) _ _ (c .before .before .before .before .before .before .loop .inv) ∙ sym
+    (ap length (c .before .before .before .before .before .before .before .before .before .pre .0)))
+    (λ c. walks.ends-inside (c .before .before .before .before .before .before .before .before .before .args .deep)
+    (layoutOf (c .before .before .before .before .before .before .before .before .before .args .layout)) (c .before .before .before .before .before .before .before .before .before .args .start)
+    (c .before .before .before .before .before .before .before .before .before .args .mode) (c .before .before .before .before .before .before .before .before .before .args .count)
+    (c .before .before .before .before .before .before .before .before .before .args .s .now) (c .before .before .before .before .before .before .before .before .before .pre .1) (omega arith)
+    (c .before .before .before .before .before .before .loop .at) (c .before .before .before .before .before .before .loop .due) _ _ (c .before .before .before .before .before .before .loop .inv) _
+    (c .before .before .before .before .past-key .ensures) _ (c .before .before .e .given .1) (c .if1 .left))
     (λ c. search needs)
-    (λ c. omega (arith, walks.value-inside (c .before .before .before .before .before .before .before .before .args .deep) (layoutOf (c .before .before .before .before .before .before .before .before .args .layout)) (c .before .before .before .before .before .before .before .before .args .start) (c .before .before .before .before .before .before .before .before .args .mode) (c .before .before .before .before .before .before .before .before .args .count) (c .before .before .before .before .before .before .before .before .args .s .now) (c .before .before .before .before .before .before .before .before .pre .1) (omega arith) (c .before .before .before .before .before .loop .at) (c .before .before .before .before .before .loop .due) _ _ (c .before .before .before .before .before .loop .inv) _ (c .before .before .before .past-key .ensures) _ (c .before .k .given .1)))
+    (λ c. omega (
+      arith,
+      walks.value-inside (c .before .before .before .before .before .before .before .before .args .deep) (layoutOf (c .before .before .before .before .before .before .before .before .args .layout))
+          (c .before .before .before .before .before .before .before .before .args .start) (c .before .before .before .before .before .before .before .before .args .mode)
+          (c .before .before .before .before .before .before .before .before .args .count) (c .before .before .before .before .before .before .before .before .args .s .now)
+          (c .before .before .before .before .before .before .before .before .pre .1) (omega arith) (c .before .before .before .before .before .loop .at) (c .before .before .before .before .before .loop .due) _ _
+          (c .before .before .before .before .before .loop .inv) _ (c .before .before .before .past-key .ensures) _ (c .before .k .given .1),
+    ))
     (λ c. search needs)
     (λ c. search needs)
     (λ c. search needs)
     (λ c κs. search needs)
-    (λ c. omega (arith, walks.value-inside (c .before .before .before .before .before .before .before .before .before .before .args .deep) (layoutOf (c .before .before .before .before .before .before .before .before .before .before .args .layout)) (c .before .before .before .before .before .before .before .before .before .before .args .start) (c .before .before .before .before .before .before .before .before .before .before .args .mode) (c .before .before .before .before .before .before .before .before .before .before .args .count) (c .before .before .before .before .before .before .before .before .before .before .args .s .now) (c .before .before .before .before .before .before .before .before .before .before .pre .1) (omega arith) (c .before .before .before .before .before .before .before .loop .at) (c .before .before .before .before .before .before .before .loop .due) _ _ (c .before .before .before .before .before .before .before .loop .inv) _ (c .before .before .before .before .before .past-key .ensures) _ (c .before .before .before .k .given .1)))
-    (λ c. omega (arith, walks.value-inside (c .before .before .before .before .before .before .before .before .before .before .args .deep) (layoutOf (c .before .before .before .before .before .before .before .before .before .before .args .layout)) (c .before .before .before .before .before .before .before .before .before .before .args .start) (c .before .before .before .before .before .before .before .before .before .before .args .mode) (c .before .before .before .before .before .before .before .before .before .before .args .count) (c .before .before .before .before .before .before .before .before .before .before .args .s .now) (c .before .before .before .before .before .before .before .before .before .before .pre .1) (omega arith) (c .before .before .before .before .before .before .before .loop .at) (c .before .before .before .before .before .before .before .loop .due) _ _ (c .before .before .before .before .before .before .before .loop .inv) _ (c .before .before .before .before .before .past-key .ensures) _ (c .before .before .before .k .given .1)))
+    (λ c. omega (
+      arith,
+      walks.value-inside (c .before .before .before .before .before .before .before .before .before .before .args .deep)
+          (layoutOf (c .before .before .before .before .before .before .before .before .before .before .args .layout)) (c .before .before .before .before .before .before .before .before .before .before .args .start)
+          (c .before .before .before .before .before .before .before .before .before .before .args .mode) (c .before .before .before .before .before .before .before .before .before .before .args .count)
+          (c .before .before .before .before .before .before .before .before .before .before .args .s .now) (c .before .before .before .before .before .before .before .before .before .before .pre .1) (omega arith)
+          (c .before .before .before .before .before .before .before .loop .at) (c .before .before .before .before .before .before .before .loop .due) _ _ (c .before .before .before .before .before .before .before .loop .inv) _
+          (c .before .before .before .before .before .past-key .ensures) _ (c .before .before .before .k .given .1),
+    ))
+    (λ c. omega (
+      arith,
+      walks.value-inside (c .before .before .before .before .before .before .before .before .before .before .args .deep)
+          (layoutOf (c .before .before .before .before .before .before .before .before .before .before .args .layout)) (c .before .before .before .before .before .before .before .before .before .before .args .start)
+          (c .before .before .before .before .before .before .before .before .before .before .args .mode) (c .before .before .before .before .before .before .before .before .before .before .args .count)
+          (c .before .before .before .before .before .before .before .before .before .before .args .s .now) (c .before .before .before .before .before .before .before .before .before .before .pre .1) (omega arith)
+          (c .before .before .before .before .before .before .before .loop .at) (c .before .before .before .before .before .before .before .loop .due) _ _ (c .before .before .before .before .before .before .before .loop .inv) _
+          (c .before .before .before .before .before .past-key .ensures) _ (c .before .before .before .k .given .1),
+    ))
     (λ c. search needs)
-    (λ c. omega (arith, walks.six-slots (c .before .before .before .before .before .before .before .before .before .before .before .before .args .deep) (layoutOf (c .before .before .before .before .before .before .before .before .before .before .before .before .args .layout)) (c .before .before .before .before .before .before .before .before .before .before .before .before .args .start) (c .before .before .before .before .before .before .before .before .before .before .before .before .args .mode) (c .before .before .before .before .before .before .before .before .before .before .before .before .args .count) (c .before .before .before .before .before .before .before .before .before .before .before .before .args .s .now) (c .before .before .before .before .before .before .before .before .before .before .before .before .pre .1) (omega arith) (c .before .before .before .before .before .before .before .before .before .loop .at) (c .before .before .before .before .before .before .before .before .before .loop .due) _ _ (c .before .before .before .before .before .before .before .before .before .loop .inv)))
+    (λ c. omega (
+      arith,
+      walks.six-slots (c .before .before .before .before .before .before .before .before .before .before .before .before .args .deep)
+          (layoutOf (c .before .before .before .before .before .before .before .before .before .before .before .before .args .layout))
+          (c .before .before .before .before .before .before .before .before .before .before .before .before .args .start)
+          (c .before .before .before .before .before .before .before .before .before .before .before .before .args .mode)
+          (c .before .before .before .before .before .before .before .before .before .before .before .before .args .count)
+          (c .before .before .before .before .before .before .before .before .before .before .before .before .args .s .now)
+          (c .before .before .before .before .before .before .before .before .before .before .before .before .pre .1) (omega arith) (c .before .before .before .before .before .before .before .before .before .loop .at)
+          (c .before .before .before .before .before .before .before .before .before .loop .due) _ _ (c .before .before .before .before .before .before .before .before .before .loop .inv),
+    ))
     (λ c κs. search needs)
-    (λ c. omega (arith, walks.value-inside (c .before .before .before .before .before .before .before .before .before .before .before .before .before .args .deep) (layoutOf (c .before .before .before .before .before .before .before .before .before .before .before .before .before .args .layout)) (c .before .before .before .before .before .before .before .before .before .before .before .before .before .args .start) (c .before .before .before .before .before .before .before .before .before .before .before .before .before .args .mode) (c .before .before .before .before .before .before .before .before .before .before .before .before .before .args .count) (c .before .before .before .before .before .before .before .before .before .before .before .before .before .args .s .now) (c .before .before .before .before .before .before .before .before .before .before .before .before .before .pre .1) (omega arith) (c .before .before .before .before .before .before .before .before .before .before .loop .at) (c .before .before .before .before .before .before .before .before .before .before .loop .due) _ _ (c .before .before .before .before .before .before .before .before .before .before .loop .inv) _ (c .before .before .before .before .before .before .before .before .past-key .ensures) _ (c .before .before .before .before .before .before .k .given .1)))
-    (λ c. walks.six-slots (c .before .before .before .before .before .before .before .before .before .before .before .before .before .before .args .deep) (layoutOf (c .before .before .before .before .before .before .before .before .before .before .before .before .before .before .args .layout)) (c .before .before .before .before .before .before .before .before .before .before .before .before .before .before .args .start) (c .before .before .before .before .before .before .before .before .before .before .before .before .before .before .args .mode) (c .before .before .before .before .before .before .before .before .before .before .before .before .before .before .args .count) (c .before .before .before .before .before .before .before .before .before .before .before .before .before .before .args .s .now) (c .before .before .before .before .before .before .before .before .before .before .before .before .before .before .pre .1) (omega arith) (c .before .before .before .before .before .before .before .before .before .before .before .loop .at) (c .before .before .before .before .before .before .before .before .before .before .before .loop .due) _ _ (c .before .before .before .before .before .before .before .before .before .before .before .loop .inv) ∙ sym (ap length (c .before .before .before .before .before .before .before .before .before .before .before .before .before .before .pre .0)))
-    (λ c. walks.value-faulty (c .before .before .before .before .before .before .before .before .before .before .before .before .before .before .args .deep) (layoutOf (c .before .before .before .before .before .before .before .before .before .before .before .before .before .before .args .layout)) (c .before .before .before .before .before .before .before .before .before .before .before .before .before .before .args .start) (c .before .before .before .before .before .before .before .before .before .before .before .before .before .before .args .mode) (c .before .before .before .before .before .before .before .before .before .before .before .before .before .before .args .count) (c .before .before .before .before .before .before .before .before .before .before .before .before .before .before .args .s .now) (c .before .before .before .before .before .before .before .before .before .before .before .before .before .before .pre .1) (omega arith) (c .before .before .before .before .before .before .before .before .before .before .before .loop .at) (c .before .before .before .before .before .before .before .before .before .before .before .loop .due) _ _ (c .before .before .before .before .before .before .before .before .before .before .before .loop .inv) _ (c .before .before .before .before .before .before .before .before .before .past-key .ensures) _ (c .before .before .before .before .before .before .before .k .given .1) _ (c .before .value .ensures .0) (c .if2 .taken) _)
-    (λ c. omega (arith, walks.value-inside (c .before .before .before .before .before .before .before .before .before .before .before .before .before .before .before .args .deep) (layoutOf (c .before .before .before .before .before .before .before .before .before .before .before .before .before .before .before .args .layout)) (c .before .before .before .before .before .before .before .before .before .before .before .before .before .before .before .args .start) (c .before .before .before .before .before .before .before .before .before .before .before .before .before .before .before .args .mode) (c .before .before .before .before .before .before .before .before .before .before .before .before .before .before .before .args .count) (c .before .before .before .before .before .before .before .before .before .before .before .before .before .before .before .args .s .now) (c .before .before .before .before .before .before .before .before .before .before .before .before .before .before .before .pre .1) (omega arith) (c .before .before .before .before .before .before .before .before .before .before .before .before .loop .at) (c .before .before .before .before .before .before .before .before .before .before .before .before .loop .due) _ _ (c .before .before .before .before .before .before .before .before .before .before .before .before .loop .inv) _ (c .before .before .before .before .before .before .before .before .before .before .past-key .ensures) _ (c .before .before .before .before .before .before .before .before .k .given .1)))
-    (λ c κs. (let z = walks.six-slots (c .before .before .before .before .before .before .before .before .before .before .before .before .before .before .before .args .deep) (layoutOf (c .before .before .before .before .before .before .before .before .before .before .before .before .before .before .before .args .layout)) (c .before .before .before .before .before .before .before .before .before .before .before .before .before .before .before .args .start) (c .before .before .before .before .before .before .before .before .before .before .before .before .before .before .before .args .mode) (c .before .before .before .before .before .before .before .before .before .before .before .before .before .before .before .args .count) (c .before .before .before .before .before .before .before .before .before .before .before .before .before .before .before .args .s .now) (c .before .before .before .before .before .before .before .before .before .before .before .before .before .before .before .pre .1) (omega arith) (c .before .before .before .before .before .before .before .before .before .before .before .before .loop .at) (c .before .before .before .before .before .before .before .before .before .before .before .before .loop .due) _ _ (c .before .before .before .before .before .before .before .before .before .before .before .before .loop .inv) in omega arith, (c .before .before .before .before .before .slot .ensures .0)))
-    (λ c. omega (arith, walks.value-inside (c .before .before .before .before .before .before .before .before .before .before .before .before .before .before .before .before .before .before .args .deep) (layoutOf (c .before .before .before .before .before .before .before .before .before .before .before .before .before .before .before .before .before .before .args .layout)) (c .before .before .before .before .before .before .before .before .before .before .before .before .before .before .before .before .before .before .args .start) (c .before .before .before .before .before .before .before .before .before .before .before .before .before .before .before .before .before .before .args .mode) (c .before .before .before .before .before .before .before .before .before .before .before .before .before .before .before .before .before .before .args .count) (c .before .before .before .before .before .before .before .before .before .before .before .before .before .before .before .before .before .before .args .s .now) (c .before .before .before .before .before .before .before .before .before .before .before .before .before .before .before .before .before .before .pre .1) (omega arith) (c .before .before .before .before .before .before .before .before .before .before .before .before .before .before .before .loop .at) (c .before .before .before .before .before .before .before .before .before .before .before .before .before .before .before .loop .due) _ _ (c .before .before .before .before .before .before .before .before .before .before .before .before .before .before .before .loop .inv) _ (c .before .before .before .before .before .before .before .before .before .before .before .before .before .past-key .ensures) _ (c .before .before .before .before .before .before .before .before .before .before .before .k .given .1)))
-    (λ c. omega (arith, walks.two-due (c .before .before .before .before .before .before .before .before .before .before .before .before .before .before .before .before .before .before .args .deep) (layoutOf (c .before .before .before .before .before .before .before .before .before .before .before .before .before .before .before .before .before .before .args .layout)) (c .before .before .before .before .before .before .before .before .before .before .before .before .before .before .before .before .before .before .args .start) (c .before .before .before .before .before .before .before .before .before .before .before .before .before .before .before .before .before .before .args .mode) (c .before .before .before .before .before .before .before .before .before .before .before .before .before .before .before .before .before .before .args .count) (c .before .before .before .before .before .before .before .before .before .before .before .before .before .before .before .before .before .before .args .s .now) (c .before .before .before .before .before .before .before .before .before .before .before .before .before .before .before .before .before .before .pre .1) (omega arith) (c .before .before .before .before .before .before .before .before .before .before .before .before .before .before .before .loop .at) (c .before .before .before .before .before .before .before .before .before .before .before .before .before .before .before .loop .due) _ _ (c .before .before .before .before .before .before .before .before .before .before .before .before .before .before .before .loop .inv) _ (c .before .before .before .before .before .before .before .before .before .before .before .before .before .past-key .ensures) _ (c .before .before .before .before .before .before .before .before .before .before .before .k .given .1) _ (c .before .before .before .before .before .value .ensures .0)))
-    (λ c. omega (arith, walks.value-inside (c .before .before .before .before .before .before .before .before .before .before .before .before .before .before .before .before .before .before .args .deep) (layoutOf (c .before .before .before .before .before .before .before .before .before .before .before .before .before .before .before .before .before .before .args .layout)) (c .before .before .before .before .before .before .before .before .before .before .before .before .before .before .before .before .before .before .args .start) (c .before .before .before .before .before .before .before .before .before .before .before .before .before .before .before .before .before .before .args .mode) (c .before .before .before .before .before .before .before .before .before .before .before .before .before .before .before .before .before .before .args .count) (c .before .before .before .before .before .before .before .before .before .before .before .before .before .before .before .before .before .before .args .s .now) (c .before .before .before .before .before .before .before .before .before .before .before .before .before .before .before .before .before .before .pre .1) (omega arith) (c .before .before .before .before .before .before .before .before .before .before .before .before .before .before .before .loop .at) (c .before .before .before .before .before .before .before .before .before .before .before .before .before .before .before .loop .due) _ _ (c .before .before .before .before .before .before .before .before .before .before .before .before .before .before .before .loop .inv) _ (c .before .before .before .before .before .before .before .before .before .before .before .before .before .past-key .ensures) _ (c .before .before .before .before .before .before .before .before .before .before .before .k .given .1), walks.goes-on (c .before .before .before .before .before .before .before .before .before .before .before .before .before .before .before .before .before .before .args .deep) (layoutOf (c .before .before .before .before .before .before .before .before .before .before .before .before .before .before .before .before .before .before .args .layout)) (c .before .before .before .before .before .before .before .before .before .before .before .before .before .before .before .before .before .before .args .start) (c .before .before .before .before .before .before .before .before .before .before .before .before .before .before .before .before .before .before .args .mode) (c .before .before .before .before .before .before .before .before .before .before .before .before .before .before .before .before .before .before .args .count) (c .before .before .before .before .before .before .before .before .before .before .before .before .before .before .before .before .before .before .args .s .now) (c .before .before .before .before .before .before .before .before .before .before .before .before .before .before .before .before .before .before .pre .1) (omega arith) (c .before .before .before .before .before .before .before .before .before .before .before .before .before .before .before .loop .at) (c .before .before .before .before .before .before .before .before .before .before .before .before .before .before .before .loop .due) _ _ (c .before .before .before .before .before .before .before .before .before .before .before .before .before .before .before .loop .inv) _ (c .before .before .before .before .before .before .before .before .before .before .before .before .before .past-key .ensures) _ (c .before .before .before .before .before .before .before .before .before .before .before .k .given .1) _ (c .before .before .before .before .before .value .ensures .0) (c .before .before .before .before .if2 .left)))
-    (λ c. walks.loops-on (c .before .before .before .before .before .before .before .before .before .before .before .before .before .before .before .before .before .before .args .deep) (layoutOf (c .before .before .before .before .before .before .before .before .before .before .before .before .before .before .before .before .before .before .args .layout)) (c .before .before .before .before .before .before .before .before .before .before .before .before .before .before .before .before .before .before .args .start) (c .before .before .before .before .before .before .before .before .before .before .before .before .before .before .before .before .before .before .args .mode) (c .before .before .before .before .before .before .before .before .before .before .before .before .before .before .before .before .before .before .args .count) (c .before .before .before .before .before .before .before .before .before .before .before .before .before .before .before .before .before .before .args .s .now) (c .before .before .before .before .before .before .before .before .before .before .before .before .before .before .before .before .before .before .pre .1) (omega arith) (c .before .before .before .before .before .before .before .before .before .before .before .before .before .before .before .loop .at) (c .before .before .before .before .before .before .before .before .before .before .before .before .before .before .before .loop .due) _ _ (c .before .before .before .before .before .before .before .before .before .before .before .before .before .before .before .loop .inv) _ (c .before .before .before .before .before .before .before .before .before .before .before .before .before .past-key .ensures) _ (c .before .before .before .before .before .before .before .before .before .before .before .k .given .1) _ (c .before .before .before .before .before .value .ensures .0) (c .before .before .before .before .if2 .left) _ (c .before .before .before .before .before .before .before .before .slot .ensures .1) _ (c .before .before .before .before .before .value .ensures .1) _ (c .before .before .mark .ensures)))
+    (λ c. omega (
+      arith,
+      walks.value-inside (c .before .before .before .before .before .before .before .before .before .before .before .before .before .args .deep)
+          (layoutOf (c .before .before .before .before .before .before .before .before .before .before .before .before .before .args .layout))
+          (c .before .before .before .before .before .before .before .before .before .before .before .before .before .args .start)
+          (c .before .before .before .before .before .before .before .before .before .before .before .before .before .args .mode)
+          (c .before .before .before .before .before .before .before .before .before .before .before .before .before .args .count)
+          (c .before .before .before .before .before .before .before .before .before .before .before .before .before .args .s .now)
+          (c .before .before .before .before .before .before .before .before .before .before .before .before .before .pre .1) (omega arith)
+          (c .before .before .before .before .before .before .before .before .before .before .loop .at) (c .before .before .before .before .before .before .before .before .before .before .loop .due) _ _
+          (c .before .before .before .before .before .before .before .before .before .before .loop .inv) _ (c .before .before .before .before .before .before .before .before .past-key .ensures) _
+          (c .before .before .before .before .before .before .k .given .1),
+    ))
+    (λ c. walks.six-slots (c .before .before .before .before .before .before .before .before .before .before .before .before .before .before .args .deep)
+    (layoutOf (c .before .before .before .before .before .before .before .before .before .before .before .before .before .before .args .layout))
+    (c .before .before .before .before .before .before .before .before .before .before .before .before .before .before .args .start)
+    (c .before .before .before .before .before .before .before .before .before .before .before .before .before .before .args .mode)
+    (c .before .before .before .before .before .before .before .before .before .before .before .before .before .before .args .count)
+    (c .before .before .before .before .before .before .before .before .before .before .before .before .before .before .args .s .now)
+    (c .before .before .before .before .before .before .before .before .before .before .before .before .before .before .pre .1) (omega arith)
+    (c .before .before .before .before .before .before .before .before .before .before .before .loop .at)
+    (c .before .before .before .before .before .before .before .before .before .before .before .loop .due) _ _
+    (c .before .before .before .before .before .before .before .before .before .before .before .loop .inv) ∙ sym
+    (ap length (c .before .before .before .before .before .before .before .before .before .before .before .before .before .before .pre .0)))
+    (λ c. walks.value-faulty (c .before .before .before .before .before .before .before .before .before .before .before .before .before .before .args .deep)
+    (layoutOf (c .before .before .before .before .before .before .before .before .before .before .before .before .before .before .args .layout))
+    (c .before .before .before .before .before .before .before .before .before .before .before .before .before .before .args .start)
+    (c .before .before .before .before .before .before .before .before .before .before .before .before .before .before .args .mode)
+    (c .before .before .before .before .before .before .before .before .before .before .before .before .before .before .args .count)
+    (c .before .before .before .before .before .before .before .before .before .before .before .before .before .before .args .s .now)
+    (c .before .before .before .before .before .before .before .before .before .before .before .before .before .before .pre .1) (omega arith)
+    (c .before .before .before .before .before .before .before .before .before .before .before .loop .at)
+    (c .before .before .before .before .before .before .before .before .before .before .before .loop .due) _ _
+    (c .before .before .before .before .before .before .before .before .before .before .before .loop .inv) _ (c .before .before .before .before .before .before .before .before .before .past-key .ensures)
+    _ (c .before .before .before .before .before .before .before .k .given .1) _ (c .before .value .ensures .0) (c .if2 .taken) _)
+    (λ c. omega (
+      arith,
+      walks.value-inside (c .before .before .before .before .before .before .before .before .before .before .before .before .before .before .before .args .deep)
+          (layoutOf (c .before .before .before .before .before .before .before .before .before .before .before .before .before .before .before .args .layout))
+          (c .before .before .before .before .before .before .before .before .before .before .before .before .before .before .before .args .start)
+          (c .before .before .before .before .before .before .before .before .before .before .before .before .before .before .before .args .mode)
+          (c .before .before .before .before .before .before .before .before .before .before .before .before .before .before .before .args .count)
+          (c .before .before .before .before .before .before .before .before .before .before .before .before .before .before .before .args .s .now)
+          (c .before .before .before .before .before .before .before .before .before .before .before .before .before .before .before .pre .1) (omega arith)
+          (c .before .before .before .before .before .before .before .before .before .before .before .before .loop .at) (c .before .before .before .before .before .before .before .before .before .before .before .before .loop .due)
+          _ _ (c .before .before .before .before .before .before .before .before .before .before .before .before .loop .inv) _ (c .before .before .before .before .before .before .before .before .before .before .past-key .ensures)
+          _ (c .before .before .before .before .before .before .before .before .k .given .1),
+    ))
+    (λ c κs. (
+      let z = walks.six-slots (c .before .before .before .before .before .before .before .before .before .before .before .before .before .before .before .args .deep)
+          (layoutOf (c .before .before .before .before .before .before .before .before .before .before .before .before .before .before .before .args .layout))
+          (c .before .before .before .before .before .before .before .before .before .before .before .before .before .before .before .args .start)
+          (c .before .before .before .before .before .before .before .before .before .before .before .before .before .before .before .args .mode)
+          (c .before .before .before .before .before .before .before .before .before .before .before .before .before .before .before .args .count)
+          (c .before .before .before .before .before .before .before .before .before .before .before .before .before .before .before .args .s .now)
+          (c .before .before .before .before .before .before .before .before .before .before .before .before .before .before .before .pre .1) (omega arith)
+          (c .before .before .before .before .before .before .before .before .before .before .before .before .loop .at) (c .before .before .before .before .before .before .before .before .before .before .before .before .loop .due)
+          _ _ (c .before .before .before .before .before .before .before .before .before .before .before .before .loop .inv) in omega arith,
+      (c .before .before .before .before .before .slot .ensures .0),
+    ))
+    (λ c. omega (
+      arith,
+      walks.value-inside (c .before .before .before .before .before .before .before .before .before .before .before .before .before .before .before .before .before .before .args .deep)
+          (layoutOf (c .before .before .before .before .before .before .before .before .before .before .before .before .before .before .before .before .before .before .args .layout))
+          (c .before .before .before .before .before .before .before .before .before .before .before .before .before .before .before .before .before .before .args .start)
+          (c .before .before .before .before .before .before .before .before .before .before .before .before .before .before .before .before .before .before .args .mode)
+          (c .before .before .before .before .before .before .before .before .before .before .before .before .before .before .before .before .before .before .args .count)
+          (c .before .before .before .before .before .before .before .before .before .before .before .before .before .before .before .before .before .before .args .s .now)
+          (c .before .before .before .before .before .before .before .before .before .before .before .before .before .before .before .before .before .before .pre .1) (omega arith)
+          (c .before .before .before .before .before .before .before .before .before .before .before .before .before .before .before .loop .at)
+          (c .before .before .before .before .before .before .before .before .before .before .before .before .before .before .before .loop .due) _ _
+          (c .before .before .before .before .before .before .before .before .before .before .before .before .before .before .before .loop .inv) _
+          (c .before .before .before .before .before .before .before .before .before .before .before .before .before .past-key .ensures) _
+          (c .before .before .before .before .before .before .before .before .before .before .before .k .given .1),
+    ))
+    (λ c. omega (
+      arith,
+      walks.two-due (c .before .before .before .before .before .before .before .before .before .before .before .before .before .before .before .before .before .before .args .deep)
+          (layoutOf (c .before .before .before .before .before .before .before .before .before .before .before .before .before .before .before .before .before .before .args .layout))
+          (c .before .before .before .before .before .before .before .before .before .before .before .before .before .before .before .before .before .before .args .start)
+          (c .before .before .before .before .before .before .before .before .before .before .before .before .before .before .before .before .before .before .args .mode)
+          (c .before .before .before .before .before .before .before .before .before .before .before .before .before .before .before .before .before .before .args .count)
+          (c .before .before .before .before .before .before .before .before .before .before .before .before .before .before .before .before .before .before .args .s .now)
+          (c .before .before .before .before .before .before .before .before .before .before .before .before .before .before .before .before .before .before .pre .1) (omega arith)
+          (c .before .before .before .before .before .before .before .before .before .before .before .before .before .before .before .loop .at)
+          (c .before .before .before .before .before .before .before .before .before .before .before .before .before .before .before .loop .due) _ _
+          (c .before .before .before .before .before .before .before .before .before .before .before .before .before .before .before .loop .inv) _
+          (c .before .before .before .before .before .before .before .before .before .before .before .before .before .past-key .ensures) _
+          (c .before .before .before .before .before .before .before .before .before .before .before .k .given .1) _ (c .before .before .before .before .before .value .ensures .0),
+    ))
+    (λ c. omega (
+      arith,
+      walks.value-inside (c .before .before .before .before .before .before .before .before .before .before .before .before .before .before .before .before .before .before .args .deep)
+          (layoutOf (c .before .before .before .before .before .before .before .before .before .before .before .before .before .before .before .before .before .before .args .layout))
+          (c .before .before .before .before .before .before .before .before .before .before .before .before .before .before .before .before .before .before .args .start)
+          (c .before .before .before .before .before .before .before .before .before .before .before .before .before .before .before .before .before .before .args .mode)
+          (c .before .before .before .before .before .before .before .before .before .before .before .before .before .before .before .before .before .before .args .count)
+          (c .before .before .before .before .before .before .before .before .before .before .before .before .before .before .before .before .before .before .args .s .now)
+          (c .before .before .before .before .before .before .before .before .before .before .before .before .before .before .before .before .before .before .pre .1) (omega arith)
+          (c .before .before .before .before .before .before .before .before .before .before .before .before .before .before .before .loop .at)
+          (c .before .before .before .before .before .before .before .before .before .before .before .before .before .before .before .loop .due) _ _
+          (c .before .before .before .before .before .before .before .before .before .before .before .before .before .before .before .loop .inv) _
+          (c .before .before .before .before .before .before .before .before .before .before .before .before .before .past-key .ensures) _
+          (c .before .before .before .before .before .before .before .before .before .before .before .k .given .1),
+      walks.goes-on
+          (c .before .before .before .before .before .before .before .before .before .before .before .before .before .before .before .before .before .before .args .deep)
+          (layoutOf (c .before .before .before .before .before .before .before .before .before .before .before .before .before .before .before .before .before .before .args .layout))
+          (c .before .before .before .before .before .before .before .before .before .before .before .before .before .before .before .before .before .before .args .start)
+          (c .before .before .before .before .before .before .before .before .before .before .before .before .before .before .before .before .before .before .args .mode)
+          (c .before .before .before .before .before .before .before .before .before .before .before .before .before .before .before .before .before .before .args .count)
+          (c .before .before .before .before .before .before .before .before .before .before .before .before .before .before .before .before .before .before .args .s .now)
+          (c .before .before .before .before .before .before .before .before .before .before .before .before .before .before .before .before .before .before .pre .1) (omega arith)
+          (c .before .before .before .before .before .before .before .before .before .before .before .before .before .before .before .loop .at)
+          (c .before .before .before .before .before .before .before .before .before .before .before .before .before .before .before .loop .due) _ _
+          (c .before .before .before .before .before .before .before .before .before .before .before .before .before .before .before .loop .inv) _
+          (c .before .before .before .before .before .before .before .before .before .before .before .before .before .past-key .ensures) _
+          (c .before .before .before .before .before .before .before .before .before .before .before .k .given .1) _ (c .before .before .before .before .before .value .ensures .0) (c .before .before .before .before .if2 .left),
+    ))
+    (λ c. walks.loops-on (c .before .before .before .before .before .before .before .before .before .before .before .before .before .before .before .before .before .before .args .deep)
+    (layoutOf (c .before .before .before .before .before .before .before .before .before .before .before .before .before .before .before .before .before .before .args .layout))
+    (c .before .before .before .before .before .before .before .before .before .before .before .before .before .before .before .before .before .before .args .start)
+    (c .before .before .before .before .before .before .before .before .before .before .before .before .before .before .before .before .before .before .args .mode)
+    (c .before .before .before .before .before .before .before .before .before .before .before .before .before .before .before .before .before .before .args .count)
+    (c .before .before .before .before .before .before .before .before .before .before .before .before .before .before .before .before .before .before .args .s .now)
+    (c .before .before .before .before .before .before .before .before .before .before .before .before .before .before .before .before .before .before .pre .1) (omega arith)
+    (c .before .before .before .before .before .before .before .before .before .before .before .before .before .before .before .loop .at)
+    (c .before .before .before .before .before .before .before .before .before .before .before .before .before .before .before .loop .due) _ _
+    (c .before .before .before .before .before .before .before .before .before .before .before .before .before .before .before .loop .inv) _
+    (c .before .before .before .before .before .before .before .before .before .before .before .before .before .past-key .ensures) _
+    (c .before .before .before .before .before .before .before .before .before .before .before .k .given .1) _ (c .before .before .before .before .before .value .ensures .0)
+    (c .before .before .before .before .if2 .left) _ (c .before .before .before .before .before .before .before .before .slot .ensures .1) _ (c .before .before .before .before .before .value .ensures .1)
+    _ (c .before .before .mark .ensures)))

@@ -17,9 +17,11 @@ value-spec =
     (λ c. search needs)
     (λ c. search needs)
     (λ c κs. search needs)
-    (λ c. ((c .objects .ensures .0) ∙ ap (λ u. code (itemEnd 31 u)) (part-to-end (c .before .before .before .before .before .args .c .now) 0), walks.first-objects (c .before .before .before .before .before .args .deep) (layoutOf (c .before .before .before .before .before .args .layout)) _ _ _ (c .before .before .before .before .before .args .c .now) (c .before .before .before .before .before .args .found) (c .before .before .before .if1 .taken) (c .before .before .if2 .taken) _ (c .objects .ensures .1)))
+    (λ c. let b2 = c .before .before in let b3 = b2 .before in let a = b3 .before .before .args in
+    ((c .objects .ensures .0) ∙ ap (λ u. code (itemEnd 31 u)) (part-to-end (a .c .now) 0), walks.first-objects (a .deep) (layoutOf (a .layout)) _ _ _ (a .c .now) (a .found) (b3 .if1 .taken) (b2 .if2 .taken) _ (c .objects .ensures .1)))
     (λ c. search needs)
     (λ c. search needs)
     (λ c. search needs)
     (λ c κs. search needs)
-    (λ c. ((c .skip .ensures) ∙ ap (λ u. code (itemEnd 31 u)) (part-to-end (c .before .before .before .before .args .c .now) 0), walks.other-value (c .before .before .before .before .args .deep) (layoutOf (c .before .before .before .before .args .layout)) _ _ _ (c .before .before .before .before .args .c .now) (c .before .before .before .before .args .found) (λ a b. ⊎-elim (λ y. y .1 .left b) (λ y. y .left a) (c .before .before .if1 .came)))))
+    (λ c. let b2 = c .before .before in let a′ = b2 .before .before .args in
+    ((c .skip .ensures) ∙ ap (λ u. code (itemEnd 31 u)) (part-to-end (a′ .c .now) 0), walks.other-value (a′ .deep) (layoutOf (a′ .layout)) _ _ _ (a′ .c .now) (a′ .found) (λ a b. ⊎-elim (λ y. y .1 .left b) (λ y. y .left a) (b2 .if1 .came)))))

@@ -18,10 +18,19 @@ a-map-spec =
     (λ c. law.empty-no-map ((c .before .before .args .levels)) ((c .before .before .args .s .now)) ((c .if1 .taken)))
     (λ c. search needs)
     (λ c κs. search needs)
-    (λ c. law.other-no-map ((c .before .before .before .before .before .args .levels)) ((c .before .before .before .before .before .args .s .now)) ((c .before .before .before .if1 .left)) (λ e. (c .if2 .taken) ((c .before .major-of .ensures) ∙ e)))
+    (λ c. let b3 = c .before .before .before in let a = b3 .before .before .args in
+    law.other-no-map ((a .levels)) ((a .s .now)) ((b3 .if1 .left)) (λ e. (c .if2 .taken) ((c .before .major-of .ensures) ∙ e)))
     (λ c. search needs)
     (λ c. search needs)
     (λ c. search needs)
     (λ c κs. search needs)
-    (λ c. law.map-fills ((c .before .before .before .before .before .before .before .before .args .levels)) ((c .before .before .before .before .before .before .before .before .args .s .now)) ((c .before .before .before .before .before .before .if1 .left)) (sym ((c .before .before .before .before .major-of .ensures)) ∙ (c .before .before .before .if2 .left)) (let g = ((c .before .before .before .before .before .before .before .before .good)) in omega arith) ((c .before .skip .result)) ((c .before .skip .ensures) ∙ ap (λ (s : List ℕ). code (ending s (item noNote ((c .before .before .before .before .before .before .before .before .args .levels)) s))) (part-to-end ((c .before .before .before .before .before .before .before .before .args .s .now)) 0)) ((c .if3 .taken)))
-    (λ c. law.by-deep ((c .before .before .before .before .before .before .before .before .args .levels)) ((c .before .before .before .before .before .before .before .before .args .s .now)) ((c .before .before .before .before .before .before .if1 .left)) (sym ((c .before .before .before .before .major-of .ensures)) ∙ (c .before .before .before .if2 .left)) (let g = ((c .before .before .before .before .before .before .before .before .good)) in omega arith) ((c .before .skip .result)) ((c .before .skip .ensures) ∙ ap (λ (s : List ℕ). code (ending s (item noNote ((c .before .before .before .before .before .before .before .before .args .levels)) s))) (part-to-end ((c .before .before .before .before .before .before .before .before .args .s .now)) 0)) ((c .if3 .left))))
+    (λ c. let a = c .before .before .before .before .before .before .before .before .args in
+    law.map-fills ((a .levels)) ((a .s .now)) ((c .before .before .before .before .before .before .if1 .left))
+    (sym ((c .before .before .before .before .major-of .ensures)) ∙ (c .before .before .before .if2 .left))
+    (let g = ((c .before .before .before .before .before .before .before .before .good)) in omega arith) ((c .before .skip .result))
+    ((c .before .skip .ensures) ∙ ap (λ (s : List ℕ). code (ending s (item noNote ((a .levels)) s))) (part-to-end ((a .s .now)) 0)) ((c .if3 .taken)))
+    (λ c. let a = c .before .before .before .before .before .before .before .before .args in
+    law.by-deep ((a .levels)) ((a .s .now)) ((c .before .before .before .before .before .before .if1 .left))
+    (sym ((c .before .before .before .before .major-of .ensures)) ∙ (c .before .before .before .if2 .left))
+    (let g = ((c .before .before .before .before .before .before .before .before .good)) in omega arith) ((c .before .skip .result))
+    ((c .before .skip .ensures) ∙ ap (λ (s : List ℕ). code (ending s (item noNote ((a .levels)) s))) (part-to-end ((a .s .now)) 0)) ((c .if3 .left))))

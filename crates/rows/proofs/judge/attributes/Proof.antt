@@ -14,12 +14,20 @@ attributes-spec =
     tie.close
     (tie.spec
     (λ c κs. search needs)
-    (λ c. law.attributes-outside ((c .before .before .before .args .buffer .now)) ((c .before .before .before .args .levels)) ((c .before .before .before .args .place)) ((c .before .before .before .args .size)) (sym ((c .before .inside .ensures)) ∙ not-true _ ((c .if1 .taken))))
+    (λ c. let a = c .before .before .before .args in
+    law.attributes-outside ((a .buffer .now)) ((a .levels)) ((a .place)) ((a .size)) (sym ((c .before .inside .ensures)) ∙ not-true _ ((c .if1 .taken))))
     (λ c κs. search needs)
-    (λ c. law.attributes-absent ((c .before .before .before .before .before .args .buffer .now)) ((c .before .before .before .before .before .args .levels)) ((c .before .before .before .before .before .args .place)) ((c .before .before .before .before .before .args .size)) (sym ((c .before .before .before .inside .ensures)) ∙ not-false _ ((c .before .before .if1 .left))) (sym ((c .before .absent .ensures)) ∙ (c .if2 .taken)))
-    (λ c. let g = ((c .before .before .before .before .before .good)) in omega (arith, leb-true ((c .before .before .before .before .before .args .place) + (c .before .before .before .before .before .args .size)) (length ((c .before .before .before .before .before .args .buffer .now))) (sym ((c .before .before .before .inside .ensures)) ∙ not-false _ ((c .before .before .if1 .left)))))
-    (λ c. let g = ((c .before .before .before .before .before .good)) in omega (arith, leb-true ((c .before .before .before .before .before .args .place) + (c .before .before .before .before .before .args .size)) (length ((c .before .before .before .before .before .args .buffer .now))) (sym ((c .before .before .before .inside .ensures)) ∙ not-false _ ((c .before .before .if1 .left)))))
-    (λ c. let g = ((c .before .before .before .before .before .good)) in omega (arith, leb-true ((c .before .before .before .before .before .args .place) + (c .before .before .before .before .before .args .size)) (length ((c .before .before .before .before .before .args .buffer .now))) (sym ((c .before .before .before .inside .ensures)) ∙ not-false _ ((c .before .before .if1 .left)))))
-    (λ c. let g = ((c .before .before .before .before .before .good)) in omega (arith, leb-true ((c .before .before .before .before .before .args .place) + (c .before .before .before .before .before .args .size)) (length ((c .before .before .before .before .before .args .buffer .now))) (sym ((c .before .before .before .inside .ensures)) ∙ not-false _ ((c .before .before .if1 .left)))))
+    (λ c. let b2 = c .before .before in let b3 = b2 .before in let a = b3 .before .before .args in
+    law.attributes-absent ((a .buffer .now)) ((a .levels)) ((a .place)) ((a .size)) (sym ((b3 .inside .ensures)) ∙ not-false _ ((b2 .if1 .left))) (sym ((c .before .absent .ensures)) ∙ (c .if2 .taken)))
+    (λ c. let b2 = c .before .before in let b3 = b2 .before in let b5 = b3 .before .before in let a = b5 .args in
+    let g = ((b5 .good)) in omega (arith, leb-true ((a .place) + (a .size)) (length ((a .buffer .now))) (sym ((b3 .inside .ensures)) ∙ not-false _ ((b2 .if1 .left)))))
+    (λ c. let b2 = c .before .before in let b3 = b2 .before in let b5 = b3 .before .before in let a = b5 .args in
+    let g = ((b5 .good)) in omega (arith, leb-true ((a .place) + (a .size)) (length ((a .buffer .now))) (sym ((b3 .inside .ensures)) ∙ not-false _ ((b2 .if1 .left)))))
+    (λ c. let b2 = c .before .before in let b3 = b2 .before in let b5 = b3 .before .before in let a = b5 .args in
+    let g = ((b5 .good)) in omega (arith, leb-true ((a .place) + (a .size)) (length ((a .buffer .now))) (sym ((b3 .inside .ensures)) ∙ not-false _ ((b2 .if1 .left)))))
+    (λ c. let b2 = c .before .before in let b3 = b2 .before in let b5 = b3 .before .before in let a = b5 .args in
+    let g = ((b5 .good)) in omega (arith, leb-true ((a .place) + (a .size)) (length ((a .buffer .now))) (sym ((b3 .inside .ensures)) ∙ not-false _ ((b2 .if1 .left)))))
     (λ c κs. search needs)
-    (λ c. (c .a-map .ensures) ∙ law.attributes-there ((c .before .before .before .before .before .before .before .args .buffer .now)) ((c .before .before .before .before .before .before .before .args .levels)) ((c .before .before .before .before .before .before .before .args .place)) ((c .before .before .before .before .before .before .before .args .size)) (sym ((c .before .before .before .before .before .inside .ensures)) ∙ not-false _ ((c .before .before .before .before .if1 .left))) (sym ((c .before .before .before .absent .ensures)) ∙ (c .before .before .if2 .left))))
+    (λ c. let b2 = c .before .before in let b3 = b2 .before in let b4 = b3 .before in let b5 = b4 .before in let a = b5 .before .before .args in
+    (c .a-map .ensures) ∙ law.attributes-there ((a .buffer .now)) ((a .levels)) ((a .place)) ((a .size)) (sym ((b5 .inside .ensures)) ∙ not-false _ ((b4 .if1 .left)))
+    (sym ((b3 .absent .ensures)) ∙ (b2 .if2 .left))))

@@ -36,6 +36,10 @@ components-spec =
     (λ c. search needs)
     (λ c. search needs)
     (λ c. search needs)
-    (λ c. (search needs, (c .before .before .before .before .before .loop .inv .1) ∙ law.all-go (componentSound ((c .before .before .before .before .before .before .before .before .args .buffer .now))) askedComponent componentWidth ((c .before .before .before .before .before .loop .left)) ((c .before .before .before .before .before .loop .at)) ((c .before .before .before .before .before .before .before .before .args .rows .now)) ((c .before .before .before .before .loop-test .taken)) (sym (lent-both ((c .before .before .before .before .before .before .before .before .args .buffer .now)) ((c .before .before .before .before .before .before .before .before .args .rows .now)) ((c .before .before .before .before .before .loop .at)) (λ b r. componentSound b (askedComponent r))) ∙ sym ((c .before .component .ensures)) ∙ (c .if1 .taken))))
-    (λ c. sym ((c .before .before .before .before .before .loop .inv .1) ∙ law.all-stop (componentSound ((c .before .before .before .before .before .before .before .before .args .buffer .now))) askedComponent componentWidth ((c .before .before .before .before .before .loop .left)) ((c .before .before .before .before .before .loop .at)) ((c .before .before .before .before .before .before .before .before .args .rows .now)) ((c .before .before .before .before .loop-test .taken)) (sym (lent-both ((c .before .before .before .before .before .before .before .before .args .buffer .now)) ((c .before .before .before .before .before .before .before .before .args .rows .now)) ((c .before .before .before .before .before .loop .at)) (λ b r. componentSound b (askedComponent r))) ∙ sym ((c .before .component .ensures)) ∙ (c .if1 .left))))
-    (λ c. sym ((c .before .loop .inv .1) ∙ law.all-of-none (componentSound ((c .before .before .before .before .args .buffer .now))) askedComponent componentWidth ((c .before .loop .left)) ((c .before .loop .at)) ((c .before .before .before .before .args .rows .now)) ((c .loop-test .left)))))
+    (λ c. let b4 = c .before .before .before .before in let b5 = b4 .before in let l = b5 .loop in let a = b5 .before .before .before .args in
+    (search needs, (l .inv .1) ∙ law.all-go (componentSound ((a .buffer .now))) askedComponent componentWidth ((l .left)) ((l .at)) ((a .rows .now)) ((b4 .loop-test .taken)) (sym (lent-both ((a .buffer .now)) ((a .rows .now)) ((l .at)) (λ b r. componentSound b (askedComponent r))) ∙ sym ((c .before .component .ensures)) ∙ (c .if1 .taken))))
+    (λ c. let b4 = c .before .before .before .before in let b5 = b4 .before in let l = b5 .loop in let a = b5 .before .before .before .args in
+    sym
+    ((l .inv .1) ∙ law.all-stop (componentSound ((a .buffer .now))) askedComponent componentWidth ((l .left)) ((l .at)) ((a .rows .now)) ((b4 .loop-test .taken)) (sym (lent-both ((a .buffer .now)) ((a .rows .now)) ((l .at)) (λ b r. componentSound b (askedComponent r))) ∙ sym ((c .before .component .ensures)) ∙ (c .if1 .left))))
+    (λ c. let l = c .before .loop in let a = c .before .before .before .before .args in
+    sym ((l .inv .1) ∙ law.all-of-none (componentSound ((a .buffer .now))) askedComponent componentWidth ((l .left)) ((l .at)) ((a .rows .now)) ((c .loop-test .left)))))

@@ -36,6 +36,10 @@ objects-spec =
     (λ c. search needs)
     (λ c. search needs)
     (λ c. search needs)
-    (λ c. (search needs, (c .before .before .before .before .before .loop .inv .1) ∙ law.all-go (objectSound ((c .before .before .before .before .before .before .before .before .args .buffer .now))) askedObject objectWidth ((c .before .before .before .before .before .loop .left)) ((c .before .before .before .before .before .loop .at)) ((c .before .before .before .before .before .before .before .before .args .rows .now)) ((c .before .before .before .before .loop-test .taken)) (sym (lent-both ((c .before .before .before .before .before .before .before .before .args .buffer .now)) ((c .before .before .before .before .before .before .before .before .args .rows .now)) ((c .before .before .before .before .before .loop .at)) (λ b r. objectSound b (askedObject r))) ∙ sym ((c .before .object .ensures)) ∙ (c .if1 .taken))))
-    (λ c. sym ((c .before .before .before .before .before .loop .inv .1) ∙ law.all-stop (objectSound ((c .before .before .before .before .before .before .before .before .args .buffer .now))) askedObject objectWidth ((c .before .before .before .before .before .loop .left)) ((c .before .before .before .before .before .loop .at)) ((c .before .before .before .before .before .before .before .before .args .rows .now)) ((c .before .before .before .before .loop-test .taken)) (sym (lent-both ((c .before .before .before .before .before .before .before .before .args .buffer .now)) ((c .before .before .before .before .before .before .before .before .args .rows .now)) ((c .before .before .before .before .before .loop .at)) (λ b r. objectSound b (askedObject r))) ∙ sym ((c .before .object .ensures)) ∙ (c .if1 .left))))
-    (λ c. sym ((c .before .loop .inv .1) ∙ law.all-of-none (objectSound ((c .before .before .before .before .args .buffer .now))) askedObject objectWidth ((c .before .loop .left)) ((c .before .loop .at)) ((c .before .before .before .before .args .rows .now)) ((c .loop-test .left)))))
+    (λ c. let b4 = c .before .before .before .before in let b5 = b4 .before in let l = b5 .loop in let a = b5 .before .before .before .args in
+    (search needs, (l .inv .1) ∙ law.all-go (objectSound ((a .buffer .now))) askedObject objectWidth ((l .left)) ((l .at)) ((a .rows .now)) ((b4 .loop-test .taken)) (sym (lent-both ((a .buffer .now)) ((a .rows .now)) ((l .at)) (λ b r. objectSound b (askedObject r))) ∙ sym ((c .before .object .ensures)) ∙ (c .if1 .taken))))
+    (λ c. let b4 = c .before .before .before .before in let b5 = b4 .before in let l = b5 .loop in let a = b5 .before .before .before .args in
+    sym
+    ((l .inv .1) ∙ law.all-stop (objectSound ((a .buffer .now))) askedObject objectWidth ((l .left)) ((l .at)) ((a .rows .now)) ((b4 .loop-test .taken)) (sym (lent-both ((a .buffer .now)) ((a .rows .now)) ((l .at)) (λ b r. objectSound b (askedObject r))) ∙ sym ((c .before .object .ensures)) ∙ (c .if1 .left))))
+    (λ c. let l = c .before .loop in let a = c .before .before .before .before .args in
+    sym ((l .inv .1) ∙ law.all-of-none (objectSound ((a .buffer .now))) askedObject objectWidth ((l .left)) ((l .at)) ((a .rows .now)) ((c .loop-test .left)))))

@@ -27,9 +27,12 @@ by-spec =
     (λ c. search needs)
     (λ c. search needs)
     (λ c. search needs)
-    (λ c. sym ((c .before .before .before .loop .inv .1) ∙ law.owned-by-another ((c .before .before .before .before .args .i)) ((c .before .before .before .loop .left)) ((c .before .before .before .loop .at)) ((c .before .before .before .before .args .rows .now)) ((c .before .before .loop-test .taken)) ((c .if1 .taken))))
+    (λ c. let b2 = c .before .before in let b3 = b2 .before in let l = b3 .loop in let a = b3 .before .args in
+    sym ((l .inv .1) ∙ law.owned-by-another ((a .i)) ((l .left)) ((l .at)) ((a .rows .now)) ((b2 .loop-test .taken)) ((c .if1 .taken))))
     (λ c. search needs)
     (λ c. search needs)
     (λ c. search needs)
-    (λ c. (search needs, (c .before .before .before .loop .inv .1) ∙ law.owned-by-it ((c .before .before .before .before .args .i)) ((c .before .before .before .loop .left)) ((c .before .before .before .loop .at)) ((c .before .before .before .before .args .rows .now)) ((c .before .before .loop-test .taken)) ((c .if1 .left))))
-    (λ c. sym ((c .before .loop .inv .1) ∙ law.owned-none ((c .before .before .args .i)) ((c .before .loop .left)) ((c .before .loop .at)) ((c .before .before .args .rows .now)) ((c .loop-test .left)))))
+    (λ c. let b2 = c .before .before in let b3 = b2 .before in let l = b3 .loop in let a = b3 .before .args in
+    (search needs, (l .inv .1) ∙ law.owned-by-it ((a .i)) ((l .left)) ((l .at)) ((a .rows .now)) ((b2 .loop-test .taken)) ((c .if1 .left))))
+    (λ c. let l = c .before .loop in let a = c .before .before .args in
+    sym ((l .inv .1) ∙ law.owned-none ((a .i)) ((l .left)) ((l .at)) ((a .rows .now)) ((c .loop-test .left)))))

@@ -27,11 +27,13 @@ in-order-spec =
     (tie.spec
     Inv-loop
     μ-loop
-    (λ c. (search needs, search needs, (let z : ((c .before .before .args .n)) ≡ ((c .before .before .args .n)) - 0 = omega arith in ap (λ (k : ℕ). same (owners 0 (eachRow askedObject objectWidth k ((c .before .before .args .objects .now)))) (ownersIn (eachRow askedComponent componentWidth ((c .before .before .args .all)) ((c .before .before .args .components .now))))) z)))
+    (λ c. let a = c .before .before .args in
+    (search needs, search needs, (let z : ((a .n)) ≡ ((a .n)) - 0 = omega arith in ap (λ (k : ℕ). same (owners 0 (eachRow askedObject objectWidth k ((a .objects .now)))) (ownersIn (eachRow askedComponent componentWidth ((a .all)) ((a .components .now))))) z)))
     (λ c. search needs)
     (λ c. search needs)
     (λ c. search needs)
-    (λ c. sym ((c .before .before .before .loop .inv .2) ∙ law.too-many ((c .before .before .before .loop .i)) ((c .before .before .before .before .before .before .args .n) - (c .before .before .before .loop .i)) ((c .before .before .before .loop .row)) ((c .before .before .before .loop .due)) ((c .before .before .before .loop .from)) ((c .before .before .before .before .before .before .args .objects .now)) ((c .before .before .before .before .before .before .args .components .now)) (omega (arith, (c .before .before .loop-test .taken))) ((c .if1 .taken))))
+    (λ c. let b2 = c .before .before in let b3 = b2 .before in let l = b3 .loop in let a = b3 .before .before .before .args in
+    sym ((l .inv .2) ∙ law.too-many ((l .i)) ((a .n) - (l .i)) ((l .row)) ((l .due)) ((l .from)) ((a .objects .now)) ((a .components .now)) (omega (arith, (b2 .loop-test .taken))) ((c .if1 .taken))))
     (λ c. search needs)
     (λ c. search needs)
     (λ c. search needs)
@@ -42,6 +44,21 @@ in-order-spec =
     (λ c. search needs)
     (λ c. search needs)
     (λ c. search needs)
-    (λ c. (search needs, search needs, (c .before .before .before .before .before .before .loop .inv .2) ∙ law.order-goes ((c .before .before .before .before .before .before .loop .i)) ((c .before .before .before .before .before .before .before .before .before .args .n) - (c .before .before .before .before .before .before .loop .i)) ((c .before .before .before .before .before .before .loop .row)) ((c .before .before .before .before .before .before .loop .due)) ((c .before .before .before .before .before .before .loop .from)) ((c .before .before .before .before .before .before .before .before .before .args .objects .now)) ((c .before .before .before .before .before .before .before .before .before .args .components .now)) (omega (arith, (c .before .before .before .before .before .loop-test .taken))) ((c .before .before .before .if1 .left)) (sym (ap (λ (s : List ℕ). same (replicate (getD ((c .before .before .before .before .before .before .before .before .before .args .objects .now)) ((c .before .before .before .before .before .before .loop .row) + countColumn) 0) ((c .before .before .before .before .before .before .loop .i))) (ownersIn (eachRow askedComponent componentWidth (getD ((c .before .before .before .before .before .before .before .before .before .args .objects .now)) ((c .before .before .before .before .before .before .loop .row) + countColumn) 0) s))) (part-to-end ((c .before .before .before .before .before .before .before .before .before .args .components .now)) ((c .before .before .before .before .before .before .loop .from)))) ∙ sym ((c .before .by .ensures)) ∙ (c .if2 .taken)) ∙ (let z : ((c .before .before .before .before .before .before .before .before .before .args .n)) - ((c .before .before .before .before .before .before .loop .i)) - 1 ≡ ((c .before .before .before .before .before .before .before .before .before .args .n)) - ((c .before .before .before .before .before .before .loop .i) + 1) = omega (arith, (c .before .before .before .before .before .loop-test .taken)) in ap (λ (k : ℕ). same (owners ((c .before .before .before .before .before .before .loop .i) + 1) (eachRow askedObject objectWidth k (drop ((c .before .before .before .before .before .before .loop .row) + objectWidth) ((c .before .before .before .before .before .before .before .before .before .args .objects .now))))) (ownersIn (eachRow askedComponent componentWidth ((c .before .before .before .before .before .before .loop .due) - getD ((c .before .before .before .before .before .before .before .before .before .args .objects .now)) ((c .before .before .before .before .before .before .loop .row) + countColumn) 0) (drop ((c .before .before .before .before .before .before .loop .from) + componentWidth * getD ((c .before .before .before .before .before .before .before .before .before .args .objects .now)) ((c .before .before .before .before .before .before .loop .row) + countColumn) 0) ((c .before .before .before .before .before .before .before .before .before .args .components .now)))))) z)))
-    (λ c. sym ((c .before .before .before .before .before .before .loop .inv .2) ∙ law.order-stops ((c .before .before .before .before .before .before .loop .i)) ((c .before .before .before .before .before .before .before .before .before .args .n) - (c .before .before .before .before .before .before .loop .i)) ((c .before .before .before .before .before .before .loop .row)) ((c .before .before .before .before .before .before .loop .due)) ((c .before .before .before .before .before .before .loop .from)) ((c .before .before .before .before .before .before .before .before .before .args .objects .now)) ((c .before .before .before .before .before .before .before .before .before .args .components .now)) (omega (arith, (c .before .before .before .before .before .loop-test .taken))) ((c .before .before .before .if1 .left)) (sym (ap (λ (s : List ℕ). same (replicate (getD ((c .before .before .before .before .before .before .before .before .before .args .objects .now)) ((c .before .before .before .before .before .before .loop .row) + countColumn) 0) ((c .before .before .before .before .before .before .loop .i))) (ownersIn (eachRow askedComponent componentWidth (getD ((c .before .before .before .before .before .before .before .before .before .args .objects .now)) ((c .before .before .before .before .before .before .loop .row) + countColumn) 0) s))) (part-to-end ((c .before .before .before .before .before .before .before .before .before .args .components .now)) ((c .before .before .before .before .before .before .loop .from)))) ∙ sym ((c .before .by .ensures)) ∙ (c .if2 .left))))
-    (λ c. law.none-due ((c .before .loop .i)) ((c .before .before .before .before .args .n) - (c .before .loop .i)) ((c .before .loop .row)) ((c .before .loop .due)) ((c .before .loop .from)) ((c .before .before .before .before .args .objects .now)) ((c .before .before .before .before .args .components .now)) (omega (arith, (c .loop-test .left))) ∙ sym ((c .before .loop .inv .2))))
+    (λ c. let b3 = c .before .before .before in let b5 = b3 .before .before in let b6 = b5 .before in let l = b6 .loop in let a = b6 .before .before .before .args in (
+      search needs,
+      search needs,
+      (l .inv .2) ∙ law.order-goes ((l .i)) ((a .n) - (l .i)) ((l .row)) ((l .due)) ((l .from)) ((a .objects .now)) ((a .components .now)) (omega (arith, (b5 .loop-test .taken))) ((b3 .if1 .left))
+          (sym (ap (λ (s : List ℕ). same (replicate (getD ((a .objects .now)) ((l .row) + countColumn) 0) ((l .i))) (ownersIn (eachRow askedComponent componentWidth (getD ((a .objects .now)) ((l .row) + countColumn) 0) s)))
+          (part-to-end ((a .components .now)) ((l .from)))) ∙ sym ((c .before .by .ensures)) ∙ (c .if2 .taken)) ∙
+          (let z : ((a .n)) - ((l .i)) - 1 ≡ ((a .n)) - ((l .i) + 1) = omega (arith, (b5 .loop-test .taken)) in ap
+          (λ (k : ℕ). same (owners ((l .i) + 1) (eachRow askedObject objectWidth k (drop ((l .row) + objectWidth) ((a .objects .now)))))
+          (ownersIn (eachRow askedComponent componentWidth ((l .due) - getD ((a .objects .now)) ((l .row) + countColumn) 0)
+          (drop ((l .from) + componentWidth * getD ((a .objects .now)) ((l .row) + countColumn) 0) ((a .components .now)))))) z),
+    ))
+    (λ c. let b3 = c .before .before .before in let b5 = b3 .before .before in let b6 = b5 .before in let l = b6 .loop in let a = b6 .before .before .before .args in
+    sym
+    ((l .inv .2) ∙ law.order-stops ((l .i)) ((a .n) - (l .i)) ((l .row)) ((l .due)) ((l .from)) ((a .objects .now)) ((a .components .now)) (omega (arith, (b5 .loop-test .taken))) ((b3 .if1 .left))
+    (sym (ap (λ (s : List ℕ). same (replicate (getD ((a .objects .now)) ((l .row) + countColumn) 0) ((l .i))) (ownersIn (eachRow askedComponent componentWidth (getD ((a .objects .now)) ((l .row) + countColumn) 0) s)))
+    (part-to-end ((a .components .now)) ((l .from)))) ∙ sym ((c .before .by .ensures)) ∙ (c .if2 .left))))
+    (λ c. let l = c .before .loop in let a = c .before .before .before .before .args in
+    law.none-due ((l .i)) ((a .n) - (l .i)) ((l .row)) ((l .due)) ((l .from)) ((a .objects .now)) ((a .components .now)) (omega (arith, (c .loop-test .left))) ∙ sym ((l .inv .2))))

@@ -48,19 +48,27 @@ capped-requires : tie.Need-capped-requires Inv-loop μ-loop
 capped-requires c κs = search needs
 
 add-stepped : tie.Need-add-stepped Inv-loop μ-loop
-add-stepped c = let l = (c .before .before .before .before .before .loop .inv .lie) in let g = (c .before .before .before .before .before .before .before .before .good) in omega (arith, l, (c .before .before .before .before .loop-test .taken))
+add-stepped c =
+    let b4 = c .before .before .before .before in let b5 = b4 .before in let l′ = b5 .loop in
+    let l = (l′ .inv .lie) in let g = (b5 .before .before .before .good) in omega (arith, l, (b4 .loop-test .taken))
 
 mul-stepped : tie.Need-mul-stepped Inv-loop μ-loop
 mul-stepped c = search needs
 
 shared-slice-read-stepped : tie.Need-shared-slice-read-stepped Inv-loop μ-loop
-shared-slice-read-stepped c = let l = (c .before .before .before .before .before .before .loop .inv .lie) in omega (arith, l, (c .before .before .before .before .before .loop-test .taken))
+shared-slice-read-stepped c =
+    let b5 = c .before .before .before .before .before in let l′ = b5 .before .loop in
+    let l = (l′ .inv .lie) in omega (arith, l, (b5 .loop-test .taken))
 
 stepped-requires : tie.Need-stepped-requires Inv-loop μ-loop
-stepped-requires c κs = turns.step-in-time ((c .before .before .before .before .before .before .loop .inv)) ((c .before .before .before .before .before .loop-test .taken))
+stepped-requires c κs =
+    let b5 = c .before .before .before .before .before in let l = b5 .before .loop in
+    turns.step-in-time ((l .inv)) ((b5 .loop-test .taken))
 
 add-at : tie.Need-add-at Inv-loop μ-loop
-add-at c = let l = (c .before .before .before .before .before .before .before .loop .inv .lie) in let g = (c .before .before .before .before .before .before .before .before .before .before .good) in omega (arith, l, (c .before .before .before .before .before .before .loop-test .taken))
+add-at c =
+    let b6 = c .before .before .before .before .before .before in let b7 = b6 .before in let l′ = b7 .loop in
+    let l = (l′ .inv .lie) in let g = (b7 .before .before .before .good) in omega (arith, l, (b6 .loop-test .taken))
 
 sub-left : tie.Need-sub-left Inv-loop μ-loop
 sub-left c = search needs
@@ -69,7 +77,9 @@ loop-less : tie.Need-loop-less Inv-loop μ-loop
 loop-less c = search needs
 
 loop-again : tie.Need-loop-again Inv-loop μ-loop
-loop-again c = turns.parts-turn ((c .before .before .before .before .before .before .before .loop .inv)) ((c .before .before .before .before .before .before .loop-test .taken)) ((c .before .before .before .before .before .offset-at .ensures)) ((c .before .before .before .component .ensures)) ((c .before .before .capped .ensures)) ((c .stepped .ensures))
+loop-again c =
+    let b2 = c .before .before in let b3 = b2 .before in let b5 = b3 .before .before in let b6 = b5 .before in let l = b6 .before .loop in
+    turns.parts-turn ((l .inv)) ((b6 .loop-test .taken)) ((b5 .offset-at .ensures)) ((b3 .component .ensures)) ((b2 .capped .ensures)) ((c .stepped .ensures))
 
 returns : tie.Need-returns Inv-loop μ-loop
 returns c = turns.all-parts ((c .before .loop .inv)) ((c .loop-test .left))

@@ -15,5 +15,7 @@ fixed-spec =
     (λ c κs. search needs)
     (λ c. omega (arith, (c .before .called .ensures .1), (c .head .ensures), heads.head-small ((c .before .before .args .offset))))
     (λ c κs. search needs)
-    (λ c. omega (arith, (c .before .before .called .ensures .1), (c .before .head .ensures), heads.head-small ((c .before .before .before .args .offset)), (c .head2 .ensures), heads.head-small ((c .before .before .before .args .size))))
-    (λ c. unfold fixedSize in (omega (arith, (c .before .before .called .ensures .0), (c .before .head .ensures), (c .head2 .ensures)), omega (arith, (c .before .before .called .ensures .1), (c .before .head .ensures), heads.head-small ((c .before .before .before .args .offset)), (c .head2 .ensures), heads.head-small ((c .before .before .before .args .size))))))
+    (λ c. let b2 = c .before .before in let a = b2 .before .args in
+    omega (arith, (b2 .called .ensures .1), (c .before .head .ensures), heads.head-small ((a .offset)), (c .head2 .ensures), heads.head-small ((a .size))))
+    (λ c. let b1 = c .before in let b2 = b1 .before in let a = b2 .before .args in
+    unfold fixedSize in (omega (arith, (b2 .called .ensures .0), (b1 .head .ensures), (c .head2 .ensures)), omega (arith, (b2 .called .ensures .1), (b1 .head .ensures), heads.head-small ((a .offset)), (c .head2 .ensures), heads.head-small ((a .size))))))

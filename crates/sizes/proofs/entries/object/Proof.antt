@@ -24,11 +24,14 @@ object-spec =
     (λ c. search needs)
     (λ c. search needs)
     (λ c. search needs)
-    (λ c κs. subst (λ (s : List ℕ). (objectWidth ≤ length s) × (getD s rankColumn 0 ≤ 8)) (sym (part-to-end ((c .before .before .before .before .before .before .args .row .now)) 0)) ((c .before .before .before .before .before .before .pre .0), (c .before .before .before .before .before .before .pre .1)))
+    (λ c κs. let b6 = c .before .before .before .before .before .before in let a = b6 .args in
+    subst (λ (s : List ℕ). (objectWidth ≤ length s) × (getD s rankColumn 0 ≤ 8)) (sym (part-to-end ((a .row .now)) 0)) ((b6 .pre .0), (b6 .pre .1)))
     (λ c. search needs)
     (λ c. search needs)
     (λ c. search needs)
     (λ c κs. search needs)
     (λ c. search needs)
     (λ c κs. search needs)
-    (λ c. (c .capped .ensures) ∙ law.object-sum ((c .before .before .before .before .before .before .before .before .before .before .before .args .row .now)) ((c .before .before .before .before .before .before .before .before .text .result)) ((c .before .before .before .before .before .before .text2 .result)) ((c .before .before .before .before .dimensions .result)) ((c .before .attributes .result)) ((c .before .before .before .before .before .before .before .before .text .ensures)) ((c .before .before .before .before .before .before .text2 .ensures)) ((c .before .before .before .before .dimensions .ensures .0) ∙ ap (λ (s : List ℕ). dimensionsSize (take (getD s rankColumn 0) (drop shapeColumn s))) (part-to-end ((c .before .before .before .before .before .before .before .before .before .before .before .args .row .now)) 0)) ((c .before .attributes .ensures))))
+    (λ c. let b1 = c .before in let b4 = b1 .before .before .before in let b6 = b4 .before .before in let b8 = b6 .before .before in let a = b8 .before .before .before .args in
+    (c .capped .ensures) ∙ law.object-sum ((a .row .now)) ((b8 .text .result)) ((b6 .text2 .result)) ((b4 .dimensions .result)) ((b1 .attributes .result)) ((b8 .text .ensures)) ((b6 .text2 .ensures))
+    ((b4 .dimensions .ensures .0) ∙ ap (λ (s : List ℕ). dimensionsSize (take (getD s rankColumn 0) (drop shapeColumn s))) (part-to-end ((a .row .now)) 0)) ((b1 .attributes .ensures))))

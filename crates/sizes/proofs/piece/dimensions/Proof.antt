@@ -29,8 +29,11 @@ dimensions-spec =
     (λ c. search needs)
     (λ c. search needs)
     (λ c κs. search needs)
-    (λ c. omega (arith, heads.head-small (getD ((c .before .before .before .before .before .before .args .row .now)) ((c .before .before .before .loop .i) + typeColumn) 0), (c .head .ensures), (c .before .before .before .loop .inv .1), (c .before .before .before .before .before .before .pre .1), (c .before .before .loop-test .taken)))
+    (λ c. let b2 = c .before .before in let b3 = b2 .before in let b6 = b3 .before .before .before in let l = b3 .loop in let a = b6 .args in
+    omega (arith, heads.head-small (getD ((a .row .now)) ((l .i) + typeColumn) 0), (c .head .ensures), (l .inv .1), (b6 .pre .1), (b2 .loop-test .taken)))
     (λ c. search needs)
     (λ c. search needs)
-    (λ c. (omega (arith, (c .before .before .loop-test .taken)), omega (arith, heads.head-small (getD ((c .before .before .before .before .before .before .args .row .now)) ((c .before .before .before .loop .i) + typeColumn) 0), (c .head .ensures), (c .before .before .before .loop .inv .1)), omega (arith, (c .before .before .before .loop .inv .2), (c .head .ensures), law.dimensions-next ((c .before .before .before .before .before .before .args .row .now)) (getD ((c .before .before .before .before .before .before .args .row .now)) rankColumn 0) ((c .before .before .before .loop .i)) ((c .before .before .loop-test .taken)) ((c .before .before .before .before .before .before .pre .1)) ((c .before .before .before .before .before .before .pre .0)))))
-    (λ c. (omega (arith, (c .before .loop .inv .2), law.dimensions-none ((c .before .before .before .before .args .row .now)) (getD ((c .before .before .before .before .args .row .now)) rankColumn 0) ((c .before .loop .i)) ((c .loop-test .left))), omega (arith, (c .before .loop .inv .1), (c .before .loop .inv .0), (c .before .before .before .before .pre .1)))))
+    (λ c. let b2 = c .before .before in let b3 = b2 .before in let b6 = b3 .before .before .before in let l = b3 .loop in let a = b6 .args in
+    (omega (arith, (b2 .loop-test .taken)), omega (arith, heads.head-small (getD ((a .row .now)) ((l .i) + typeColumn) 0), (c .head .ensures), (l .inv .1)), omega (arith, (l .inv .2), (c .head .ensures), law.dimensions-next ((a .row .now)) (getD ((a .row .now)) rankColumn 0) ((l .i)) ((b2 .loop-test .taken)) ((b6 .pre .1)) ((b6 .pre .0)))))
+    (λ c. let b4 = c .before .before .before .before in let l = c .before .loop in let a = b4 .args in
+    (omega (arith, (l .inv .2), law.dimensions-none ((a .row .now)) (getD ((a .row .now)) rankColumn 0) ((l .i)) ((c .loop-test .left))), omega (arith, (l .inv .1), (l .inv .0), (b4 .pre .1)))))

@@ -33,12 +33,18 @@ end-spec =
     (λ c. search needs)
     (λ c. search needs)
     (λ c. search needs)
-    (λ c. omega (arith, law.aligned-in-time ((c .before .before .before .loop .place)) ((c .before .before .before .loop .inv .1)), (c .before .aligned .ensures)))
+    (λ c. let l = c .before .before .before .loop in
+    omega (arith, law.aligned-in-time ((l .place)) ((l .inv .1)), (c .before .aligned .ensures)))
     (λ c. search needs)
-    (λ c. omega (arith, (c .before .before .before .before .loop .inv .2), (c .before .before .aligned .ensures), (c .if1 .taken), rule.rule-next ((c .before .before .before .before .loop .left)) ((c .before .before .before .before .loop .at)) ((c .before .before .before .before .loop .place)) ((c .before .before .before .before .before .before .args .rows .now)) ((c .before .before .before .loop-test .taken)), running.reached-above [] (placement.aligned ((c .before .before .before .before .loop .place)) + getD ((c .before .before .before .before .before .before .args .rows .now)) ((c .before .before .before .before .loop .at) + lengthColumn) 0) (blobSizes (eachRow askedComponent componentWidth ((c .before .before .before .before .loop .left) - 1) (drop ((c .before .before .before .before .loop .at) + componentWidth) ((c .before .before .before .before .before .before .args .rows .now)))))))
-    (λ c. omega (arith, (c .if1 .left), law.aligned-in-time ((c .before .before .before .before .loop .place)) ((c .before .before .before .before .loop .inv .1)), (c .before .before .aligned .ensures)))
+    (λ c. let b2 = c .before .before in let b3 = b2 .before in let b4 = b3 .before in let l = b4 .loop in let a = b4 .before .before .args in
+    omega
+    (arith, (l .inv .2), (b2 .aligned .ensures), (c .if1 .taken), rule.rule-next ((l .left)) ((l .at)) ((l .place)) ((a .rows .now)) ((b3 .loop-test .taken)), running.reached-above [] (placement.aligned ((l .place)) + getD ((a .rows .now)) ((l .at) + lengthColumn) 0) (blobSizes (eachRow askedComponent componentWidth ((l .left) - 1) (drop ((l .at) + componentWidth) ((a .rows .now)))))))
+    (λ c. let b2 = c .before .before in let l = b2 .before .before .loop in
+    omega (arith, (c .if1 .left), law.aligned-in-time ((l .place)) ((l .inv .1)), (b2 .aligned .ensures)))
     (λ c. search needs)
     (λ c. search needs)
     (λ c. search needs)
-    (λ c. (search needs, omega (arith, (c .if1 .left), law.aligned-in-time ((c .before .before .before .before .loop .place)) ((c .before .before .before .before .loop .inv .1)), (c .before .before .aligned .ensures)), (c .before .before .before .before .loop .inv .2) ∙ rule.rule-next ((c .before .before .before .before .loop .left)) ((c .before .before .before .before .loop .at)) ((c .before .before .before .before .loop .place)) ((c .before .before .before .before .before .before .args .rows .now)) ((c .before .before .before .loop-test .taken)) ∙ ap (λ (k : ℕ). reached [] (k + getD ((c .before .before .before .before .before .before .args .rows .now)) ((c .before .before .before .before .loop .at) + lengthColumn) 0) (blobSizes (eachRow askedComponent componentWidth ((c .before .before .before .before .loop .left) - 1) (drop ((c .before .before .before .before .loop .at) + componentWidth) ((c .before .before .before .before .before .before .args .rows .now)))))) (sym ((c .before .before .aligned .ensures)))))
-    (λ c. omega (arith, (c .before .loop .inv .1), (c .before .loop .inv .2), running.reached-none [] ((c .before .loop .left)) ((c .before .loop .at)) ((c .before .loop .place)) ((c .before .before .before .args .rows .now)) ((c .loop-test .left)))))
+    (λ c. let b2 = c .before .before in let b3 = b2 .before in let b4 = b3 .before in let l = b4 .loop in let a = b4 .before .before .args in
+    (search needs, omega (arith, (c .if1 .left), law.aligned-in-time ((l .place)) ((l .inv .1)), (b2 .aligned .ensures)), (l .inv .2) ∙ rule.rule-next ((l .left)) ((l .at)) ((l .place)) ((a .rows .now)) ((b3 .loop-test .taken)) ∙ ap (λ (k : ℕ). reached [] (k + getD ((a .rows .now)) ((l .at) + lengthColumn) 0) (blobSizes (eachRow askedComponent componentWidth ((l .left) - 1) (drop ((l .at) + componentWidth) ((a .rows .now)))))) (sym ((b2 .aligned .ensures)))))
+    (λ c. let l = c .before .loop in let a = c .before .before .before .args in
+    omega (arith, (l .inv .1), (l .inv .2), running.reached-none [] ((l .left)) ((l .at)) ((l .place)) ((a .rows .now)) ((c .loop-test .left)))))

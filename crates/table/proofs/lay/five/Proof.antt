@@ -21,5 +21,9 @@ five-spec =
     (λ c. search needs)
     (λ c κs. search needs)
     (λ c. search needs)
-    (λ c. laying.five-put ((c .before .before .before .before .before .before .before .before .before .before .before .before .before .before .before .before .before .before .before .before .before .before .args .t .now)) _ _ _ _ _ ((c .before .before .before .before .before .before .before .before .before .before .before .before .before .before .before .before .before .before .before .before .before .before .args .i)) ((c .before .before .before .before .before .before .before .before .before .before .before .before .before .before .before .before .before .before .before .before .before .before .args .a)) ((c .before .before .before .before .before .before .before .before .before .before .before .before .before .before .before .before .before .before .before .before .before .before .args .b)) ((c .before .before .before .before .before .before .before .before .before .before .before .before .before .before .before .before .before .before .before .before .before .before .args .c)) ((c .before .before .before .before .before .before .before .before .before .before .before .before .before .before .before .before .before .before .before .before .before .before .args .d)) ((c .before .before .before .before .before .before .before .before .before .before .before .before .before .before .before .before .before .before .before .before .before .before .args .e)) ((c .before .before .before .before .before .before .before .before .before .before .before .before .before .before .before .before .before .before .put .ensures)) ((c .before .before .before .before .before .before .before .before .before .before .before .before .before .before .put2 .ensures)) ((c .before .before .before .before .before .before .before .before .before .before .put3 .ensures)) ((c .before .before .before .before .before .before .put4 .ensures)) ((c .before .before .put5 .ensures)))
-    (λ c. sym (laying.sets-out ((c .before .before .args .a) ∷ (c .before .before .args .b) ∷ (c .before .before .args .c) ∷ (c .before .before .args .d) ∷ (c .before .before .args .e) ∷ []) ((c .before .before .args .t .now)) ((c .before .before .args .i)) (omega arith))))
+    (λ c. let b2 = c .before .before in let b6 = b2 .before .before .before .before in let b10 = b6 .before .before .before .before in let b14 = b10 .before .before .before .before in
+    let b18 = b14 .before .before .before .before in let a = b18 .before .before .before .before .args in
+    laying.five-put ((a .t .now)) _ _ _ _ _ ((a .i)) ((a .a)) ((a .b)) ((a .c)) ((a .d)) ((a .e)) ((b18 .put .ensures)) ((b14 .put2 .ensures)) ((b10 .put3 .ensures)) ((b6 .put4 .ensures))
+    ((b2 .put5 .ensures)))
+    (λ c. let a = c .before .before .args in
+    sym (laying.sets-out ((a .a) ∷ (a .b) ∷ (a .c) ∷ (a .d) ∷ (a .e) ∷ []) ((a .t .now)) ((a .i)) (omega arith))))

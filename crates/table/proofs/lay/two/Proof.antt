@@ -15,5 +15,7 @@ two-spec =
     (λ c. search needs)
     (λ c κs. search needs)
     (λ c. search needs)
-    (λ c. laying.two-put (c .before .before .before .before .before .before .before .before .before .before .args .t .now) _ _ (c .before .before .before .before .before .before .before .before .before .before .args .i) _ _ (c .before .before .before .before .before .before .put .ensures) (c .before .before .put2 .ensures))
-    (λ c. sym (laying.sets-out ((c .before .before .args .a) ∷ (c .before .before .args .b) ∷ []) (c .before .before .args .t .now) (c .before .before .args .i) (omega arith))))
+    (λ c. let b2 = c .before .before in let b6 = b2 .before .before .before .before in let a = b6 .before .before .before .before .args in
+    laying.two-put (a .t .now) _ _ (a .i) _ _ (b6 .put .ensures) (b2 .put2 .ensures))
+    (λ c. let a = c .before .before .args in
+    sym (laying.sets-out ((a .a) ∷ (a .b) ∷ []) (a .t .now) (a .i) (omega arith))))

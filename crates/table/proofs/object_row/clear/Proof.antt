@@ -27,6 +27,8 @@ clear-spec =
     (λ c. search needs)
     (λ c. search needs)
     (λ c. omega (arith, length-set ((c .before .loop .d)) ((c .before .loop .k)) 0))
-    (λ c. (omega (arith, ((c .before .loop .inv .0))), length-set ((c .before .loop .d)) ((c .before .loop .k)) 0 ∙ ((c .before .loop .inv .1)), rows.one-cleared ((c .before .before .args .rank)) ((c .before .before .args .d .now)) ((c .before .loop .k)) ((c .before .loop .d)) ((c .before .loop .inv .0)) ((c .before .loop .inv .1)) ((c .before .loop .inv .2))))
+    (λ c. let l = c .before .loop in let a = c .before .before .args in
+    (omega (arith, ((l .inv .0))), length-set ((l .d)) ((l .k)) 0 ∙ ((l .inv .1)), rows.one-cleared ((a .rank)) ((a .d .now)) ((l .k)) ((l .d)) ((l .inv .0)) ((l .inv .1)) ((l .inv .2))))
     (λ c. (c .before .loop .inv .1))
-    (λ c. rows.all-cleared ((c .before .before .args .rank)) ((c .before .before .args .d .now)) ((c .before .loop .k)) ((c .before .loop .d)) ((c .before .loop .inv .1)) (omega arith) ((c .before .loop .inv .2))))
+    (λ c. let l = c .before .loop in let a = c .before .before .args in
+    rows.all-cleared ((a .rank)) ((a .d .now)) ((l .k)) ((l .d)) ((l .inv .1)) (omega arith) ((l .inv .2))))

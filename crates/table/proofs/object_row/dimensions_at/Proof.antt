@@ -17,6 +17,8 @@ dimensions-at-spec =
     (λ c. search needs)
     (λ c κs. search needs)
     (λ c. search needs)
-    (λ c. rows.no-shape ((c .before .before .before .before .before .before .before .before .before .before .args .m .now)) ((c .before .before .before .before .before .before .before .before .before .before .args .left)) _ ((c .before .before .before .before .before .before .before .place-of .ensures)) _ _ ((c .before .before .before .before .shape .ensures)) _ ((c .enum-told .given .1)) _ _)
+    (λ c. let b4 = c .before .before .before .before in let b7 = b4 .before .before .before in let a = b7 .before .before .before .args in
+    rows.no-shape ((a .m .now)) ((a .left)) _ ((b7 .place-of .ensures)) _ _ ((b4 .shape .ensures)) _ ((c .enum-told .given .1)) _ _)
     (λ c. search needs)
-    (λ c. rows.a-shape ((c .before .before .before .before .before .before .before .before .before .before .before .before .before .before .before .args .m .now)) ((c .before .before .before .before .before .before .before .before .before .before .before .before .before .before .before .args .left)) _ ((c .before .before .before .before .before .before .before .before .before .before .before .before .place-of .ensures)) _ _ ((c .before .before .before .before .before .before .before .before .before .shape .ensures)) _ ((c .before .before .before .before .before .rank .given .1)) _ ((c .before .before .clear .ensures))))
+    (λ c. let b2 = c .before .before in let b5 = b2 .before .before .before in let b9 = b5 .before .before .before .before in let b12 = b9 .before .before .before in let a = b12 .before .before .before .args in
+    rows.a-shape ((a .m .now)) ((a .left)) _ ((b12 .place-of .ensures)) _ _ ((b9 .shape .ensures)) _ ((b5 .rank .given .1)) _ ((b2 .clear .ensures))))

@@ -28,4 +28,7 @@ put-object-spec =
     (λ c. search needs)
     (λ c κs. search needs)
     (λ c. search needs)
-    (λ c. rows.row-put ((c .before .before .before .before .before .before .before .before .before .before .before .before .before .before .before .before .before .before .before .before .before .args .s .now)) ((c .before .before .before .before .before .before .before .before .before .before .before .before .before .before .before .before .before .before .before .before .before .args .m .now)) ((c .before .before .before .before .before .before .before .before .before .before .before .before .before .before .before .before .before .before .before .before .before .args .p .now)) ((c .before .before .before .before .before .before .before .before .before .before .before .before .before .before .before .before .before .before .before .before .before .args .count)) ((c .before .before .before .before .before .before .before .before .before .before .before .before .before .before .before .before .before .before .before .before .before .args .size)) ((c .before .before .before .before .before .before .before .before .before .before .before .before .before .before .before .before .before .before .before .before .before .args .end)) ((c .before .before .before .before .before .before .before .before .before .before .before .before .before .before .before .before .before .before .before .before .before .args .i)) ((c .before .before .before .before .before .before .before .before .before .before .before .before .before .before .before .before .before .before .before .before .before .args .t .now)) _ _ _ ((c .before .before .before .before .before .before .before .before .before .before .before .before .before .dimensions-at .ensures)) _ ((c .before .before .before .before .before .before .before .before .before .before .spelt .ensures)) _ ((c .before .before .before .before .before .before .before .spelt-at .ensures)) _ ((c .before .before .before .before .before .whole .ensures)) ((c .before .before .put-sixteen .ensures))))
+    (λ c. let b2 = c .before .before in let b5 = b2 .before .before .before in let b7 = b5 .before .before in let b10 = b7 .before .before .before in let b13 = b10 .before .before .before in
+    let a = b13 .before .before .before .before .before .before .before .before .args in
+    rows.row-put ((a .s .now)) ((a .m .now)) ((a .p .now)) ((a .count)) ((a .size)) ((a .end)) ((a .i)) ((a .t .now)) _ _ _ ((b13 .dimensions-at .ensures)) _ ((b10 .spelt .ensures)) _
+    ((b7 .spelt-at .ensures)) _ ((b5 .whole .ensures)) ((b2 .put-sixteen .ensures))))

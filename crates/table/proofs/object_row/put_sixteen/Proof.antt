@@ -29,5 +29,8 @@ put-sixteen-spec =
     (λ c. search needs)
     (λ c κs. search needs)
     (λ c. search needs)
-    (λ c. rows.sixteen-put ((c .before .before .before .before .before .before .before .before .before .before .before .before .before .before .before .before .before .before .before .before .before .before .before .before .before .before .before .args .t .now)) _ _ _ _ ((c .before .before .before .before .before .before .before .before .before .before .before .before .before .before .before .before .before .before .before .before .before .before .before .before .before .before .before .args .i)) _ _ _ _ _ _ _ _ _ _ _ _ _ _ _ _ ((c .before .before .before .before .before .before .before .before .before .before .before .before .before .before .before .before .before .before .before .before .five .ensures)) ((c .before .before .before .before .before .before .before .before .before .before .before .five2 .ensures)) ((c .before .before .before .before .before .before .five3 .ensures)) ((c .before .before .put .ensures)))
-    (λ c. sym (laying.sets-out (sixteen (spanned ((c .before .before .before .args .name))) ((c .before .before .before .args .rank)) (eight ((c .before .before .before .args .d .now))) (spanned ((c .before .before .before .args .format))) (spanned ((c .before .before .before .args .attributes))) ((c .before .before .before .args .count))) ((c .before .before .before .args .t .now)) ((c .before .before .before .args .i)) (omega arith))))
+    (λ c. let b2 = c .before .before in let b6 = b2 .before .before .before .before in let b11 = b6 .before .before .before .before .before in
+    let b20 = b11 .before .before .before .before .before .before .before .before .before in let a = b20 .before .before .before .before .before .before .before .args in
+    rows.sixteen-put ((a .t .now)) _ _ _ _ ((a .i)) _ _ _ _ _ _ _ _ _ _ _ _ _ _ _ _ ((b20 .five .ensures)) ((b11 .five2 .ensures)) ((b6 .five3 .ensures)) ((b2 .put .ensures)))
+    (λ c. let a = c .before .before .before .args in
+    sym (laying.sets-out (sixteen (spanned ((a .name))) ((a .rank)) (eight ((a .d .now))) (spanned ((a .format))) (spanned ((a .attributes))) ((a .count))) ((a .t .now)) ((a .i)) (omega arith))))

@@ -28,36 +28,86 @@ pass-object-spec =
     (λ c. search needs)
     (λ c. search needs)
     (λ c. search needs)
-    (λ c κs. passing.still-due (c .before .before .before .before .before .args .layout) (c .before .before .before .before .before .args .start) ((c .before .before .before .before .before .args .end)) ((c .before .before .before .before .before .args .owner)) ((c .before .before .before .before .before .args .from)) ((c .before .before .before .before .before .args .mode)) ((c .before .before .before .before .before .args .count)) ((c .before .before .before .before .before .args .s .now)) ((c .before .before .before .before .before .args .t .now)) ((c .before .before .before .before .before .pre .1)) ((c .before .loop .inv .1)) ((c .before .loop .at)) ((c .before .loop .due)) ((c .before .loop .p)) ((c .before .loop .n)) ((c .before .loop .row)) ((c .before .loop .t)) ((c .before .loop .size)) ((c .before .loop .inv .0)))
+    (λ c κs. let b5 = c .before .before .before .before .before in let l = c .before .loop in let a = b5 .args in
+    passing.still-due (a .layout) (a .start) ((a .end)) ((a .owner)) ((a .from)) ((a .mode)) ((a .count)) ((a .s .now)) ((a .t .now)) ((b5 .pre .1)) ((l .inv .1)) ((l .at)) ((l .due)) ((l .p)) ((l .n))
+    ((l .row)) ((l .t)) ((l .size)) ((l .inv .0)))
     (λ c. search needs)
     (λ c. search needs)
-    (λ c. ((c .before .before .before .before .before .before .loop .inv .0 .slots)) ∙ sym (ap length ((c .before .before .before .before .before .before .before .before .before .before .pre .0))))
+    (λ c. let b6 = c .before .before .before .before .before .before in let l = b6 .loop in
+    ((l .inv .0 .slots)) ∙ sym (ap length ((b6 .before .before .before .before .pre .0))))
     (λ c. (c .before .before .before .before .before .before .loop .inv .0 .room))
-    (λ c. passing.ends-faulty (c .before .before .before .before .before .before .before .before .before .before .args .layout) (c .before .before .before .before .before .before .before .before .before .before .args .start) ((c .before .before .before .before .before .before .before .before .before .before .args .end)) ((c .before .before .before .before .before .before .before .before .before .before .args .owner)) ((c .before .before .before .before .before .before .before .before .before .before .args .from)) ((c .before .before .before .before .before .before .before .before .before .before .args .mode)) ((c .before .before .before .before .before .before .before .before .before .before .args .count)) ((c .before .before .before .before .before .before .before .before .before .before .args .s .now)) ((c .before .before .before .before .before .before .before .before .before .before .args .t .now)) ((c .before .before .before .before .before .before .before .before .before .before .pre .1)) ((c .before .before .before .before .before .before .loop .inv .1)) ((c .before .before .before .before .before .before .loop .at)) ((c .before .before .before .before .before .before .loop .due)) ((c .before .before .before .before .before .before .loop .p)) ((c .before .before .before .before .before .before .loop .n)) ((c .before .before .before .before .before .before .loop .row)) ((c .before .before .before .before .before .before .loop .t)) ((c .before .before .before .before .before .before .loop .size)) ((c .before .before .before .before .before .before .loop .inv .0)) _ ((c .before .before .before .before .past-key .ensures)) _ ((c .before .before .e .given .1)) ((c .if1 .taken)))
+    (λ c. let b2 = c .before .before in let b4 = b2 .before .before in let b6 = b4 .before .before in let b10 = b6 .before .before .before .before in let l = b6 .loop in let a = b10 .args in
+    passing.ends-faulty (a .layout) (a .start) ((a .end)) ((a .owner)) ((a .from)) ((a .mode)) ((a .count)) ((a .s .now)) ((a .t .now)) ((b10 .pre .1)) ((l .inv .1)) ((l .at)) ((l .due)) ((l .p)) ((l .n))
+    ((l .row)) ((l .t)) ((l .size)) ((l .inv .0)) _ ((b4 .past-key .ensures)) _ ((b2 .e .given .1)) ((c .if1 .taken)))
     (λ c. search needs)
-    (λ c. ((c .before .before .before .before .before .before .loop .inv .0 .slots)) ∙ sym (ap length ((c .before .before .before .before .before .before .before .before .before .before .pre .0))))
+    (λ c. let b6 = c .before .before .before .before .before .before in let l = b6 .loop in
+    ((l .inv .0 .slots)) ∙ sym (ap length ((b6 .before .before .before .before .pre .0))))
     (λ c. (c .before .before .before .before .before .before .loop .inv .0 .room))
-    (λ c. passing.ends-inside (c .before .before .before .before .before .before .before .before .before .before .args .layout) (c .before .before .before .before .before .before .before .before .before .before .args .start) ((c .before .before .before .before .before .before .before .before .before .before .args .end)) ((c .before .before .before .before .before .before .before .before .before .before .args .owner)) ((c .before .before .before .before .before .before .before .before .before .before .args .from)) ((c .before .before .before .before .before .before .before .before .before .before .args .mode)) ((c .before .before .before .before .before .before .before .before .before .before .args .count)) ((c .before .before .before .before .before .before .before .before .before .before .args .s .now)) ((c .before .before .before .before .before .before .before .before .before .before .args .t .now)) ((c .before .before .before .before .before .before .before .before .before .before .pre .1)) ((c .before .before .before .before .before .before .loop .inv .1)) ((c .before .before .before .before .before .before .loop .at)) ((c .before .before .before .before .before .before .loop .due)) ((c .before .before .before .before .before .before .loop .p)) ((c .before .before .before .before .before .before .loop .n)) ((c .before .before .before .before .before .before .loop .row)) ((c .before .before .before .before .before .before .loop .t)) ((c .before .before .before .before .before .before .loop .size)) ((c .before .before .before .before .before .before .loop .inv .0)) _ ((c .before .before .before .before .past-key .ensures)) _ ((c .before .before .e .given .1)) ((c .if1 .left)))
+    (λ c. let b2 = c .before .before in let b4 = b2 .before .before in let b6 = b4 .before .before in let b10 = b6 .before .before .before .before in let l = b6 .loop in let a = b10 .args in
+    passing.ends-inside (a .layout) (a .start) ((a .end)) ((a .owner)) ((a .from)) ((a .mode)) ((a .count)) ((a .s .now)) ((a .t .now)) ((b10 .pre .1)) ((l .inv .1)) ((l .at)) ((l .due)) ((l .p)) ((l .n))
+    ((l .row)) ((l .t)) ((l .size)) ((l .inv .0)) _ ((b4 .past-key .ensures)) _ ((b2 .e .given .1)) ((c .if1 .left)))
     (λ c. search needs)
-    (λ c. omega (arith, passing.value-inside (c .before .before .before .before .before .before .before .before .before .args .layout) (c .before .before .before .before .before .before .before .before .before .args .start) ((c .before .before .before .before .before .before .before .before .before .args .end)) ((c .before .before .before .before .before .before .before .before .before .args .owner)) ((c .before .before .before .before .before .before .before .before .before .args .from)) ((c .before .before .before .before .before .before .before .before .before .args .mode)) ((c .before .before .before .before .before .before .before .before .before .args .count)) ((c .before .before .before .before .before .before .before .before .before .args .s .now)) ((c .before .before .before .before .before .before .before .before .before .args .t .now)) ((c .before .before .before .before .before .before .before .before .before .pre .1)) ((c .before .before .before .before .before .loop .inv .1)) ((c .before .before .before .before .before .loop .at)) ((c .before .before .before .before .before .loop .due)) ((c .before .before .before .before .before .loop .p)) ((c .before .before .before .before .before .loop .n)) ((c .before .before .before .before .before .loop .row)) ((c .before .before .before .before .before .loop .t)) ((c .before .before .before .before .before .loop .size)) ((c .before .before .before .before .before .loop .inv .0)) _ ((c .before .before .before .past-key .ensures)) _ ((c .before .k .given .1))))
+    (λ c. let b3 = c .before .before .before in let b5 = b3 .before .before in let b9 = b5 .before .before .before .before in let l = b5 .loop in let a = b9 .args in
+    omega
+    (arith, passing.value-inside (a .layout) (a .start) ((a .end)) ((a .owner)) ((a .from)) ((a .mode)) ((a .count)) ((a .s .now)) ((a .t .now)) ((b9 .pre .1)) ((l .inv .1)) ((l .at)) ((l .due)) ((l .p)) ((l .n)) ((l .row)) ((l .t)) ((l .size)) ((l .inv .0)) _ ((b3 .past-key .ensures)) _ ((c .before .k .given .1))))
     (λ c. search needs)
     (λ c. search needs)
     (λ c. search needs)
     (λ c κs. search needs)
-    (λ c. omega (arith, passing.value-inside (c .before .before .before .before .before .before .before .before .before .before .before .args .layout) (c .before .before .before .before .before .before .before .before .before .before .before .args .start) ((c .before .before .before .before .before .before .before .before .before .before .before .args .end)) ((c .before .before .before .before .before .before .before .before .before .before .before .args .owner)) ((c .before .before .before .before .before .before .before .before .before .before .before .args .from)) ((c .before .before .before .before .before .before .before .before .before .before .before .args .mode)) ((c .before .before .before .before .before .before .before .before .before .before .before .args .count)) ((c .before .before .before .before .before .before .before .before .before .before .before .args .s .now)) ((c .before .before .before .before .before .before .before .before .before .before .before .args .t .now)) ((c .before .before .before .before .before .before .before .before .before .before .before .pre .1)) ((c .before .before .before .before .before .before .before .loop .inv .1)) ((c .before .before .before .before .before .before .before .loop .at)) ((c .before .before .before .before .before .before .before .loop .due)) ((c .before .before .before .before .before .before .before .loop .p)) ((c .before .before .before .before .before .before .before .loop .n)) ((c .before .before .before .before .before .before .before .loop .row)) ((c .before .before .before .before .before .before .before .loop .t)) ((c .before .before .before .before .before .before .before .loop .size)) ((c .before .before .before .before .before .before .before .loop .inv .0)) _ ((c .before .before .before .before .before .past-key .ensures)) _ ((c .before .before .before .k .given .1))))
-    (λ c. omega (arith, passing.value-inside (c .before .before .before .before .before .before .before .before .before .before .before .args .layout) (c .before .before .before .before .before .before .before .before .before .before .before .args .start) ((c .before .before .before .before .before .before .before .before .before .before .before .args .end)) ((c .before .before .before .before .before .before .before .before .before .before .before .args .owner)) ((c .before .before .before .before .before .before .before .before .before .before .before .args .from)) ((c .before .before .before .before .before .before .before .before .before .before .before .args .mode)) ((c .before .before .before .before .before .before .before .before .before .before .before .args .count)) ((c .before .before .before .before .before .before .before .before .before .before .before .args .s .now)) ((c .before .before .before .before .before .before .before .before .before .before .before .args .t .now)) ((c .before .before .before .before .before .before .before .before .before .before .before .pre .1)) ((c .before .before .before .before .before .before .before .loop .inv .1)) ((c .before .before .before .before .before .before .before .loop .at)) ((c .before .before .before .before .before .before .before .loop .due)) ((c .before .before .before .before .before .before .before .loop .p)) ((c .before .before .before .before .before .before .before .loop .n)) ((c .before .before .before .before .before .before .before .loop .row)) ((c .before .before .before .before .before .before .before .loop .t)) ((c .before .before .before .before .before .before .before .loop .size)) ((c .before .before .before .before .before .before .before .loop .inv .0)) _ ((c .before .before .before .before .before .past-key .ensures)) _ ((c .before .before .before .k .given .1))))
-    (λ c. omega (arith, passing.value-inside (c .before .before .before .before .before .before .before .before .before .before .before .args .layout) (c .before .before .before .before .before .before .before .before .before .before .before .args .start) ((c .before .before .before .before .before .before .before .before .before .before .before .args .end)) ((c .before .before .before .before .before .before .before .before .before .before .before .args .owner)) ((c .before .before .before .before .before .before .before .before .before .before .before .args .from)) ((c .before .before .before .before .before .before .before .before .before .before .before .args .mode)) ((c .before .before .before .before .before .before .before .before .before .before .before .args .count)) ((c .before .before .before .before .before .before .before .before .before .before .before .args .s .now)) ((c .before .before .before .before .before .before .before .before .before .before .before .args .t .now)) ((c .before .before .before .before .before .before .before .before .before .before .before .pre .1)) ((c .before .before .before .before .before .before .before .loop .inv .1)) ((c .before .before .before .before .before .before .before .loop .at)) ((c .before .before .before .before .before .before .before .loop .due)) ((c .before .before .before .before .before .before .before .loop .p)) ((c .before .before .before .before .before .before .before .loop .n)) ((c .before .before .before .before .before .before .before .loop .row)) ((c .before .before .before .before .before .before .before .loop .t)) ((c .before .before .before .before .before .before .before .loop .size)) ((c .before .before .before .before .before .before .before .loop .inv .0)) _ ((c .before .before .before .before .before .past-key .ensures)) _ ((c .before .before .before .k .given .1))))
+    (λ c. let b3 = c .before .before .before in let b5 = b3 .before .before in let b7 = b5 .before .before in let b11 = b7 .before .before .before .before in let l = b7 .loop in let a = b11 .args in
+    omega
+    (arith, passing.value-inside (a .layout) (a .start) ((a .end)) ((a .owner)) ((a .from)) ((a .mode)) ((a .count)) ((a .s .now)) ((a .t .now)) ((b11 .pre .1)) ((l .inv .1)) ((l .at)) ((l .due)) ((l .p)) ((l .n)) ((l .row)) ((l .t)) ((l .size)) ((l .inv .0)) _ ((b5 .past-key .ensures)) _ ((b3 .k .given .1))))
+    (λ c. let b3 = c .before .before .before in let b5 = b3 .before .before in let b7 = b5 .before .before in let b11 = b7 .before .before .before .before in let l = b7 .loop in let a = b11 .args in
+    omega
+    (arith, passing.value-inside (a .layout) (a .start) ((a .end)) ((a .owner)) ((a .from)) ((a .mode)) ((a .count)) ((a .s .now)) ((a .t .now)) ((b11 .pre .1)) ((l .inv .1)) ((l .at)) ((l .due)) ((l .p)) ((l .n)) ((l .row)) ((l .t)) ((l .size)) ((l .inv .0)) _ ((b5 .past-key .ensures)) _ ((b3 .k .given .1))))
+    (λ c. let b3 = c .before .before .before in let b5 = b3 .before .before in let b7 = b5 .before .before in let b11 = b7 .before .before .before .before in let l = b7 .loop in let a = b11 .args in
+    omega
+    (arith, passing.value-inside (a .layout) (a .start) ((a .end)) ((a .owner)) ((a .from)) ((a .mode)) ((a .count)) ((a .s .now)) ((a .t .now)) ((b11 .pre .1)) ((l .inv .1)) ((l .at)) ((l .due)) ((l .p)) ((l .n)) ((l .row)) ((l .t)) ((l .size)) ((l .inv .0)) _ ((b5 .past-key .ensures)) _ ((b3 .k .given .1))))
     (λ c. let z = ((c .before .before .before .before .before .before .before .before .before .loop .inv .0 .slots)) in omega arith)
     (λ c κs. search needs)
-    (λ c. omega (arith, passing.value-inside (c .before .before .before .before .before .before .before .before .before .before .before .before .before .before .before .before .before .args .layout) (c .before .before .before .before .before .before .before .before .before .before .before .before .before .before .before .before .before .args .start) ((c .before .before .before .before .before .before .before .before .before .before .before .before .before .before .before .before .before .args .end)) ((c .before .before .before .before .before .before .before .before .before .before .before .before .before .before .before .before .before .args .owner)) ((c .before .before .before .before .before .before .before .before .before .before .before .before .before .before .before .before .before .args .from)) ((c .before .before .before .before .before .before .before .before .before .before .before .before .before .before .before .before .before .args .mode)) ((c .before .before .before .before .before .before .before .before .before .before .before .before .before .before .before .before .before .args .count)) ((c .before .before .before .before .before .before .before .before .before .before .before .before .before .before .before .before .before .args .s .now)) ((c .before .before .before .before .before .before .before .before .before .before .before .before .before .before .before .before .before .args .t .now)) ((c .before .before .before .before .before .before .before .before .before .before .before .before .before .before .before .before .before .pre .1)) ((c .before .before .before .before .before .before .before .before .before .before .before .before .before .loop .inv .1)) ((c .before .before .before .before .before .before .before .before .before .before .before .before .before .loop .at)) ((c .before .before .before .before .before .before .before .before .before .before .before .before .before .loop .due)) ((c .before .before .before .before .before .before .before .before .before .before .before .before .before .loop .p)) ((c .before .before .before .before .before .before .before .before .before .before .before .before .before .loop .n)) ((c .before .before .before .before .before .before .before .before .before .before .before .before .before .loop .row)) ((c .before .before .before .before .before .before .before .before .before .before .before .before .before .loop .t)) ((c .before .before .before .before .before .before .before .before .before .before .before .before .before .loop .size)) ((c .before .before .before .before .before .before .before .before .before .before .before .before .before .loop .inv .0)) _ ((c .before .before .before .before .before .before .before .before .before .before .before .past-key .ensures)) _ ((c .before .before .before .before .before .before .before .before .before .k .given .1))))
-    (λ c. ((c .before .before .before .before .before .before .before .before .before .before .before .before .before .before .loop .inv .0 .slots)) ∙ sym (ap length ((c .before .before .before .before .before .before .before .before .before .before .before .before .before .before .before .before .before .before .pre .0))))
+    (λ c. let b9 = c .before .before .before .before .before .before .before .before .before in let b11 = b9 .before .before in let b13 = b11 .before .before in let b17 = b13 .before .before .before .before in
+    let l = b13 .loop in let a = b17 .args in
+    omega
+    (arith, passing.value-inside (a .layout) (a .start) ((a .end)) ((a .owner)) ((a .from)) ((a .mode)) ((a .count)) ((a .s .now)) ((a .t .now)) ((b17 .pre .1)) ((l .inv .1)) ((l .at)) ((l .due)) ((l .p)) ((l .n)) ((l .row)) ((l .t)) ((l .size)) ((l .inv .0)) _ ((b11 .past-key .ensures)) _ ((b9 .k .given .1))))
+    (λ c. let b14 = c .before .before .before .before .before .before .before .before .before .before .before .before .before .before in let l = b14 .loop in
+    ((l .inv .0 .slots)) ∙ sym (ap length ((b14 .before .before .before .before .pre .0))))
     (λ c. ((c .before .before .before .value .kept .1 .1 .1 .1 .1 .1 .1 .1 .1 .1 .0)) ∙ ((c .before .before .before .before .before .before .before .before .before .before .before .before .before .before .loop .inv .0 .room)))
-    (λ c. passing.value-faulty (c .before .before .before .before .before .before .before .before .before .before .before .before .before .before .before .before .before .before .args .layout) (c .before .before .before .before .before .before .before .before .before .before .before .before .before .before .before .before .before .before .args .start) ((c .before .before .before .before .before .before .before .before .before .before .before .before .before .before .before .before .before .before .args .end)) ((c .before .before .before .before .before .before .before .before .before .before .before .before .before .before .before .before .before .before .args .owner)) ((c .before .before .before .before .before .before .before .before .before .before .before .before .before .before .before .before .before .before .args .from)) ((c .before .before .before .before .before .before .before .before .before .before .before .before .before .before .before .before .before .before .args .mode)) ((c .before .before .before .before .before .before .before .before .before .before .before .before .before .before .before .before .before .before .args .count)) ((c .before .before .before .before .before .before .before .before .before .before .before .before .before .before .before .before .before .before .args .s .now)) ((c .before .before .before .before .before .before .before .before .before .before .before .before .before .before .before .before .before .before .args .t .now)) ((c .before .before .before .before .before .before .before .before .before .before .before .before .before .before .before .before .before .before .pre .1)) ((c .before .before .before .before .before .before .before .before .before .before .before .before .before .before .loop .inv .1)) ((c .before .before .before .before .before .before .before .before .before .before .before .before .before .before .loop .at)) ((c .before .before .before .before .before .before .before .before .before .before .before .before .before .before .loop .due)) ((c .before .before .before .before .before .before .before .before .before .before .before .before .before .before .loop .p)) ((c .before .before .before .before .before .before .before .before .before .before .before .before .before .before .loop .n)) ((c .before .before .before .before .before .before .before .before .before .before .before .before .before .before .loop .row)) ((c .before .before .before .before .before .before .before .before .before .before .before .before .before .before .loop .t)) ((c .before .before .before .before .before .before .before .before .before .before .before .before .before .before .loop .size)) ((c .before .before .before .before .before .before .before .before .before .before .before .before .before .before .loop .inv .0)) _ ((c .before .before .before .before .before .before .before .before .before .before .before .before .past-key .ensures)) _ ((c .before .before .before .before .before .before .before .before .before .before .k .given .1)) _ ((c .before .before .before .value .ensures .0)) ((c .if2 .taken)) _ _ _ _ _ _ (c .before .before .before .value .ensures .1))
+    (λ c. let b3 = c .before .before .before in let b10 = b3 .before .before .before .before .before .before .before in let b12 = b10 .before .before in let b14 = b12 .before .before in
+    let b18 = b14 .before .before .before .before in let l = b14 .loop in let a = b18 .args in
+    passing.value-faulty (a .layout) (a .start) ((a .end)) ((a .owner)) ((a .from)) ((a .mode)) ((a .count)) ((a .s .now)) ((a .t .now)) ((b18 .pre .1)) ((l .inv .1)) ((l .at)) ((l .due)) ((l .p))
+    ((l .n)) ((l .row)) ((l .t)) ((l .size)) ((l .inv .0)) _ ((b12 .past-key .ensures)) _ ((b10 .k .given .1)) _ ((b3 .value .ensures .0)) ((c .if2 .taken)) _ _ _ _ _ _ (b3 .value .ensures .1))
     (λ c. let z = ((c .before .before .before .before .before .before .before .before .before .before .before .before .before .before .before .loop .inv .0 .slots)) in omega arith)
     (λ c κs. search needs)
-    (λ c. omega (arith, passing.value-inside (c .before .before .before .before .before .before .before .before .before .before .before .before .before .before .before .before .before .before .before .before .before .args .layout) (c .before .before .before .before .before .before .before .before .before .before .before .before .before .before .before .before .before .before .before .before .before .args .start) ((c .before .before .before .before .before .before .before .before .before .before .before .before .before .before .before .before .before .before .before .before .before .args .end)) ((c .before .before .before .before .before .before .before .before .before .before .before .before .before .before .before .before .before .before .before .before .before .args .owner)) ((c .before .before .before .before .before .before .before .before .before .before .before .before .before .before .before .before .before .before .before .before .before .args .from)) ((c .before .before .before .before .before .before .before .before .before .before .before .before .before .before .before .before .before .before .before .before .before .args .mode)) ((c .before .before .before .before .before .before .before .before .before .before .before .before .before .before .before .before .before .before .before .before .before .args .count)) ((c .before .before .before .before .before .before .before .before .before .before .before .before .before .before .before .before .before .before .before .before .before .args .s .now)) ((c .before .before .before .before .before .before .before .before .before .before .before .before .before .before .before .before .before .before .before .before .before .args .t .now)) ((c .before .before .before .before .before .before .before .before .before .before .before .before .before .before .before .before .before .before .before .before .before .pre .1)) ((c .before .before .before .before .before .before .before .before .before .before .before .before .before .before .before .before .before .loop .inv .1)) ((c .before .before .before .before .before .before .before .before .before .before .before .before .before .before .before .before .before .loop .at)) ((c .before .before .before .before .before .before .before .before .before .before .before .before .before .before .before .before .before .loop .due)) ((c .before .before .before .before .before .before .before .before .before .before .before .before .before .before .before .before .before .loop .p)) ((c .before .before .before .before .before .before .before .before .before .before .before .before .before .before .before .before .before .loop .n)) ((c .before .before .before .before .before .before .before .before .before .before .before .before .before .before .before .before .before .loop .row)) ((c .before .before .before .before .before .before .before .before .before .before .before .before .before .before .before .before .before .loop .t)) ((c .before .before .before .before .before .before .before .before .before .before .before .before .before .before .before .before .before .loop .size)) ((c .before .before .before .before .before .before .before .before .before .before .before .before .before .before .before .before .before .loop .inv .0)) _ ((c .before .before .before .before .before .before .before .before .before .before .before .before .before .before .before .past-key .ensures)) _ ((c .before .before .before .before .before .before .before .before .before .before .before .before .before .k .given .1))))
+    (λ c. let b13 = c .before .before .before .before .before .before .before .before .before .before .before .before .before in let b15 = b13 .before .before in let b17 = b15 .before .before in
+    let b21 = b17 .before .before .before .before in let l = b17 .loop in let a = b21 .args in
+    omega
+    (arith, passing.value-inside (a .layout) (a .start) ((a .end)) ((a .owner)) ((a .from)) ((a .mode)) ((a .count)) ((a .s .now)) ((a .t .now)) ((b21 .pre .1)) ((l .inv .1)) ((l .at)) ((l .due)) ((l .p)) ((l .n)) ((l .row)) ((l .t)) ((l .size)) ((l .inv .0)) _ ((b15 .past-key .ensures)) _ ((b13 .k .given .1))))
     (λ c κs. (let z = ((c .before .before .before .before .before .before .before .before .before .before .before .before .before .before .before .before .before .loop .inv .0 .slots)) in omega arith, ((c .before .before .before .before .before .before .before .before .before .before .slot .ensures .0))))
-    (λ c. let a = passing.value-inside (c .before .before .before .before .before .before .before .before .before .before .before .before .before .before .before .before .before .before .before .before .before .before .before .before .args .layout) (c .before .before .before .before .before .before .before .before .before .before .before .before .before .before .before .before .before .before .before .before .before .before .before .before .args .start) ((c .before .before .before .before .before .before .before .before .before .before .before .before .before .before .before .before .before .before .before .before .before .before .before .before .args .end)) ((c .before .before .before .before .before .before .before .before .before .before .before .before .before .before .before .before .before .before .before .before .before .before .before .before .args .owner)) ((c .before .before .before .before .before .before .before .before .before .before .before .before .before .before .before .before .before .before .before .before .before .before .before .before .args .from)) ((c .before .before .before .before .before .before .before .before .before .before .before .before .before .before .before .before .before .before .before .before .before .before .before .before .args .mode)) ((c .before .before .before .before .before .before .before .before .before .before .before .before .before .before .before .before .before .before .before .before .before .before .before .before .args .count)) ((c .before .before .before .before .before .before .before .before .before .before .before .before .before .before .before .before .before .before .before .before .before .before .before .before .args .s .now)) ((c .before .before .before .before .before .before .before .before .before .before .before .before .before .before .before .before .before .before .before .before .before .before .before .before .args .t .now)) ((c .before .before .before .before .before .before .before .before .before .before .before .before .before .before .before .before .before .before .before .before .before .before .before .before .pre .1)) ((c .before .before .before .before .before .before .before .before .before .before .before .before .before .before .before .before .before .before .before .before .loop .inv .1)) ((c .before .before .before .before .before .before .before .before .before .before .before .before .before .before .before .before .before .before .before .before .loop .at)) ((c .before .before .before .before .before .before .before .before .before .before .before .before .before .before .before .before .before .before .before .before .loop .due)) ((c .before .before .before .before .before .before .before .before .before .before .before .before .before .before .before .before .before .before .before .before .loop .p)) ((c .before .before .before .before .before .before .before .before .before .before .before .before .before .before .before .before .before .before .before .before .loop .n)) ((c .before .before .before .before .before .before .before .before .before .before .before .before .before .before .before .before .before .before .before .before .loop .row)) ((c .before .before .before .before .before .before .before .before .before .before .before .before .before .before .before .before .before .before .before .before .loop .t)) ((c .before .before .before .before .before .before .before .before .before .before .before .before .before .before .before .before .before .before .before .before .loop .size)) ((c .before .before .before .before .before .before .before .before .before .before .before .before .before .before .before .before .before .before .before .before .loop .inv .0)) _ ((c .before .before .before .before .before .before .before .before .before .before .before .before .before .before .before .before .before .before .past-key .ensures)) _ ((c .before .before .before .before .before .before .before .before .before .before .before .before .before .before .before .before .k .given .1)) in let b = ((c .before .before .before .before .before .before .if2 .left)) in let d = ((c .before .before .before .before .before .before .before .before .before .before .before .before .before .before .before .before .before .before .before .before .loop .inv .1)) in omega arith)
-    (λ c. omega (arith, passing.two-due (c .before .before .before .before .before .before .before .before .before .before .before .before .before .before .before .before .before .before .before .before .before .before .before .before .args .layout) (c .before .before .before .before .before .before .before .before .before .before .before .before .before .before .before .before .before .before .before .before .before .before .before .before .args .start) ((c .before .before .before .before .before .before .before .before .before .before .before .before .before .before .before .before .before .before .before .before .before .before .before .before .args .end)) ((c .before .before .before .before .before .before .before .before .before .before .before .before .before .before .before .before .before .before .before .before .before .before .before .before .args .owner)) ((c .before .before .before .before .before .before .before .before .before .before .before .before .before .before .before .before .before .before .before .before .before .before .before .before .args .from)) ((c .before .before .before .before .before .before .before .before .before .before .before .before .before .before .before .before .before .before .before .before .before .before .before .before .args .mode)) ((c .before .before .before .before .before .before .before .before .before .before .before .before .before .before .before .before .before .before .before .before .before .before .before .before .args .count)) ((c .before .before .before .before .before .before .before .before .before .before .before .before .before .before .before .before .before .before .before .before .before .before .before .before .args .s .now)) ((c .before .before .before .before .before .before .before .before .before .before .before .before .before .before .before .before .before .before .before .before .before .before .before .before .args .t .now)) ((c .before .before .before .before .before .before .before .before .before .before .before .before .before .before .before .before .before .before .before .before .before .before .before .before .pre .1)) ((c .before .before .before .before .before .before .before .before .before .before .before .before .before .before .before .before .before .before .before .before .loop .inv .1)) ((c .before .before .before .before .before .before .before .before .before .before .before .before .before .before .before .before .before .before .before .before .loop .at)) ((c .before .before .before .before .before .before .before .before .before .before .before .before .before .before .before .before .before .before .before .before .loop .due)) ((c .before .before .before .before .before .before .before .before .before .before .before .before .before .before .before .before .before .before .before .before .loop .p)) ((c .before .before .before .before .before .before .before .before .before .before .before .before .before .before .before .before .before .before .before .before .loop .n)) ((c .before .before .before .before .before .before .before .before .before .before .before .before .before .before .before .before .before .before .before .before .loop .row)) ((c .before .before .before .before .before .before .before .before .before .before .before .before .before .before .before .before .before .before .before .before .loop .t)) ((c .before .before .before .before .before .before .before .before .before .before .before .before .before .before .before .before .before .before .before .before .loop .size)) ((c .before .before .before .before .before .before .before .before .before .before .before .before .before .before .before .before .before .before .before .before .loop .inv .0)) _ ((c .before .before .before .before .before .before .before .before .before .before .before .before .before .before .before .before .before .before .past-key .ensures)) _ ((c .before .before .before .before .before .before .before .before .before .before .before .before .before .before .before .before .k .given .1)) _ ((c .before .before .before .before .before .before .before .before .before .value .ensures .0))))
-    (λ c. omega (arith, passing.value-inside (c .before .before .before .before .before .before .before .before .before .before .before .before .before .before .before .before .before .before .before .before .before .before .before .before .args .layout) (c .before .before .before .before .before .before .before .before .before .before .before .before .before .before .before .before .before .before .before .before .before .before .before .before .args .start) ((c .before .before .before .before .before .before .before .before .before .before .before .before .before .before .before .before .before .before .before .before .before .before .before .before .args .end)) ((c .before .before .before .before .before .before .before .before .before .before .before .before .before .before .before .before .before .before .before .before .before .before .before .before .args .owner)) ((c .before .before .before .before .before .before .before .before .before .before .before .before .before .before .before .before .before .before .before .before .before .before .before .before .args .from)) ((c .before .before .before .before .before .before .before .before .before .before .before .before .before .before .before .before .before .before .before .before .before .before .before .before .args .mode)) ((c .before .before .before .before .before .before .before .before .before .before .before .before .before .before .before .before .before .before .before .before .before .before .before .before .args .count)) ((c .before .before .before .before .before .before .before .before .before .before .before .before .before .before .before .before .before .before .before .before .before .before .before .before .args .s .now)) ((c .before .before .before .before .before .before .before .before .before .before .before .before .before .before .before .before .before .before .before .before .before .before .before .before .args .t .now)) ((c .before .before .before .before .before .before .before .before .before .before .before .before .before .before .before .before .before .before .before .before .before .before .before .before .pre .1)) ((c .before .before .before .before .before .before .before .before .before .before .before .before .before .before .before .before .before .before .before .before .loop .inv .1)) ((c .before .before .before .before .before .before .before .before .before .before .before .before .before .before .before .before .before .before .before .before .loop .at)) ((c .before .before .before .before .before .before .before .before .before .before .before .before .before .before .before .before .before .before .before .before .loop .due)) ((c .before .before .before .before .before .before .before .before .before .before .before .before .before .before .before .before .before .before .before .before .loop .p)) ((c .before .before .before .before .before .before .before .before .before .before .before .before .before .before .before .before .before .before .before .before .loop .n)) ((c .before .before .before .before .before .before .before .before .before .before .before .before .before .before .before .before .before .before .before .before .loop .row)) ((c .before .before .before .before .before .before .before .before .before .before .before .before .before .before .before .before .before .before .before .before .loop .t)) ((c .before .before .before .before .before .before .before .before .before .before .before .before .before .before .before .before .before .before .before .before .loop .size)) ((c .before .before .before .before .before .before .before .before .before .before .before .before .before .before .before .before .before .before .before .before .loop .inv .0)) _ ((c .before .before .before .before .before .before .before .before .before .before .before .before .before .before .before .before .before .before .past-key .ensures)) _ ((c .before .before .before .before .before .before .before .before .before .before .before .before .before .before .before .before .k .given .1)), passing.goes-on (c .before .before .before .before .before .before .before .before .before .before .before .before .before .before .before .before .before .before .before .before .before .before .before .before .args .layout) (c .before .before .before .before .before .before .before .before .before .before .before .before .before .before .before .before .before .before .before .before .before .before .before .before .args .start) ((c .before .before .before .before .before .before .before .before .before .before .before .before .before .before .before .before .before .before .before .before .before .before .before .before .args .end)) ((c .before .before .before .before .before .before .before .before .before .before .before .before .before .before .before .before .before .before .before .before .before .before .before .before .args .owner)) ((c .before .before .before .before .before .before .before .before .before .before .before .before .before .before .before .before .before .before .before .before .before .before .before .before .args .from)) ((c .before .before .before .before .before .before .before .before .before .before .before .before .before .before .before .before .before .before .before .before .before .before .before .before .args .mode)) ((c .before .before .before .before .before .before .before .before .before .before .before .before .before .before .before .before .before .before .before .before .before .before .before .before .args .count)) ((c .before .before .before .before .before .before .before .before .before .before .before .before .before .before .before .before .before .before .before .before .before .before .before .before .args .s .now)) ((c .before .before .before .before .before .before .before .before .before .before .before .before .before .before .before .before .before .before .before .before .before .before .before .before .args .t .now)) ((c .before .before .before .before .before .before .before .before .before .before .before .before .before .before .before .before .before .before .before .before .before .before .before .before .pre .1)) ((c .before .before .before .before .before .before .before .before .before .before .before .before .before .before .before .before .before .before .before .before .loop .inv .1)) ((c .before .before .before .before .before .before .before .before .before .before .before .before .before .before .before .before .before .before .before .before .loop .at)) ((c .before .before .before .before .before .before .before .before .before .before .before .before .before .before .before .before .before .before .before .before .loop .due)) ((c .before .before .before .before .before .before .before .before .before .before .before .before .before .before .before .before .before .before .before .before .loop .p)) ((c .before .before .before .before .before .before .before .before .before .before .before .before .before .before .before .before .before .before .before .before .loop .n)) ((c .before .before .before .before .before .before .before .before .before .before .before .before .before .before .before .before .before .before .before .before .loop .row)) ((c .before .before .before .before .before .before .before .before .before .before .before .before .before .before .before .before .before .before .before .before .loop .t)) ((c .before .before .before .before .before .before .before .before .before .before .before .before .before .before .before .before .before .before .before .before .loop .size)) ((c .before .before .before .before .before .before .before .before .before .before .before .before .before .before .before .before .before .before .before .before .loop .inv .0)) _ ((c .before .before .before .before .before .before .before .before .before .before .before .before .before .before .before .before .before .before .past-key .ensures)) _ ((c .before .before .before .before .before .before .before .before .before .before .before .before .before .before .before .before .k .given .1)) _ ((c .before .before .before .before .before .before .before .before .before .value .ensures .0)) ((c .before .before .before .before .before .before .if2 .left))))
-    (λ c. (passing.loops-on (c .before .before .before .before .before .before .before .before .before .before .before .before .before .before .before .before .before .before .before .before .before .before .before .before .args .layout) (c .before .before .before .before .before .before .before .before .before .before .before .before .before .before .before .before .before .before .before .before .before .before .before .before .args .start) ((c .before .before .before .before .before .before .before .before .before .before .before .before .before .before .before .before .before .before .before .before .before .before .before .before .args .end)) ((c .before .before .before .before .before .before .before .before .before .before .before .before .before .before .before .before .before .before .before .before .before .before .before .before .args .owner)) ((c .before .before .before .before .before .before .before .before .before .before .before .before .before .before .before .before .before .before .before .before .before .before .before .before .args .from)) ((c .before .before .before .before .before .before .before .before .before .before .before .before .before .before .before .before .before .before .before .before .before .before .before .before .args .mode)) ((c .before .before .before .before .before .before .before .before .before .before .before .before .before .before .before .before .before .before .before .before .before .before .before .before .args .count)) ((c .before .before .before .before .before .before .before .before .before .before .before .before .before .before .before .before .before .before .before .before .before .before .before .before .args .s .now)) ((c .before .before .before .before .before .before .before .before .before .before .before .before .before .before .before .before .before .before .before .before .before .before .before .before .args .t .now)) ((c .before .before .before .before .before .before .before .before .before .before .before .before .before .before .before .before .before .before .before .before .before .before .before .before .pre .1)) ((c .before .before .before .before .before .before .before .before .before .before .before .before .before .before .before .before .before .before .before .before .loop .inv .1)) ((c .before .before .before .before .before .before .before .before .before .before .before .before .before .before .before .before .before .before .before .before .loop .at)) ((c .before .before .before .before .before .before .before .before .before .before .before .before .before .before .before .before .before .before .before .before .loop .due)) ((c .before .before .before .before .before .before .before .before .before .before .before .before .before .before .before .before .before .before .before .before .loop .p)) ((c .before .before .before .before .before .before .before .before .before .before .before .before .before .before .before .before .before .before .before .before .loop .n)) ((c .before .before .before .before .before .before .before .before .before .before .before .before .before .before .before .before .before .before .before .before .loop .row)) ((c .before .before .before .before .before .before .before .before .before .before .before .before .before .before .before .before .before .before .before .before .loop .t)) ((c .before .before .before .before .before .before .before .before .before .before .before .before .before .before .before .before .before .before .before .before .loop .size)) ((c .before .before .before .before .before .before .before .before .before .before .before .before .before .before .before .before .before .before .before .before .loop .inv .0)) _ ((c .before .before .before .before .before .before .before .before .before .before .before .before .before .before .before .before .before .before .past-key .ensures)) _ ((c .before .before .before .before .before .before .before .before .before .before .before .before .before .before .before .before .k .given .1)) _ ((c .before .before .before .before .before .before .before .before .before .value .ensures .0)) ((c .before .before .before .before .before .before .if2 .left)) _ _ _ ((c .before .before .before .before .before .before .before .before .before .value .kept .1 .1 .1 .1 .1 .1 .1 .1 .1 .1 .0)) _ ((c .before .before .before .before .before .before .before .before .before .before .before .before .before .slot .ensures .1)) ((c .before .before .before .before .before .before .before .before .before .value .ensures .1)) _ ((c .before .before .before .before .sized .ensures)) _ ((c .before .before .mark .ensures)), (c .before .before .before .before .before .before .before .before .before .before .before .before .before .before .before .before .before .before .before .before .loop .inv .1))))
+    (λ c. let l = c .before .before .before .before .before .before .before .before .before .before .before .before .before .before .before .before .before .before .before .before .loop in
+    let a′ = c .before .before .before .before .before .before .before .before .before .before .before .before .before .before .before .before .before .before .before .before .before .before .before .before .args in
+    let a = passing.value-inside (a′ .layout) (a′ .start) ((a′ .end)) ((a′ .owner)) ((a′ .from)) ((a′ .mode)) ((a′ .count)) ((a′ .s .now)) ((a′ .t .now))
+    ((c .before .before .before .before .before .before .before .before .before .before .before .before .before .before .before .before .before .before .before .before .before .before .before .before .pre .1))
+    ((l .inv .1)) ((l .at)) ((l .due)) ((l .p)) ((l .n)) ((l .row)) ((l .t)) ((l .size)) ((l .inv .0)) _
+    ((c .before .before .before .before .before .before .before .before .before .before .before .before .before .before .before .before .before .before .past-key .ensures)) _
+    ((c .before .before .before .before .before .before .before .before .before .before .before .before .before .before .before .before .k .given .1)) in let b = ((c .before .before .before .before .before .before .if2 .left))
+    in let d = ((l .inv .1)) in omega arith)
+    (λ c. let b9 = c .before .before .before .before .before .before .before .before .before in let b16 = b9 .before .before .before .before .before .before .before in let b18 = b16 .before .before in
+    let b20 = b18 .before .before in let b24 = b20 .before .before .before .before in let l = b20 .loop in let a = b24 .args in
+    omega
+    (arith, passing.two-due (a .layout) (a .start) ((a .end)) ((a .owner)) ((a .from)) ((a .mode)) ((a .count)) ((a .s .now)) ((a .t .now)) ((b24 .pre .1)) ((l .inv .1)) ((l .at)) ((l .due)) ((l .p)) ((l .n)) ((l .row)) ((l .t)) ((l .size)) ((l .inv .0)) _ ((b18 .past-key .ensures)) _ ((b16 .k .given .1)) _ ((b9 .value .ensures .0))))
+    (λ c. let b6 = c .before .before .before .before .before .before in let b9 = b6 .before .before .before in let b16 = b9 .before .before .before .before .before .before .before in
+    let b18 = b16 .before .before in let b20 = b18 .before .before in let b24 = b20 .before .before .before .before in let l = b20 .loop in let a = b24 .args in
+    omega (
+      arith,
+      passing.value-inside (a .layout) (a .start) ((a .end)) ((a .owner)) ((a .from)) ((a .mode)) ((a .count)) ((a .s .now)) ((a .t .now)) ((b24 .pre .1)) ((l .inv .1)) ((l .at)) ((l .due)) ((l .p)) ((l .n)) ((l .row))
+          ((l .t)) ((l .size)) ((l .inv .0)) _ ((b18 .past-key .ensures)) _ ((b16 .k .given .1)),
+      passing.goes-on (a .layout) (a .start) ((a .end)) ((a .owner)) ((a .from)) ((a .mode)) ((a .count)) ((a .s .now)) ((a .t .now))
+          ((b24 .pre .1)) ((l .inv .1)) ((l .at)) ((l .due)) ((l .p)) ((l .n)) ((l .row)) ((l .t)) ((l .size)) ((l .inv .0)) _ ((b18 .past-key .ensures)) _ ((b16 .k .given .1)) _ ((b9 .value .ensures .0)) ((b6 .if2 .left)),
+    ))
+    (λ c. let b2 = c .before .before in let b4 = b2 .before .before in let b6 = b4 .before .before in let b9 = b6 .before .before .before in let b13 = b9 .before .before .before .before in
+    let b16 = b13 .before .before .before in let b18 = b16 .before .before in let b20 = b18 .before .before in let b24 = b20 .before .before .before .before in let l = b20 .loop in let a = b24 .args in (
+      passing.loops-on (a .layout) (a .start) ((a .end)) ((a .owner)) ((a .from)) ((a .mode)) ((a .count)) ((a .s .now)) ((a .t .now)) ((b24 .pre .1)) ((l .inv .1)) ((l .at)) ((l .due)) ((l .p)) ((l .n)) ((l .row)) ((l .t))
+          ((l .size)) ((l .inv .0)) _ ((b18 .past-key .ensures)) _ ((b16 .k .given .1)) _ ((b9 .value .ensures .0)) ((b6 .if2 .left)) _ _ _ ((b9 .value .kept .1 .1 .1 .1 .1 .1 .1 .1 .1 .1 .0)) _ ((b13 .slot .ensures .1))
+          ((b9 .value .ensures .1)) _ ((b4 .sized .ensures)) _ ((b2 .mark .ensures)),
+      (l .inv .1),
+    )))

@@ -22,8 +22,5 @@ value-spec =
     (λ c. search needs)
     (λ c κs. search needs)
     (λ c. search needs)
-    (λ c. let a = (c .before .before .before .before .before .before .before .before .before .args) in (
-      (c .before .before .put-rows .ensures .0) ∙ ap (λ s. code (itemEnd 29 s)) (part-to-end (a .c .now) 0),
-      passing.first-put (a .layout) (a .start) (a .end) (a .owner) (a .from) (a .k) (a .seen) (a .c .now) (a .t .now) (a .count) (a .next) _ (c .before .before .before .before .before .before .waits .ensures)
-          (c .before .before .before .before .before .if1 .left) _ _ _ (c .before .before .put-rows .ensures .1),
-    )))
+    (λ c. let b2 = c .before .before in let b5 = b2 .before .before .before in let b6 = b5 .before in let a′ = b6 .before .before .before .args in
+    let a = (a′) in ((b2 .put-rows .ensures .0) ∙ ap (λ s. code (itemEnd 29 s)) (part-to-end (a .c .now) 0), passing.first-put (a .layout) (a .start) (a .end) (a .owner) (a .from) (a .k) (a .seen) (a .c .now) (a .t .now) (a .count) (a .next) _ (b6 .waits .ensures) (b5 .if1 .left) _ _ _ (b2 .put-rows .ensures .1))))

@@ -19,6 +19,7 @@ put-twelve-spec =
     (λ c. search needs)
     (λ c κs. search needs)
     (λ c. search needs)
-    (λ c. rows.twelve-put (c .before .before .before .before .before .before .before .before .before .before .before .before .before .before .args .t .now) _ _ _ (c .before .before .before .before .before .before .before .before .before .before .before .before .before .before .args .i) _ _ _ _ _ _ _ _ _ _ _ _ (c .before .before .before .before .before .before .before .before .before .before .five .ensures) (c .before .before .before .before .before .before .five2 .ensures) (c .before .before .two .ensures))
+    (λ c. let b2 = c .before .before in let b6 = b2 .before .before .before .before in let b10 = b6 .before .before .before .before in let a = b10 .before .before .before .before .args in
+    rows.twelve-put (a .t .now) _ _ _ (a .i) _ _ _ _ _ _ _ _ _ _ _ _ (b10 .five .ensures) (b6 .five2 .ensures) (b2 .two .ensures))
     (λ c. let a = c .before .before .args in sym (laying.sets-out
     (twelve (spanned (a .name)) (a .code) (spanned (a .kind)) (a .offset) (a .length) (spanned (a .digest)) (a .owner) (spanned (a .entry))) (a .t .now) (a .i) (omega arith))))

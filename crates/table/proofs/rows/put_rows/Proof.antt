@@ -27,11 +27,26 @@ put-rows-spec =
     (λ c. opens.size-inside ((c .before .before .before .before .before .before .before .args .c .now)) _ ((c .before .before .before .map .ensures)) _ _ _ ((c .before .mode .given .1)))
     (λ c. opens.size-inside ((c .before .before .before .before .before .before .before .args .c .now)) _ ((c .before .before .before .map .ensures)) _ _ _ ((c .before .mode .given .1)))
     (λ c. search needs)
-    (λ c κs. opens.modes ((c .before .before .before .before .before .before .before .before .before .args .c .now)) _ ((c .before .before .before .before .before .map .ensures)) _ _ _ ((c .before .before .before .mode .given .1)))
-    (λ c. opens.size-inside ((c .before .before .before .before .before .before .before .before .before .before .before .before .args .c .now)) _ ((c .before .before .before .before .before .before .before .before .map .ensures)) _ _ _ ((c .before .before .before .before .before .before .mode .given .1)))
+    (λ c κs. let b3 = c .before .before .before in let b5 = b3 .before .before in let a = b5 .before .before .before .before .args in
+    opens.modes ((a .c .now)) _ ((b5 .map .ensures)) _ _ _ ((b3 .mode .given .1)))
+    (λ c. let b6 = c .before .before .before .before .before .before in let b8 = b6 .before .before in let a = b8 .before .before .before .before .args in
+    opens.size-inside ((a .c .now)) _ ((b8 .map .ensures)) _ _ _ ((b6 .mode .given .1)))
     (λ c. search needs)
-    (λ c. (opens.ends-faulty ((c .before .before .before .before .before .before .before .before .before .before .before .before .before .before .args .c .now)) _ ((c .before .before .before .before .before .before .before .before .before .before .map .ensures)) _ _ _ ((c .before .before .before .before .before .before .before .before .mode .given .1)) 28 (omega arith) _ ((c .before .before .before .before .entries .ensures .0)) ((c .if1 .taken)), rowing.map-rowed (offered (c .before .before .before .before .before .before .before .before .before .before .before .before .before .before .args .layout) (c .before .before .before .before .before .before .before .before .before .before .before .before .before .before .args .format) (c .before .before .before .before .before .before .before .before .before .before .before .before .before .before .args .code)) (c .before .before .before .before .before .before .before .before .before .before .before .before .before .before .args .c .now) ((c .before .before .before .before .before .before .before .before .before .before .before .before .before .before .args .start)) ((c .before .before .before .before .before .before .before .before .before .before .before .before .before .before .args .end)) ((c .before .before .before .before .before .before .before .before .before .before .before .before .before .before .args .owner)) ((c .before .before .before .before .before .before .before .before .before .before .before .before .before .before .args .from)) ((c .before .before .before .before .before .before .before .before .before .before .before .before .before .before .args .t .now)) _ ((c .before .before .before .before .before .before .before .before .before .before .map .ensures)) _ _ _ ((c .before .before .before .before .before .before .before .before .mode .given .1)) _ _ _ ((c .before .before .before .before .entries .ensures .1))))
+    (λ c. let a = c .before .before .before .before .before .before .before .before .before .before .before .before .before .before .args in (
+      opens.ends-faulty ((a .c .now)) _ ((c .before .before .before .before .before .before .before .before .before .before .map .ensures)) _ _ _
+          ((c .before .before .before .before .before .before .before .before .mode .given .1)) 28 (omega arith) _ ((c .before .before .before .before .entries .ensures .0)) ((c .if1 .taken)),
+      rowing.map-rowed
+          (offered (a .layout) (a .format) (a .code)) (a .c .now) ((a .start)) ((a .end)) ((a .owner)) ((a .from)) ((a .t .now)) _ ((c .before .before .before .before .before .before .before .before .before .before .map .ensures))
+          _ _ _ ((c .before .before .before .before .before .before .before .before .mode .given .1)) _ _ _ ((c .before .before .before .before .entries .ensures .1)),
+    ))
     (λ c. search needs)
-    (λ c. ((c .skip .ensures) ∙ ap (λ s. code (itemEnd 29 s)) (part-to-end ((c .before .before .before .before .before .before .before .before .args .c .now)) 0), rowing.no-map (offered (c .before .before .before .before .before .before .before .before .args .layout) (c .before .before .before .before .before .before .before .before .args .format) (c .before .before .before .before .before .before .before .before .args .code)) (c .before .before .before .before .before .before .before .before .args .c .now) ((c .before .before .before .before .before .before .before .before .args .start)) ((c .before .before .before .before .before .before .before .before .args .end)) ((c .before .before .before .before .before .before .before .before .args .owner)) ((c .before .before .before .before .before .before .before .before .args .from)) ((c .before .before .before .before .before .before .before .before .args .t .now)) _ ((c .before .before .before .before .map .ensures)) _ _ _ ((c .before .before .enum-told .given .1))))
+    (λ c. let b2 = c .before .before in let b4 = b2 .before .before in let a = b4 .before .before .before .before .args in
+    ((c .skip .ensures) ∙ ap (λ s. code (itemEnd 29 s)) (part-to-end ((a .c .now)) 0), rowing.no-map (offered (a .layout) (a .format) (a .code)) (a .c .now) ((a .start)) ((a .end)) ((a .owner)) ((a .from)) ((a .t .now)) _ ((b4 .map .ensures)) _ _ _ ((b2 .enum-told .given .1))))
     (λ c. search needs)
-    (λ c. (opens.ends-inside ((c .before .before .before .before .before .before .before .before .before .before .before .before .before .before .before .args .c .now)) _ ((c .before .before .before .before .before .before .before .before .before .before .before .map .ensures)) _ _ _ ((c .before .before .before .before .before .before .before .before .before .mode .given .1)) 28 (omega arith) _ ((c .before .before .before .before .before .entries .ensures .0)) ((c .before .if1 .left)), rowing.map-rowed (offered (c .before .before .before .before .before .before .before .before .before .before .before .before .before .before .before .args .layout) (c .before .before .before .before .before .before .before .before .before .before .before .before .before .before .before .args .format) (c .before .before .before .before .before .before .before .before .before .before .before .before .before .before .before .args .code)) (c .before .before .before .before .before .before .before .before .before .before .before .before .before .before .before .args .c .now) ((c .before .before .before .before .before .before .before .before .before .before .before .before .before .before .before .args .start)) ((c .before .before .before .before .before .before .before .before .before .before .before .before .before .before .before .args .end)) ((c .before .before .before .before .before .before .before .before .before .before .before .before .before .before .before .args .owner)) ((c .before .before .before .before .before .before .before .before .before .before .before .before .before .before .before .args .from)) ((c .before .before .before .before .before .before .before .before .before .before .before .before .before .before .before .args .t .now)) _ ((c .before .before .before .before .before .before .before .before .before .before .before .map .ensures)) _ _ _ ((c .before .before .before .before .before .before .before .before .before .mode .given .1)) _ _ _ ((c .before .before .before .before .before .entries .ensures .1)))))
+    (λ c. let a = c .before .before .before .before .before .before .before .before .before .before .before .before .before .before .before .args in (
+      opens.ends-inside ((a .c .now)) _ ((c .before .before .before .before .before .before .before .before .before .before .before .map .ensures)) _ _ _
+          ((c .before .before .before .before .before .before .before .before .before .mode .given .1)) 28 (omega arith) _ ((c .before .before .before .before .before .entries .ensures .0)) ((c .before .if1 .left)),
+      rowing.map-rowed (offered (a .layout) (a .format) (a .code)) (a .c .now) ((a .start)) ((a .end)) ((a .owner)) ((a .from)) ((a .t .now)) _
+          ((c .before .before .before .before .before .before .before .before .before .before .before .map .ensures)) _ _ _ ((c .before .before .before .before .before .before .before .before .before .mode .given .1)) _ _ _
+          ((c .before .before .before .before .before .entries .ensures .1)),
+    )))

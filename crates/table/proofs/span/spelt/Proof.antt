@@ -14,7 +14,9 @@ spelt-spec =
     (λ c. search needs)
     (λ c. search needs)
     (λ c κs. search needs)
-    (λ c. spelling.short-spelt ((c .before .before .before .before .before .args .s .now)) ((c .before .before .before .before .before .args .end)) _ ((c .before .before .head .ensures)) (omega arith) _)
+    (λ c. let a = c .before .before .before .before .before .args in
+    spelling.short-spelt ((a .s .now)) ((a .end)) _ ((c .before .before .head .ensures)) (omega arith) _)
     (λ c κs. search needs)
     (λ c. search needs)
-    (λ c. spelling.head-spelt ((c .before .before .before .before .before .before .before .args .s .now)) ((c .before .before .before .before .before .before .before .args .end)) _ ((c .before .before .before .before .head .ensures)) _ ((c .before .place-of .ensures))))
+    (λ c. let b4 = c .before .before .before .before in let a = b4 .before .before .before .args in
+    spelling.head-spelt ((a .s .now)) ((a .end)) _ ((b4 .head .ensures)) _ ((c .before .place-of .ensures))))

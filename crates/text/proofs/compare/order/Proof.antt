@@ -12,8 +12,10 @@ pub order-spec : {M : Type 1} → statement M
 order-spec =
     tie.close
     (tie.spec
-    (λ c. total.order-short (c .before .before .before .args .a .now) (c .before .before .before .args .b .now) (omega arith))
-    (λ c. total.order-long (c .before .before .before .before .args .a .now) (c .before .before .before .before .args .b .now) (omega arith))
+    (λ c. let a = c .before .before .before .args in
+    total.order-short (a .a .now) (a .b .now) (omega arith))
+    (λ c. let a = c .before .before .before .before .args in
+    total.order-long (a .a .now) (a .b .now) (omega arith))
     (λ c. search needs)
     (λ c. search needs)
     (λ c. search needs)
@@ -21,7 +23,8 @@ order-spec =
     (λ c. search needs)
     (λ c. search needs)
     (λ c κs. search needs)
-    (λ c. (c .order-by-bytes .ensures) ∙ ap₂ orders.order (whole (c .before .before .before .before .before .before .before .before .args .a .now)) (whole (c .before .before .before .before .before .before .before .before .args .b .now)))
+    (λ c. let a = c .before .before .before .before .before .before .before .before .args in
+    (c .order-by-bytes .ensures) ∙ ap₂ orders.order (whole (a .a .now)) (whole (a .b .now)))
     (λ c. search needs)
     (λ c. search needs)
     (λ c. search needs)
@@ -29,4 +32,5 @@ order-spec =
     (λ c. search needs)
     (λ c. search needs)
     (λ c κs. search needs)
-    (λ c. (c .order-by-words .ensures) ∙ ap₂ orders.order (whole (c .before .before .before .before .before .before .before .before .args .a .now)) (whole (c .before .before .before .before .before .before .before .before .args .b .now))))
+    (λ c. let a = c .before .before .before .before .before .before .before .before .args in
+    (c .order-by-words .ensures) ∙ ap₂ orders.order (whole (a .a .now)) (whole (a .b .now))))

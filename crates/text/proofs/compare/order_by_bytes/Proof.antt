@@ -27,8 +27,13 @@ order-by-bytes-spec =
     (λ c. search needs)
     (λ c κs. search needs)
     (λ c κs. search needs)
-    (λ c. (c .by-number .ensures) ∙ words.order-by (c .before .before .before .before .before .before .before .loop .inv .1) (λ j. omega (arith, (c .before .before .before .before .before .before .before .before .before .shared-slice-known .given) j)) (λ j. omega (arith, (c .before .before .before .before .before .before .before .before .shared-slice-known2 .given) j)) 1 (c .before .before .before .before .before .before .before .loop .i) ((c .before .before .before .before .wide .ensures .0) ∙ sym (numbers.word-one _ (c .before .before .before .before .before .before .before .loop .i))) ((c .before .before .wide2 .ensures .0) ∙ sym (numbers.word-one _ (c .before .before .before .before .before .before .before .loop .i))) (omega arith) (c .before .before .before .before .before .before .before .before .before .before .pre) (omega arith) (λ e. absurd ((c .before .if1 .taken) e)))
+    (λ c. let l = c .before .before .before .before .before .before .before .loop in
+    (c .by-number .ensures) ∙ words.order-by (l .inv .1) (λ j. omega (arith, (c .before .before .before .before .before .before .before .before .before .shared-slice-known .given) j))
+    (λ j. omega (arith, (c .before .before .before .before .before .before .before .before .shared-slice-known2 .given) j)) 1 (l .i)
+    ((c .before .before .before .before .wide .ensures .0) ∙ sym (numbers.word-one _ (l .i))) ((c .before .before .wide2 .ensures .0) ∙ sym (numbers.word-one _ (l .i))) (omega arith)
+    (c .before .before .before .before .before .before .before .before .before .before .pre) (omega arith) (λ e. absurd ((c .before .if1 .taken) e)))
     (λ c. search needs)
     (λ c. search needs)
-    (λ c. (omega arith, words.agree-more (c .before .before .before .before .before .before .loop .inv .1) (λ j. omega (arith, (c .before .before .before .before .before .before .before .before .shared-slice-known .given) j)) (λ j. omega (arith, (c .before .before .before .before .before .before .before .shared-slice-known2 .given) j)) 1 (c .before .before .before .before .before .before .loop .i) ((c .before .before .before .wide .ensures .0) ∙ sym (numbers.word-one _ (c .before .before .before .before .before .before .loop .i))) ((c .before .wide2 .ensures .0) ∙ sym (numbers.word-one _ (c .before .before .before .before .before .before .loop .i))) (omega arith) (omega arith)))
+    (λ c. let l = c .before .before .before .before .before .before .loop in
+    (omega arith, words.agree-more (l .inv .1) (λ j. omega (arith, (c .before .before .before .before .before .before .before .before .shared-slice-known .given) j)) (λ j. omega (arith, (c .before .before .before .before .before .before .before .shared-slice-known2 .given) j)) 1 (l .i) ((c .before .before .before .wide .ensures .0) ∙ sym (numbers.word-one _ (l .i))) ((c .before .wide2 .ensures .0) ∙ sym (numbers.word-one _ (l .i))) (omega arith) (omega arith)))
     (λ c. words.agree-order (c .before .loop .inv .1) (c .before .before .before .before .pre) (omega arith)))

@@ -31,10 +31,15 @@ order-by-words-spec =
     (λ c. search needs)
     (λ c κs. search needs)
     (λ c κs. search needs)
-    (λ c. (c .by-number .ensures) ∙ words.order-by (c .before .before .before .before .before .before .before .loop .inv .1) (λ j. omega (arith, (c .before .before .before .before .before .before .before .before .before .shared-slice-known .given) j)) (λ j. omega (arith, (c .before .before .before .before .before .before .before .before .shared-slice-known2 .given) j)) 8 (c .before .before .before .before .before .before .before .loop .i) ((c .before .before .before .before .be8 .ensures) ∙ words.word-part 8 _ (c .before .before .before .before .before .before .before .loop .i)) ((c .before .before .be82 .ensures) ∙ words.word-part 8 _ (c .before .before .before .before .before .before .before .loop .i)) (omega arith) (c .before .before .before .before .before .before .before .before .before .before .pre .1) (omega arith) (λ e. absurd ((c .before .if1 .taken) e)))
+    (λ c. let l = c .before .before .before .before .before .before .before .loop in
+    (c .by-number .ensures) ∙ words.order-by (l .inv .1) (λ j. omega (arith, (c .before .before .before .before .before .before .before .before .before .shared-slice-known .given) j))
+    (λ j. omega (arith, (c .before .before .before .before .before .before .before .before .shared-slice-known2 .given) j)) 8 (l .i)
+    ((c .before .before .before .before .be8 .ensures) ∙ words.word-part 8 _ (l .i)) ((c .before .before .be82 .ensures) ∙ words.word-part 8 _ (l .i)) (omega arith)
+    (c .before .before .before .before .before .before .before .before .before .before .pre .1) (omega arith) (λ e. absurd ((c .before .if1 .taken) e)))
     (λ c. search needs)
     (λ c. search needs)
-    (λ c. (omega arith, words.agree-more (c .before .before .before .before .before .before .loop .inv .1) (λ j. omega (arith, (c .before .before .before .before .before .before .before .before .shared-slice-known .given) j)) (λ j. omega (arith, (c .before .before .before .before .before .before .before .shared-slice-known2 .given) j)) 8 (c .before .before .before .before .before .before .loop .i) ((c .before .before .before .be8 .ensures) ∙ words.word-part 8 _ (c .before .before .before .before .before .before .loop .i)) ((c .before .be82 .ensures) ∙ words.word-part 8 _ (c .before .before .before .before .before .before .loop .i)) (omega arith) (omega arith)))
+    (λ c. let l = c .before .before .before .before .before .before .loop in
+    (omega arith, words.agree-more (l .inv .1) (λ j. omega (arith, (c .before .before .before .before .before .before .before .before .shared-slice-known .given) j)) (λ j. omega (arith, (c .before .before .before .before .before .before .before .shared-slice-known2 .given) j)) 8 (l .i) ((c .before .before .before .be8 .ensures) ∙ words.word-part 8 _ (l .i)) ((c .before .be82 .ensures) ∙ words.word-part 8 _ (l .i)) (omega arith) (omega arith)))
     (λ c. search needs)
     (λ c. search needs)
     (λ c. search needs)
@@ -44,4 +49,8 @@ order-by-words-spec =
     (λ c. search needs)
     (λ c κs. search needs)
     (λ c κs. search needs)
-    (λ c. (c .by-number2 .ensures) ∙ words.order-by (c .before .before .before .before .before .before .loop .inv .1) (λ j. omega (arith, (c .before .before .before .before .before .before .before .before .shared-slice-known .given) j)) (λ j. omega (arith, (c .before .before .before .before .before .before .before .shared-slice-known2 .given) j)) 8 (length (c .before .before .before .before .before .before .before .before .before .args .a .now) - 8) ((c .before .before .before .be83 .ensures) ∙ words.word-part 8 _ (length (c .before .before .before .before .before .before .before .before .before .args .a .now) - 8)) ((c .before .be84 .ensures) ∙ words.word-part 8 _ (length (c .before .before .before .before .before .before .before .before .before .args .a .now) - 8)) (omega arith) (c .before .before .before .before .before .before .before .before .before .pre .1) (omega arith) (λ e. omega arith)))
+    (λ c. let l = c .before .before .before .before .before .before .loop in let a = c .before .before .before .before .before .before .before .before .before .args in
+    (c .by-number2 .ensures) ∙ words.order-by (l .inv .1) (λ j. omega (arith, (c .before .before .before .before .before .before .before .before .shared-slice-known .given) j))
+    (λ j. omega (arith, (c .before .before .before .before .before .before .before .shared-slice-known2 .given) j)) 8 (length (a .a .now) - 8)
+    ((c .before .before .before .be83 .ensures) ∙ words.word-part 8 _ (length (a .a .now) - 8)) ((c .before .be84 .ensures) ∙ words.word-part 8 _ (length (a .a .now) - 8)) (omega arith)
+    (c .before .before .before .before .before .before .before .before .before .pre .1) (omega arith) (λ e. omega arith)))

@@ -19,4 +19,5 @@ same-spec =
     (λ c. search needs)
     (λ c. search needs)
     (λ c κs. search needs)
-    (λ c. ap (λ u. eqb u 0) ((c .order .ensures) ∙ ap₂ orders.order (whole (c .before .before .before .before .before .args .a .now)) (whole (c .before .before .before .before .before .args .b .now))) ∙ total.order-same (c .before .before .before .before .before .args .a .now) (c .before .before .before .before .before .args .b .now)))
+    (λ c. let a = c .before .before .before .before .before .args in
+    ap (λ u. eqb u 0) ((c .order .ensures) ∙ ap₂ orders.order (whole (a .a .now)) (whole (a .b .now))) ∙ total.order-same (a .a .now) (a .b .now)))

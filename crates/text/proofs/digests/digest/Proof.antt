@@ -17,10 +17,12 @@ digest-spec =
     (λ c. search needs)
     (λ c κs. search needs)
     (λ c. search needs)
-    (λ c. (steps.digest-by ofBytes (c .before .before .before .before .args .t .now) (c .mix-bytes .ensures) (rw (lt-ltb (length (c .before .before .before .before .args .t .now)) 8 (omega arith))), omega arith, omega arith))
+    (λ c. let a = c .before .before .before .before .args in
+    (steps.digest-by ofBytes (a .t .now) (c .mix-bytes .ensures) (rw (lt-ltb (length (a .t .now)) 8 (omega arith))), omega arith, omega arith))
     (λ c. search needs)
     (λ c. search needs)
     (λ c. search needs)
     (λ c κs. search needs)
     (λ c. search needs)
-    (λ c. (steps.digest-by ofWords (c .before .before .before .before .args .t .now) (c .mix-words .ensures) (rw (le-ltb (length (c .before .before .before .before .args .t .now)) 8 (omega arith))), omega arith, omega arith)))
+    (λ c. let a = c .before .before .before .before .args in
+    (steps.digest-by ofWords (a .t .now) (c .mix-words .ensures) (rw (le-ltb (length (a .t .now)) 8 (omega arith))), omega arith, omega arith)))

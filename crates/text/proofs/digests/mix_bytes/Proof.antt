@@ -29,5 +29,7 @@ mix-bytes-spec =
     (λ c. search needs)
     (λ c. search needs)
     (λ c. search needs)
-    (λ c. (omega arith, (c .before .before .before .before .loop .inv .1) ∙ steps.one-more 1 1 (c .before .before .before .before .loop .left) (c .before .before .before .before .before .before .args .t .now) (c .before .before .before .before .loop .i) (c .before .before .before .before .loop .h) _ _ _ (omega arith) refl ((c .before .wide .ensures .0) ∙ sym (numbers.word-one (c .before .before .before .before .before .before .args .t .now) (c .before .before .before .before .loop .i))) (c .mix .ensures)))
-    (λ c. unfold ofBytes in sym ((c .before .loop .inv .1) ∙ steps.no-more 1 1 (c .before .loop .left) (c .before .before .before .args .t .now) (c .before .loop .i) (c .before .loop .h) (omega arith))))
+    (λ c. let l = c .before .before .before .before .loop in let a = c .before .before .before .before .before .before .args in
+    (omega arith, (l .inv .1) ∙ steps.one-more 1 1 (l .left) (a .t .now) (l .i) (l .h) _ _ _ (omega arith) refl ((c .before .wide .ensures .0) ∙ sym (numbers.word-one (a .t .now) (l .i))) (c .mix .ensures)))
+    (λ c. let l = c .before .loop in let a = c .before .before .before .args in
+    unfold ofBytes in sym ((l .inv .1) ∙ steps.no-more 1 1 (l .left) (a .t .now) (l .i) (l .h) (omega arith))))

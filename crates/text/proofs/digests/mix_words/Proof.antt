@@ -40,7 +40,8 @@ mix-words-spec =
     (λ c. search needs)
     (λ c. search needs)
     (λ c. search needs)
-    (λ c. let t = ((c .before .before .before .before .before .before .before .before .before .before .args .t .now)) in let i = ((c .before .before .before .before .before .before .before .loop .i)) in (omega arith, ((c .before .before .before .before .before .before .before .loop .inv .1)) ∙ steps.one-more 8 16 ((c .before .before .before .before .before .before .before .loop .left)) t i ((c .before .before .before .before .before .before .before .loop .g)) _ _ _ (omega arith) refl (((c .before .before .before .before .be8 .ensures)) ∙ words.word-part 8 t i) ((c .before .before .before .mix .ensures)), ((c .before .before .before .before .before .before .before .loop .inv .2)) ∙ steps.one-more 8 16 ((c .before .before .before .before .before .before .before .loop .left)) t (i + 8) ((c .before .before .before .before .before .before .before .loop .h)) (i + 16 + 8) _ _ (omega arith) (omega arith) (((c .before .be82 .ensures)) ∙ words.word-part 8 t (i + 8)) ((c .mix2 .ensures))))
+    (λ c. let l = c .before .before .before .before .before .before .before .loop in let a = c .before .before .before .before .before .before .before .before .before .before .args in
+    let t = ((a .t .now)) in let i = ((l .i)) in (omega arith, ((l .inv .1)) ∙ steps.one-more 8 16 ((l .left)) t i ((l .g)) _ _ _ (omega arith) refl (((c .before .before .before .before .be8 .ensures)) ∙ words.word-part 8 t i) ((c .before .before .before .mix .ensures)), ((l .inv .2)) ∙ steps.one-more 8 16 ((l .left)) t (i + 8) ((l .h)) (i + 16 + 8) _ _ (omega arith) (omega arith) (((c .before .be82 .ensures)) ∙ words.word-part 8 t (i + 8)) ((c .mix2 .ensures))))
     (λ c. search needs)
     (λ c. search needs)
     (λ c. search needs)
@@ -52,4 +53,9 @@ mix-words-spec =
     (λ c κs. search needs)
     (λ c κs. search needs)
     (λ c κs. search needs)
-    (λ c. unfold ofWords in ((c .mix5 .ensures)) ∙ ap₂ mixed (((c .before .mix4 .ensures)) ∙ ap₂ mixed (((c .before .before .before .before .mix3 .ensures)) ∙ ap₂ mixed (sym (((c .before .before .before .before .before .before .before .before .loop .inv .1)) ∙ steps.no-more 8 16 ((c .before .before .before .before .before .before .before .before .loop .left)) ((c .before .before .before .before .before .before .before .before .before .before .before .args .t .now)) ((c .before .before .before .before .before .before .before .before .loop .i)) ((c .before .before .before .before .before .before .before .before .loop .g)) (omega arith))) (((c .before .before .before .before .before .be83 .ensures)) ∙ words.word-part 8 ((c .before .before .before .before .before .before .before .before .before .before .before .args .t .now)) ((c .before .before .before .before .before .before .before .before .before .eight-less .result)) ∙ ap (λ i. word 8 ((c .before .before .before .before .before .before .before .before .before .before .before .args .t .now)) i 0) (omega arith))) (((c .before .before .be84 .ensures)) ∙ words.word-part 8 ((c .before .before .before .before .before .before .before .before .before .before .before .args .t .now)) (length ((c .before .before .before .before .before .before .before .before .before .before .before .args .t .now)) - 8))) (sym (((c .before .before .before .before .before .before .before .before .loop .inv .2)) ∙ steps.no-more 8 16 ((c .before .before .before .before .before .before .before .before .loop .left)) ((c .before .before .before .before .before .before .before .before .before .before .before .args .t .now)) (((c .before .before .before .before .before .before .before .before .loop .i)) + 8) ((c .before .before .before .before .before .before .before .before .loop .h)) (omega arith)))))
+    (λ c. let l = c .before .before .before .before .before .before .before .before .loop in let a = c .before .before .before .before .before .before .before .before .before .before .before .args in
+    unfold ofWords in ((c .mix5 .ensures)) ∙ ap₂ mixed
+    (((c .before .mix4 .ensures)) ∙ ap₂ mixed (((c .before .before .before .before .mix3 .ensures)) ∙ ap₂ mixed (sym (((l .inv .1)) ∙ steps.no-more 8 16 ((l .left)) ((a .t .now)) ((l .i)) ((l .g)) (omega arith)))
+    (((c .before .before .before .before .before .be83 .ensures)) ∙ words.word-part 8 ((a .t .now)) ((c .before .before .before .before .before .before .before .before .before .eight-less .result)) ∙ ap
+    (λ i. word 8 ((a .t .now)) i 0) (omega arith))) (((c .before .before .be84 .ensures)) ∙ words.word-part 8 ((a .t .now)) (length ((a .t .now)) - 8)))
+    (sym (((l .inv .2)) ∙ steps.no-more 8 16 ((l .left)) ((a .t .now)) (((l .i)) + 8) ((l .h)) (omega arith)))))

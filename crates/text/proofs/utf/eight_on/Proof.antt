@@ -33,5 +33,6 @@ eight-on-spec =
     (λ c. steps.never-ends (ascii.rest-wrong (c .before .before .before .before .before .before .loop .inv .1) (c .before .char-end .ensures) (c .if2 .taken)))
     (λ c. let x = ascii.rest-inside (c .before .before .before .before .before .before .loop .inv .1) (omega arith) (c .before .char-end .ensures) in omega arith)
     (λ c. search needs)
-    (λ c. (ascii.rest-inside (c .before .before .before .before .before .before .loop .inv .1) (omega arith) (c .before .char-end .ensures), ascii.rest-whole (c .before .before .before .before .before .before .loop .inv .1) (c .before .char-end .ensures) (c .if2 .left)))
+    (λ c. let l = c .before .before .before .before .before .before .loop in
+    (ascii.rest-inside (l .inv .1) (omega arith) (c .before .char-end .ensures), ascii.rest-whole (l .inv .1) (c .before .char-end .ensures) (c .if2 .left)))
     (λ c. steps.ends-at (c .before .loop .inv .1) (omega arith) (omega arith) (omega arith)))

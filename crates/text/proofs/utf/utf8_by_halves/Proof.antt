@@ -33,4 +33,10 @@ utf8-by-halves-spec =
     (λ c. search needs)
     (λ c κs. search needs)
     (λ c. ascii.rest-decides (steps.says-all _) (c .utf8-by-bytes2 .ensures))
-    (λ c. steps.says-end (ascii.whole-word (ascii.whole-word (steps.says-all _) (λ j. omega (arith, (c .before .before .before .before .before .before .shared-slice-known .given) j)) 4 0 ((c .before .before .before .before .be4 .ensures .0) ∙ words.word-part 4 _ 0) (omega arith) (omega arith) (omega arith) (omega arith)) (λ j. omega (arith, (c .before .before .before .before .before .before .shared-slice-known .given) j)) 4 (length (c .before .before .before .before .before .before .before .args .t .now) - 4) ((c .before .be42 .ensures .0) ∙ words.word-part 4 _ (length (c .before .before .before .before .before .before .before .args .t .now) - 4)) (omega arith) (omega arith) (omega arith) (omega arith)) (omega arith)))
+    (λ c. let a = c .before .before .before .before .before .before .before .args in
+    steps.says-end
+    (ascii.whole-word (ascii.whole-word (steps.says-all _) (λ j. omega (arith, (c .before .before .before .before .before .before .shared-slice-known .given) j)) 4 0
+    ((c .before .before .before .before .be4 .ensures .0) ∙ words.word-part 4 _ 0) (omega arith) (omega arith) (omega arith) (omega arith))
+    (λ j. omega (arith, (c .before .before .before .before .before .before .shared-slice-known .given) j)) 4 (length (a .t .now) - 4) ((c .before .be42 .ensures .0) ∙ words.word-part 4 _ (length (a .t .now) - 4))
+    (omega arith) (omega arith) (omega arith) (omega arith))
+    (omega arith)))

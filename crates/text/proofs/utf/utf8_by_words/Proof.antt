@@ -35,10 +35,12 @@ utf8-by-words-spec =
     (λ c. ascii.rest-wrong (c .before .before .before .before .before .before .before .loop .inv .1) (c .before .eight-on .ensures) (c .if2 .taken))
     (λ c. let x = ascii.rest-inside (c .before .before .before .before .before .before .before .loop .inv .1) (omega arith) (c .before .eight-on .ensures) in omega arith)
     (λ c. let x = ascii.rest-inside (c .before .before .before .before .before .before .before .loop .inv .1) (omega arith) (c .before .eight-on .ensures) in omega arith)
-    (λ c. (ascii.rest-inside (c .before .before .before .before .before .before .before .loop .inv .1) (omega arith) (c .before .eight-on .ensures), ascii.rest-whole (c .before .before .before .before .before .before .before .loop .inv .1) (c .before .eight-on .ensures) (c .if2 .left)))
+    (λ c. let l = c .before .before .before .before .before .before .before .loop in
+    (ascii.rest-inside (l .inv .1) (omega arith) (c .before .eight-on .ensures), ascii.rest-whole (l .inv .1) (c .before .eight-on .ensures) (c .if2 .left)))
     (λ c. search needs)
     (λ c. search needs)
-    (λ c. (omega arith, ascii.whole-word (c .before .before .before .before .loop .inv .1) (λ j. omega (arith, (c .before .before .before .before .before .shared-slice-known .given) j)) 8 (c .before .before .before .before .loop .i) ((c .before .be8 .ensures) ∙ words.word-part 8 _ (c .before .before .before .before .loop .i)) (omega arith) (omega arith) (omega arith) (omega arith)))
+    (λ c. let l = c .before .before .before .before .loop in
+    (omega arith, ascii.whole-word (l .inv .1) (λ j. omega (arith, (c .before .before .before .before .before .shared-slice-known .given) j)) 8 (l .i) ((c .before .be8 .ensures) ∙ words.word-part 8 _ (l .i)) (omega arith) (omega arith) (omega arith) (omega arith)))
     (λ c. search needs)
     (λ c. search needs)
     (λ c. search needs)
@@ -48,4 +50,7 @@ utf8-by-words-spec =
     (λ c. search needs)
     (λ c κs. search needs)
     (λ c. ascii.rest-decides (c .before .before .before .before .before .before .loop .inv .1) (c .utf8-by-bytes .ensures))
-    (λ c. steps.says-end (ascii.whole-word (c .before .before .before .before .loop .inv .1) (λ j. omega (arith, (c .before .before .before .before .before .shared-slice-known .given) j)) 8 (length (c .before .before .before .before .before .before .args .t .now) - 8) ((c .before .be82 .ensures) ∙ words.word-part 8 _ (length (c .before .before .before .before .before .before .args .t .now) - 8)) (omega arith) (omega arith) (omega arith) (omega arith)) (omega arith)))
+    (λ c. let l = c .before .before .before .before .loop in let a = c .before .before .before .before .before .before .args in
+    steps.says-end
+    (ascii.whole-word (l .inv .1) (λ j. omega (arith, (c .before .before .before .before .before .shared-slice-known .given) j)) 8 (length (a .t .now) - 8) ((c .before .be82 .ensures) ∙ words.word-part 8 _ (length (a .t .now) - 8)) (omega arith) (omega arith) (omega arith) (omega arith))
+    (omega arith)))

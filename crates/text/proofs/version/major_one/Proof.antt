@@ -9,4 +9,6 @@ use Rattle.text.proofs.version.major_one.Tie as tie
 pub major-one-spec : {M : Type 1} → statement M
 major-one-spec =
     tie.close
-    (tie.spec (λ c. steps.major-other (c .before .args .v .now) (λ q. omega (arith, List·getD-eq-default (c .before .args .v .now) 0 {n = 0} (omega arith)))) (λ c. search needs) (λ c. steps.major-other (c .before .before .before .args .v .now) (λ q. (c .if2 .taken) q)) (λ c. steps.major-alone (c .before .before .before .before .args .v .now) (omega arith) (omega arith)) (λ c. search needs) (λ c. steps.major-long (c .before .before .before .before .before .args .v .now) (omega arith) (omega arith)))
+    (tie.spec (λ c. steps.major-other (c .before .args .v .now) (λ q. omega (arith, List·getD-eq-default (c .before .args .v .now) 0 {n = 0} (omega arith)))) (λ c. search needs)
+    (λ c. steps.major-other (c .before .before .before .args .v .now) (λ q. (c .if2 .taken) q)) (λ c. steps.major-alone (c .before .before .before .before .args .v .now) (omega arith) (omega arith)) (λ c. search needs)
+    (λ c. steps.major-long (c .before .before .before .before .before .args .v .now) (omega arith) (omega arith)))

@@ -14,7 +14,8 @@ any-words-spec =
     (λ c. search needs)
     (λ c. search needs)
     (λ c κs. search needs)
-    (λ c. laws.tells-one (c .before .before .before .before .args .k .now) (bytes-of (c .before .before .before .before .args .k .now) (λ i. omega (arith, (c .before .before .before .shared-slice-known .given) i))) _ (c .before .before .if1 .taken) (c .tagged .ensures))
+    (λ c. let b2 = c .before .before in let b3 = b2 .before in let a = b3 .before .args in
+    laws.tells-one (a .k .now) (bytes-of (a .k .now) (λ i. omega (arith, (b3 .shared-slice-known .given) i))) _ (b2 .if1 .taken) (c .tagged .ensures))
     (λ c. search needs)
     (λ c. search needs)
     (λ c. search needs)
@@ -23,7 +24,8 @@ any-words-spec =
     (λ c. search needs)
     (λ c. search needs)
     (λ c κs. search needs)
-    (λ c. laws.tells-two (c .before .before .before .before .before .before .before .args .k .now) (bytes-of (c .before .before .before .before .before .before .before .args .k .now) (λ i. omega (arith, (c .before .before .before .before .before .before .shared-slice-known .given) i))) _ _ (c .before .before .before .before .if2 .taken) (c .before .before .tagged2 .ensures) (c .tagged3 .ensures))
+    (λ c. let b2 = c .before .before in let b4 = b2 .before .before in let b6 = b4 .before .before in let a = b6 .before .args in
+    laws.tells-two (a .k .now) (bytes-of (a .k .now) (λ i. omega (arith, (b6 .shared-slice-known .given) i))) _ _ (b4 .if2 .taken) (b2 .tagged2 .ensures) (c .tagged3 .ensures))
     (λ c. search needs)
     (λ c. search needs)
     (λ c. search needs)
@@ -36,5 +38,6 @@ any-words-spec =
     (λ c. search needs)
     (λ c. search needs)
     (λ c κs. search needs)
-    (λ c. laws.tells-three (c .before .before .before .before .before .before .before .before .before .before .args .k .now) (bytes-of (c .before .before .before .before .before .before .before .before .before .before .args .k .now) (λ i. omega (arith, (c .before .before .before .before .before .before .before .before .before .shared-slice-known .given) i))) _ _ _ (c .before .before .before .before .tagged4 .ensures) (c .before .before .tagged5 .ensures) (c .tagged6 .ensures))
+    (λ c. let b2 = c .before .before in let b4 = b2 .before .before in let b9 = b4 .before .before .before .before .before in let a = b9 .before .args in
+    laws.tells-three (a .k .now) (bytes-of (a .k .now) (λ i. omega (arith, (b9 .shared-slice-known .given) i))) _ _ _ (b4 .tagged4 .ensures) (b2 .tagged5 .ensures) (c .tagged6 .ensures))
     (λ c. laws.tells-long (c .before .before .before .before .args .k .now) (c .if3 .left)))

@@ -30,4 +30,11 @@ few-spec =
     (λ c. search needs)
     (λ c. search needs)
     (λ c. search needs)
-    (λ c. (let x = laws.tagged-three ((c .before .before .before .before .before .before .before .before .before .before .args .k .now)) (let a = ((c .before .before .before .before .before .before .before .before .if1 .left)) in let b = ((c .before .before .before .before .before .if2 .left)) in let d = ((c .before .before .if3 .left)) in let e = (c .before .before .before .before .before .before .before .before .before .before .pre) in omega arith) in let y = ((c .before .before .before .before .before .before .wide .ensures .0)) in let z = ((c .before .before .before .wide2 .ensures .0)) in let w = ((c .wide3 .ensures .0)) in omega arith, let y = ((c .before .before .before .before .before .before .wide .ensures .1)) in let z = ((c .before .before .before .wide2 .ensures .1)) in let w = ((c .wide3 .ensures .1)) in omega arith)))
+    (λ c. (
+      let x = laws.tagged-three ((c .before .before .before .before .before .before .before .before .before .before .args .k .now))
+          (let a = ((c .before .before .before .before .before .before .before .before .if1 .left)) in let b = ((c .before .before .before .before .before .if2 .left)) in let d = ((c .before .before .if3 .left)) in
+          let e = (c .before .before .before .before .before .before .before .before .before .before .pre) in omega arith) in let y = ((c .before .before .before .before .before .before .wide .ensures .0)) in
+          let z = ((c .before .before .before .wide2 .ensures .0)) in let w = ((c .wide3 .ensures .0)) in omega arith,
+      let y = ((c .before .before .before .before .before .before .wide .ensures .1)) in
+          let z = ((c .before .before .before .wide2 .ensures .1)) in let w = ((c .wide3 .ensures .1)) in omega arith,
+    )))

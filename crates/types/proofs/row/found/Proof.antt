@@ -27,9 +27,12 @@ found-spec =
     (λ c. search needs)
     (λ c. search needs)
     (λ c κs. search needs)
-    (λ c. laws.found-here _ _ _ (c .before .before .before .before .before .before .args .rows .now) (c .before .before .before .before .loop .at) (omega arith) (c .before .before .before .before .loop .i) (c .before .before .before .before .loop .inv .2) _ (c .before .row-is .ensures) (c .if1 .taken))
+    (λ c. let l = c .before .before .before .before .loop in let a = c .before .before .before .before .before .before .args in
+    laws.found-here _ _ _ (a .rows .now) (l .at) (omega arith) (l .i) (l .inv .2) _ (c .before .row-is .ensures) (c .if1 .taken))
     (λ c. search needs)
     (λ c. search needs)
     (λ c. search needs)
-    (λ c. (omega arith, omega arith, laws.found-later _ _ _ (c .before .before .before .before .before .before .args .rows .now) (c .before .before .before .before .loop .at) (omega arith) (c .before .before .before .before .loop .i) (c .before .before .before .before .loop .inv .2) _ (c .before .row-is .ensures) (c .if1 .left)))
-    (λ c. laws.found-last _ _ _ (c .before .before .before .args .rows .now) (c .before .loop .at) (c .before .loop .i) (omega arith) (c .before .loop .inv .2)))
+    (λ c. let l = c .before .before .before .before .loop in let a = c .before .before .before .before .before .before .args in
+    (omega arith, omega arith, laws.found-later _ _ _ (a .rows .now) (l .at) (omega arith) (l .i) (l .inv .2) _ (c .before .row-is .ensures) (c .if1 .left)))
+    (λ c. let l = c .before .loop in let a = c .before .before .before .args in
+    laws.found-last _ _ _ (a .rows .now) (l .at) (l .i) (omega arith) (l .inv .2)))

@@ -17,7 +17,8 @@ words-of-spec =
     (λ c. search needs)
     (λ c. search needs)
     (λ c κs. search needs)
-    (λ c. laws.tells-one ((c .before .before .before .before .args .k .now)) (bytes-of ((c .before .before .before .before .args .k .now)) (λ i. omega (arith, ((c .before .before .before .shared-slice-known .given)) i))) _ ((c .before .before .if1 .taken)) ((c .tagged .ensures)))
+    (λ c. let b2 = c .before .before in let b3 = b2 .before in let a = b3 .before .args in
+    laws.tells-one ((a .k .now)) (bytes-of ((a .k .now)) (λ i. omega (arith, ((b3 .shared-slice-known .given)) i))) _ ((b2 .if1 .taken)) ((c .tagged .ensures)))
     (λ c. search needs)
     (λ c. search needs)
     (λ c. search needs)
