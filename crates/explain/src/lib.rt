@@ -15,9 +15,7 @@ ghost use Rattle.panel.specs.Told.{told, textAfter};
 ghost use Rattle.explained.specs.Sentence.{sentence};
 ghost use Rattle.explaining.specs.Judged as is;
 
-// The levels that a manifest has, and that the names and the values of its objects have.
-const LEVELS: u64 = 32;
-
+// The levels that the names and the values of a manifest's objects have.
 const OBJECTS: u64 = 30;
 
 // An object of the manifest m, the one with the index o, that is refused with the number n for its component c. The objects stand where `objects` bytes are left.
@@ -52,15 +50,17 @@ fn judged(layout: u64, m: &[u8], start: u64, end: usize, n: u64, o: u64, c: u64)
     pointed(&m[0..], end, n, o, c, 0, 0, spot.left)
 }
 
-// A manifest that is refused: as it is read, or for what it says.
+// A manifest that is refused: as it is read, or for what it says. The number tells which: the reading refuses with CBOR or DEEP only, the judgement with neither.
 fn refused(layout: u64, m: &[u8], start: u64, end: usize, n: u64, o: u64, c: u64) -> Explanation
     ensures { λ r. ⌜ is.RefusedIs (layoutOf layout) (now (m .entry)) start end n o c r ⌝ }
 {
-    let e = cbor::skip(&m[0..], LEVELS);
-    if e == m.len() {
-        return judged(layout, &m[0..], start, end, n, o, c);
+    if n == numbers::CBOR {
+        return unread::unread(n, &m[0..], end);
     }
-    unread::unread(n, &m[0..], end)
+    if n == numbers::DEEP {
+        return unread::unread(n, &m[0..], end);
+    }
+    judged(layout, &m[0..], start, end, n, o, c)
 }
 
 // A file that is sound, with so many objects and components, to a table of `room` numbers.

@@ -10,13 +10,12 @@ use lib.Dec.{leb}
 use borrow.Author.Tests.{le-leb, lt-leb}
 use borrow.Rule.Slice.PartAt.{part-to-end}
 use Rattle.meaning.specs.Check.{refuse}
-use Rattle.meaning.specs.Refusal.{ROOM}
+use Rattle.meaning.specs.Refusal.{CBOR, DEEP, ROOM}
 use Rattle.meaning.specs.Columns.{objectWidth, componentWidth}
 use Rattle.meaning.specs.Notes.{mapOption}
 use Rattle.meaning.specs.Layouts.{Layout, layoutOf}
 use Rattle.meaning.specs.Frame.{frame}
 use Rattle.meaning.specs.Rows.{optionalSpan}
-use Rattle.cbor.specs.Ending.{FAULT, code, itemEnd}
 use Rattle.fields.proofs.Texts.{Here}
 use Rattle.frame.specs.Told as framing
 use Rattle.frame.specs.declared.Framed.{Framed}
@@ -37,10 +36,12 @@ use Rattle.unread.specs.Unread.{Unframed, Unread}
 use Rattle.badroot.specs.Opening.{RootIs, ObjectsAt}
 use Rattle.pointed.specs.Pointed.{Pointed}
 use Rattle.sentence.specs.declared.Explanation.{Explanation}
+use Rattle.shown.specs.Accepted.{Framing}
 use Rattle.explaining.specs.Judged as is
 use Rattle.explaining.proofs.Within as within
 use Rattle.explaining.proofs.Words as words
 use Rattle.explaining.proofs.Reading as reading
+use Rattle.explaining.proofs.Reading.{Cause, stops, fills}
 
 module _ (L : Layout) (m : List ℕ) (start end n o c : ℕ) (r : Explanation) where
   pub of-object : Sided L → (objects from : ℕ) → from ≡ length m - objects → (e : Places) → EntryIs 30 (Here m from) o e → (v : ℕ) → v ≡ length m - e .value
@@ -68,16 +69,20 @@ module _ (L : Layout) (m : List ℕ) (start end n o c : ℕ) (r : Explanation) w
         let z = within.why L (Here m 0) start t q reads n o c refused in
         point (z .this) (within.met-opening L (Here m 0) start t q reads n o c refused sp (root t q reads) nz) ∙ ap (λ f. explain.explanation (mapOption (mapStep (spanOf end)) f) 0) (sym (z .shown)))
 
-  module _ (long : length m < FAULT) (e : ℕ) (asked : e ≡ code (itemEnd 32 (Here m 0))) where
-    pub by-its-tree : e ≡ length m → is.JudgedIs L (Here m 0) start end n o c r → is.RefusedIs L m start end n o c r
-    by-its-tree l judged told file f room =
-        let x = reading.filled L m start end long e asked l in
-        subst (λ u. is.JudgedIs L u start end n o c r) (part-to-end m 0) judged (x .tree) [] (x .reads) (reading.tree-refused L m start end long e asked n o c told l)
-        ∙ reading.explained-tree L m start end long e asked n o c told l file f room
+  module _ (framing : Framing L) where
+    pub by-its-bytes : n ≤ DEEP → Unread (Here m 0) end n r → is.RefusedIs L m start end n o c r
+    by-its-bytes low unread told file f room = go (reading.cause L m start end n o c told)
+      where
+        go : Cause L m start end n o c → is.explanation r ≡ explain.explain L file room
+        go (stops q e) = subst (λ u. Unread u end n r) (part-to-end m 0) unread q e ∙ sym (reading.explained-stop L m start end n o c file f q e room)
+        go (fills t h w) = absurd (let z = reading.tree-number L m start end n o c file f t h w framing in omega (arith, low, z))
 
-    pub by-its-bytes : (e ≡ length m → ⊥) → Unread (Here m 0) end n r → is.RefusedIs L m start end n o c r
-    by-its-bytes ne unread told file f room =
-        reading.explained-stop L m start end long e asked n o c told ne (is.explanation r) (subst (λ u. Unread u end n r) (part-to-end m 0) unread) file f room
+    pub by-its-tree : (n ≡ CBOR → ⊥) → (n ≡ DEEP → ⊥) → is.JudgedIs L (Here m 0) start end n o c r → is.RefusedIs L m start end n o c r
+    by-its-tree nc nd judged told file f room = go (reading.cause L m start end n o c told)
+      where
+        go : Cause L m start end n o c → is.explanation r ≡ explain.explain L file room
+        go (stops q e) = absurd (let z = reading.stop-number L m start end n o c file f q e framing in omega (arith, z .0, z .1, nc, nd))
+        go (fills t h w) = subst (λ u. is.JudgedIs L u start end n o c r) (part-to-end m 0) judged t [] h w ∙ sym (reading.explained-tree L m start end n o c file f t h w room)
 
 module _ (L : Layout) (m : List ℕ) (start end room : ℕ) (x : Told) (asked : (end : ℕ) → reader.ManifestIs L end start (Here m 0) x) where
   pub no-manifest : (r : Explanation) (n o c : ℕ) → x ≡ No n o c → is.RefusedIs L (Here m 0) start end n o c r → is.ManifestIs L m start end room r

@@ -1,25 +1,21 @@
 -- The bytes that an explanation shows lie inside the file.
-use Prim.Native.Nat.{ℕ, _+_, _-_, _≤_, _<_}
+use Prim.Native.Nat.{ℕ, _+_, _-_, _≤_}
 use native.Mathlib.Omega.{arith}
 use mathlib.Core.List.{List, [], _∷_, _++_}
 use mathlib.Core.Bool.{Bool, true, false}
 use mathlib.Core.Option.{none, some}
 use mathlib.Core.Path.{_≡_, refl, sym, ap, _∙_, subst}
 use lib.ListN.{length, take, drop, length-take, length-append}
-use lib.Dec.{eqb, leb}
-use borrow.Author.Tests.{eqb-true, eqb-false}
+use lib.Dec.{leb}
 use Rattle.meaning.specs.Tree.{Node}
 use Rattle.meaning.specs.Check.{Check, pass, refuse}
 use Rattle.meaning.specs.Refusal.{ROOM}
-use Rattle.meaning.specs.Limit.{manifestLimit}
 use Rattle.meaning.specs.Read.{Span, spanTo}
 use Rattle.meaning.specs.Rows.{roomFor}
 use Rattle.meaning.specs.Layouts.{Layout, layoutOf}
 use Rattle.meaning.specs.Judge.{judge}
 use Rattle.meaning.specs.Frame.{Frame, frame, Reading, reading}
-use Rattle.cbor.specs.Ending.{FAULT, code, itemEnd}
 use Rattle.walk.specs.Reading.{Ends, Reads}
-use Rattle.fields.proofs.Texts.{Here}
 use Rattle.table.specs.Spans.{spanOf}
 use Rattle.frame.proofs.Frames.{size-back}
 use Rattle.reader.specs.Verdict.{manifestReading}
@@ -37,6 +33,7 @@ use Rattle.unread.proofs.OfFrame as frames
 use Rattle.unread.proofs.OfFrame.{Fate, refuses, passes}
 use Rattle.explaining.specs.Judged as is
 use Rattle.explaining.proofs.Reading as reads
+use Rattle.explaining.proofs.Reading.{Cause, stops, fills}
 
 -- up to n
 abbrev Below : ℕ → Span → Type 0
@@ -70,7 +67,7 @@ module _ (layout : ℕ) (file : List ℕ) (room : ℕ) where
   Inside e = Below (length file) (e .place)
 
   -- a manifest that the frame gives
-  module _ (at : Frame) (framed : frame L file ≡ pass at) (some-bytes : 1 ≤ length file) (few : at .size ≤ manifestLimit) (ends : at .start + at .size ≤ length file) where
+  module _ (at : Frame) (framed : frame L file ≡ pass at) (some-bytes : 1 ≤ length file) (ends : at .start + at .size ≤ length file) where
     abbrev m : List ℕ
     m = take (at .size) (drop (at .start) file)
 
@@ -83,12 +80,6 @@ module _ (layout : ℕ) (file : List ℕ) (room : ℕ) where
     long : length m ≤ at .size
     long = simp (length-take) (omega arith)
 
-    abbrev e : ℕ
-    e = code (itemEnd 32 (Here m 0))
-
-    short : length m < FAULT
-    short = let l = long in omega (arith, l, few)
-
     of-reading : (k : Check Reading) → manifestReading L end (at .start) m ≡ k → Inside (explain.explain L file room)
     unfolding explain.explanation
     of-reading (pass r) h = go (leb (roomFor (r .model)) room) refl
@@ -99,17 +90,13 @@ module _ (layout : ℕ) (file : List ℕ) (room : ℕ) where
         go : (b : Bool) → leb (roomFor (r .model)) room ≡ b → Inside (explain.explain L file room)
         go true b = subst Inside (sym (stages.room-enough L file room r accepted b)) (omega arith)
         go false b = subst Inside (sym (stages.no-room L file room r accepted b)) (omega arith)
-    of-reading (refuse n o c) h = go (eqb e (length m)) refl
+    of-reading (refuse n o c) h = go (reads.cause L m (at .start) end n o c h)
       where
-        go : (b : Bool) → eqb e (length m) ≡ b → Inside (explain.explain L file room)
-        go true b =
-            let l : e ≡ length m = eqb-true _ _ b in
-            let x = reads.filled L m (at .start) end short e refl l in
-            let y = tree-below L m (at .start) end (let z = long in omega (arith, z)) (x .tree) [] (x .reads) n o c (reads.tree-refused L m (at .start) end short e refl n o c h l) in
-            subst Inside (reads.explained-tree L m (at .start) end short e refl n o c h l file has room) (omega (arith, y, ends))
-        go false b =
-            let ne : (e ≡ length m → ⊥) = eqb-false _ _ b in
-            subst Inside (sym (reads.explained-head L m (at .start) end short e refl n o c h ne file has room)) (head-below (length file) end ends some-bytes _)
+        go : Cause L m (at .start) end n o c → Inside (explain.explain L file room)
+        go (stops q e) = subst Inside (sym (reads.explained-stop L m (at .start) end n o c file has q e room)) (head-below (length file) end ends some-bytes q)
+        go (fills t r w) =
+            let y = tree-below L m (at .start) end (let z = long in omega (arith, z)) t [] r n o c w in
+            subst Inside (sym (reads.explained-tree L m (at .start) end n o c file has t r w room)) (omega (arith, y, ends))
 
   pub inside-the-file : explain.explain L file room .place .place + explain.explain L file room .place .size ≤ length file
   unfolding explain.explanation
@@ -117,4 +104,4 @@ module _ (layout : ℕ) (file : List ℕ) (room : ℕ) where
     where
       go : Fate layout file (frame L file) (first (frameSteps L file)) → Inside (explain.explain L file room)
       go (refuses k h f w) = subst Inside (sym (frames.refused-with layout file k h room)) w
-      go (passes at h l few w) = of-reading at h (let z = size-back layout in omega (arith, l, z)) few w (manifestReading L (at .start + at .size) (at .start) (take (at .size) (drop (at .start) file))) refl
+      go (passes at h l few w) = of-reading at h (let z = size-back layout in omega (arith, l, z)) w (manifestReading L (at .start + at .size) (at .start) (take (at .size) (drop (at .start) file))) refl

@@ -1,17 +1,16 @@
 -- From a manifest's reading to the explanation of every file that has it.
-use Prim.Native.Nat.{ℕ, _+_, _-_, _*_, _≤_, _<_}
+use Prim.Native.Nat.{ℕ, _+_, _*_, _≤_}
 use native.Mathlib.Omega.{arith}
 use mathlib.Core.List.{List, [], _∷_, map}
 use mathlib.Core.Bool.{Bool, true, false, cond}
 use mathlib.Core.Option.{Option, none, some}
 use mathlib.Core.Path.{_≡_, refl, sym, ap, _∙_, subst}
-use lib.ListN.{length, take, drop, length-drop, length-map}
+use lib.ListN.{length, take, drop, length-map}
 use lib.Dec.{leb}
 use borrow.Author.Tests.{leb-true}
-use borrow.Rule.Slice.PartAt.{part-to-end}
 use Rattle.meaning.specs.Tree.{Node, mapP}
 use Rattle.meaning.specs.Check.{Check, pass, refuse, fault, _>>=_}
-use Rattle.meaning.specs.Refusal.{CBOR, ROOM}
+use Rattle.meaning.specs.Refusal.{CBOR, DEEP, KIND, ROOM}
 use Rattle.meaning.specs.Limit.{objectLimit, componentLimit}
 use Rattle.meaning.specs.Columns.{objectWidth, componentWidth}
 use Rattle.meaning.specs.Model.{Model, Object}
@@ -24,11 +23,7 @@ use Rattle.meaning.specs.Rows.{roomFor, componentCount}
 use Rattle.meaning.proofs.ReadNatural.{mapOut, item-follows}
 use Rattle.meaning.proofs.JudgeNatural.{judge-map}
 use Rattle.meaning.proofs.AcceptedModel.{Ensures, passed, refusal, ModelSound, ObjectSound, Each, accepted-sound}
-use Rattle.cbor.specs.Ending.{FAULT, code, ending, itemEnd}
-use Rattle.cbor.proofs.Agree.{annotations-change-no-ending}
 use Rattle.walk.specs.Reading.{Ends, ends, Reads}
-use Rattle.walk.proofs.Chains.{ate}
-use Rattle.fields.proofs.Texts.{Here}
 use Rattle.table.specs.Spans.{spanOf}
 use Rattle.table.proofs.Objecting.{count-mapped}
 use Rattle.reader.specs.Verdict.{manifestReading, Accepted}
@@ -39,11 +34,12 @@ use Rattle.explained.specs.Explain.{span, headSpan, root}
 use Rattle.explained.proofs.Natural.{first-steps-map}
 use Rattle.explained.proofs.Stages as stages
 use Rattle.explained.proofs.Stages.{alone}
+use Rattle.shown.specs.Accepted.{Framing}
+use Rattle.shown.proofs.Judged.{between, passed-so, refused-so}
+use Rattle.shown.proofs.ReadingJudged as shown
+use Rattle.shown.proofs.ReadingJudged.{frame-so, tree-so, manifest-refusals}
+use Rattle.shown.proofs.Judgement.{judge-so}
 use Rattle.explaining.specs.Judged.{told, sound, Framed}
-
-nothing-left : (r : List ℕ) → length r ≡ 0 → r ≡ []
-nothing-left [] e = refl
-nothing-left (b ∷ r) e = absurd (omega arith)
 
 -- the rest of a manifest's reading, once its item is judged, and once it is read
 abbrev modelling : ℕ → Check (Model Span) → Check Reading
@@ -75,87 +71,65 @@ module _ (L : Layout) (m : List ℕ) (start end : ℕ) where
         (rw (f .frames) refl)
         ∙ ap (λ (i : ℕ). manifestReading L i start (take (f .size) (drop start file))) (f .ends) ∙ ap (manifestReading L end start) (sym (f .is))
 
-  module _ (long : length m < FAULT) (e : ℕ) (asked : e ≡ code (itemEnd 32 (Here m 0))) where
-    ended-so : (o : Outcome (Node Ends)) → item ends 32 m ≡ o → e ≡ code (ending m o)
-    ended-so o h = asked ∙ ap (λ u. code (itemEnd 32 u)) (part-to-end m 0) ∙ ap code (sym (annotations-change-no-ending ends 32 m) ∙ ap (ending m) h)
+  -- the tree that fills it, with spans
+  module _ (t : Node Ends) where
+    in-spans : Reads 32 m t [] → manifest (spanTo end) m ≡ got (mapP spans t) []
+    unfolding closed
+    in-spans = read-so (got t [])
 
-    -- the root fills the manifest
-    pub record Filled : Type 0 where
-      pub tree : Node Ends
-      pub reads : Reads 32 m tree []
+    judged-in-spans : (k : Check (Model Ends)) → judge L start t ≡ k → judge L start (mapP spans t) ≡ mapCheck (mapModel spans) k
+    judged-in-spans k h = judge-map spans L start t ∙ ap (mapCheck (mapModel spans)) h
 
-    pub filled : e ≡ length m → Filled
-    filled l = go (item ends 32 m) refl
+  module _ (n o c : ℕ) where
+    -- why it is refused: its reading stops, or the tree that fills it is refused
+    pub data Cause : Type 0 where
+      stops : (q : List ℕ) → manifest (spanTo end) m ≡ refused n q → Cause
+      fills : (t : Node Ends) → Reads 32 m t [] → judge L start t ≡ refuse n o c → Cause
+
+    pub cause : manifestReading L end start m ≡ refuse n o c → Cause
+    unfolding checked closed
+    cause says = go (item ends 32 m) refl
       where
-        go : (o : Outcome (Node Ends)) → item ends 32 m ≡ o → Filled
-        go (got t r) h =
-            let z : e ≡ length m - length r = ended-so (got t r) h in
-            let a = ate 32 m t r h in
-            let y : length r ≡ length m - a .size = ap length (a .is) ∙ length-drop (a .size) m in
-            let x : 1 ≤ a .size = a .some in
-            record { tree = t; reads = h ∙ ap (got t) (nothing-left r (omega arith)) }
-        go (refused n q) h = let z : e ≡ FAULT + n = ended-so (refused n q) h in absurd (omega arith)
+        stopped : (k : ℕ) (q : List ℕ) → manifest (spanTo end) m ≡ refused k q → Cause
+        stopped k q h =
+            let z : fault k ≡ refuse n o c = sym (ap (λ x. judging L start (checked x)) h) ∙ says in
+            let y : k ≡ n = cc in
+            stops q (h ∙ ap (λ (i : ℕ). refused i q) y)
 
-    module _ (n o c : ℕ) (no : manifestReading L end start m ≡ refuse n o c) where
-      module _ (l : e ≡ length m) where
-        abbrev pub tree : Node Ends
-        tree = filled l .tree
+        filled : (t : Node Ends) → Reads 32 m t [] → (k : Check (Model Ends)) → judge L start t ≡ k → modelling start (mapCheck (mapModel spans) k) ≡ refuse n o c → Cause
+        filled t r (pass x) h w = absurd (let y : _≡_ {A = ℕ} 0 1 = cc in omega arith)
+        filled t r (refuse x y z) h w = fills t r (h ∙ (let a : x ≡ n = cc in let b : y ≡ o = cc in let d : z ≡ c = cc in rw (a, b, d) refl))
 
-        in-spans : manifest (spanTo end) m ≡ got (mapP spans tree) []
-        unfolding closed
-        in-spans = read-so (got tree []) (filled l .reads)
+        go : (x : Outcome (Node Ends)) → item ends 32 m ≡ x → Cause
+        go (got t []) h = filled t h (judge L start t) refl (sym (ap (λ x. judging L start (checked x)) (in-spans t h) ∙ ap (modelling start) (judged-in-spans t (judge L start t) refl)) ∙ says)
+        go (got t (b ∷ r)) h = stopped CBOR (b ∷ r) (read-so (got t (b ∷ r)) h)
+        go (refused k q) h = stopped k q (read-so (refused k q) h)
 
-        judged-so : judge L start (mapP spans tree) ≡ refuse n o c
-        unfolding checked
-        judged-so = go (judge L start (mapP spans tree)) refl (sym (ap (λ x. judging L start (checked x)) in-spans) ∙ no)
-          where
-            go : (k : Check (Model Span)) → judge L start (mapP spans tree) ≡ k → modelling start k ≡ refuse n o c → judge L start (mapP spans tree) ≡ refuse n o c
-            go (pass x) h z = absurd (let y : _≡_ {A = ℕ} 0 1 = cc in omega arith)
-            go (refuse x y z) h w = h ∙ (let a : x ≡ n = cc in let b : y ≡ o = cc in let d : z ≡ c = cc in rw (a, b, d) refl)
+    -- of a file that has it
+    module _ (file : List ℕ) (f : Framed L file m start end) where
+      so : Framing L → shown.Framed L file (at file f)
+      so framing = passed-so (frame-so L framing file) (f .frames)
 
-        pub tree-refused : judge L start tree ≡ refuse n o c
-        tree-refused = go (judge L start tree) refl (sym (judge-map spans L start tree) ∙ judged-so)
-          where
-            go : (k : Check (Model Ends)) → judge L start tree ≡ k → mapCheck (mapModel spans) k ≡ refuse n o c → judge L start tree ≡ refuse n o c
-            go (pass x) h z = absurd (let y : _≡_ {A = ℕ} 0 1 = cc in omega arith)
-            go (refuse x y z) h w = h ∙ (let a : x ≡ n = cc in let b : y ≡ o = cc in let d : z ≡ c = cc in rw (a, b, d) refl)
+      module _ (q : List ℕ) (e : manifest (spanTo end) m ≡ refused n q) where
+        pub stop-number : Framing L → (CBOR ≤ n) × (n ≤ DEEP)
+        unfolding root
+        stop-number framing = manifest-refusals L file (at file f) (so framing) (root-is file f ∙ e)
 
-        pub explained-tree : (file : List ℕ) → Framed L file m start end → (room : ℕ) → told L start end tree ≡ explain.explain L file room
-        explained-tree file f room =
-            sym (stages.in-tree L file room (at file f) (f .frames) (mapP spans tree) [] (root-is file f ∙ in-spans) n o c judged-so
-            ∙ ap (λ s. explain.explanation s 0) (first-steps-map spans L start tree))
+        pub explained-stop : (room : ℕ) → explain.explain L file room ≡ explain.explanation (some (alone n (headSpan end q))) 0
+        explained-stop room =
+            stages.unread L file room (at file f) (f .frames) n q (root-is file f ∙ e) ∙ ap (λ (i : ℕ). explain.explanation (some (alone n (headSpan i q))) 0) (f .ends)
 
-      -- it doesn't: the reading stops
-      pub record Stopped : Type 0 where
-        pub left : List ℕ
-        pub is : manifest (spanTo end) m ≡ refused n left
+      module _ (t : Node Ends) (reads : Reads 32 m t []) (w : judge L start t ≡ refuse n o c) where
+        pub tree-number : Framing L → KIND ≤ n
+        unfolding root checked
+        tree-number framing =
+            let placed = passed-so (tree-so L file (at file f) (so framing)) (ap checked (root-is file f ∙ in-spans t reads)) in
+            between n (refused-so (judge-so L file start (mapP spans t) placed) (judged-in-spans t (refuse n o c) w)) .0
 
-      pub stopped : (e ≡ length m → ⊥) → Stopped
-      unfolding checked closed
-      stopped ne = go (item ends 32 m) refl
-        where
-          number-is : (k : ℕ) (q : List ℕ) → manifest (spanTo end) m ≡ refused k q → Stopped
-          number-is k q h =
-              let z : fault k ≡ refuse n o c = sym (ap (λ x. judging L start (checked x)) h) ∙ no in
-              let y : k ≡ n = cc in
-              record { left = q; is = h ∙ ap (λ (i : ℕ). refused i q) y }
-
-          go : (x : Outcome (Node Ends)) → item ends 32 m ≡ x → Stopped
-          go (got t []) h = absurd (ne (let z : e ≡ length m - 0 = ended-so (got t []) h in omega arith))
-          go (got t (b ∷ r)) h = number-is CBOR (b ∷ r) (read-so (got t (b ∷ r)) h)
-          go (refused k q) h = number-is k q (read-so (refused k q) h)
-
-      pub explained-head : (ne : e ≡ length m → ⊥) (file : List ℕ) → Framed L file m start end → (room : ℕ)
-          → explain.explain L file room ≡ explain.explanation (some (alone n (headSpan end (stopped ne .left)))) 0
-      explained-head ne file f room =
-          let s = stopped ne in
-          stages.unread L file room (at file f) (f .frames) n (s .left) (root-is file f ∙ s .is)
-          ∙ ap (λ (i : ℕ). explain.explanation (some (alone n (headSpan i (s .left)))) 0) (f .ends)
-
-      pub explained-stop : (e ≡ length m → ⊥) → (x : explain.Explanation)
-          → ((q : List ℕ) → manifest (spanTo end) m ≡ refused n q → x ≡ explain.explanation (some (alone n (headSpan end q))) 0)
-          → (file : List ℕ) → Framed L file m start end → (room : ℕ) → x ≡ explain.explain L file room
-      explained-stop ne x h file f room = let s = stopped ne in h (s .left) (s .is) ∙ sym (explained-head ne file f room)
+        pub explained-tree : (room : ℕ) → explain.explain L file room ≡ told L start end t
+        explained-tree room =
+            stages.in-tree L file room (at file f) (f .frames) (mapP spans t) [] (root-is file f ∙ in-spans t reads) n o c (judged-in-spans t (refuse n o c) w)
+            ∙ ap (λ s. explain.explanation s 0) (first-steps-map spans L start t)
 
   -- it is accepted
   module _ (objects components left place : ℕ) (a : Accepted L end start m objects components left place) where

@@ -1,5 +1,6 @@
 -- `explain::refused` meets its contract.
 use Rattle.explaining.proofs.Answers as answers
+use Rattle.frame.proofs.Frames.{size-back}
 use Rattle.meaning.specs.Layouts.{layoutOf}
 use native.Mathlib.Omega.{arith}
 use borrow.Author.Needs.{needs}
@@ -14,13 +15,17 @@ refused-spec =
     (λ c. search needs)
     (λ c. search needs)
     (λ c κs. search needs)
+    (λ c. let a = c .before .before .before .before .args in
+    answers.by-its-bytes (layoutOf (a .layout)) (a .m .now) (a .start) (a .end) (a .n) (a .o) (a .c) _ (size-back (a .layout)) (omega arith) (c .unread .ensures))
     (λ c. search needs)
     (λ c. search needs)
     (λ c. search needs)
     (λ c κs. search needs)
-    (λ c. let a = c .before .before .before .before .before .before .args in answers.by-its-tree (layoutOf (a .layout)) (a .m .now) (a .start) (a .end) (a .n) (a .o) (a .c) _ (omega arith) _ (c .before .before .before .skip .ensures) (c .before .before .if1 .taken) (c .judged .ensures))
+    (λ c. let a = c .before .before .before .before .before .args in
+    answers.by-its-bytes (layoutOf (a .layout)) (a .m .now) (a .start) (a .end) (a .n) (a .o) (a .c) _ (size-back (a .layout)) (omega arith) (c .unread2 .ensures))
     (λ c. search needs)
     (λ c. search needs)
     (λ c. search needs)
     (λ c κs. search needs)
-    (λ c. let a = c .before .before .before .before .before .before .args in answers.by-its-bytes (layoutOf (a .layout)) (a .m .now) (a .start) (a .end) (a .n) (a .o) (a .c) _ (omega arith) _ (c .before .before .before .skip .ensures) (c .before .before .if1 .left) (c .unread .ensures)))
+    (λ c. let a = c .before .before .before .before .before .args in
+    answers.by-its-tree (layoutOf (a .layout)) (a .m .now) (a .start) (a .end) (a .n) (a .o) (a .c) _ (size-back (a .layout)) (omega arith) (omega arith) (c .judged .ensures)))
