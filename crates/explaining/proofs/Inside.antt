@@ -104,4 +104,4 @@ module _ (layout : ℕ) (file : List ℕ) (room : ℕ) where
     where
       go : Fate layout file (frame L file) (first (frameSteps L file)) → Inside (explain.explain L file room)
       go (refuses k h f w) = subst Inside (sym (frames.refused-with layout file k h room)) w
-      go (passes at h l few w) = of-reading at h (let z = size-back layout in omega (arith, l, z)) w (manifestReading L (at .start + at .size) (at .start) (take (at .size) (drop (at .start) file))) refl
+      go (passes at h l w) = of-reading at h (let z = size-back layout in omega (arith, l, z)) w (manifestReading L (at .start + at .size) (at .start) (take (at .size) (drop (at .start) file))) refl

@@ -54,41 +54,41 @@ module _ (layout : ℕ) (file : List ℕ) where
   -- the frame's checks, one after the other: the first that breaks and what is shown for it, which lies inside the file; or a manifest inside it
   pub data Fate (x : Check Frame) (f : Option (Step Span)) : Type 0 where
     refuses : (k : ℕ) → x ≡ fault k → f ≡ some (alone k (shownFor k)) → shownFor k .place + shownFor k .size ≤ n → Fate x f
-    passes : (m : Frame) → x ≡ pass m → L .least ≤ n → m .size ≤ manifestLimit → m .start + m .size ≤ n → Fate x f
+    passes : (m : Frame) → x ≡ pass m → L .least ≤ n → m .start + m .size ≤ n → Fate x f
 
   pub fate : Fate (frame L file) (first (frameSteps L file))
   unfolding frame frameSteps shownFor
   fate =
-      go (leb (L .least) n) refl (same magic (take 8 file)) (same (L .footer) (drop (n - length (L .footer)) file)) refl (leb size manifestLimit) refl (leb 1 size) (leb size (n - L .least)) refl
+      go (leb (L .least) n) refl (same magic (take 8 file)) (same (L .footer) (drop (n - length (L .footer)) file)) refl (leb size manifestLimit) (leb 1 size) (leb size (n - L .least)) refl
     where
-      go : (x₁ : Bool) → leb (L .least) n ≡ x₁ → (x₂ x₃ : Bool) → same (L .footer) (drop (n - length (L .footer)) file) ≡ x₃ → (x₄ : Bool) → leb size manifestLimit ≡ x₄
-          → (x₅ x₆ : Bool) → leb size (n - L .least) ≡ x₆
+      go : (x₁ : Bool) → leb (L .least) n ≡ x₁ → (x₂ x₃ : Bool) → same (L .footer) (drop (n - length (L .footer)) file) ≡ x₃
+          → (x₄ x₅ x₆ : Bool) → leb size (n - L .least) ≡ x₆
           → Fate ((SHORT unless x₁) >> ((HEADER unless x₂) >> ((FOOTER unless x₃) >> ((BIG unless x₄) >> ((FIT unless (x₅ && x₆)) >> pass here)))))
           (first ((SHORT at span 0 n unless x₁) ++ ((HEADER at span 0 8 unless x₂) ++ ((FOOTER at span (n - length (L .footer)) (length (L .footer)) unless x₃)
           ++ ((BIG at span (n - L .sizeBack) 8 unless x₄) ++ (FIT at span (n - L .sizeBack) 8 unless (x₅ && x₆)))))))
-      go false a x₂ x₃ c x₄ d x₅ x₆ b = refuses SHORT refl refl (omega arith)
-      go true a false x₃ c x₄ d x₅ x₆ b = let l : L .least ≤ n = leb-true _ _ a in let z = size-back layout in refuses HEADER refl refl (omega (arith, l, z))
-      go true a true false c x₄ d x₅ x₆ b =
+      go false a x₂ x₃ c x₄ x₅ x₆ b = refuses SHORT refl refl (omega arith)
+      go true a false x₃ c x₄ x₅ x₆ b = let l : L .least ≤ n = leb-true _ _ a in let z = size-back layout in refuses HEADER refl refl (omega (arith, l, z))
+      go true a true false c x₄ x₅ x₆ b =
           let l : L .least ≤ n = leb-true _ _ a in
           let z = size-back layout in
           let y = backs .1 in
           let e = footed c in
           refuses FOOTER refl (rw e refl) (omega (arith, l, z, y, e))
-      go true a true true c false d x₅ x₆ b = let l : L .least ≤ n = leb-true _ _ a in let z = size-back layout in let y = backs .0 in refuses BIG refl refl (omega (arith, l, z, y))
-      go true a true true c true d false x₆ b = let l : L .least ≤ n = leb-true _ _ a in let z = size-back layout in let y = backs .0 in refuses FIT refl refl (omega (arith, l, z, y))
-      go true a true true c true d true false b = let l : L .least ≤ n = leb-true _ _ a in let z = size-back layout in let y = backs .0 in refuses FIT refl refl (omega (arith, l, z, y))
-      go true a true true c true d true true b =
+      go true a true true c false x₅ x₆ b = let l : L .least ≤ n = leb-true _ _ a in let z = size-back layout in let y = backs .0 in refuses BIG refl refl (omega (arith, l, z, y))
+      go true a true true c true false x₆ b = let l : L .least ≤ n = leb-true _ _ a in let z = size-back layout in let y = backs .0 in refuses FIT refl refl (omega (arith, l, z, y))
+      go true a true true c true true false b = let l : L .least ≤ n = leb-true _ _ a in let z = size-back layout in let y = backs .0 in refuses FIT refl refl (omega (arith, l, z, y))
+      go true a true true c true true true b =
           let l : L .least ≤ n = leb-true _ _ a in
           let y : size ≤ n - L .least = leb-true _ _ b in
           let z = size-back layout in
-          passes here refl l (leb-true _ _ d) (omega (arith, l, y, z))
+          passes here refl l (omega (arith, l, y, z))
 
   broken : (k : ℕ) → frame L file ≡ fault k → first (frameSteps L file) ≡ some (alone k (shownFor k))
   broken k e = go fate
     where
       go : Fate (frame L file) (first (frameSteps L file)) → first (frameSteps L file) ≡ some (alone k (shownFor k))
       go (refuses j h f w) = let g : fault {A = Frame} j ≡ fault k = sym h ∙ e in let z : j ≡ k = cc in f ∙ ap (λ (i : ℕ). some (alone i (shownFor i))) z
-      go (passes m h l few w) = absurd (let g : pass m ≡ fault k = sym h ∙ e in let z : _≡_ {A = ℕ} 0 1 = cc in omega arith)
+      go (passes m h l w) = absurd (let g : pass m ≡ fault k = sym h ∙ e in let z : _≡_ {A = ℕ} 0 1 = cc in omega arith)
 
   module _ (k : ℕ) where
     pub refused-with : frame L file ≡ fault k → (room : ℕ) → explain L file room ≡ explanation (some (alone k (shownFor k))) 0
