@@ -1,15 +1,13 @@
 -- The bytes that an explanation shows lie inside the file.
 use Prim.Native.Nat.{ℕ, _+_, _-_, _≤_}
 use native.Mathlib.Omega.{arith}
-use mathlib.Core.List.{List, [], _∷_, _++_}
+use mathlib.Core.List.{List, [], _∷_}
 use mathlib.Core.Bool.{Bool, true, false}
-use mathlib.Core.Option.{none, some}
 use mathlib.Core.Path.{_≡_, refl, sym, ap, _∙_, subst}
 use lib.ListN.{length, take, drop, length-take, length-append}
 use lib.Dec.{leb}
 use Rattle.meaning.specs.Tree.{Node}
 use Rattle.meaning.specs.Check.{Check, pass, refuse}
-use Rattle.meaning.specs.Refusal.{ROOM}
 use Rattle.meaning.specs.Read.{Span, spanTo}
 use Rattle.meaning.specs.Rows.{roomFor}
 use Rattle.meaning.specs.Layouts.{Layout, layoutOf}
@@ -19,13 +17,10 @@ use Rattle.walk.specs.Reading.{Ends, Reads}
 use Rattle.table.specs.Spans.{spanOf}
 use Rattle.frame.proofs.Frames.{size-back}
 use Rattle.reader.specs.Verdict.{manifestReading}
-use Rattle.explained.specs.Step.{Step, first}
-use Rattle.explained.specs.Order.{manifestSteps}
-use Rattle.explained.specs.Notes.{mapStep}
+use Rattle.explained.specs.Step.{first}
 use Rattle.explained.specs.Explain as explain
-use Rattle.explained.specs.Explain.{span, headSpan, frameSteps}
+use Rattle.explained.specs.Explain.{headSpan, frameSteps}
 use Rattle.explained.proofs.Stages as stages
-use Rattle.explained.proofs.Stages.{alone}
 use Rattle.explained.proofs.Why.{manifest-refused}
 use Rattle.met.specs.Met.{Met}
 use Rattle.met.proofs.Honest.{first-stands}

@@ -3,7 +3,7 @@ use Prim.Native.Nat.{ℕ, _+_, _*_, _≤_}
 use native.Mathlib.Omega.{arith}
 use mathlib.Core.List.{List, [], _∷_, map}
 use mathlib.Core.Bool.{Bool, true, false, cond}
-use mathlib.Core.Option.{Option, none, some}
+use mathlib.Core.Option.{none, some}
 use mathlib.Core.Path.{_≡_, refl, sym, ap, _∙_, subst}
 use lib.ListN.{length, take, drop, length-map}
 use lib.Dec.{leb}
@@ -18,17 +18,15 @@ use Rattle.meaning.specs.Notes.{mapCheck, mapModel, mapObject}
 use Rattle.meaning.specs.Read.{Outcome, got, refused, after, Span, spanTo, item, closed, manifest}
 use Rattle.meaning.specs.Layouts.{Layout}
 use Rattle.meaning.specs.Judge.{judge}
-use Rattle.meaning.specs.Frame.{Frame, frame, checked, Reading, reading}
+use Rattle.meaning.specs.Frame.{Frame, checked, Reading, reading}
 use Rattle.meaning.specs.Rows.{roomFor, componentCount}
 use Rattle.meaning.proofs.ReadNatural.{mapOut, item-follows}
 use Rattle.meaning.proofs.JudgeNatural.{judge-map}
-use Rattle.meaning.proofs.AcceptedModel.{Ensures, passed, refusal, ModelSound, ObjectSound, Each, accepted-sound}
+use Rattle.meaning.proofs.AcceptedModel.{Ensures, passed, ModelSound, ObjectSound, Each, accepted-sound}
 use Rattle.walk.specs.Reading.{Ends, ends, Reads}
 use Rattle.table.specs.Spans.{spanOf}
 use Rattle.table.proofs.Objecting.{count-mapped}
 use Rattle.reader.specs.Verdict.{manifestReading, Accepted}
-use Rattle.explained.specs.Step.{Step, first}
-use Rattle.explained.specs.Order.{manifestSteps}
 use Rattle.explained.specs.Explain as explain
 use Rattle.explained.specs.Explain.{span, headSpan, root}
 use Rattle.explained.proofs.Natural.{first-steps-map}

@@ -1,5 +1,5 @@
 -- A manifest that is refused: the check that breaks first, from where the opening breaks, or from the object that the refusal belongs to.
-use Prim.Native.Nat.{ℕ, suc, _+_, _-_, _≤_, _<_}
+use Prim.Native.Nat.{ℕ, _+_, _-_, _≤_, _<_}
 use native.Mathlib.Omega.{arith}
 use mathlib.Core.List.{List}
 use mathlib.Core.Option.{Option, none, some}
@@ -7,14 +7,12 @@ use mathlib.Core.Path.{_≡_, refl, sym, ap, _∙_, subst}
 use lib.ListN.{length, drop, length-drop}
 use lib.Seq.{drop-drop}
 use borrow.Rule.Slice.PartAt.{part-to-end}
-use Rattle.meaning.specs.Tree.{Node, noteOf}
+use Rattle.meaning.specs.Tree.{Node}
 use Rattle.meaning.specs.Check.{Check, pass, refuse, inObject, each}
 use Rattle.meaning.specs.Limit.{objectLimit}
-use Rattle.meaning.specs.Model.{Word, Named, Object}
+use Rattle.meaning.specs.Model.{Object}
 use Rattle.meaning.specs.Notes.{mapOption}
-use Rattle.meaning.specs.Kind.{aWord}
 use Rattle.meaning.specs.Layouts.{Layout}
-use Rattle.meaning.specs.Field.{field}
 use Rattle.meaning.specs.Judge.{object, judge}
 use Rattle.walk.specs.Reading.{Ends, Reads}
 use Rattle.fields.specs.Slots.{Stands, Holds}
@@ -23,12 +21,10 @@ use Rattle.fields.proofs.Standing.{some-left}
 use Rattle.component.specs.Value.{leftWord}
 use Rattle.components.specs.Typed.{WordAt, bare, lettered}
 use Rattle.components.proofs.Lettered.{word-note}
-use Rattle.explained.specs.Fields.{objectsField}
 use Rattle.explained.specs.Step
-use Rattle.explained.specs.Step.{Step, first, refusal, eachOf}
+use Rattle.explained.specs.Step.{Step, first, refusal}
 use Rattle.explained.specs.Order.{manifestSteps, objectSteps}
 use Rattle.explained.specs.Explain as explain
-use Rattle.explained.specs.Notes.{mapStep}
 use Rattle.explained.proofs.Agree.{Agree, verdict, agree-each, agree-inObject}
 use Rattle.explained.proofs.Whole.{agree-object}
 use Rattle.explained.proofs.Why.{Refused, manifest-refused}

@@ -2,7 +2,7 @@
 use Prim.Native.Nat.{ℕ, suc, _-_, _≤_, _<_}
 use native.Mathlib.Omega.{arith}
 use mathlib.Core.List.{List}
-use mathlib.Core.Option.{Option, none, some}
+use mathlib.Core.Option.{Option, some}
 use mathlib.Core.Path.{_≡_, refl, sym, ap, _∙_, subst}
 use lib.ListN.{length, drop}
 use Rattle.meaning.specs.Tree.{Node, noteOf}
@@ -20,12 +20,10 @@ use Rattle.fields.proofs.Standing.{some-left, stands-at, field-found-stands}
 use Rattle.components.specs.Typed.{WordAt, bare, lettered}
 use Rattle.components.proofs.Lettered.{word-note}
 use Rattle.explained.specs.Fields.{Sided, objectsField, componentsField}
-use Rattle.explained.specs.Step.{Step}
-use Rattle.explained.specs.Order.{manifestSteps}
 use Rattle.explained.specs.Breaks.{Field, Under, Called, nobody, ofObject, ofComponent, Said}
 use Rattle.explained.proofs.Truly.{Truly, truly-this}
 use Rattle.explained.proofs.TruthWhole.{truth-manifest}
-use Rattle.explained.proofs.Why.{Refused, manifest-refused}
+use Rattle.explained.proofs.Why.{manifest-refused}
 use Rattle.entry.specs.Nth.{inTable, EntryIs}
 use Rattle.indexed.specs.Entry.{EntryAt}
 use Rattle.indexed.proofs.Chained.{chained}

@@ -1,5 +1,5 @@
 -- The explanation of a file, stage by stage.
-use Prim.Native.Nat.{ℕ, _+_, _-_, _*_, _<_}
+use Prim.Native.Nat.{ℕ, _+_, _*_}
 use mathlib.Core.List.{List}
 use mathlib.Core.Bool.{cond}
 use mathlib.Core.Option.{none, some}
@@ -12,7 +12,7 @@ use Rattle.meaning.specs.Refusal.{ROOM}
 use Rattle.meaning.specs.Columns.{objectWidth, componentWidth}
 use Rattle.meaning.specs.Notes.{mapOption}
 use Rattle.meaning.specs.Layouts.{Layout, layoutOf}
-use Rattle.meaning.specs.Frame.{Frame, frame}
+use Rattle.meaning.specs.Frame.{frame}
 use Rattle.meaning.specs.Judge.{object, judge}
 use Rattle.meaning.specs.Model.{Named}
 use Rattle.component.specs.Value.{leftWord}

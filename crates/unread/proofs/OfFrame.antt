@@ -8,7 +8,7 @@ use mathlib.Core.Path.{_≡_, refl, sym, ap, _∙_}
 use lib.ListN.{length, take, drop}
 use lib.Dec.{eqb, leb}
 use borrow.Author.Tests.{ne-eqb, leb-true}
-use Rattle.meaning.specs.Check.{Check, pass, refuse, fault, _>>_, _unless_}
+use Rattle.meaning.specs.Check.{Check, pass, fault, _>>_, _unless_}
 use Rattle.meaning.specs.Text.{same}
 use Rattle.meaning.specs.Refusal.{SHORT, HEADER, FOOTER, BIG, FIT}
 use Rattle.meaning.specs.Limit.{manifestLimit}
