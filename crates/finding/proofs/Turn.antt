@@ -11,7 +11,7 @@ use lib.Seq.{drop-cons}
 use lib.IntN.{ℤ}
 use lib.Ieee.{Float, nan, inf, fin, binary32, ofBits, nanBits, isNan, lt}
 use lib.Ieee.Bits.{nanBits-is}
-use Rattle.finding.specs.Finding.{pattern, patternAt, values, nans, numbers, lesser, greater, smallest, largest, ofNumbers, ofValues, finding}
+use Rattle.finding.specs.Finding.{pattern, patternAt, values, nans, numbers, lesser, greater, within, smallest, largest, ofNumbers, ofValues, finding}
 use Rattle.finding.specs.declared.Finding as the
 use Rattle.finding.specs.declared.Finding.the-variants.{Empty, OnlyNaN, Span}
 
@@ -98,7 +98,13 @@ pub begins : (s : List ℕ) → 4 ≤ length s → run (ofBits binary32 21390950
 unfolding finding
 begins s l = rw (first, last) (unmet-is (values (drop 0 s)) _ _ (values-at s 0 (omega arith)))
 
--- a turn at a NaN, and at a number
+-- what lies within is kept as neither
+kept : (p q : Bool) (lo hi x : Float) → cond p false (not q) ≡ true → (cond p x lo ≡ lo) × (cond q x hi ≡ hi)
+kept true q lo hi x e = let z : _≡_ {A = ℕ} 0 1 = cc in absurd (omega arith)
+kept false true lo hi x e = let z : _≡_ {A = ℕ} 0 1 = cc in absurd (omega arith)
+kept false false lo hi x e = (refl, refl)
+
+-- a turn at a NaN, at a number, and at one that lies within
 module _ (s : List ℕ) (i : ℕ) (l : i + 4 ≤ length s) (lo hi : Float) (n : ℕ) (b : Bool) where
   pub turn-nan : nanBits binary32 (patternAt s i) ≡ true → run lo hi (n + 1) b (values (drop (i + 4) s)) ≡ run lo hi n b (values (drop i s))
   unfolding run
@@ -108,6 +114,13 @@ module _ (s : List ℕ) (i : ℕ) (l : i + 4 ≤ length s) (lo hi : Float) (n : 
       → run (lesser lo (ofBits binary32 (patternAt s i))) (greater hi (ofBits binary32 (patternAt s i))) n true (values (drop (i + 4) s)) ≡ run lo hi n b (values (drop i s))
   unfolding run
   turn-number e = let z : isNan (ofBits binary32 (patternAt s i)) ≡ false = sym (nanBits-is binary32 (patternAt s i)) ∙ e in rw (values-at s i l, z)
+
+  pub turn-within : nanBits binary32 (patternAt s i) ≡ false → within lo hi (ofBits binary32 (patternAt s i)) ≡ true
+      → run lo hi n true (values (drop (i + 4) s)) ≡ run lo hi n b (values (drop i s))
+  turn-within e w =
+      let x = ofBits binary32 (patternAt s i) in
+      let k = kept (lt x lo) (lt hi x) lo hi x w in
+      rw (k .0, k .1) at (turn-number e)
 
 -- where it ends
 pub ends : (s : List ℕ) (i : ℕ) → length s - i < 4 → i ≤ length s → (lo hi : Float) (n : ℕ) (b t : Bool) {f : the.Finding}

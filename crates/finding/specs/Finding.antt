@@ -1,7 +1,7 @@
 -- What a component of f32 numbers shows: nothing, only NaNs, or the smallest and largest number with the count of NaNs.
 -- Numbers and their order are IEEE 754's (`lib.Ieee`): infinities are numbers, the two zeros are equal; of equal ones the first met is kept.
 use Prim.Native.Nat.{ℕ, suc, _+_, _*_}
-use mathlib.Core.Bool.{cond, not}
+use mathlib.Core.Bool.{Bool, false, cond, not}
 use mathlib.Core.List.{List, [], _∷_}
 use lib.ListN.{getD}
 use lib.Dec.{T}
@@ -38,6 +38,10 @@ lesser kept x = cond (lt x kept) x kept
 
 abbrev pub greater : Float → Float → Float
 greater kept x = cond (lt kept x) x kept
+
+-- neither below the one nor above the other
+abbrev pub within : Float → Float → Float → Bool
+within lo hi x = cond (lt x lo) false (not (lt hi x))
 
 unfoldable pub smallest : Float → List Float → Float
 smallest kept [] = kept

@@ -57,6 +57,16 @@ fn greater(kept: f32, x: f32) -> f32
     if kept < x { x } else { kept }
 }
 
+// Neither below the smallest nor above the largest so far. Most numbers are: told by branches, they wait for none before them.
+fn within(smallest: f32, largest: f32, x: f32) -> bool
+    ensures { λ r. ⌜ r ≡ is.within smallest largest x ⌝ }
+{
+    if x < smallest {
+        return false;
+    }
+    !(largest < x)
+}
+
 pub fn find(s: &[u8]) -> Finding
     ensures { λ r. ⌜ r ≡ is.finding (now (s .entry)) ⌝ }
 {
@@ -76,9 +86,12 @@ pub fn find(s: &[u8]) -> Finding
             continue;
         }
         let x = number(n);
+        some = true;
+        if within(smallest, largest, x) {
+            continue;
+        }
         smallest = lesser(smallest, x);
         largest = greater(largest, x);
-        some = true;
     }
     if some {
         return Finding::Span(smallest, largest, nans);

@@ -5,7 +5,7 @@ use lib.Ieee.{nanBits, binary32, ofBits}
 use Prim.Native.Nat.{_≤_, _-_, _+_}
 use native.Mathlib.Omega.{arith}
 use lib.ListN.{length, drop}
-use Rattle.finding.specs.Finding.{values, finding}
+use Rattle.finding.specs.Finding.{values, within, finding}
 use Rattle.finding.proofs.Turn as turn
 use Rattle.finding.proofs.Turn.{run}
 use borrow.Author.Needs.{needs}
@@ -20,7 +20,7 @@ use Rattle.finding.proofs.number.Reads as number-reads
 use Rattle.finding.proofs.pattern.Reads as pattern-reads
 
 abbrev Inv-loop : tie.InvT-loop
-Inv-loop s smallest₀ largest₀ nans₀ some₀ i₀ smallest largest nans some i = (i ≤ length s) × ((nans ≤ i) × (run smallest largest nans some (values (drop i s)) ≡ finding s))
+Inv-loop s smallest₀ largest₀ nans₀ some₀ i₀ smallest largest nans some i = (i ≤ length s) × (nans ≤ i) × (run smallest largest nans some (values (drop i s)) ≡ finding s)
 
 abbrev μ-loop : tie.MeasureT-loop
 μ-loop s smallest₀ largest₀ nans₀ some₀ i₀ smallest largest nans some i = length s - i
@@ -34,7 +34,7 @@ find-spec =
     (λ c. sym (turn.short ((c .before .before .args .s .now)) (omega arith)))
     (λ c. unfold nanBits in search needs)
     (λ c. unfold nanBits in search needs)
-    (λ c. (search needs, (search needs, turn.begins ((c .before .before .args .s .now)) (omega arith))))
+    (λ c. (search needs, search needs, turn.begins (c .before .before .args .s .now) (omega arith)))
     (λ c. search needs)
     (λ c κs. search needs)
     (λ c. search needs)
@@ -42,21 +42,37 @@ find-spec =
     (λ c. search needs)
     (λ c. search needs)
     (λ c. let l = c .before .before .before .before .loop in let a = c .before .before .before .before .before .before .before .args in
-    (search needs, (search needs, turn.turn-nan ((a .s .now)) ((l .i)) (omega arith) ((l .smallest)) ((l .largest)) ((l .nans)) ((l .some)) (ap (nanBits binary32) (sym ((c .before .before .pattern .ensures .0))) ∙ (sym ((c .before .nan .ensures)) ∙ (c .if2 .taken))) ∙ (l .inv .1 .1))))
+    (search needs, search needs, turn.turn-nan (a .s .now) (l .i) (omega arith) (l .smallest) (l .largest) (l .nans) (l .some) (ap (nanBits binary32) (sym (c .before .before .pattern .ensures .0)) ∙ (sym (c .before .nan .ensures) ∙ c .if2 .taken)) ∙ l .inv .2))
     (λ c κs. turn.no _ (sym ((c .before .nan .ensures)) ∙ (c .if2 .left)))
+    (λ c κs. search needs)
+    (λ c. search needs)
+    (λ c.
+    let n = c .before .before .before in
+    let p = n .before .before in
+    let l = p .before .before .loop in
+    let here = p .pattern .ensures .0 in
+    let x = c .before .before .number .ensures ∙ ap (ofBits binary32) here in (
+      search needs,
+      search needs,
+      turn.turn-within (p .before .before .before .before .before .args .s .now) (l .i) (omega arith) (l .smallest) (l .largest) (l .nans) (l .some)
+          (ap (nanBits binary32) (sym here) ∙ (sym (n .before .nan .ensures) ∙ n .if2 .left))
+          (ap (within (l .smallest) (l .largest)) (sym x) ∙ (sym (c .before .within .ensures) ∙ c .if3 .taken)) ∙ l .inv .2,
+    ))
     (λ c κs. search needs)
     (λ c κs. search needs)
     (λ c. search needs)
-    (λ c. let l = c .before .before .before .before .before .before .before .loop in let a = c .before .before .before .before .before .before .before .before .before .before .args in (
+    (λ c.
+    let n = c .before .before .before .before .before in
+    let p = n .before .before in
+    let l = p .before .before .loop in
+    let here = p .pattern .ensures .0 in (
       search needs,
-      (
-        search needs,
-        rw ((c .greater .ensures), (c .before .lesser .ensures), (c .before .before .number .ensures), (c .before .before .before .before .before .pattern .ensures .0))
-            (turn.turn-number ((a .s .now)) ((l .i)) (omega arith) ((l .smallest)) ((l .largest)) ((l .nans)) ((l .some))
-            (ap (nanBits binary32) (sym ((c .before .before .before .before .before .pattern .ensures .0))) ∙ (sym ((c .before .before .before .before .nan .ensures)) ∙ (c .before .before .before .if2 .left))) ∙ (l .inv .1 .1)),
-      ),
+      search needs,
+      rw (c .greater .ensures, c .before .lesser .ensures, c .before .before .before .before .number .ensures, here)
+          (turn.turn-number (p .before .before .before .before .before .args .s .now) (l .i) (omega arith) (l .smallest) (l .largest) (l .nans) (l .some)
+          (ap (nanBits binary32) (sym here) ∙ (sym (n .before .nan .ensures) ∙ n .if2 .left)) ∙ l .inv .2),
     ))
     (λ c. let l = c .before .before .loop in let a = c .before .before .before .before .before .args in
-    turn.ends ((a .s .now)) ((l .i)) (omega arith) (omega arith) ((l .smallest)) ((l .largest)) ((l .nans)) ((l .some)) true ((c .if3 .taken)) ((l .inv .1 .1)))
+    turn.ends (a .s .now) (l .i) (omega arith) (omega arith) (l .smallest) (l .largest) (l .nans) (l .some) true (c .if4 .taken) (l .inv .2))
     (λ c. let l = c .before .before .loop in let a = c .before .before .before .before .before .args in
-    turn.ends ((a .s .now)) ((l .i)) (omega arith) (omega arith) ((l .smallest)) ((l .largest)) ((l .nans)) ((l .some)) false ((c .if3 .left)) ((l .inv .1 .1))))
+    turn.ends (a .s .now) (l .i) (omega arith) (omega arith) (l .smallest) (l .largest) (l .nans) (l .some) false (c .if4 .left) (l .inv .2)))
