@@ -1,5 +1,5 @@
 -- The names of a map judged: what the tally says of each of meaning's checks, in their order.
-use Prim.Native.Nat.{ℕ, suc, _-_, _≤_, _<_, min}
+use Prim.Native.Nat.{ℕ, zero, suc, _-_, _≤_, _<_, min}
 use native.Mathlib.Omega.{arith}
 use mathlib.Core.List.{List, [], _∷_, map}
 use mathlib.Core.Bool.{Bool, true, false, cond, not}
@@ -116,6 +116,13 @@ module _ (m : List ℕ) (t : Tally) (left size : List ℕ) (done : List (Pair En
             two : (b : Bool) → (TWICE unless b >> pass (map namedAnyway done)) ≡ told done (cond b Yes (No 11))
             two true = refl
             two false = refl
+
+-- a name alone stands once
+pub once : (f : ℕ → List ℕ) (n : ℕ) → n < 2 → distinct (listed f 0 n) ≡ true
+unfolding listed
+once f zero l = refl
+once f (suc zero) l = refl
+once f (suc (suc n)) l = absurd (omega arith)
 
 -- names that pass are within the limit
 pub few-names : (limit : ℕ) (x : Node Ends) (ns : List (Named Ends)) → names limit x ≡ pass ns → length ns ≤ limit

@@ -61,7 +61,7 @@ pub fn note(s: &[u8], t: Tally, left: &mut [usize], size: &mut [usize]) -> Tally
     }
 }
 
-// The names' first fault, in document 01's order. ix is room for the work.
+// The names' first fault, in document 01's order; a name alone stands once. ix is room for the work.
 pub fn judge(m: &[u8], t: Tally, left: &[usize], size: &[usize], ix: &mut [u16]) -> Named
     requires { ⌜ (length (now left) ≤ length (now ix)) × (length (now left) ≤ 65536) ⌝ }
     ensures { λ r. ⌜ spec.Judged (now (m .entry)) t (now (left .entry)) (now (size .entry)) r ⌝ }
@@ -74,6 +74,9 @@ pub fn judge(m: &[u8], t: Tally, left: &[usize], size: &[usize], ix: &mut [u16])
     }
     if left.len() < t.count {
         return Named::No(numbers::COUNT);
+    }
+    if t.count < 2 {
+        return Named::Yes;
     }
     if names::no_twice(&m[0..], &left[0..], &size[0..], t.count, ix) {
         return Named::Yes;
