@@ -31,8 +31,8 @@ void changes(void) {
     zt_file other = large_model(OBJECTS, BLOB, ZT_U8, 'a', 1);
     two_files equal = {first.file, again.file, OBJECTS, BLOB}, apart = {first.file, other.file, OBJECTS, BLOB};
     heading("what changed between two files of 64 MiB", "per byte");
-    compare("nothing", (program){"zt_diff", unchanged}, (program){"memcmp", c_equal}, &equal, BLOBS, BLOBS, 0);
-    compare("every byte", (program){"zt_diff", changed}, (program){"C -O2, by bytes", c_apart}, &apart, BLOBS, BLOBS, 0);
+    compare("nothing", (program){"zt_diff", unchanged}, (program){"memcmp", c_equal}, &equal, BLOBS, BLOBS, 1.5);
+    compare("every byte", (program){"zt_diff", changed}, (program){"C -O2, by bytes", c_apart}, &apart, BLOBS, BLOBS, 3);
     free(first.file.bytes);
     free(again.file.bytes);
     free(other.file.bytes);

@@ -53,12 +53,12 @@ void finding(void) {
     zt_file numbers = large_model(1, LARGE, ZT_F32, 'a', 0), small = model(OBJECTS, 0), many = packed(1024, 8);
     heading("numbers of 64 MiB", "per byte");
     if (!filled(&numbers)) exit(1);
-    compare("a component", find, loop, &numbers, LARGE, LARGE, 0);
+    compare("a component", find, loop, &numbers, LARGE, LARGE, 1.2);
     compare("the panel's text, which reads it twice", panel, loop, &numbers, LARGE, LARGE, 0);
     heading("account and panel", "per object");
-    compare("account: a model of 1000 objects", account, table_read, &small, OBJECTS, small.manifest.length, 0);
-    compare("account: 1,024 objects of 16 components", account, table_read, &many, 1024, many.manifest.length, 0);
-    compare("panel: a model of 1000 objects", panel, list, &small, OBJECTS, small.manifest.length, 0);
+    compare("account: a model of 1000 objects", account, table_read, &small, OBJECTS, small.manifest.length, 2);
+    compare("account: 1,024 objects of 16 components", account, table_read, &many, 1024, many.manifest.length, 2);
+    compare("panel: a model of 1000 objects", panel, list, &small, OBJECTS, small.manifest.length, 2);
     free(numbers.file.bytes);
     free(small.file.bytes);
     free(many.file.bytes);

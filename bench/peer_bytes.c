@@ -30,6 +30,17 @@ bool c_apart(const void *x) {
     return all;
 }
 
+void c_copy(uint8_t *to, const uint8_t *from, size_t length) {
+    size_t i = 0;
+    for (; i + 16 <= length; i += 16) {
+        uint64_t a[2];
+        memcpy(a, from + i, sizeof a);
+        memcpy(to + i, a, sizeof a);
+        __asm__ volatile("" ::: "memory"); /* so that the loop isn't made a call of memcpy */
+    }
+    for (; i < length; i++) to[i] = from[i];
+}
+
 bool c_span(const uint8_t *p, size_t length) {
     float smallest = INFINITY, largest = -INFINITY;
     size_t nans = 0;

@@ -20,6 +20,7 @@ bool c_names(const void *input); /* a job over names: sorted, none twice */
 /* Jobs over two files, and over the bytes of f32 numbers; for -O2. */
 bool c_equal(const void *files); /* the same bytes */
 bool c_apart(const void *files); /* each blob's first byte that differs, and how many do: all of them */
+void c_copy(uint8_t *to, const uint8_t *from, size_t length); /* sixteen bytes a turn, by plain stores */
 bool c_span(const uint8_t *p, size_t length); /* the smallest and the largest number, NaNs counted */
 
 /* For the floor: the end of the item at p, 0 on a fault; and whether n bytes at p are UTF-8. */

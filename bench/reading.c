@@ -110,11 +110,11 @@ void reading(void) {
     compare("a model of layout 1.0", first_read, first_check, &first, OBJECTS, first.manifest.length, 2.2);
     free(first.file.bytes);
     zt_file shared_model = model(OBJECTS, 0);
-    compare("a model, loaded for an engine", load, table_read, &shared_model, OBJECTS, shared_model.manifest.length, 1.2);
+    compare("a model, loaded for an engine", load, table_read, &shared_model, OBJECTS, shared_model.manifest.length, 1.05);
     memcpy(loaded_state, shared + STATE, sizeof loaded_state);
     compare("its listing", engine_list, list, &shared_model, OBJECTS, shared_model.manifest.length, 1.2);
     compare("its components, viewed", engine_view, view, &shared_model, OBJECTS, NUMBERS * sizeof *shared, 3);
     compare("where its rows stand, asked", hold, view, &shared_model, OBJECTS, NUMBERS * sizeof *shared, 3);
-    compare("its rows, dropped", drop, clearing, &shared_model, OBJECTS, NUMBERS * sizeof *shared, 2);
+    compare("its rows, dropped", drop, clearing, &shared_model, OBJECTS, NUMBERS * sizeof *shared, 1.5);
     free(shared_model.file.bytes);
 }

@@ -69,7 +69,7 @@ void compare(const char *what, program ours, program peer, const void *input, do
     double ratio = a.best / b.best;
     printf("%-46s %15.2f ns %7.0f MB/s | %-18s %15.2f ns %7.0f MB/s | %5.2f", what, 1e9 * a.best / units, (double)bytes / a.best / 1e6, peer.name,
            1e9 * b.best / units, (double)bytes / b.best / 1e6, ratio);
-    if (target > 0) printf("  target %.1f%s", target, ratio > target ? ", missed" : "");
+    if (target > 0) printf("  target %.4g%s", target, ratio > target ? ", missed" : "");
     putchar('\n');
 }
 

@@ -70,9 +70,9 @@ fn named(layout: u64, level: u64, k: &[u8]) -> usize
         return types::root_key(layout, k);
     }
     if level == 1 {
-        return types::object_key(layout, k);
+        return types::any_object_key(layout, k);
     }
-    types::component_key(layout, k)
+    types::any_component_key(layout, k)
 }
 
 // The slot of the key that begins s.

@@ -2,12 +2,13 @@
 use mathlib.Core.Path.{_≡_, refl, sym, ap, _∙_, subst}
 use mathlib.Core.List.{List}
 use mathlib.Core.Bool.{Bool, true, false}
-use Prim.Native.Nat.{ℕ, _-_}
+use Prim.Native.Nat.{ℕ, _-_, _<_}
 use lib.ListN.{length, drop}
 use borrow.Rule.Slice.PartAt.{part-to-end}
-use Rattle.meaning.specs.Text.{utf8}
+use Rattle.meaning.specs.Text.{utf8, following, follow, within, tail}
 use Rattle.meaning.specs.Kind.{aText}
 use Rattle.types.specs.Known.{position, formatNames}
+use Rattle.types.proofs.Codes.{named-holds}
 use Rattle.walk.specs.Reading.{Reads}
 use Rattle.walk.specs.Places.{TextIs}
 use Rattle.walk.specs.declared.Letters.{Letters}
@@ -17,6 +18,10 @@ use Rattle.shape.specs.Shape.{ShapeRead}
 use Rattle.fields.proofs.Texts.{Here, no-word, word, letters}
 use Rattle.object.specs.declared.place.Coded.the-variants.{No as NoCode, Yes as Code}
 use Rattle.object.specs.Place.{FormatIs, ShapeAt}
+
+pub known-format : (k : List ℕ) → position formatNames k < 4 → utf8 k ≡ true
+unfolding formatNames utf8 following follow within tail
+known-format k l = named-holds utf8 formatNames k refl l
 
 module _ (s : List ℕ) (l : Letters) (h : TextIs (Here s 0) l) where
   pub format-kind : l ≡ NoText → FormatIs s (NoCode 8)

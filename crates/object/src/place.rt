@@ -4,7 +4,9 @@ use shape::Shaped;
 use walk::Letters;
 ghost use mathlib.Core.Path.{_≡_};
 ghost use lib.ListN.{length};
+ghost use Rattle.meaning.specs.Text.{utf8};
 ghost use Rattle.meaning.specs.Layouts.{layoutOf};
+ghost use Rattle.types.specs.Known.{position, formatNames};
 ghost use Rattle.object.specs.Place as is;
 
 // The format's code (types::format_code), or a refusal.
@@ -22,6 +24,17 @@ pub fn shape_at(s: &[u8], left: usize, dims: &mut [u64]) -> Shaped
     shape::shape(&s[at..], 28, dims)
 }
 
+// Is a format with this code UTF-8? One that is known needs no look.
+fn legible(k: &[u8], code: u64) -> bool
+    requires { ⌜ code ≡ position formatNames (now k) ⌝ }
+    ensures { λ r. ⌜ r ≡ utf8 (now (k .entry)) ⌝ }
+{
+    if code < 4 {
+        return true;
+    }
+    text::utf8(k)
+}
+
 // The format that begins s.
 fn format_of(s: &[u8]) -> Coded
     ensures { λ r. ⌜ is.FormatIs (now (s .entry)) r ⌝ }
@@ -30,8 +43,9 @@ fn format_of(s: &[u8]) -> Coded
         Letters::NoText => Coded::No(numbers::KIND),
         Letters::Text(at, n) => {
             let e = at + n;
-            if text::utf8(&s[at..e]) {
-                return Coded::Yes(types::format_code(&s[at..e]));
+            let code = types::format_code(&s[at..e]);
+            if legible(&s[at..e], code) {
+                return Coded::Yes(code);
             }
             Coded::No(numbers::TEXT)
         }

@@ -29,7 +29,7 @@ fn slot(layout: u64, s: &[u8]) -> usize
         Letters::NoText => 6,
         Letters::Text(at, n) => {
             let e = at + n;
-            types::object_key(layout, &s[at..e])
+            types::any_object_key(layout, &s[at..e])
         }
     }
 }

@@ -16,6 +16,7 @@ use Rattle.meaning.specs.Types.{Storage, storages, codeFrom, storageOf, widthOf
 use Rattle.meaning.proofs.WhichLayout.{is-old, is-current}
 use Rattle.types.specs.Row.{digitOf}
 use Rattle.types.proofs.Tagged.{both-left, both-right}
+use Rattle.types.proofs.Tell.{same-true}
 use Rattle.types.specs.Known.{fieldAt, placeOfName, position, codeOr, unitNumber, dtypeCode, storageNames, logicalNames}
 
 pub position-most : (ns : List (List ℕ)) (k : List ℕ) → position ns k ≤ length ns
@@ -26,6 +27,16 @@ position-most (n ∷ ns) k = go (same n k) (position-most ns k)
     go : (t : Bool) → position ns k ≤ length ns → cond t 0 (suc (position ns k)) ≤ suc (length ns)
     go true h = omega arith
     go false h = omega arith
+
+-- what holds of every name holds of a text that is one of them
+pub named-holds : (p : List ℕ → Bool) (ns : List (List ℕ)) (k : List ℕ) → all p ns ≡ true → position ns k < length ns → p k ≡ true
+unfolding position
+named-holds p [] k h l = absurd (omega arith)
+named-holds p (n ∷ ns) k h l = go (same n k) refl l (λ m. named-holds p ns k (both-right (p n) (all p ns) h) m)
+  where
+    go : (t : Bool) → same n k ≡ t → cond t 0 (suc (position ns k)) < suc (length ns) → (position ns k < length ns → p k ≡ true) → p k ≡ true
+    go true e l later = ap p (sym (same-true n k e)) ∙ both-left (p n) (all p ns) h
+    go false e l later = later (omega arith)
 
 -- the place of a field, from its index among the names that are there
 pub place-of-name : (ns : Slots) (k : List ℕ) → placeOfName ns (position (somes ns) k) ≡ fieldAt ns k

@@ -16,18 +16,19 @@ format-of-spec =
     (λ c κs. search needs)
     (λ c. search needs)
     (λ c. search needs)
-    (λ c. omega (arith, letters-in (c .before .before .before .before .before .before .args .s .now) _ (c .before .before .before .text .ensures .0) _ _ (c .before .at .given .1)))
+    (λ c. let t = c .before .before .before in omega (arith, letters-in (t .before .before .before .args .s .now) _ (t .text .ensures .0) _ _ (c .before .at .given .1)))
     (λ c. search needs)
     (λ c. search needs)
-    (λ c. omega (arith, letters-in (c .before .before .before .before .before .before .args .s .now) _ (c .before .before .before .text .ensures .0) _ _ (c .before .at .given .1)))
+    (λ c. let t = c .before .before .before in omega (arith, letters-in (t .before .before .before .args .s .now) _ (t .text .ensures .0) _ _ (c .before .at .given .1)))
     (λ c κs. search needs)
     (λ c. search needs)
     (λ c. search needs)
-    (λ c. let b4 = c .before .before .before .before in let b6 = b4 .before .before in let a = b6 .before .before .before .args in
-    omega (arith, letters-in (a .s .now) _ (b6 .text .ensures .0) _ _ (b4 .at .given .1)))
-    (λ c κs. search needs)
-    (λ c. let b2 = c .before .before in let b3 = b2 .before in let b6 = b3 .before .before .before in let b8 = b6 .before .before in let a = b8 .before .before .before .args in
-    places.format-some (a .s .now) _ (b8 .text .ensures .1) _ _ (b6 .at .given .1) _ (b3 .utf8 .ensures) (b2 .if1 .taken) _ (c .format-code .ensures))
-    (λ c. places.format-kind (c .before .before .before .before .before .args .s .now) _ (c .before .before .text .ensures .1) (c .enum-told .given .1))
-    (λ c. let b4 = c .before .before .before .before in let b6 = b4 .before .before in let a = b6 .before .before .before .args in
-    places.format-other (a .s .now) _ (b6 .text .ensures .1) _ _ (b4 .at .given .1) _ (c .before .utf8 .ensures) (c .if1 .left)))
+    (λ c. let t = c .before .before .before .before .before in omega (arith, letters-in (t .before .before .before .args .s .now) _ (t .text .ensures .0) _ _ (c .before .before .before .at .given .1)))
+    (λ c κs. c .before .format-code .ensures)
+    (λ c.
+    let l = c .before in let f = l .before .before in let at = f .before .before .before in let t = at .before .before in
+    places.format-some (t .before .before .before .args .s .now) _ (t .text .ensures .1) _ _ (at .at .given .1) _ (l .legible .ensures) (c .if1 .taken) _ (f .format-code .ensures))
+    (λ c. let t = c .before .before in places.format-kind (t .before .before .before .args .s .now) _ (t .text .ensures .1) (c .enum-told .given .1))
+    (λ c.
+    let l = c .before in let at = l .before .before .before .before .before in let t = at .before .before in
+    places.format-other (t .before .before .before .args .s .now) _ (t .text .ensures .1) _ _ (at .at .given .1) _ (l .legible .ensures) (c .if1 .left)))

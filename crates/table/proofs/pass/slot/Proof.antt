@@ -24,4 +24,4 @@ slot-spec =
     (λ c. let a = c .before .before .before .before .before .args in
     (omega arith, texts.slot-odd (a .s .now) _ (c .before .before .text .ensures .1) (c .enum-told .given .1) (layoutOf (a .layout) .object) 5 (layoutOf (a .layout) .objectPlaces)))
     (λ c. let b3 = c .before .before .before in let b5 = b3 .before .before in let a = b5 .before .before .before .args in
-    texts.slot-known (a .s .now) _ (b5 .text .ensures .1) _ _ (b3 .at .given .1) _ 5 (layoutOf (a .layout) .objectPlaces) _ (c .object-key .ensures)))
+    texts.slot-known (a .s .now) _ (b5 .text .ensures .1) _ _ (b3 .at .given .1) _ 5 (layoutOf (a .layout) .objectPlaces) _ (c .any-object-key .ensures)))
