@@ -5,7 +5,7 @@ use mathlib.Core.Path.{_≡_}
 use mathlib.Core.Logic.{_⊎_}
 use lib.ListN.{length, getD}
 use Rattle.text.proofs.WordsDecide.{Agree}
-use Rattle.changes.specs.Changes.{positionApart, countApart}
+use Rattle.changes.specs.Changes.{howMany, differsAt, positionApart, countApart}
 use Rattle.apart.specs.declared.Apart.{Apart}
 
 abbrev pub told : List ℕ → List ℕ → Apart
@@ -22,8 +22,20 @@ pub record Rest (x y : List ℕ) (n more : ℕ) : Type 0 where
   pub ends : (length x ≡ n) ⊎ (length y ≡ n)
   pub sum : max (length x) (length y) ≡ n + more
 
--- the first r of n agree, and the next doesn't if there is one
-pub record Run (x y : List ℕ) (n r : ℕ) : Type 0 where
+-- at how many of the first n positions they differ
+unfoldable pub manyApart : List ℕ → List ℕ → ℕ → ℕ
+manyApart x y n = howMany (differsAt x y) n
+
+-- how many are compared at once
+abbrev pub block : ℕ
+block = 128
+
+-- the first r of n agree
+pub record Passed (x y : List ℕ) (n r : ℕ) : Type 0 where
   pub most : r ≤ n
   pub agree : Agree x y r
+
+-- and the next doesn't, if there is one
+pub record Run (x y : List ℕ) (n r : ℕ) : Type 0 where
+  pub passed : Passed x y n r
   pub stops : r < n → getD x r 0 ≡ getD y r 0 → ⊥

@@ -1,13 +1,11 @@
-// Two runs of bytes: the first position at which they differ, and at how many they do. Both go eight bytes at a time where these are equal. Positions past the end of the shorter one differ.
-use endian::be8;
+// Two runs of bytes: the first position at which they differ, and at how many they do. Both go a block of bytes at a time. Positions past the end of the shorter one differ.
 ghost use mathlib.Core.Path.{_≡_};
 ghost use mathlib.Core.Bool.{not};
-ghost use Prim.Native.Nat.{_+_, _<_, _≤_};
-ghost use lib.ListN.{length};
+ghost use Prim.Native.Nat.{_≤_};
 ghost use lib.Dec.{eqb};
 ghost use Rattle.text.proofs.WordsDecide.{Agree};
-ghost use Rattle.changes.specs.Changes.{bit, howMany, differsAt};
-ghost use Rattle.apart.specs.Told.{told, Both, Run, Rest};
+ghost use Rattle.changes.specs.Changes.{bit};
+ghost use Rattle.apart.specs.Told.{told, manyApart, block, Both, Passed, Run, Rest};
 
 // 0 and 0 if they are equal.
 pub struct Apart {
@@ -15,17 +13,40 @@ pub struct Apart {
     pub count: u64,
 }
 
-// Equal words passed, from the front.
-fn run_of_words(x: &[u8], y: &[u8], n: usize) -> usize
+// How many bytes are compared at once: in a loop of fixed length that counts in a u8, of which the compiler makes steps of sixteen bytes.
+const BLOCK: usize = 128;
+
+fn differ(a: u8, b: u8) -> u8
+    ensures { λ r. ⌜ (r ≡ bit 1 (not (eqb a b))) × (r ≤ 1) ⌝ }
+{
+    if a == b { 0 } else { 1 }
+}
+
+// How many of the bytes of the first block differ.
+fn of_block(x: &[u8], y: &[u8]) -> u8
+    requires { ⌜ Both (now x) (now y) block ⌝ }
+    ensures { λ r. ⌜ (r ≡ manyApart (now (x .entry)) (now (y .entry)) block) × (r ≤ block) ⌝ }
+{
+    let mut count: u8 = 0;
+    let mut i: usize = 0;
+    while i < BLOCK {
+        count += differ(x[i], y[i]);
+        i += 1;
+    }
+    count
+}
+
+// Equal blocks passed, from the front.
+fn run_of_blocks(x: &[u8], y: &[u8], n: usize) -> usize
     requires { ⌜ Both (now x) (now y) n ⌝ }
-    ensures { λ r. ⌜ (r ≤ n) × Agree (now (x .entry)) (now (y .entry)) r ⌝ }
+    ensures { λ r. ⌜ Passed (now (x .entry)) (now (y .entry)) n r ⌝ }
 {
     let mut i: usize = 0;
-    while 8 <= n - i {
-        if be8(&x[i..], 0) != be8(&y[i..], 0) {
+    while BLOCK <= n - i {
+        if of_block(&x[i..], &y[i..]) != 0 {
             return i;
         }
-        i += 8;
+        i += BLOCK;
     }
     i
 }
@@ -35,7 +56,7 @@ fn run(x: &[u8], y: &[u8], n: usize) -> usize
     requires { ⌜ Both (now x) (now y) n ⌝ }
     ensures { λ r. ⌜ Run (now (x .entry)) (now (y .entry)) n r ⌝ }
 {
-    let mut i = run_of_words(&x[0..], &y[0..], n);
+    let mut i = run_of_blocks(&x[0..], &y[0..], n);
     while i < n {
         if x[i] != y[i] {
             return i;
@@ -45,45 +66,21 @@ fn run(x: &[u8], y: &[u8], n: usize) -> usize
     i
 }
 
-fn differ(a: u8, b: u8) -> u64
-    ensures { λ r. ⌜ (r ≡ bit 1 (not (eqb a b))) × (r ≤ 1) ⌝ }
-{
-    if a == b { 0 } else { 1 }
-}
-
-// How many of the eight bytes from i on differ.
-fn of_eight(x: &[u8], y: &[u8], i: usize) -> u64
-    requires { ⌜ Both (now x) (now y) (i + 8) ⌝ }
-    ensures { λ r. ⌜ (r ≡ howMany (λ j. differsAt (now (x .entry)) (now (y .entry)) (i + j)) 8) × (r ≤ 8) ⌝ }
-{
-    if be8(&x[i..], 0) == be8(&y[i..], 0) {
-        return 0;
-    }
-    differ(x[i], y[i])
-        + differ(x[i + 1], y[i + 1])
-        + differ(x[i + 2], y[i + 2])
-        + differ(x[i + 3], y[i + 3])
-        + differ(x[i + 4], y[i + 4])
-        + differ(x[i + 5], y[i + 5])
-        + differ(x[i + 6], y[i + 6])
-        + differ(x[i + 7], y[i + 7])
-}
-
 // How many of the first n bytes differ, where those before `from` agree.
 fn differing(x: &[u8], y: &[u8], n: usize, from: usize) -> u64
     requires { ⌜ Both (now x) (now y) n × (from ≤ n) × Agree (now x) (now y) from ⌝ }
-    ensures { λ r. ⌜ (r ≡ howMany (differsAt (now (x .entry)) (now (y .entry))) n) × (r ≤ n) ⌝ }
+    ensures { λ r. ⌜ (r ≡ manyApart (now (x .entry)) (now (y .entry)) n) × (r ≤ n) ⌝ }
 {
     let mut count: u64 = 0;
     let mut i = from;
     while i < n {
-        if n - i < 8 {
-            count += differ(x[i], y[i]);
+        if n - i < BLOCK {
+            count += differ(x[i], y[i]) as u64;
             i += 1;
             continue;
         }
-        count += of_eight(&x[0..], &y[0..], i);
-        i += 8;
+        count += of_block(&x[i..], &y[i..]) as u64;
+        i += BLOCK;
     }
     count
 }

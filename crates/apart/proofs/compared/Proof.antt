@@ -30,7 +30,7 @@ compared-spec =
     (λ c. search needs)
     (λ c κs.
     let at8 = c .before .before .before .before .before .before .before .before in
-    let r = rw (whole (at8 .args .x .now), whole (at8 .args .y .now)) at (c .before .before .before .run .ensures) in rw (whole (at8 .args .x .now), whole (at8 .args .y .now)) ((at8 .pre .both), r .most, r .agree))
+    let r = rw (whole (at8 .args .x .now), whole (at8 .args .y .now)) at (c .before .before .before .run .ensures) in rw (whole (at8 .args .x .now), whole (at8 .args .y .now)) ((at8 .pre .both), r .passed .most, r .passed .agree))
     (λ c. omega (arith, (c .differing .ensures .1), (c .before .before .before .before .before .before .before .before .before .pre .sum)))
     (λ c.
     let at9 = c .before .before .before .before .before .before .before .before .before in

@@ -1,16 +1,15 @@
 -- `apart::differing` meets its contract. The loop's invariant: those before i are counted.
-use Prim.Native.Nat.{_-_, _≤_}
+use Prim.Native.Nat.{_-_}
 use borrow.Author.Needs.{needs}
-use mathlib.Core.Path.{_≡_}
 use native.Mathlib.Omega.{arith}
+use Rattle.apart.specs.Told.{block}
 use Rattle.apart.proofs.Counting as counting
+use Rattle.apart.proofs.Counting.{Counted}
 use Rattle.apart.proofs.differing.Statement.{statement}
 use Rattle.apart.proofs.differing.Tie as tie
-use Rattle.changes.specs.Changes.{howMany, differsAt}
-use Rattle.text.proofs.SameIsEqual.{whole}
 
 abbrev Inv-loop : tie.InvT-loop
-Inv-loop x y n from count₀ i₀ count i = (i ≤ n) × (count ≤ i) × (count ≡ howMany (differsAt x y) i)
+Inv-loop x y n from count₀ i₀ count i = Counted x y n i count
 
 abbrev μ-loop : tie.MeasureT-loop
 μ-loop x y n from count₀ i₀ count i = n - i
@@ -21,34 +20,26 @@ differing-spec =
     (tie.spec
     Inv-loop
     μ-loop
-    (λ c. let a = c .before .before .args in
-    (omega arith, omega arith, counting.count-begins ((a .x .now)) ((a .y .now)) ((c .before .before .pre .0)) ((c .before .before .pre .1)) ((c .before .before .pre .2))))
+    (λ c. let b2 = c .before .before in counting.count-begins (b2 .args .x .now) (b2 .args .y .now) (b2 .pre .0) (b2 .pre .1) (b2 .pre .2))
     (λ c. search needs)
-    (λ c. search needs)
-    (λ c. search needs)
+    (λ c. omega (arith, c .before .before .before .before .before .before .pre .0 .first))
+    (λ c. omega (arith, c .before .before .before .before .before .before .before .pre .0 .second))
     (λ c κs. search needs)
-    (λ c. omega (arith, (c .differ .ensures .1), (c .before .before .before .before .before .loop .inv)))
+    (λ c. search needs)
+    (λ c. omega (arith, c .differ .ensures .1, c .before .before .before .before .before .loop .inv .most))
     (λ c. search needs)
     (λ c. search needs)
-    (λ c.
-    let at5 = c .before .before .before .before .before in
-    let at8 = at5 .before .before .before in
-    (omega arith, omega (arith, (c .differ .ensures .1)), counting.count-one (at8 .args .x .now) (at8 .args .y .now) (at5 .loop .i) (at5 .loop .inv .2) (counting.counted (at8 .args .x .now) (at8 .args .y .now) (at8 .pre .0) (omega arith) (c .differ .ensures .0))))
+    (λ c. let b8 = c .before .before .before .before .before .before .before .before in counting.count-one (b8 .args .x .now) (b8 .args .y .now) (b8 .pre .0) (c .before .before .before .before .before .loop .inv) (omega arith) (c .differ .ensures))
+    (λ c. omega (arith, c .before .before .before .before .before .pre .0 .first))
     (λ c. search needs)
     (λ c. search needs)
+    (λ c. omega (arith, c .before .before .before .before .before .before .pre .0 .second))
     (λ c. search needs)
     (λ c. search needs)
+    (λ c κs. let b7 = c .before .before .before .before .before .before .before in counting.both-from (b7 .args .x .now) (b7 .args .y .now) (c .before .before .before .before .loop .i) block (b7 .pre .0) (omega arith))
+    (λ c. search needs)
+    (λ c. omega (arith, c .of-block .ensures .1, c .before .before .before .before .before .loop .inv .most))
     (λ c. search needs)
     (λ c. search needs)
-    (λ c κs.
-    let at7 = c .before .before .before .before .before .before .before in
-    rw (whole (at7 .args .x .now), whole (at7 .args .y .now)) (record { first = omega (arith, (at7 .pre .0 .first)); second = omega (arith, (at7 .pre .0 .second)) }))
-    (λ c. omega (arith, (c .of-eight .ensures .1), (c .before .before .before .before .before .loop .inv)))
-    (λ c. search needs)
-    (λ c. search needs)
-    (λ c.
-    let at5 = c .before .before .before .before .before in
-    let at8 = at5 .before .before .before in
-    (omega arith, omega (arith, (c .of-eight .ensures .1)), counting.count-eight (at8 .args .x .now) (at8 .args .y .now) (at5 .loop .i) (at5 .loop .inv .2) (rw (whole (at8 .args .x .now), whole (at8 .args .y .now)) at (c .of-eight .ensures .0))))
-    (λ c. let l = c .before .loop in let a = c .before .before .before .before .args in
-    counting.counted-all ((a .x .now)) ((a .y .now)) ((a .n)) ((l .i)) ((l .inv)) (omega arith)))
+    (λ c. let b8 = c .before .before .before .before .before .before .before .before in counting.count-few (b8 .args .x .now) (b8 .args .y .now) block (c .before .before .before .before .before .loop .inv) (omega arith) (c .of-block .ensures))
+    (λ c. let b4 = c .before .before .before .before in counting.counted-all (b4 .args .x .now) (b4 .args .y .now) (c .before .loop .inv) (omega arith)))
