@@ -2,7 +2,7 @@
 use Prim.Native.Nat.{ℕ, _+_, _-_, _*_, _/_, _≤_, _<_}
 use native.Mathlib.Nat.{zero-add}
 use native.Mathlib.Omega.{arith}
-use mathlib.Core.List.{List, [], _++_, append-assoc, append-nil}
+use mathlib.Core.List.{List, [], _∷_, _++_, append-assoc, append-nil}
 use mathlib.Core.Bool.{Bool, true, false}
 use mathlib.Core.Path.{_≡_, refl, sym, ap, ap₂, _∙_, subst}
 use lib.ListN.{length, take, drop, replicate, length-append, length-drop}
@@ -43,6 +43,9 @@ use Rattle.comparing.proofs.OfModel.{table-of, objects-are}
 abbrev pub Answered : List ℕ → Changes → List ℕ → List ℕ → Type 0
 Answered ns r xs ys = (r ≡ is.fitting ns (length xs)) × (ys ≡ is.listAfter ns xs)
 
+abbrev listing : ℕ → Changes
+listing k = record { number = 0; file = 0; object = 0; component = 0; entries = k / 8 }
+
 module _ (ns xs : List ℕ) (k : ℕ) (few : length ns < most) (counted : k ≡ capped (0 + length ns)) where
   exact : k ≡ length ns
   exact = counted ∙ ap capped (zero-add (length ns)) ∙ capped-low (length ns) few
@@ -51,13 +54,20 @@ module _ (ns xs : List ℕ) (k : ℕ) (few : length ns < most) (counted : k ≡ 
   unfolding is.fitting is.listAfter
   too-long h = let over = lt-leb (length ns) (length xs) (let e = exact in omega (arith, h, e)) in (rw (over, exact) refl, rw over refl)
 
-  pub listed-whole : k ≤ length xs → (ys : List ℕ) (r : ℕ) → Wrote ns 0 xs ys r
-      → Answered ns (record { number = 0; file = 0; object = 0; component = 0; entries = k / 8 }) xs ys
+  pub listed-whole : k ≤ length xs → (ys : List ℕ) → ys ≡ sets xs 0 ns → Answered ns (listing k) xs ys
   unfolding is.fitting is.listAfter
-  listed-whole h ys r w =
+  listed-whole h ys w =
       let fits : length ns ≤ length xs = let e = exact in omega (arith, h, e) in
       let t = le-leb (length ns) (length xs) fits in
-      (rw (t, exact) refl, rw t (w .stored ∙ sets-eq ns xs 0 (omega (arith, fits)) ∙ ap (λ (j : ℕ). ns ++ drop j xs) (zero-add (length ns))))
+      (rw (t, exact) refl, rw t (w ∙ sets-eq ns xs 0 (omega (arith, fits)) ∙ ap (λ (j : ℕ). ns ++ drop j xs) (zero-add (length ns))))
+
+  -- where there are none, the list is as if they were written
+  pub listed-none : k ≤ 0 → Answered ns (listing k) xs xs
+  listed-none h = listed-whole (omega arith) xs (by ns (let e = exact in omega (arith, h, e)))
+    where
+      by : (ms : List ℕ) → length ms ≤ 0 → xs ≡ sets xs 0 ms
+      by [] l = refl
+      by (a ∷ ms) l = absurd (omega arith)
 
 -- ---- whole parts
 

@@ -51,7 +51,7 @@ fn refusal(layout: u64, first: &[u8], other: u64, second: &[u8]) -> Changes
     }
 }
 
-// By the tables of both: counted in a list of one number, then written if it fits.
+// By the tables of both: counted in a list of one number, then written if it fits and there are any.
 fn compared(
     first: &[u8],
     a: &[u64],
@@ -85,7 +85,9 @@ fn compared(
             entries: entries,
         };
     }
-    models::of_tables(&first[0..], &a[0..], m, &second[0..], &b[0..], n, list);
+    if 0 < k {
+        models::of_tables(&first[0..], &a[0..], m, &second[0..], &b[0..], n, list);
+    }
     Changes {
         number: 0,
         file: 0,

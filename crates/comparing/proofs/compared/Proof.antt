@@ -2,11 +2,9 @@
 use Rattle.comparing.proofs.Bound as bound
 use Rattle.comparing.proofs.Answering as answering
 use borrow.Author.Needs.{needs}
+use native.Mathlib.Omega.{arith}
 use Rattle.comparing.proofs.compared.Statement.{statement}
 use Rattle.comparing.proofs.compared.Tie as tie
-use Rattle.comparing.proofs.compared.Reads as reads
-use Rattle.comparing.proofs.compared.Lts as lts
-use Rattle.models.proofs.of_tables.Reads as of-tables-reads
 
 pub compared-spec : {M : Type 1} → statement M
 compared-spec =
@@ -42,11 +40,14 @@ compared-spec =
     (λ c. search needs)
     (λ c. search needs)
     (λ c. search needs)
-    (λ c κs. let b18 = c .before .before .before .before .before .before .before .before .before .before .before .before .before .before .before .before .before .before in let a = b18 .args in
-    answering.lent-tables ((a .first .now)) ((a .a .now)) ((a .m)) ((a .second .now)) ((a .b .now)) ((a .n)) ((b18 .pre .0)) ((b18 .pre .1)))
+    (λ c κs. let b19 = c .before .before .before .before .before .before .before .before .before .before .before .before .before .before .before .before .before .before .before in let a = b19 .args in
+    answering.lent-tables ((a .first .now)) ((a .a .now)) ((a .m)) ((a .second .now)) ((a .b .now)) ((a .n)) ((b19 .pre .0)) ((b19 .pre .1)))
     (λ c. search needs)
-    (λ c. let b2 = c .before .before in let b8 = b2 .before .before .before .before .before .before in let b10 = b8 .before .before in
-    let b21 = b10 .before .before .before .before .before .before .before .before .before .before .before in let a = b21 .args in
-    answering.listed-whole _ ((a .list .now)) _ (bound.numbers-few ((a .first .now)) ((a .a .now)) ((a .m)) ((a .second .now)) ((a .b .now)) ((a .n)) ((b21 .pre .0)) ((b21 .pre .1)))
-    (answering.lent-wrote ((a .first .now)) ((a .a .now)) ((a .m)) ((a .second .now)) ((a .b .now)) ((a .n)) ((b10 .of-tables .ensures)) .past) ((b8 .if1 .left)) _ _
-    (answering.lent-wrote ((a .first .now)) ((a .a .now)) ((a .m)) ((a .second .now)) ((a .b .now)) ((a .n)) ((b2 .of-tables2 .ensures)))))
+    (λ c. let b2 = c .before .before in let b9 = b2 .before .before .before .before .before .before .before in let b11 = b9 .before .before in
+    let b22 = b11 .before .before .before .before .before .before .before .before .before .before .before in let a = b22 .args in
+    answering.listed-whole _ ((a .list .now)) _ (bound.numbers-few ((a .first .now)) ((a .a .now)) ((a .m)) ((a .second .now)) ((a .b .now)) ((a .n)) ((b22 .pre .0)) ((b22 .pre .1)))
+    (answering.lent-wrote ((a .first .now)) ((a .a .now)) ((a .m)) ((a .second .now)) ((a .b .now)) ((a .n)) ((b11 .of-tables .ensures)) .past) ((b9 .if1 .left)) _
+    (answering.lent-wrote ((a .first .now)) ((a .a .now)) ((a .m)) ((a .second .now)) ((a .b .now)) ((a .n)) ((b2 .of-tables2 .ensures)) .stored))
+    (λ c. let b3 = c .before .before .before in let b14 = b3 .before .before .before .before .before .before .before .before .before .before .before in let a = b14 .args in
+    answering.listed-none _ ((a .list .now)) _ (bound.numbers-few ((a .first .now)) ((a .a .now)) ((a .m)) ((a .second .now)) ((a .b .now)) ((a .n)) ((b14 .pre .0)) ((b14 .pre .1)))
+    (answering.lent-wrote ((a .first .now)) ((a .a .now)) ((a .m)) ((a .second .now)) ((a .b .now)) ((a .n)) ((b3 .of-tables .ensures)) .past) (omega arith)))
