@@ -1,18 +1,16 @@
 -- A table of digests shows that names differ. Assumes nothing.
-use mathlib.Core.Path.{_≡_, refl, sym, ap, _∙_, subst}
-use mathlib.Core.List.{List, []}
+use mathlib.Core.Path.{_≡_, sym, ap, _∙_, subst}
+use mathlib.Core.List.{List}
 use mathlib.Core.Bool.{Bool, true, false}
-use mathlib.Core.Logic.{⊎-elim}
-use Prim.Native.Nat.{ℕ, _+_, _-_, _%_, _≤_, _<_}
+use Prim.Native.Nat.{ℕ, _+_, _%_, _≤_, _<_}
 use native.Mathlib.Omega.{arith}
 use lib.ListN.{length, getD, set}
 use lib.Seq.{getD-set-same, getD-set-other}
-use Rattle.meaning.specs.Text.{oneOf, distinct}
 use Rattle.text.specs.Digest.{digest}
 use Rattle.text.proofs.OrderIsTotal.{Which, less, more, equal, which}
-use Rattle.names.specs.Names.{listed}
+use Rattle.names.specs.Names.{Differ}
 use Rattle.names.specs.Table.{Found, Claimed}
-use Rattle.names.proofs.SortedNames.{one-either, listed-more, listed-none}
+use Rattle.names.proofs.ListedNames.{none-differ, differ-more}
 
 -- the places from h's own up to p hold neither 0 nor h
 pub record Probed (table : List ℕ) (h p : ℕ) : Type 0 where
@@ -77,34 +75,21 @@ pub digest-positive : (w : List ℕ) → 0 < digest w
 unfolding digest
 digest-positive w = omega arith
 
--- the digests of the names i to n stand in the table, and no two of these names are equal
-pub record Tabled (f : ℕ → List ℕ) (table : List ℕ) (n i : ℕ) : Type 0 where
-  pub most : i ≤ n
-  pub every : (w : List ℕ) → oneOf (listed f i (n - i)) w ≡ true → Found table (digest w)
-  pub once : distinct (listed f i (n - i)) ≡ true
+-- the digests of the names before number i stand in the table, and no two of these names are equal
+pub record Tabled (f : ℕ → List ℕ) (table : List ℕ) (i : ℕ) : Type 0 where
+  pub every : (j : ℕ) → j < i → Found table (digest (f j))
+  pub differ : Differ f i
 
-pub tabled-none : (f : ℕ → List ℕ) (table : List ℕ) (n : ℕ) → Tabled f table n n
-tabled-none f table n =
-    let z : n - n ≡ 0 = omega arith in
-    let e : listed f n (n - n) ≡ [] = listed-none f n (n - n) z in
-    record {
-      most = omega arith;
-      every = λ w h. let y : oneOf [] w ≡ true = rw e at h in let q : _≡_ {A = ℕ} 0 1 = cc in absurd (omega arith);
-      once = rw e;
-    }
+pub tabled-none : (f : ℕ → List ℕ) (table : List ℕ) → Tabled f table 0
+tabled-none f table = record { every = λ j l. absurd (omega arith); differ = none-differ f }
 
-pub tabled-more : {f : ℕ → List ℕ} {table new : List ℕ} {n i h : ℕ} {r : Bool} → Tabled f table n i → Claimed table new h r → 0 < i → h ≡ digest (f (i - 1)) → r ≡ true → Tabled f new n (i - 1)
-tabled-more {f} {table} {new} {n} {i} t c l e q =
-    let d = listed-more f i n l (t .most) in
-    record {
-      most = omega (arith, t .most);
-      every = λ w o. ⊎-elim (λ y. subst (λ u. Found new u) (e ∙ ap digest y) (c .taken q)) (λ y. c .kept q (digest w) (digest-positive w) (t .every w y)) (one-either (f (i - 1)) (listed f i (n - i)) w (rw d at o));
-      once = rw d (rw (go (oneOf (listed f i (n - i)) (f (i - 1))) refl) (t .once));
-    }
+pub tabled-more : {f : ℕ → List ℕ} {table new : List ℕ} {i h : ℕ} {r : Bool} → Tabled f table i → Claimed table new h r → h ≡ digest (f i) → r ≡ true → Tabled f new (i + 1)
+tabled-more {f} {table} {new} {i} t c e q = record {
+  every = λ j l. go j l (which j i);
+  differ = differ-more (t .differ) (λ j l y. c .free q (subst (Found table) (ap digest y ∙ sym e) (t .every j l)));
+}
   where
-    go : (b : Bool) → oneOf (listed f i (n - i)) (f (i - 1)) ≡ b → oneOf (listed f i (n - i)) (f (i - 1)) ≡ false
-    go true y = absurd (c .free q (subst (λ u. Found table u) (sym e) (t .every (f (i - 1)) y)))
-    go false y = y
-
-pub tabled-all : {f : ℕ → List ℕ} {table : List ℕ} {n i : ℕ} → Tabled f table n i → i ≡ 0 → distinct (listed f 0 n) ≡ true
-tabled-all {n = n} {i = i} h e = let z : n - i ≡ n = omega arith in rw (z, e) at (h .once)
+    go : (j : ℕ) → j < i + 1 → Which j i → Found new (digest (f j))
+    go j l (less w) = c .kept q (digest (f j)) (digest-positive (f j)) (t .every j w)
+    go j l (more w) = absurd (omega arith)
+    go j l (equal w) = subst (Found new) (e ∙ ap (λ u. digest (f u)) (sym w)) (c .taken q)

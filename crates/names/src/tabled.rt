@@ -1,11 +1,9 @@
-// Names that differ, by their digests: an answer of true is sure, and false says nothing.
+// Names that differ, by their digests: those that are counted do, and of the next nothing is said.
 use crate::named::name_of;
 ghost use mathlib.Core.Path.{_≡_};
-ghost use mathlib.Core.Bool.{true};
-ghost use Prim.Native.Nat.{_<_};
-ghost use Rattle.meaning.specs.Text as meant;
+ghost use Prim.Native.Nat.{_<_, _≤_};
 ghost use Rattle.text.specs.Digest as digests;
-ghost use Rattle.names.specs.Names.{name, listed};
+ghost use Rattle.names.specs.Names.{name, Differ};
 ghost use Rattle.names.specs.Table.{Claimed};
 
 // The digest of the name i.
@@ -41,26 +39,25 @@ fn claim(table: &mut [u32], h: u64) -> bool
 }
 
 // The same with a table that is lent. What it holds before doesn't matter to the answer's truth.
-fn all_claimed(m: &[u8], left: &[usize], size: &[usize], n: usize, table: &mut [u32]) -> bool
-    ensures { λ r. ⌜ (r ≡ true → meant.distinct (listed (name (now (m .entry)) (now (left .entry)) (now (size .entry))) 0 n) ≡ true) ⌝ }
+fn claimed(m: &[u8], left: &[usize], size: &[usize], n: usize, table: &mut [u32]) -> usize
+    ensures { λ r. ⌜ (r ≤ n) × Differ (name (now (m .entry)) (now (left .entry)) (now (size .entry))) r ⌝ }
 {
-    let mut i = n;
-    while 0 < i {
-        let x = i - 1;
-        let h = digest_of(&m[0..], &left[0..], &size[0..], x);
+    let mut i: usize = 0;
+    while i < n {
+        let h = digest_of(&m[0..], &left[0..], &size[0..], i);
         if claim(table, h) {
-            i = x;
+            i += 1;
             continue;
         }
-        return false;
+        return i;
     }
-    true
+    n
 }
 
-// The digests show that no name stands twice among the n.
-pub fn differ_by_digest(m: &[u8], left: &[usize], size: &[usize], n: usize) -> bool
-    ensures { λ r. ⌜ (r ≡ true → meant.distinct (listed (name (now (m .entry)) (now (left .entry)) (now (size .entry))) 0 n) ≡ true) ⌝ }
+// So many of the n names, from the left, have digests that differ.
+pub fn differ_by_digest(m: &[u8], left: &[usize], size: &[usize], n: usize) -> usize
+    ensures { λ r. ⌜ (r ≤ n) × Differ (name (now (m .entry)) (now (left .entry)) (now (size .entry))) r ⌝ }
 {
     let mut table = [0u32; 2112];
-    all_claimed(&m[0..], &left[0..], &size[0..], n, &mut table)
+    claimed(&m[0..], &left[0..], &size[0..], n, &mut table)
 }

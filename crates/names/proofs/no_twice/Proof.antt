@@ -1,6 +1,6 @@
--- `names::no_twice` meets its contract: the digests or the order answer. Assumes nothing.
-use mathlib.Core.Path.{sym}
+-- `names::no_twice` meets its contract. Assumes nothing.
 use borrow.Author.Needs.{needs}
+use Rattle.names.proofs.ListedNames as listed
 use Rattle.names.proofs.NamedParts as parts
 use Rattle.names.proofs.no_twice.Statement.{statement}
 use Rattle.names.proofs.no_twice.Tie as tie
@@ -19,16 +19,5 @@ no-twice-spec =
     (λ c. search needs)
     (λ c. search needs)
     (λ c κs. search needs)
-    (λ c. sym (rw parts.from-wholes at ((c .before .differ-by-digest .ensures) (c .if2 .taken))))
     (λ c. search needs)
-    (λ c. search needs)
-    (λ c. search needs)
-    (λ c. search needs)
-    (λ c. search needs)
-    (λ c. search needs)
-    (λ c. search needs)
-    (λ c. search needs)
-    (λ c. search needs)
-    (λ c κs. search needs)
-    (λ c. search needs)
-    (λ c. rw parts.from-wholes at (c .before .before .differ-by-order .ensures)))
+    (λ c. listed.leading-decides (rw parts.from-wholes at (c .before .before .leading .ensures))))

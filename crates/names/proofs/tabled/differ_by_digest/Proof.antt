@@ -19,4 +19,4 @@ differ-by-digest-spec =
     (λ c. search needs)
     (λ c. search needs)
     (λ c κs. search needs)
-    (λ c. rw parts.from-wholes at (c .before .all-claimed .ensures)))
+    (λ c. rw parts.from-wholes at (c .before .claimed .ensures)))
