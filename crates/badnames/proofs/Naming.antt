@@ -22,8 +22,8 @@ use Rattle.explained.specs.Order.{tableSteps, keySteps, sameNameSteps, nameStep
 use Rattle.explained.proofs.Agree.{Agree}
 use Rattle.explained.proofs.Repeat.{agree-same-names}
 use Rattle.explained.proofs.Why.{orElse, first-++, first-passes}
-use Rattle.names.specs.Names.{listed}
-use Rattle.copies.specs.Copy.{Copied}
+use Rattle.names.specs.Names.{listed, Leading}
+use Rattle.names.proofs.ListedNames.{differ-once, copy-twice}
 use Rattle.entry.specs.Nth.{nth, leftBoth}
 use Rattle.spot.specs.Shown.{spot, shown}
 use Rattle.badnames.specs.Keys.{utf8Steps}
@@ -177,14 +177,14 @@ listed-take f i (suc r) zero l = absurd (omega (arith, l))
 listed-take f i (suc r) (suc n) l = ap {B = List (List ℕ)} (λ x. f i ∷ x) (listed-take f (suc i) r n (omega (arith, l)))
 
 module _ (f : ℕ → List ℕ) (n : ℕ) (ps : List (Pair Ends)) (names : listed f 0 n ≡ map lettersOf ps) where
-  pub no-copy : true ≡ distinct (listed f 0 n) → spot 0 0 ≡ shown (first (sameNameSteps [] (map namedAnyway ps)))
+  pub no-copy : Leading f n n → spot 0 0 ≡ shown (first (sameNameSteps [] (map namedAnyway ps)))
   unfolding shown
-  no-copy e = sym (ap shown (none-twice (map namedAnyway ps) (ap distinct (letters-map ps ∙ sym names) ∙ sym e)))
+  no-copy h = sym (ap shown (none-twice (map namedAnyway ps) (ap distinct (letters-map ps ∙ sym names) ∙ differ-once f (h .differ))))
 
   prefix : (r : ℕ) → r ≤ n → distinct (map (λ (n : Named Ends). n .name .letters) (take r (map namedAnyway ps))) ≡ distinct (listed f 0 r)
   prefix r l = ap distinct (letters-take r ps ∙ ap (take r) (sym names) ∙ sym (listed-take f 0 r n l))
 
-  pub a-copy : (r : ℕ) → Copied f n r → shown (first (sameNameSteps [] (map namedAnyway ps))) ≡ spot TWICE (leftBoth (nth r ps) .key)
-  a-copy r c =
-      let l = c .below in
-      copy-from [] r ps (none-twice (take r (map namedAnyway ps)) (prefix r (omega (arith, l)) ∙ c .before)) (some-twice (take (suc r) (map namedAnyway ps)) (prefix (suc r) (omega (arith, l)) ∙ c .with))
+  pub a-copy : (r : ℕ) → Leading f n r → r < n → shown (first (sameNameSteps [] (map namedAnyway ps))) ≡ spot TWICE (leftBoth (nth r ps) .key)
+  a-copy r h l =
+      copy-from [] r ps (none-twice (take r (map namedAnyway ps)) (prefix r (h .most) ∙ differ-once f (h .differ)))
+      (some-twice (take (suc r) (map namedAnyway ps)) (prefix (suc r) (omega (arith, l)) ∙ copy-twice f (h .copied l) (omega arith)))

@@ -13,7 +13,7 @@ use borrow.Author.Tests.{le-leb, lt-leb}
 use borrow.Rule.Slice.PartAt.{part-to-end}
 use Rattle.meaning.specs.Tree.{Node, Pair, noteOf}
 use Rattle.meaning.specs.Check.{pass, fault}
-use Rattle.meaning.specs.Text.{all, utf8, distinct}
+use Rattle.meaning.specs.Text.{all, utf8}
 use Rattle.meaning.specs.Refusal.{KIND, KEY, TEXT, COUNT, TWICE}
 use Rattle.meaning.specs.Kind.{kind, table, aTable, asTable}
 use Rattle.meaning.specs.Field.{isSome, keyOf}
@@ -31,7 +31,7 @@ use Rattle.walk.proofs.Passed as walked
 use Rattle.walk.proofs.Passed.{Here, Passed}
 use Rattle.walk.proofs.Turns.{Modes}
 use Rattle.walk.proofs.Opens as opens
-use Rattle.names.specs.Names.{name, listed}
+use Rattle.names.specs.Names.{name, listed, Leading}
 use Rattle.naming.specs.Naming.{tally, lettersOf, namedAnyway, Tallied, Noted}
 use Rattle.naming.specs.declared.Tally.{Tally}
 use Rattle.naming.proofs.Noting.{none-noted}
@@ -39,7 +39,6 @@ use Rattle.explained.specs.Step.{first}
 use Rattle.explained.specs.Order.{tableSteps, keySteps, sameNameSteps, nameSteps}
 use Rattle.entry.specs.Nth.{nth, leftBoth, inTable, EntryIs}
 use Rattle.entry.specs.declared.Places.{Places}
-use Rattle.copies.specs.Copy.{Copied}
 use Rattle.spot.specs.Shown.{spot, shown}
 use Rattle.spot.specs.declared.Spot.{Spot}
 use Rattle.badnames.specs.declared.Keys.{Keys}
@@ -140,15 +139,19 @@ module _ (s : List ℕ) (from levels n : ℕ) (left size : List ℕ) where
   lent-are : lent ≡ name (drop from s) left size
   lent-are = rw (part-to-end s from, part-to-end left 0, part-to-end size 0) refl
 
-  pub all-differ : {b : Bool} {r : Spot} → b ≡ distinct (listed lent 0 n) → b ≡ true → r ≡ spot 0 0 → Repeated s from levels n left size r
-  all-differ h e is ps names t q reads kt = is ∙ no-copy (name (drop from s) left size) n ps names (sym e ∙ h ∙ ap (λ f. distinct (listed f 0 n)) lent-are)
+  module _ {k : ℕ} (c : Leading lent n k) where
+    leading : Leading (name (drop from s) left size) n k
+    leading = subst (λ f. Leading f n k) lent-are c
 
-  pub a-second : (k : ℕ) → Copied lent n k → (e : Places) → EntryIs levels (Here s 0) k e → {r : Spot} → r ≡ spot TWICE (e .key) → Repeated s from levels n left size r
-  unfolding inTable aTable asTable
-  a-second k c e h is ps names t q reads kt =
-      let f : e ≡ inTable k (aTable t) = subst (λ u. EntryIs levels u k e) (part-to-end s 0) h t q reads in
-      let g : e ≡ leftBoth (nth k ps) = f ∙ (rw kt refl) in
-      is ∙ ap (λ (x : Places). spot TWICE (x .key)) g ∙ sym (a-copy (name (drop from s) left size) n ps names k (subst (λ f. Copied f n k) lent-are c))
+    pub all-differ : k ≡ n → {r : Spot} → r ≡ spot 0 0 → Repeated s from levels n left size r
+    all-differ e is ps names t q reads kt = is ∙ no-copy (name (drop from s) left size) n ps names (subst (Leading (name (drop from s) left size) n) e leading)
+
+    pub a-second : (k ≡ n → ⊥) → (e : Places) → EntryIs levels (Here s 0) k e → {r : Spot} → r ≡ spot TWICE (e .key) → Repeated s from levels n left size r
+    unfolding inTable aTable asTable
+    a-second o e h is ps names t q reads kt =
+        let f : e ≡ inTable k (aTable t) = subst (λ u. EntryIs levels u k e) (part-to-end s 0) h t q reads in
+        let g : e ≡ leftBoth (nth k ps) = f ∙ (rw kt refl) in
+        is ∙ ap (λ (x : Places). spot TWICE (x .key)) g ∙ sym (a-copy (name (drop from s) left size) n ps names k leading (let l = leading .most in omega (arith, l, o)))
 
 -- ---------------------------------------------------------------- judged
 

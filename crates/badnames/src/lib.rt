@@ -91,10 +91,10 @@ fn repeated(
     requires { ⌜ (from ≤ length (now s)) × (n ≤ length (now ix)) × (n ≤ 65536) ⌝ }
     ensures { λ r. ⌜ is.Repeated (now (s .entry)) from levels n (now (left .entry)) (now (size .entry)) r ⌝ }
 {
-    if names::no_twice(&s[from..], &left[0..], &size[0..], n, ix) {
+    let k = names::leading(&s[from..], &left[0..], &size[0..], n, ix);
+    if k == n {
         return at(0, 0);
     }
-    let k = copies::copy(&s[from..], &left[0..], &size[0..], n, ix);
     let e = entry::entry(&s[0..], levels, k);
     at(11, e.key)
 }

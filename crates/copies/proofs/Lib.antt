@@ -1,2 +1,0 @@
--- Laws behind the proof of copies.
-pub mod Halving

@@ -1,2 +1,0 @@
--- The definitions that the contract of copies cites.
-pub mod Copy
