@@ -8,6 +8,7 @@ use judge::verdict;
 use pass::entries;
 use walk::Opening;
 ghost use mathlib.Core.Path.{_≡_};
+ghost use lib.ListN.{length};
 ghost use Rattle.cbor.specs.Ending.{code, itemEnd};
 ghost use Rattle.meaning.specs.Layouts.{layoutOf};
 ghost use Rattle.object.specs.Verdict.{ObjectIs};
@@ -24,21 +25,21 @@ pub struct Whole {
     pub verdict: Judged,
 }
 
-// The object that begins s, at depth 3, of a file whose manifest begins at `start`.
-pub fn object(layout: u64, s: &[u8], start: u64) -> Whole
+// The object that begins s, at depth 3, of a file whose manifest begins at `start`. The components' rows are put into rows, which may hold anything before.
+pub fn object(layout: u64, s: &[u8], start: u64, rows: &mut [u64]) -> Whole
+    requires { ⌜ length (now rows) ≡ 64 ⌝ }
     ensures { λ r. ⌜ (r .end ≡ code (itemEnd 30 (now (s .entry)))) × ObjectIs (layoutOf layout) (now (s .entry)) start (r .verdict) ⌝ }
 {
     let mut p = [0usize; 8];
-    let mut rows = [0u64; 64];
     match walk::map(&s[0..]) {
         Opening::NotOpen => Whole {
             end: cbor::skip(&s[0..], 30),
             verdict: Judged::No(numbers::KIND, 0),
         },
         Opening::Opened(mode, count, size) => {
-            let w = entries(layout, &s[size..], start, mode, count, &mut p, &mut rows);
+            let w = entries(layout, &s[size..], start, mode, count, &mut p, rows);
             let found = w.found;
-            let v = verdict(layout, &s[size..], start, &p, found, &mut rows);
+            let v = verdict(layout, &s[size..], start, &p, found, rows);
             if s.len() - size < w.end {
                 return Whole {
                     end: w.end,

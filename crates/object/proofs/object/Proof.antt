@@ -23,51 +23,30 @@ object-spec =
     (λ c. search needs)
     (λ c κs. search needs)
     (λ c. search needs)
-    (λ c. opens.size-inside (c .before .before .before .before .before .before .args .s .now) _ (c .before .before .before .map .ensures) _ _ _ (c .before .mode .given .1))
-    (λ c. opens.size-inside (c .before .before .before .before .before .before .args .s .now) _ (c .before .before .before .map .ensures) _ _ _ (c .before .mode .given .1))
+    (λ c. let b = c .before in let m = b .before .before in opens.size-inside (m .before .before .before .before .args .s .now) _ (m .map .ensures) _ _ _ (b .mode .given .1))
+    (λ c. let b = c .before in let m = b .before .before in opens.size-inside (m .before .before .before .before .args .s .now) _ (m .map .ensures) _ _ _ (b .mode .given .1))
     (λ c. search needs)
     (λ c. search needs)
-    (λ c. search needs)
-    (λ c κs. (refl, refl, opens.modes (c .before .before .before .before .before .before .before .before .before .args .s .now) _ (c .before .before .before .before .before .before .map .ensures) _ _ _ (c .before .before .before .before .mode .given .1)))
-    (λ c. opens.size-inside (c .before .before .before .before .before .before .before .before .before .before .before .before .args .s .now) _ (c .before .before .before .before .before .before .before .before .before .map .ensures) _ _ _ (c .before .before .before .before .before .before .before .mode .given .1))
-    (λ c. opens.size-inside (c .before .before .before .before .before .before .before .before .before .before .before .before .args .s .now) _ (c .before .before .before .before .before .before .before .before .before .map .ensures) _ _ _ (c .before .before .before .before .before .before .before .mode .given .1))
-    (λ c. search needs)
+    (λ c κs. let b = c .before .before .before .before in let m = b .before .before in let z = m .before .before .before .before in (refl, z .pre, opens.modes (z .args .s .now) _ (m .map .ensures) _ _ _ (b .mode .given .1)))
+    (λ c. let b = c .before .before .before .before .before .before .before .before in let m = b .before .before in opens.size-inside (m .before .before .before .before .args .s .now) _ (m .map .ensures) _ _ _ (b .mode .given .1))
+    (λ c. let b = c .before .before .before .before .before .before .before .before in let m = b .before .before in opens.size-inside (m .before .before .before .before .args .s .now) _ (m .map .ensures) _ _ _ (b .mode .given .1))
     (λ c. search needs)
     (λ c. search needs)
     (λ c κs. search needs)
-    (λ c. opens.size-inside (c .before .before .before .before .before .before .before .before .before .before .before .before .before .before .before .before .before .args .s .now) _
-    (c .before .before .before .before .before .before .before .before .before .before .before .before .before .before .map .ensures) _ _ _
-    (c .before .before .before .before .before .before .before .before .before .before .before .before .mode .given .1))
-    (λ c. (
-      opens.ends-faulty (c .before .before .before .before .before .before .before .before .before .before .before .before .before .before .before .before .before .before .before .args .s .now) _
-          (c .before .before .before .before .before .before .before .before .before .before .before .before .before .before .before .before .map .ensures) _ _ _
-          (c .before .before .before .before .before .before .before .before .before .before .before .before .before .before .mode .given .1) 29 (omega arith) _
-          (c .before .before .before .before .before .before .before .before .before .entries .ensures .0) (c .if1 .taken),
-      walks.entries-judged
-          (c .before .before .before .before .before .before .before .before .before .before .before .before .before .before .before .before .before .before .before .args .layout)
-          (c .before .before .before .before .before .before .before .before .before .before .before .before .before .before .before .before .before .before .before .args .s .now)
-          (c .before .before .before .before .before .before .before .before .before .before .before .before .before .before .before .before .before .before .before .args .start) _
-          (c .before .before .before .before .before .before .before .before .before .before .before .before .before .before .before .before .map .ensures) _ _ _
-          (c .before .before .before .before .before .before .before .before .before .before .before .before .before .before .mode .given .1) _ _ _
-          (c .before .before .before .before .before .before .before .before .before .entries .ensures .1) _ (c .before .before .before .verdict .ensures),
+    (λ c. let b = c .before .before .before .before .before .before .before .before .before .before .before .before .before .before in let m = b .before .before in opens.size-inside (m .before .before .before .before .args .s .now) _ (m .map .ensures) _ _ _ (b .mode .given .1))
+    (λ c. search needs)
+    (λ c. let v = c .before .before .before .before in let e = v .before .before .before .before .before .before .before in let b = e .before .before .before .before .before in let m = b .before .before in let z = m .before .before .before .before in let a = z .args in (
+      opens.ends-faulty (a .s .now) _ (m .map .ensures) _ _ _ (b .mode .given .1) 29 (omega (arith, z .good)) _ (e .entries .ensures .0) (c .if1 .taken),
+      walks.entries-judged (a .layout) (a .s .now) (a .start) _ (m .map .ensures) _ _ _ (b .mode .given .1) _ _ _ (e .entries .ensures .1) _ (v .verdict .ensures),
+    ))
+    (λ c. let b = c .before .before .before .before .before .before .before .before .before .before .before .before .before .before .before .before .before in let m = b .before .before in let z = m .before .before .before .before in
+    omega (arith, z .good, opens.size-inside (z .args .s .now) _ (m .map .ensures) _ _ _ (b .mode .given .1), c .before .if1 .left))
+    (λ c. let m = c .before .before .before .before in let a = m .before .before .before .before .args in (
+      (c .skip .ensures) ∙ ap (λ s. code (itemEnd 30 s)) (part-to-end (a .s .now) 0),
+      walks.no-map (a .layout) (a .s .now) (a .start) _ (m .map .ensures) (c .before .before .enum-told .given .1),
     ))
     (λ c. search needs)
-    (λ c. (
-      (c .skip .ensures) ∙ ap (λ s. code (itemEnd 30 s)) (part-to-end (c .before .before .before .before .before .before .before .args .s .now) 0),
-      walks.no-map
-          (c .before .before .before .before .before .before .before .args .layout) (c .before .before .before .before .before .before .before .args .s .now) (c .before .before .before .before .before .before .before .args .start)
-          _ (c .before .before .before .before .map .ensures) (c .before .before .enum-told .given .1),
-    ))
-    (λ c. (
-      opens.ends-inside (c .before .before .before .before .before .before .before .before .before .before .before .before .before .before .before .before .before .before .before .before .args .s .now) _
-          (c .before .before .before .before .before .before .before .before .before .before .before .before .before .before .before .before .before .map .ensures) _ _ _
-          (c .before .before .before .before .before .before .before .before .before .before .before .before .before .before .before .mode .given .1) 29 (omega arith) _
-          (c .before .before .before .before .before .before .before .before .before .before .entries .ensures .0) (c .before .if1 .left),
-      walks.entries-judged
-          (c .before .before .before .before .before .before .before .before .before .before .before .before .before .before .before .before .before .before .before .before .args .layout)
-          (c .before .before .before .before .before .before .before .before .before .before .before .before .before .before .before .before .before .before .before .before .args .s .now)
-          (c .before .before .before .before .before .before .before .before .before .before .before .before .before .before .before .before .before .before .before .before .args .start) _
-          (c .before .before .before .before .before .before .before .before .before .before .before .before .before .before .before .before .before .map .ensures) _ _ _
-          (c .before .before .before .before .before .before .before .before .before .before .before .before .before .before .before .mode .given .1) _ _ _
-          (c .before .before .before .before .before .before .before .before .before .before .entries .ensures .1) _ (c .before .before .before .before .verdict .ensures),
+    (λ c. let v = c .before .before .before .before .before in let e = v .before .before .before .before .before .before .before in let b = e .before .before .before .before .before in let m = b .before .before in let z = m .before .before .before .before in let a = z .args in (
+      opens.ends-inside (a .s .now) _ (m .map .ensures) _ _ _ (b .mode .given .1) 29 (omega (arith, z .good)) _ (e .entries .ensures .0) (c .before .if1 .left),
+      walks.entries-judged (a .layout) (a .s .now) (a .start) _ (m .map .ensures) _ _ _ (b .mode .given .1) _ _ _ (e .entries .ensures .1) _ (v .verdict .ensures),
     )))
