@@ -62,12 +62,13 @@ fn keep(v: Judged, j: usize, first: First) -> First
     }
 }
 
-// The value that begins c, judged as an object; passed over where only names are asked for.
-fn one(layout: u64, c: &[u8], start: u64, deep: bool) -> object::Whole
+// The value that begins c, judged as an object, its rows put into rows; passed over where only names are asked for.
+fn one(layout: u64, c: &[u8], start: u64, deep: bool, rows: &mut [u64]) -> object::Whole
+    requires { ⌜ length (now rows) ≡ 64 ⌝ }
     ensures { λ r. ⌜ (r .end ≡ code (itemEnd 30 (now (c .entry)))) × OneIs deep (layoutOf layout) (now (c .entry)) start (r .verdict) ⌝ }
 {
     if deep {
-        return object::object(layout, &c[0..], start);
+        return object::object(layout, &c[0..], start, rows);
     }
     object::Whole {
         end: cbor::skip(&c[0..], 30),
@@ -97,6 +98,7 @@ fn entries(
         bad: false,
     };
     let mut first = First::Fine(0);
+    let mut rows = [0u64; 64];
     loop {
         match walk::past_key(&s[at..], mode, due, 30) {
             Entry::End(e) => {
@@ -115,7 +117,7 @@ fn entries(
             }
             Entry::Value(k) => {
                 let v = at + k;
-                let w = one(layout, &s[v..], start, deep);
+                let w = one(layout, &s[v..], start, deep, &mut rows);
                 if s.len() - v < w.end {
                     return Run {
                         end: w.end,
