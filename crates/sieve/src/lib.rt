@@ -189,7 +189,8 @@ fn step(
     ensures sieve { λ r. ⌜ is.Steps layout (now (s .entry)) (now (c .entry)) start end fill from have (now (t .entry)) (now (list .entry)) (r .sieve) (now (t .exit)) (now (list .exit)) ⌝ }
     ensures small { λ r. ⌜ is.Bounded (r .sieve) ⌝ }
 {
-    let w = object::object(layout, &c[0..], start);
+    let mut rows = [0u64; 64];
+    let w = object::object(layout, &c[0..], start, &mut rows);
     let e = w.end;
     let v = w.verdict;
     match v {

@@ -19,10 +19,11 @@ step-spec =
     (λ c. search needs)
     (λ c. search needs)
     (λ c. search needs)
-    (λ c κs. search needs)
     (λ c. search needs)
     (λ c κs. search needs)
     (λ c. search needs)
+    (λ c κs. search needs)
+    (λ c. search needs)
     (λ c. search needs)
     (λ c. search needs)
     (λ c. search needs)
@@ -31,8 +32,8 @@ step-spec =
     (λ c. search needs)
     (λ c κs. search needs)
     (λ c. search needs)
-    (λ c. let b2 = c .before .before in let b5 = b2 .before .before .before in let b7 = b5 .before .before in let a = b7 .before .before .before .before .before .before .args in
-    (((b7 .object .ensures .0)) ∙ ap (λ s. code (itemEnd 30 s)) (part-to-end ((a .c .now)) 0), (sieving.steps-omit ((a .layout)) ((a .s .now)) ((a .c .now)) ((a .start)) ((a .end)) ((a .fill)) ((a .from)) ((a .have)) ((a .t .now)) ((a .list .now)) _ _ _ ((b7 .object .ensures .1)) _ _ ((b5 .v .given .1)) ((b2 .omit .ensures .0)), (b2 .omit .ensures .1))))
+    (λ c. let b2 = c .before .before in let b5 = b2 .before .before .before in let b8 = b5 .before .before .before in let a = b8 .before .before .before .before .before .before .before .args in
+    (((b8 .object .ensures .0)) ∙ ap (λ s. code (itemEnd 30 s)) (part-to-end ((a .c .now)) 0), (sieving.steps-omit ((a .layout)) ((a .s .now)) ((a .c .now)) ((a .start)) ((a .end)) ((a .fill)) ((a .from)) ((a .have)) ((a .t .now)) ((a .list .now)) _ _ _ ((b8 .object .ensures .1)) _ _ ((b5 .v .given .1)) ((b2 .omit .ensures .0)), (b2 .omit .ensures .1))))
     (λ c. search needs)
-    (λ c. let b2 = c .before .before in let b7 = b2 .before .before .before .before .before in let b9 = b7 .before .before in let a = b9 .before .before .before .before .before .before .args in
-    (((b9 .object .ensures .0)) ∙ ap (λ s. code (itemEnd 30 s)) (part-to-end ((a .c .now)) 0), (sieving.steps-keep ((a .layout)) ((a .s .now)) ((a .c .now)) ((a .start)) ((a .end)) ((a .fill)) ((a .from)) ((a .have)) ((a .t .now)) ((a .list .now)) _ _ _ ((b9 .object .ensures .1)) _ ((b7 .v2 .given .1)) ((b2 .keep .ensures .0)), (b2 .keep .ensures .1)))))
+    (λ c. let b2 = c .before .before in let b7 = b2 .before .before .before .before .before in let b10 = b7 .before .before .before in let a = b10 .before .before .before .before .before .before .before .args in
+    (((b10 .object .ensures .0)) ∙ ap (λ s. code (itemEnd 30 s)) (part-to-end ((a .c .now)) 0), (sieving.steps-keep ((a .layout)) ((a .s .now)) ((a .c .now)) ((a .start)) ((a .end)) ((a .fill)) ((a .from)) ((a .have)) ((a .t .now)) ((a .list .now)) _ _ _ ((b10 .object .ensures .1)) _ ((b7 .v2 .given .1)) ((b2 .keep .ensures .0)), (b2 .keep .ensures .1)))))
