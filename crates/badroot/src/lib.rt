@@ -105,3 +105,17 @@ pub fn root(layout: u64, s: &[u8]) -> Rooted
         }
     }
 }
+
+// The place of the objects of the root that begins s.
+pub fn objects(layout: u64, s: &[u8]) -> usize
+    ensures { λ r. ⌜ is.ObjectsAt (layoutOf layout) (now (s .entry)) r ⌝ }
+{
+    let mut p = [0usize; 6];
+    match walk::map(&s[0..]) {
+        Opening::NotOpen => 0,
+        Opening::Opened(mode, count, size) => {
+            badfields::first(layout, 0, 31, &s[size..], mode, count, &mut p);
+            p[2]
+        }
+    }
+}

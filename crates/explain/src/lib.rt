@@ -7,8 +7,9 @@ use reader::Told;
 use sentence::Explanation;
 use unread::alone;
 ghost use mathlib.Core.Path.{_≡_};
-ghost use Prim.Native.Nat.{_≤_, _<_};
+ghost use Prim.Native.Nat.{_+_, _≤_, _<_};
 ghost use lib.ListN.{length};
+ghost use lib.Dec.{ltb};
 ghost use Rattle.meaning.specs.Check.{pass};
 ghost use Rattle.meaning.specs.Layouts.{layoutOf};
 ghost use Rattle.panel.specs.Told.{told, textAfter};
@@ -38,10 +39,24 @@ fn inside(
     pointed(&m[0..], end, n, o, c, e.key, w.key, w.spot.left)
 }
 
+// Another object than the first, or another component: such a refusal is none of the root's.
+fn beyond(o: u64, c: u64) -> bool
+    ensures { λ r. ⌜ r ≡ ltb 0 (o + c) ⌝ }
+{
+    if o != 0 {
+        return true;
+    }
+    0 < c
+}
+
 // The manifest m, which begins at `start` and ends at `end`: what it says is refused with the number n, for the object o and the component c.
 fn judged(layout: u64, m: &[u8], start: u64, end: usize, n: u64, o: u64, c: u64) -> Explanation
     ensures { λ r. ⌜ is.JudgedIs (layoutOf layout) (now (m .entry)) start end n o c r ⌝ }
 {
+    if beyond(o, c) {
+        let objects = badroot::objects(layout, &m[0..]);
+        return inside(layout, &m[0..], start, end, n, o, c, objects);
+    }
     let r = badroot::root(layout, &m[0..]);
     let spot = r.spot;
     if spot.number == 0 {

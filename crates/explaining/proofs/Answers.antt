@@ -53,6 +53,11 @@ module _ (L : Layout) (m : List ℕ) (start end n o c : ℕ) (r : Explanation) w
       let z = within.why L m start t q reads n o c refused in
       subst (λ u. Pointed u end n o c (e .key) key (sp .left) r) (part-to-end m 0) point (z .this) k ∙ ap (λ f. explain.explanation (mapOption (mapStep (spanOf end)) f) 0) (sym (z .shown))
 
+  pub beyond-the-root : 0 < o + c → (objects : ℕ) → ObjectsAt L (Here m 0) objects → is.InsideIs L (Here m 0) start end n o c objects r → is.JudgedIs L m start end n o c r
+  beyond-the-root l objects stand inside =
+      subst (λ u. is.JudgedIs L u start end n o c r) (part-to-end m 0)
+      (λ t q reads refused. inside t q reads refused (within.beyond-opening L (Here m 0) start t q reads n o c refused l) stand)
+
   module _ (sp : Spot) (root : RootIs L (Here m 0) sp) where
     pub past-the-root : sp .number ≡ 0 → (objects : ℕ) → ObjectsAt L (Here m 0) objects → is.InsideIs L (Here m 0) start end n o c objects r → is.JudgedIs L m start end n o c r
     past-the-root z objects stand inside =

@@ -96,5 +96,8 @@ module _ {P : Type 0} where
   pub opening-nameless : (L : Layout) (t : Node P) (s : Step P) → first (openingSteps L t) ≡ some s → (s .objectName ≡ none) × (s .componentName ≡ none)
   opening-nameless L t s e = let y = opening-bare L t s e in (ap (λ x. x .objectName) (sym y), ap (λ x. x .componentName) (sym y))
 
+  pub opening-unplaced : (L : Layout) (t : Node P) (s : Step P) → first (openingSteps L t) ≡ some s → (s .object ≡ 0) × (s .component ≡ 0)
+  opening-unplaced L t s e = let y = opening-bare L t s e in (ap (λ x. x .object) (sym y), ap (λ x. x .component) (sym y))
+
   pub opening-numbered : (L : Layout) (t : Node P) (s : Step P) → first (openingSteps L t) ≡ some s → 1 ≤ s .number
   opening-numbered L t s e = let y : 1 + (s .number - 1) ≡ s .number = ap (λ x. x .number) (opening-bare L t s e) in omega arith

@@ -40,7 +40,7 @@ use Rattle.indexed.proofs.Named.{named-entry}
 use Rattle.badroot.specs.Opening.{openingSteps, eachObject, ObjectsAt}
 use Rattle.badroot.proofs.Splitting.{opening-breaks, Opened, opening-passes}
 use Rattle.pointed.specs.Pointed.{Met}
-use Rattle.explaining.proofs.Bare.{opening-nameless, opening-numbered}
+use Rattle.explaining.proofs.Bare.{opening-nameless, opening-unplaced, opening-numbered}
 
 same-some : {A : Type 0} {a b : A} → some a ≡ some b → a ≡ b
 same-some e = cc
@@ -69,10 +69,23 @@ module _ (L : Layout) (m : List ℕ) (start : ℕ) (t : Node Ends) (q : List ℕ
   pub told : (f : Step Ends → explain.Explanation) (g : Option (Step Ends) → explain.Explanation) → ((s : Step Ends) → f s ≡ g (some s)) → f (why .this) ≡ g (first (manifestSteps L start t))
   told f g h = h (why .this) ∙ ap g (sym (why .shown))
 
-  module _ (sp : Spot) (is : sp ≡ shown (first (openingSteps L t))) where
-    opening-this : (x : Step Ends) → first (openingSteps L t) ≡ some x → x ≡ why .this
-    opening-this x h = same-some (sym (opening-breaks L start t x h) ∙ why .shown)
+  opening-this : (x : Step Ends) → first (openingSteps L t) ≡ some x → x ≡ why .this
+  opening-this x h = same-some (sym (opening-breaks L start t x h) ∙ why .shown)
 
+  -- a refusal of an object other than the first, or of a component other than the first, is none of the opening's
+  pub beyond-opening : 0 < o + c → Opened L start t
+  beyond-opening l = opening-passes L start t (go (first (openingSteps L t)) refl)
+    where
+      go : (f : Option (Step Ends)) → first (openingSteps L t) ≡ f → first (openingSteps L t) ≡ none
+      go none h = h
+      go (some x) h =
+          let z : x ≡ why .this = opening-this x h in
+          let b = opening-unplaced L t x h in
+          let u : o ≡ 0 = sym (why .object) ∙ ap (λ s. s .object) (sym z) ∙ b .0 in
+          let v : c ≡ 0 = sym (why .component) ∙ ap (λ s. s .component) (sym z) ∙ b .1 in
+          absurd (omega (arith, u, v, l))
+
+  module _ (sp : Spot) (is : sp ≡ shown (first (openingSteps L t))) where
     pub met-opening : (sp .number ≡ 0 → ⊥) → Met m n o c 0 0 (sp .left) (why .this)
     unfolding shown
     met-opening nz = go (first (openingSteps L t)) refl is
