@@ -27,8 +27,8 @@ fn version(s: &[u8]) -> Spot
         Letters::NoText => at(8, s.len()),
         Letters::Text(from, n) => {
             let e = from + n;
-            if text::version_shape(&s[from..e]) {
-                if text::major_one(&s[from..e]) {
+            if versions::version_shape(&s[from..e]) {
+                if versions::major_one(&s[from..e]) {
                     return at(0, 0);
                 }
                 return at(14, s.len());

@@ -62,7 +62,7 @@ pub fn text_of(s: &[u8]) -> Spot
         Letters::NoText => Spot::No(numbers::KIND),
         Letters::Text(at, n) => {
             let e = at + n;
-            if text::utf8(&s[at..e]) {
+            if utf8::utf8(&s[at..e]) {
                 return Spot::Yes(s.len());
             }
             Spot::No(numbers::TEXT)
@@ -78,7 +78,7 @@ pub fn type_of(s: &[u8], code: u64) -> Spot
         Letters::NoText => Spot::No(numbers::KIND),
         Letters::Text(at, n) => {
             let e = at + n;
-            if text::utf8(&s[at..e]) {
+            if utf8::utf8(&s[at..e]) {
                 if types::type_fits(&s[at..e], code) {
                     return Spot::Yes(s.len());
                 }

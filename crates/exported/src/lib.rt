@@ -34,21 +34,21 @@ pub extern "C" fn leaf_skip(s: &[u8], left: u64) -> usize
 pub extern "C" fn leaf_utf8(t: &[u8]) -> bool
     ensures { λ r. ⌜ r ≡ texts.utf8 (now (t .entry)) ⌝ }
 {
-    text::utf8(t)
+    utf8::utf8(t)
 }
 
 #[no_mangle]
 pub extern "C" fn leaf_version_shape(v: &[u8]) -> bool
     ensures { λ r. ⌜ r ≡ versions.versionShape (now (v .entry)) ⌝ }
 {
-    text::version_shape(v)
+    versions::version_shape(v)
 }
 
 #[no_mangle]
 pub extern "C" fn leaf_major_one(v: &[u8]) -> bool
     ensures { λ r. ⌜ r ≡ versions.majorOne (now (v .entry)) ⌝ }
 {
-    text::major_one(v)
+    versions::major_one(v)
 }
 
 #[no_mangle]

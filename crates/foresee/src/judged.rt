@@ -130,7 +130,7 @@ pub fn object(row: &[u64], rows: &[u64], buffer: &[u8]) -> Ruled
     ensures { λ r. ⌜ judgedObject (describedObject (now (buffer .entry)) (askedObject (now (row .entry))) (eachRow askedComponent componentWidth (getD (now (row .entry)) countColumn 0) (now (rows .entry)))) ≡ rules.told r ⌝ }
 {
     let format = part(buffer, row[FORMAT], row[FORMAT_LENGTH]);
-    if !text::utf8(format) {
+    if !utf8::utf8(format) {
         return Ruled::Wrong(numbers::TEXT, 0);
     }
     let n = row[COUNT] as usize;

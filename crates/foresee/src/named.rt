@@ -36,7 +36,7 @@ fn note(
     while i < n {
         let place = rows[at];
         let k = rows[at + columns::NAME_LENGTH];
-        if !text::utf8(part(buffer, place, k)) {
+        if !utf8::utf8(part(buffer, place, k)) {
             return false;
         }
         naming::put(left, i, left_at(buffer.len(), place));

@@ -28,7 +28,7 @@ fn logical(buffer: &[u8], place: u64, size: u64, code: u64) -> Held
         return Held::Right;
     }
     let t = part(buffer, place, size);
-    if !text::utf8(t) {
+    if !utf8::utf8(t) {
         return Held::Wrong(numbers::TEXT);
     }
     if types::type_fits(t, code) {
@@ -45,7 +45,7 @@ fn digest(buffer: &[u8], place: u64, size: u64) -> Held
         return Held::Right;
     }
     let t = part(buffer, place, size);
-    if text::utf8(t) {
+    if utf8::utf8(t) {
         return Held::Right;
     }
     Held::Wrong(numbers::TEXT)

@@ -53,7 +53,7 @@ pub fn note(s: &[u8], t: Tally, left: &mut [usize], size: &mut [usize]) -> Tally
             let e = at + n;
             put(left, t.count, s.len() - at);
             put(size, t.count, n);
-            if text::utf8(&s[at..e]) {
+            if utf8::utf8(&s[at..e]) {
                 return told(t.count + 1, t.odd, t.bad);
             }
             told(t.count + 1, t.odd, true)

@@ -32,7 +32,7 @@ fn legible(k: &[u8], code: u64) -> bool
     if code < 4 {
         return true;
     }
-    text::utf8(k)
+    utf8::utf8(k)
 }
 
 // The format that begins s.

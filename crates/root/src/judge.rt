@@ -38,8 +38,8 @@ fn version(s: &[u8]) -> Fine
         Letters::NoText => Fine::No(numbers::KIND),
         Letters::Text(at, n) => {
             let e = at + n;
-            if text::version_shape(&s[at..e]) {
-                if text::major_one(&s[at..e]) {
+            if versions::version_shape(&s[at..e]) {
+                if versions::major_one(&s[at..e]) {
                     return Fine::Yes;
                 }
                 return Fine::No(numbers::MAJOR);

@@ -4,8 +4,4 @@ pub mod OrderIsTotal
 pub mod WordsDecide
 pub mod DigestSteps
 pub mod WithinRange
-pub mod Utf8Steps
-pub mod AsciiWords
-pub mod CharEnds
-pub mod VersionSteps
 pub mod LittleEndian

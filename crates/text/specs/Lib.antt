@@ -1,5 +1,3 @@
--- Definitions that the code needs beside those of `meaning`: none stands in the contract of what a user reads but `order` and `digest`.
+-- Definitions that the code needs beside those of `meaning`: what a user reads cites none of them.
 pub mod Order
 pub mod Digest
-pub mod Lead
-pub mod Room

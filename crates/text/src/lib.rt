@@ -1,16 +1,11 @@
-// Questions about bytes, each answered by what the crate `meaning` defines: are two texts the same, is one UTF-8, is one a version, and
-// the two ends of the file frame. Beside these, an order and a digest of texts, for callers that seek a text among many.
+// Questions about bytes, each answered by what the crate `meaning` defines: are two texts the same, and the two ends of the file frame.
+// Beside these, an order and a digest of texts, for callers that seek a text among many.
 mod compare;
 mod digests;
 mod frame;
-mod utf;
-mod version;
 
 pub use compare::order;
 pub use compare::same;
 pub use digests::digest;
 pub use frame::is_magic;
 pub use frame::little;
-pub use utf::utf8;
-pub use version::major_one;
-pub use version::version_shape;

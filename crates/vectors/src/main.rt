@@ -43,9 +43,9 @@ fn say_taken(bytes: &[u8]) {
 }
 
 fn say_version(bytes: &[u8]) {
-    if text::version_shape(&bytes[0..]) {
+    if versions::version_shape(&bytes[0..]) {
         say(b"version, major 1: ");
-        say_yes_or_no(text::major_one(&bytes[0..]));
+        say_yes_or_no(versions::major_one(&bytes[0..]));
         return;
     }
     say(b"no version\n");
@@ -57,7 +57,7 @@ fn answer(question: u8, bytes: &[u8]) {
     say(b" ");
     match question {
         b's' => say_taken(&bytes[0..]),
-        b'u' => say_yes_or_no(text::utf8(&bytes[0..])),
+        b'u' => say_yes_or_no(utf8::utf8(&bytes[0..])),
         b'v' => say_version(&bytes[0..]),
         _ => say(b"unknown question\n"),
     }

@@ -7,8 +7,8 @@ use Rattle.badroot.proofs.version.Tie as tie
 use Rattle.badroot.proofs.version.Reads as reads
 use Rattle.badroot.proofs.version.Lts as lts
 use Rattle.spot.proofs.at.Reads as at-reads
-use Rattle.text.proofs.major_one.Reads as major-one-reads
-use Rattle.text.proofs.version_shape.Reads as version-shape-reads
+use Rattle.versions.proofs.major_one.Reads as major-one-reads
+use Rattle.versions.proofs.version_shape.Reads as version-shape-reads
 use Rattle.walk.proofs.text.Reads as text-reads
 
 pub version-spec : {M : Type 1} → statement M

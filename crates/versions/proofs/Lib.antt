@@ -1,0 +1,2 @@
+-- Laws behind the proofs of versions.
+pub mod VersionSteps

@@ -1,0 +1,2 @@
+-- The state of a version that is read digit by digit: of no contract that a user reads.
+pub mod Room
