@@ -20,6 +20,10 @@ unfolding shown orElse
 shown-here none g {n} h e = let z : _≡_ {A = ℕ} 0 n = ap (λ (x : Spot). x .number) e in absurd (omega (arith, z, h))
 shown-here (some s) g h e = e
 
+pub broken-first : (f g : Option (Step Ends)) {x : Step Ends} → f ≡ some x → orElse f g ≡ some x
+unfolding orElse
+broken-first f g e = rw e refl
+
 abbrev pub stepOf : ℕ → Ends → Bool → Step Ends
 stepOf n w b = record { number = n; object = 0; component = 0; objectName = none; componentName = none; place = w; right = b }
 

@@ -2,3 +2,4 @@
 pub mod Firsts
 pub mod Naming
 pub mod Noting
+pub mod Untested

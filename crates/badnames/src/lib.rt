@@ -1,12 +1,14 @@
 // The first check that breaks in a map of names, and where (document 02, Request 08): its kind, its keys, UTF-8, count, repeats.
+// The number of the check that breaks is known, so the names' letters are read for UTF-8 only where it is TEXT, and for repeats only where it is TWICE.
 use naming::Tally;
 use spot::Spot;
 use spot::at;
 use walk::Entry;
+use walk::Letters;
 use walk::Opening;
 ghost use mathlib.Core.Path.{_≡_};
-ghost use mathlib.Core.Bool.{cond};
-ghost use Prim.Native.Nat.{_≤_};
+ghost use mathlib.Core.Bool.{cond, false};
+ghost use Prim.Native.Nat.{_≤_, _<_};
 ghost use lib.ListN.{length};
 ghost use Rattle.walk.proofs.Turns.{Modes};
 ghost use Rattle.badnames.specs.Keys as is;
@@ -28,17 +30,56 @@ fn kept(found: bool, held: usize, left: usize) -> usize
     left
 }
 
+// Notes the key that begins s as `naming::note` does, but doesn't read its letters, and finds none that isn't UTF-8.
+fn unread(s: &[u8], t: Tally, left: &mut [usize], size: &mut [usize]) -> Tally
+    requires { ⌜ t .count < 9223372036854775808 ⌝ }
+    ensures { λ r. ⌜ is.NotedIf false (now (s .entry)) t (now (left .entry)) (now (size .entry)) r (now (left .exit)) (now (size .exit)) ⌝ }
+{
+    match walk::text(&s[0..]) {
+        Letters::NoText => {
+            naming::put(left, t.count, 0);
+            naming::put(size, t.count, 0);
+            Tally {
+                count: t.count + 1,
+                odd: true,
+                bad: t.bad,
+            }
+        }
+        Letters::Text(at, n) => {
+            naming::put(left, t.count, s.len() - at);
+            naming::put(size, t.count, n);
+            Tally {
+                count: t.count + 1,
+                odd: t.odd,
+                bad: t.bad,
+            }
+        }
+    }
+}
+
+// Notes the key that begins s, after those that t tells of. UTF-8 may be tested.
+fn noted(s: &[u8], t: Tally, tested: bool, left: &mut [usize], size: &mut [usize]) -> Tally
+    requires { ⌜ t .count < 9223372036854775808 ⌝ }
+    ensures { λ r. ⌜ is.NotedIf tested (now (s .entry)) t (now (left .entry)) (now (size .entry)) r (now (left .exit)) (now (size .exit)) ⌝ }
+{
+    if tested {
+        return naming::note(&s[0..], t, left, size);
+    }
+    unread(&s[0..], t, left, size)
+}
+
 // Entries that begin s, counted as `walk::map` says, whose keys and values have `levels` levels left. Their names are noted in left and size.
 fn entries(
     s: &[u8],
     levels: u64,
     mode: u64,
     count: u64,
+    tested: bool,
     left: &mut [usize],
     size: &mut [usize],
 ) -> Keys
     requires { ⌜ (length (now size) ≡ length (now left)) × Modes mode count ⌝ }
-    ensures { λ r. ⌜ (length (now (left .exit)) ≡ length (now (left .entry))) × is.Walked levels mode count (now (s .entry)) (now (left .exit)) (now (size .exit)) r ⌝ }
+    ensures { λ r. ⌜ (length (now (left .exit)) ≡ length (now (left .entry))) × is.Walked tested levels mode count (now (s .entry)) (now (left .exit)) (now (size .exit)) r ⌝ }
 {
     let mut at = 0;
     let mut due = count;
@@ -70,7 +111,7 @@ fn entries(
                 }
                 key = kept(tally.odd, key, s.len() - at);
                 text = kept(tally.bad, text, s.len() - at);
-                tally = naming::note(&s[at..], tally, left, size);
+                tally = noted(&s[at..], tally, tested, left, size);
                 at = v + e;
                 due -= 2;
             }
@@ -104,13 +145,14 @@ fn judged(
     s: &[u8],
     from: usize,
     levels: u64,
+    n: u64,
     keys: Keys,
     left: &[usize],
     size: &[usize],
     ix: &mut [u16],
 ) -> Spot
     requires { ⌜ (from ≤ length (now s)) × (length (now left) ≤ length (now ix)) × (length (now left) ≤ 65536) ⌝ }
-    ensures { λ r. ⌜ is.Judged (now (s .entry)) from levels keys (now (left .entry)) (now (size .entry)) r ⌝ }
+    ensures { λ r. ⌜ is.Judged (now (s .entry)) from levels n keys (now (left .entry)) (now (size .entry)) r ⌝ }
 {
     if keys.tally.odd {
         return at(9, keys.key);
@@ -118,23 +160,35 @@ fn judged(
     if keys.tally.bad {
         return at(10, keys.text);
     }
-    let n = keys.tally.count;
-    if left.len() < n {
+    let count = keys.tally.count;
+    if left.len() < count {
         return at(15, s.len());
     }
-    repeated(&s[0..], from, levels, n, &left[0..], &size[0..], ix)
+    if n != numbers::TWICE {
+        return at(0, 0);
+    }
+    repeated(&s[0..], from, levels, count, &left[0..], &size[0..], ix)
 }
 
 // The map that begins s, whose keys and values have `levels` levels left. It may have as many names as left, size and ix have room for.
-pub fn named(s: &[u8], levels: u64, left: &mut [usize], size: &mut [usize], ix: &mut [u16]) -> Spot
+// If a check breaks, n is its number.
+pub fn named(
+    s: &[u8],
+    levels: u64,
+    n: u64,
+    left: &mut [usize],
+    size: &mut [usize],
+    ix: &mut [u16],
+) -> Spot
     requires { ⌜ (length (now size) ≡ length (now left)) × (length (now left) ≤ length (now ix)) × (length (now left) ≤ 65536) ⌝ }
-    ensures { λ r. ⌜ is.NamesAt levels (now (s .entry)) (length (now (left .entry))) r ⌝ }
+    ensures { λ r. ⌜ is.NamesAt levels (now (s .entry)) (length (now (left .entry))) n r ⌝ }
 {
+    let tested = n == numbers::TEXT;
     match walk::map(&s[0..]) {
         Opening::NotOpen => at(8, s.len()),
         Opening::Opened(mode, count, from) => {
-            let keys = entries(&s[from..], levels, mode, count, left, size);
-            judged(&s[0..], from, levels, keys, &left[0..], &size[0..], ix)
+            let keys = entries(&s[from..], levels, mode, count, tested, left, size);
+            judged(&s[0..], from, levels, n, keys, &left[0..], &size[0..], ix)
         }
     }
 }

@@ -37,7 +37,7 @@ use Rattle.explained.proofs.Parts.{agree-names}
 use Rattle.explained.proofs.Why.{orElse, first-++}
 use Rattle.spot.specs.Shown.{spot, shown}
 use Rattle.spot.specs.declared.Spot.{Spot}
-use Rattle.badnames.specs.Keys.{NamesAt}
+use Rattle.badnames.specs.Keys.{Tells, NamesAt}
 use Rattle.badfields.proofs.Firsts.{Each, each-first, none-first, shown-none}
 use Rattle.badvalues.specs.Steps.{Alone}
 use Rattle.badvalues.proofs.Alone.{numbered, spot-alone, passes-so}
@@ -216,11 +216,11 @@ inner-owned : (y x : Step Ends) (j : ℕ) (it : Named Ends) → x ≡ steps.inCo
 unfolding shown ownedBy
 inner-owned y x j it e = rw e refl
 
-module _ (layout format code : ℕ) (s : List ℕ) (start a b n c : ℕ) (from : ℕ) (is-from : from ≡ length s - b) (z : Spot) (hz : NamesAt 28 (Here s from) 16 z) where
+module _ (layout format code : ℕ) (s : List ℕ) (start a b n c : ℕ) (from : ℕ) (is-from : from ≡ length s - b) (z : Spot) (hz : NamesAt 28 (Here s from) 16 n z) where
   there : (t : Node Ends) → (x : Stands 29 s b t) → Reads 29 (Here s from) t (x .rest)
   there t x = subst (λ u. Reads 29 u t (x .rest)) (sym (part-to-end s from ∙ ap (λ (i : ℕ). drop i s) is-from)) (x .reads)
 
-  names-shown : (t : Node Ends) → Stands 29 s b t → z ≡ shown (first (nameSteps componentLimit t))
+  names-shown : (t : Node Ends) → Stands 29 s b t → Tells n (first (nameSteps componentLimit t)) z
   names-shown t x = hz t (x .rest) (there t x)
 
   -- in which order they are looked at
@@ -241,13 +241,23 @@ module _ (layout format code : ℕ) (s : List ℕ) (start a b n c : ℕ) (from :
       first-++ (nameSteps componentLimit t ++ steps._>>=_ (given (names componentLimit t)) (partsOf f)) (rulesOf shape t dims f)
       ∙ ap (λ y. orElse y (first (rulesOf shape t dims f))) (first-++ (nameSteps componentLimit t) (steps._>>=_ (given (names componentLimit t)) (partsOf f)))
 
+  -- what breaks first among the names breaks first of all
+  module _ (shape t : Node Ends) (f : Word Ends) (dims : List ℕ) (x : Step Ends) (e : first (partSteps (layoutOf layout) start shape t (value.given code) dims f) ≡ some x) where
+    names-this : (y : Step Ends) → first (nameSteps componentLimit t) ≡ some y → y ≡ x
+    unfolding orElse
+    names-this y q =
+        let w : some y ≡ some x = sym (in-parts shape t f dims ∙ ap (λ u. orElse (orElse u (first (steps._>>=_ (given (names componentLimit t)) (partsOf f)))) (first (rulesOf shape t dims f))) q) ∙ e in
+        cc
+
+    names-are : x .number ≡ n → Stands 29 s b t → z ≡ shown (first (nameSteps componentLimit t))
+    names-are i st = names-shown t st (λ y q. ap (λ u. u .number) (names-this y q) ∙ i)
+
   pub odd-names : (z .number ≡ 0 → ⊥) → (r : Owned) → r ≡ owned z 0 → WithinIs layout format code s start a b n c r
   unfolding orElse
   odd-names m r k shape t f dims left st fm fits x e i j =
-      let y = spot-alone (nameSteps componentLimit t) (names-plain componentLimit t) z (names-shown t st) m [] in
+      let y = spot-alone (nameSteps componentLimit t) (names-plain componentLimit t) z (names-are shape t f dims x e i st) m [] in
       let q : first (nameSteps componentLimit t) ≡ some (y .this) = sym (append-none (nameSteps componentLimit t)) ∙ y .is in
-      let w : some (y .this) ≡ some x = sym (in-parts shape t f dims ∙ ap (λ u. orElse (orElse u (first (steps._>>=_ (given (names componentLimit t)) (partsOf f)))) (first (rulesOf shape t dims f))) q) ∙ e in
-      let v : y .this ≡ x = cc in
+      let v : y .this ≡ x = names-this shape t f dims x e (y .this) q in
       k ∙ ap (λ (u : Spot). owned u 0) (spot-is z (y .this) (y .number) (y .place)) ∙ owns (y .this .number) (y .this) refl (y .this .place) refl none (y .owner) ∙ ap ownedBy v
     where
       append-none : (l : List (Step Ends)) → first (l ++ []) ≡ first l
@@ -261,19 +271,19 @@ module _ (layout format code : ℕ) (s : List ℕ) (start a b n c : ℕ) (from :
       spot-is z y a b = rw (a, b) refl
 
   module _ (m : z .number ≡ 0) where
-    nameless : (t : Node Ends) → Stands 29 s b t → first (nameSteps componentLimit t) ≡ none
-    nameless t st = shown-none (nameSteps componentLimit t) z (names-shown t st) (numbered (names-plain componentLimit t)) m
+    nameless : (t : Node Ends) → z ≡ shown (first (nameSteps componentLimit t)) → first (nameSteps componentLimit t) ≡ none
+    nameless t is = shown-none (nameSteps componentLimit t) z is (numbered (names-plain componentLimit t)) m
 
-    named : (t : Node Ends) → Stands 29 s b t → (ns : List (Named Ends)) × (names componentLimit t ≡ pass ns)
-    named t st = passes-so (nameSteps componentLimit t) (names componentLimit t) (agree-names componentLimit t) (nameless t st)
+    named : (t : Node Ends) → z ≡ shown (first (nameSteps componentLimit t)) → (ns : List (Named Ends)) × (names componentLimit t ≡ pass ns)
+    named t is = passes-so (nameSteps componentLimit t) (names componentLimit t) (agree-names componentLimit t) (nameless t is)
 
-    past-names : (shape t : Node Ends) (f : Word Ends) (dims : List ℕ) (st : Stands 29 s b t)
-        → first (partSteps (layoutOf layout) start shape t (value.given code) dims f) ≡ orElse (first (partsOf f (named t st .0))) (first (rulesOf shape t dims f))
+    past-names : (shape t : Node Ends) (f : Word Ends) (dims : List ℕ) (is : z ≡ shown (first (nameSteps componentLimit t)))
+        → first (partSteps (layoutOf layout) start shape t (value.given code) dims f) ≡ orElse (first (partsOf f (named t is .0))) (first (rulesOf shape t dims f))
     unfolding orElse
-    past-names shape t f dims st =
+    past-names shape t f dims is =
         in-parts shape t f dims
-        ∙ ap (λ u. orElse (orElse u (first (steps._>>=_ (given (names componentLimit t)) (partsOf f)))) (first (rulesOf shape t dims f))) (nameless t st)
-        ∙ ap (λ u. orElse (first (steps._>>=_ (given u) (partsOf f))) (first (rulesOf shape t dims f))) (named t st .1)
+        ∙ ap (λ u. orElse (orElse u (first (steps._>>=_ (given (names componentLimit t)) (partsOf f)))) (first (rulesOf shape t dims f))) (nameless t is)
+        ∙ ap (λ u. orElse (first (steps._>>=_ (given u) (partsOf f))) (first (rulesOf shape t dims f))) (named t is .1)
 
     -- a rule: its number is high
     rule-late : (shape t : Node Ends) (f : Word Ends) (dims : List ℕ) (x : Step Ends) → first (rulesOf shape t dims f) ≡ some x
@@ -288,25 +298,31 @@ module _ (layout format code : ℕ) (s : List ℕ) (start a b n c : ℕ) (from :
 
     pub in-component : n < 21 → (r : Owned) → InsideIs layout code (Here s from) start c r → WithinIs layout format code s start a b n c r
     unfolding orElse
-    in-component l r h shape t f dims left st fm fits x e i j = go (first (partsOf f (named t st .0))) refl (sym (past-names shape t f dims st) ∙ e)
+    in-component l r h shape t f dims left st fm fits x e i j = go (first (partsOf f (named t is .0))) refl (sym (past-names shape t f dims is) ∙ e)
       where
-        go : (o : Option (Step Ends)) → first (partsOf f (named t st .0)) ≡ o → orElse o (first (rulesOf shape t dims f)) ≡ some x → r ≡ ownedBy x
+        is : z ≡ shown (first (nameSteps componentLimit t))
+        is = names-are shape t f dims x e i st
+
+        go : (o : Option (Step Ends)) → first (partsOf f (named t is .0)) ≡ o → orElse o (first (rulesOf shape t dims f)) ≡ some x → r ≡ ownedBy x
         go none k e = let y = rule-late shape t f dims x e .3 in absurd (omega (arith, y, i, l))
         go (some y) k e =
             let v : y ≡ x = cc in
-            let w = blamed (λ m. componentSteps (layoutOf layout) start (above f (m .name .letters)) m) 0 (named t st .0) x (k ∙ ap some v) in
-            h t (st .rest) (there t st) (named t st .0) (named t st .1) (w .it) (subst (λ (q : ℕ). At q (w .it) 0 (named t st .0)) j (w .at))
+            let w = blamed (λ m. componentSteps (layoutOf layout) start (above f (m .name .letters)) m) 0 (named t is .0) x (k ∙ ap some v) in
+            h t (st .rest) (there t st) (named t is .0) (named t is .1) (w .it) (subst (λ (q : ℕ). At q (w .it) 0 (named t is .0)) j (w .at))
             ∙ ap (λ u. owned (shown u) (length (w .it .name .note .start))) (ap first (sym (given-alike layout code fits start (f .letters) (w .it))) ∙ w .breaks)
             ∙ inner-owned (w .inner) x (x .component) (w .it) (w .is)
 
     pub by-rule : 21 ≤ n → (r : Owned) → RuledIs layout format code (Here s from) start a n c r → WithinIs layout format code s start a b n c r
     unfolding orElse
-    by-rule l r h shape t f dims left st fm fits x e i j = go (first (partsOf f (named t st .0))) refl (sym (past-names shape t f dims st) ∙ e)
+    by-rule l r h shape t f dims left st fm fits x e i j = go (first (partsOf f (named t is .0))) refl (sym (past-names shape t f dims is) ∙ e)
       where
-        go : (o : Option (Step Ends)) → first (partsOf f (named t st .0)) ≡ o → orElse o (first (rulesOf shape t dims f)) ≡ some x → r ≡ ownedBy x
+        is : z ≡ shown (first (nameSteps componentLimit t))
+        is = names-are shape t f dims x e i st
+
+        go : (o : Option (Step Ends)) → first (partsOf f (named t is .0)) ≡ o → orElse o (first (rulesOf shape t dims f)) ≡ some x → r ≡ ownedBy x
         go (some y) k e =
             let v : y ≡ x = cc in
-            let w = each-first (each-low (layoutOf layout) start (λ m. above f (m .name .letters)) (named t st .0)) x (k ∙ ap some v) .low in
+            let w = each-first (each-low (layoutOf layout) start (λ m. above f (m .name .letters)) (named t is .0)) x (k ∙ ap some v) .low in
             absurd (omega (arith, w, i, l))
         go none k e =
             let y = rule-late shape t f dims x e in

@@ -22,14 +22,14 @@ pub fn told(z: Spot, key: usize) -> Owned
     Owned { spot: z, key: key }
 }
 
-// The names of the map that begins s.
-fn names(s: &[u8]) -> Spot
-    ensures { λ r. ⌜ NamesAt 28 (now (s .entry)) 16 r ⌝ }
+// The names of the map that begins s; if a check of theirs breaks, n is its number.
+fn names(s: &[u8], n: u64) -> Spot
+    ensures { λ r. ⌜ NamesAt 28 (now (s .entry)) 16 n r ⌝ }
 {
     let mut left = [0usize; 16];
     let mut size = [0usize; 16];
     let mut ix = [0u16; 16];
-    badnames::named(&s[0..], LEVELS, &mut left, &mut size, &mut ix)
+    badnames::named(&s[0..], LEVELS, n, &mut left, &mut size, &mut ix)
 }
 
 // What breaks in component c of the map that begins s, whose object has the code `code`.
@@ -127,7 +127,7 @@ pub fn within(
     ensures { λ r. ⌜ is.WithinIs layout format code (now (s .entry)) start a b n c r ⌝ }
 {
     let from = place_of(s.len(), b);
-    let z = names(&s[from..]);
+    let z = names(&s[from..], n);
     if z.number != 0 {
         return told(z, 0);
     }

@@ -32,6 +32,7 @@ use Rattle.badfields.proofs.Entries.{entries-numbered}
 use Rattle.badfields.proofs.Firsts.{shown-here, shown-past}
 use Rattle.spot.specs.Shown.{spot, shown}
 use Rattle.spot.specs.declared.Spot.{Spot}
+use Rattle.badnames.specs.Keys.{Tells}
 use Rattle.badroot.specs.Opening.{valueSteps, openingSteps, Stood, ValuesIs, RootIs, ObjectsAt}
 
 -- what stands in a part that runs to the end stands in the whole
@@ -55,9 +56,9 @@ module _ (layout : ℕ) (s : List ℕ) (x : Opening) (h : MapIs (Here s 0) x) wh
   L = layoutOf layout
 
   module _ (e : x ≡ NotOpen) where
-    pub no-root : {r : Spot} → r ≡ spot KIND (length s) → RootIs L s r
+    pub no-root : {n : ℕ} {r : Spot} → r ≡ spot KIND (length s) → RootIs L s n r
     unfolding openingSteps fieldSteps tableSteps shown
-    no-root is t q reads = is ∙ sym ((rw (opens.opening s x h NotOpen e 31 t q reads) refl) ∙ ap (λ (y : Ends). spot KIND (length (y .start))) (note-of 32 s t q reads))
+    no-root is t q reads by = is ∙ sym ((rw (opens.opening s x h NotOpen e 31 t q reads) refl) ∙ ap (λ (y : Ends). spot KIND (length (y .start))) (note-of 32 s t q reads))
 
     pub nothing-stands : ObjectsAt L s 0
     unfolding aTable asTable
@@ -88,14 +89,15 @@ module _ (layout : ℕ) (s : List ℕ) (x : Opening) (h : MapIs (Here s 0) x) wh
         let f = subst (λ ps. Holds 31 (drop size s) (getD p 2 0) (field (objectsField L) ps)) y (stood t q reads 2 (omega arith)) in
         holds-whole 31 s size (opens.size-inside s x h mode count size is) left (field (objectsField L) ps) (subst (λ l. Holds 31 (drop size s) l (field (objectsField L) ps)) (sym e) f)
 
-    pub keys-break : (k .number ≡ 0 → ⊥) → RootIs L s k
-    keys-break n t q reads =
+    pub keys-break : {n : ℕ} → (k .number ≡ 0 → ⊥) → RootIs L s n k
+    keys-break broken t q reads by =
         let m = mapped t q reads in
-        shown-here (entrySteps (L .root) (m .pairs)) k (entries-shown t q reads) (valueSteps L t (m .pairs)) n ∙ ap shown (sym (opening-first L t (m .pairs) (m .kind-is)))
+        shown-here (entrySteps (L .root) (m .pairs)) k (entries-shown t q reads) (valueSteps L t (m .pairs)) broken ∙ ap shown (sym (opening-first L t (m .pairs) (m .kind-is)))
 
-    pub keys-pass : {r : Spot} → k .number ≡ 0 → ValuesIs (Here s size) p (length s) r → RootIs L s r
-    keys-pass {r} n values t q reads =
+    pub keys-pass : {n : ℕ} {r : Spot} → k .number ≡ 0 → ValuesIs (Here s size) p (length s) n r → RootIs L s n r
+    keys-pass {n} {r} fine values t q reads =
         let m = mapped t q reads in
-        let v : ValuesIs (drop size s) p (length s) r = subst (λ u. ValuesIs u p (length s) r) (part-to-end s size) values in
-        v L t (m .pairs) (ap (λ (y : Ends). length (y .start)) (note-of 32 s t q reads)) (stood t q reads)
-        ∙ ap shown (sym (opening-first L t (m .pairs) (m .kind-is) ∙ shown-past (entrySteps (L .root) (m .pairs)) k (entries-shown t q reads) (entries-numbered (L .root) (m .pairs)) n (valueSteps L t (m .pairs))))
+        let v : ValuesIs (drop size s) p (length s) n r = subst (λ u. ValuesIs u p (length s) n r) (part-to-end s size) values in
+        let past = shown-past (entrySteps (L .root) (m .pairs)) k (entries-shown t q reads) (entries-numbered (L .root) (m .pairs)) fine (valueSteps L t (m .pairs)) in
+        subst (λ f. Tells n f r) (sym (opening-first L t (m .pairs) (m .kind-is) ∙ past))
+        (v L t (m .pairs) (ap (λ (y : Ends). length (y .start)) (note-of 32 s t q reads)) (stood t q reads))

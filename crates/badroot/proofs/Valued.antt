@@ -33,7 +33,7 @@ use Rattle.explained.proofs.Parts.{agree-attributes, agree-version}
 use Rattle.badfields.specs.Fields.{spotOf}
 use Rattle.badfields.proofs.Firsts.{Each, no-more, and-so, each-++, each-found, Numbered, shown-here, shown-past}
 use Rattle.badfields.proofs.Values.{one-table, one-version, held-left, value-shown, option-stops, option-passes}
-use Rattle.badnames.specs.Keys.{NamesAt}
+use Rattle.badnames.specs.Keys.{Tells, NamesAt}
 use Rattle.spot.specs.Shown.{spot, shown}
 use Rattle.spot.specs.declared.Spot.{Spot}
 use Rattle.badroot.specs.Opening.{laterSteps, valueSteps, VersionIs, Stood, LaterIs, ValuesIs}
@@ -74,14 +74,14 @@ version-numbered t = each-++ (numbered KIND (noteOf t) _ (omega arith)) (each-fo
 -- ---------------------------------------------------------------- attributes, objects
 
 -- the objects are lent whole, with room for `limit` names
-pub names-whole : (s : List ℕ) {limit : ℕ} {r : Spot} → limit ≡ objectLimit → NamesAt 30 (Here s 0) limit r → NamesAt 30 s objectLimit r
-names-whole s {limit} {r} e h = subst (λ n. NamesAt 30 s n r) e (subst (λ u. NamesAt 30 u limit r) (part-to-end s 0) h)
+pub names-whole : (s : List ℕ) {limit n : ℕ} {r : Spot} → limit ≡ objectLimit → NamesAt 30 (Here s 0) limit n r → NamesAt 30 s objectLimit n r
+names-whole s {limit} {n} {r} e h = subst (λ i. NamesAt 30 s i n r) e (subst (λ u. NamesAt 30 u limit n r) (part-to-end s 0) h)
 
 found-first : (t : Node Ends) (v : Option (Node Ends)) (o : Node Ends) → v ≡ some o → first (missing t v ++ (v >>= nameSteps objectLimit)) ≡ first (nameSteps objectLimit o)
 unfolding missing isSome
 found-first t v o e = rw e refl
 
-module _ (s p : List ℕ) (whole : ℕ) (b : Bool) (asked : AttributesAt (Here s 0) (getD p 1 0) b) where
+module _ (s p : List ℕ) (whole n : ℕ) (b : Bool) (asked : AttributesAt (Here s 0) (getD p 1 0) b) where
   module _ (L : Layout) (ps : List (Pair Ends)) (stood : Stood L s p ps) where
     attributes-are : optional attributesOf (field (attributesOn L root) ps) ≡ cond b (pass (field (attributesOn L root) ps)) (fault KIND)
     attributes-are = subst (λ u. AttributesAt u (getD p 1 0) b) (part-to-end s 0) asked 30 (field (attributesOn L root) ps) (stood 1 (omega arith))
@@ -90,33 +90,33 @@ module _ (s p : List ℕ) (whole : ℕ) (b : Bool) (asked : AttributesAt (Here s
     unfolding laterSteps
     past-attributes e t = option-passes one-table agree-attributes (missing t (field (objectsField L) ps) ++ (field (objectsField L) ps >>= nameSteps objectLimit)) (field (attributesOn L root) ps) (field (attributesOn L root) ps) (rw e at attributes-are)
 
-  pub no-map : {r : Spot} → b ≡ false → r ≡ spot KIND (getD p 1 0) → LaterIs s p whole r
+  pub no-map : {r : Spot} → b ≡ false → r ≡ spot KIND (getD p 1 0) → LaterIs s p whole n r
   unfolding laterSteps
-  no-map e is L t ps w stood =
+  no-map e is L t ps w stood by =
       is ∙ option-stops one-table agree-attributes (missing t (field (objectsField L) ps) ++ (field (objectsField L) ps >>= nameSteps objectLimit)) (getD p 1 0) (field (attributesOn L root) ps)
       (held-left 31 s (getD p 1 0) (field (attributesOn L root) ps) (stood 1 (omega arith))) KIND 0 0 (rw e at (attributes-are L ps stood))
 
   module _ (e : b ≡ true) where
-    pub no-objects : {r : Spot} → getD p 2 0 ≡ 0 → r ≡ spot MISSING whole → LaterIs s p whole r
+    pub no-objects : {r : Spot} → getD p 2 0 ≡ 0 → r ≡ spot MISSING whole → LaterIs s p whole n r
     unfolding missing isSome shown
-    no-objects z is L t ps w stood =
-        let n = hold-none 31 s (getD p 2 0) (field (objectsField L) ps) (stood 2 (omega arith)) z in
-        is ∙ ap (spot MISSING) (sym w) ∙ sym (ap shown (past-attributes L ps stood e t) ∙ (rw n refl))
+    no-objects z is L t ps w stood by =
+        let absent = hold-none 31 s (getD p 2 0) (field (objectsField L) ps) (stood 2 (omega arith)) z in
+        is ∙ ap (spot MISSING) (sym w) ∙ sym (ap shown (past-attributes L ps stood e t) ∙ (rw absent refl))
 
-    pub objects-named : {r : Spot} → (getD p 2 0 ≡ 0 → ⊥) → (o : ℕ) → o ≡ length s - getD p 2 0 → NamesAt 30 (Here s o) objectLimit r → LaterIs s p whole r
+    pub objects-named : {r : Spot} → (getD p 2 0 ≡ 0 → ⊥) → (o : ℕ) → o ≡ length s - getD p 2 0 → NamesAt 30 (Here s o) objectLimit n r → LaterIs s p whole n r
     objects-named {r} z o from named L t ps w stood =
         let i = hold-some 31 s (getD p 2 0) (field (objectsField L) ps) (stood 2 (omega arith)) z in
-        let n = subst (λ u. NamesAt 30 u objectLimit r) (part-to-end s o ∙ ap (λ k. drop k s) from) named (i .item) (i .stands .rest) (i .stands .reads) in
-        n ∙ ap shown (sym (past-attributes L ps stood e t ∙ found-first t (field (objectsField L) ps) (i .item) (i .is)))
+        let tells = subst (λ u. NamesAt 30 u objectLimit n r) (part-to-end s o ∙ ap (λ k. drop k s) from) named (i .item) (i .stands .rest) (i .stands .reads) in
+        subst (λ f. Tells n f r) (sym (past-attributes L ps stood e t ∙ found-first t (field (objectsField L) ps) (i .item) (i .is))) tells
 
 -- ---------------------------------------------------------------- the version, then these
 
-module _ (s p : List ℕ) (whole : ℕ) where
-  pub versionless : {r : Spot} → getD p 0 0 ≡ 0 → r ≡ spot MISSING whole → ValuesIs s p whole r
+module _ (s p : List ℕ) (whole n : ℕ) where
+  pub versionless : {r : Spot} → getD p 0 0 ≡ 0 → r ≡ spot MISSING whole → ValuesIs s p whole n r
   unfolding valueSteps missing isSome shown
-  versionless z is L t ps w stood =
-      let n = hold-none 31 s (getD p 0 0) (field (versionOf L) ps) (stood 0 (omega arith)) z in
-      is ∙ ap (spot MISSING) (sym w) ∙ sym (rw n refl)
+  versionless z is L t ps w stood by =
+      let absent = hold-none 31 s (getD p 0 0) (field (versionOf L) ps) (stood 0 (omega arith)) z in
+      is ∙ ap (spot MISSING) (sym w) ∙ sym (rw absent refl)
 
   module _ (z : getD p 0 0 ≡ 0 → ⊥) (v : ℕ) (from : v ≡ length s - getD p 0 0) {r : Spot} (asked : VersionIs (Here s v) r) where
     module _ (L : Layout) (ps : List (Pair Ends)) (stood : Stood L s p ps) where
@@ -130,12 +130,12 @@ module _ (s p : List ℕ) (whole : ℕ) where
       unfolding valueSteps missing isSome
       values-first t = rw (item .is) refl
 
-    pub version-breaks : (r .number ≡ 0 → ⊥) → ValuesIs s p whole r
-    version-breaks n L t ps w stood =
-        shown-here (versionSteps (item L ps stood .item)) r (version-shown L ps stood) (laterSteps L t ps) n ∙ ap shown (sym (values-first L ps stood t))
+    pub version-breaks : (r .number ≡ 0 → ⊥) → ValuesIs s p whole n r
+    version-breaks broken L t ps w stood by =
+        shown-here (versionSteps (item L ps stood .item)) r (version-shown L ps stood) (laterSteps L t ps) broken ∙ ap shown (sym (values-first L ps stood t))
 
-    pub version-passes : {x : Spot} → r .number ≡ 0 → LaterIs (Here s 0) (Here p 0) whole x → ValuesIs s p whole x
-    version-passes {x} n later L t ps w stood =
-        let a : LaterIs s p whole x = rw (part-to-end s 0, part-to-end p 0) at later in
-        a L t ps w stood
-        ∙ ap shown (sym (values-first L ps stood t ∙ shown-past (versionSteps (item L ps stood .item)) r (version-shown L ps stood) (version-numbered (item L ps stood .item)) n (laterSteps L t ps)))
+    pub version-passes : {x : Spot} → r .number ≡ 0 → LaterIs (Here s 0) (Here p 0) whole n x → ValuesIs s p whole n x
+    version-passes {x} fine later L t ps w stood =
+        let a : LaterIs s p whole n x = rw (part-to-end s 0, part-to-end p 0) at later in
+        let past = shown-past (versionSteps (item L ps stood .item)) r (version-shown L ps stood) (version-numbered (item L ps stood .item)) fine (laterSteps L t ps) in
+        subst (λ f. Tells n f x) (sym (values-first L ps stood t ∙ past)) (a L t ps w stood)

@@ -18,6 +18,7 @@ use Rattle.explained.specs.Step.{Step, _>>=_, _>>_, first, inObject, given, eac
 use Rattle.explained.specs.Order.{tableSteps, versionSteps, fieldSteps, missing, nameSteps, objectSteps}
 use Rattle.spot.specs.Shown.{shown}
 use Rattle.spot.specs.declared.Spot.{Spot}
+use Rattle.badnames.specs.Keys.{Tells}
 
 module _ {P : Type 0} (L : Layout) where
   -- attributes, objects and their names, of a root t with these pairs
@@ -56,18 +57,18 @@ abbrev pub Stood : Layout → List ℕ → List ℕ → List (Pair Ends) → Typ
 Stood L s p ps = (i : ℕ) → i < 3 → Holds 31 s (getD p i 0) (field (slot i (L .root)) ps)
 
 -- of a root with `whole` bytes left
-abbrev pub Answers : (Layout → Node Ends → List (Pair Ends) → List (Step Ends)) → List ℕ → List ℕ → ℕ → Spot → Type 0
-Answers f s p whole r = (L : Layout) (t : Node Ends) (ps : List (Pair Ends)) → length (noteOf t .start) ≡ whole → Stood L s p ps → r ≡ shown (first (f L t ps))
+abbrev pub Answers : (Layout → Node Ends → List (Pair Ends) → List (Step Ends)) → List ℕ → List ℕ → ℕ → ℕ → Spot → Type 0
+Answers f s p whole n r = (L : Layout) (t : Node Ends) (ps : List (Pair Ends)) → length (noteOf t .start) ≡ whole → Stood L s p ps → Tells n (first (f L t ps)) r
 
-abbrev pub LaterIs : List ℕ → List ℕ → ℕ → Spot → Type 0
+abbrev pub LaterIs : List ℕ → List ℕ → ℕ → ℕ → Spot → Type 0
 LaterIs = Answers (λ L. laterSteps L)
 
-abbrev pub ValuesIs : List ℕ → List ℕ → ℕ → Spot → Type 0
+abbrev pub ValuesIs : List ℕ → List ℕ → ℕ → ℕ → Spot → Type 0
 ValuesIs = Answers (λ L. valueSteps L)
 
 -- of whatever root is read at s
-abbrev pub RootIs : Layout → List ℕ → Spot → Type 0
-RootIs L s r = (t : Node Ends) (q : List ℕ) → Reads 32 s t q → r ≡ shown (first (openingSteps L t))
+abbrev pub RootIs : Layout → List ℕ → ℕ → Spot → Type 0
+RootIs L s n r = (t : Node Ends) (q : List ℕ) → Reads 32 s t q → Tells n (first (openingSteps L t)) r
 
 -- the place of the objects of whatever map s is read as
 abbrev pub ObjectsAt : Layout → List ℕ → ℕ → Type 0

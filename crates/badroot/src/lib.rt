@@ -1,5 +1,5 @@
 // The root of a manifest: the first check that breaks before its objects' own, and where; and where the objects stand (document 02, Request 08).
-// Every slice runs to the manifest's end, and a place is the number of bytes left there, 0 for none.
+// Every slice runs to the manifest's end, and a place is the number of bytes left there, 0 for none. If a check breaks, n is its number: the reader found it.
 use fields::place_of;
 use spot::Spot;
 use spot::at;
@@ -39,19 +39,19 @@ fn version(s: &[u8]) -> Spot
 }
 
 // The names of the objects that begin s.
-fn names(s: &[u8]) -> Spot
-    ensures { λ r. ⌜ NamesAt 30 (now (s .entry)) objectLimit r ⌝ }
+fn names(s: &[u8], n: u64) -> Spot
+    ensures { λ r. ⌜ NamesAt 30 (now (s .entry)) objectLimit n r ⌝ }
 {
     let mut left = [0usize; 1024];
     let mut size = [0usize; 1024];
     let mut ix = [0u16; 1024];
-    badnames::named(&s[0..], 30, &mut left, &mut size, &mut ix)
+    badnames::named(&s[0..], 30, n, &mut left, &mut size, &mut ix)
 }
 
 // Attributes, objects and their names, of a root that has `whole` bytes left. Its entries begin s, and p has the places of its fields.
-fn later(s: &[u8], p: &[usize], whole: usize) -> Spot
+fn later(s: &[u8], p: &[usize], whole: usize, n: u64) -> Spot
     requires { ⌜ 3 ≤ length (now p) ⌝ }
-    ensures { λ r. ⌜ is.LaterIs (now (s .entry)) (now (p .entry)) whole r ⌝ }
+    ensures { λ r. ⌜ is.LaterIs (now (s .entry)) (now (p .entry)) whole n r ⌝ }
 {
     if !fields::attributes(&s[0..], p[1]) {
         return at(8, p[1]);
@@ -60,13 +60,13 @@ fn later(s: &[u8], p: &[usize], whole: usize) -> Spot
         return at(12, whole);
     }
     let o = place_of(s.len(), p[2]);
-    names(&s[o..])
+    names(&s[o..], n)
 }
 
 // The version, and then the others.
-fn values(s: &[u8], p: &[usize], whole: usize) -> Spot
+fn values(s: &[u8], p: &[usize], whole: usize, n: u64) -> Spot
     requires { ⌜ 3 ≤ length (now p) ⌝ }
-    ensures { λ r. ⌜ is.ValuesIs (now (s .entry)) (now (p .entry)) whole r ⌝ }
+    ensures { λ r. ⌜ is.ValuesIs (now (s .entry)) (now (p .entry)) whole n r ⌝ }
 {
     if p[0] == 0 {
         return at(12, whole);
@@ -76,12 +76,12 @@ fn values(s: &[u8], p: &[usize], whole: usize) -> Spot
     if r.number != 0 {
         return r;
     }
-    later(&s[0..], &p[0..], whole)
+    later(&s[0..], &p[0..], whole, n)
 }
 
 // The root that begins s.
-pub fn root(layout: u64, s: &[u8]) -> Rooted
-    ensures { λ r. ⌜ is.RootIs (layoutOf layout) (now (s .entry)) (r .spot) × is.ObjectsAt (layoutOf layout) (now (s .entry)) (r .objects) ⌝ }
+pub fn root(layout: u64, s: &[u8], n: u64) -> Rooted
+    ensures { λ r. ⌜ is.RootIs (layoutOf layout) (now (s .entry)) n (r .spot) × is.ObjectsAt (layoutOf layout) (now (s .entry)) (r .objects) ⌝ }
 {
     let mut p = [0usize; 6];
     match walk::map(&s[0..]) {
@@ -99,7 +99,7 @@ pub fn root(layout: u64, s: &[u8]) -> Rooted
                 };
             }
             Rooted {
-                spot: values(&s[size..], &p, s.len()),
+                spot: values(&s[size..], &p, s.len(), n),
                 objects: objects,
             }
         }

@@ -57,7 +57,7 @@ fn judged(layout: u64, m: &[u8], start: u64, end: usize, n: u64, o: u64, c: u64)
         let objects = badroot::objects(layout, &m[0..]);
         return inside(layout, &m[0..], start, end, n, o, c, objects);
     }
-    let r = badroot::root(layout, &m[0..]);
+    let r = badroot::root(layout, &m[0..], n);
     let spot = r.spot;
     if spot.number == 0 {
         return inside(layout, &m[0..], start, end, n, o, c, r.objects);

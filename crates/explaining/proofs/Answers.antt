@@ -58,18 +58,18 @@ module _ (L : Layout) (m : List ℕ) (start end n o c : ℕ) (r : Explanation) w
       subst (λ u. is.JudgedIs L u start end n o c r) (part-to-end m 0)
       (λ t q reads refused. inside t q reads refused (within.beyond-opening L (Here m 0) start t q reads n o c refused l) stand)
 
-  module _ (sp : Spot) (root : RootIs L (Here m 0) sp) where
+  module _ (sp : Spot) (root : RootIs L (Here m 0) n sp) where
     pub past-the-root : sp .number ≡ 0 → (objects : ℕ) → ObjectsAt L (Here m 0) objects → is.InsideIs L (Here m 0) start end n o c objects r → is.JudgedIs L m start end n o c r
     past-the-root z objects stand inside =
         subst (λ u. is.JudgedIs L u start end n o c r) (part-to-end m 0)
-        (λ t q reads refused. inside t q reads refused (within.past-opening L (Here m 0) start t q reads n o c refused sp (root t q reads) z) stand)
+        (λ t q reads refused. inside t q reads refused (within.past-opening L (Here m 0) start t q reads n o c refused sp (root t q reads (within.opening-by-number L (Here m 0) start t q reads n o c refused)) z) stand)
 
     pub in-the-root : (sp .number ≡ 0 → ⊥) → Pointed (Here m 0) end n o c 0 0 (sp .left) r → is.JudgedIs L m start end n o c r
     in-the-root nz point =
         subst (λ u. is.JudgedIs L u start end n o c r) (part-to-end m 0)
         (λ t q reads refused.
         let z = within.why L (Here m 0) start t q reads n o c refused in
-        point (z .this) (within.met-opening L (Here m 0) start t q reads n o c refused sp (root t q reads) nz) ∙ ap (λ f. explain.explanation (mapOption (mapStep (spanOf end)) f) 0) (sym (z .shown)))
+        point (z .this) (within.met-opening L (Here m 0) start t q reads n o c refused sp (root t q reads (within.opening-by-number L (Here m 0) start t q reads n o c refused)) nz) ∙ ap (λ f. explain.explanation (mapOption (mapStep (spanOf end)) f) 0) (sym (z .shown)))
 
   module _ (framing : Framing L) where
     pub by-its-bytes : n ≤ DEEP → Unread (Here m 0) end n r → is.RefusedIs L m start end n o c r

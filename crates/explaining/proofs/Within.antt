@@ -72,6 +72,10 @@ module _ (L : Layout) (m : List ℕ) (start : ℕ) (t : Node Ends) (q : List ℕ
   opening-this : (x : Step Ends) → first (openingSteps L t) ≡ some x → x ≡ why .this
   opening-this x h = same-some (sym (opening-breaks L start t x h) ∙ why .shown)
 
+  -- a check of the opening that breaks has the refusal's number
+  pub opening-by-number : (x : Step Ends) → first (openingSteps L t) ≡ some x → x .number ≡ n
+  opening-by-number x h = ap (λ s. s .number) (opening-this x h) ∙ why .number
+
   -- a refusal of an object other than the first, or of a component other than the first, is none of the opening's
   pub beyond-opening : 0 < o + c → Opened L start t
   beyond-opening l = opening-passes L start t (go (first (openingSteps L t)) refl)

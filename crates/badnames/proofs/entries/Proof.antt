@@ -11,15 +11,15 @@ use Rattle.badnames.proofs.entries.Reads as reads
 use Rattle.badnames.proofs.entries.Lts as lts
 use Rattle.badnames.proofs.kept.Reads as kept-reads
 use Rattle.cbor.proofs.skip.Reads as skip-reads
-use Rattle.naming.proofs.note.Reads as note-reads
+use Rattle.badnames.proofs.noted.Reads as noted-reads
 use Rattle.walk.proofs.past_key.Reads as past-key-reads
 
 abbrev Inv-loop : tie.InvT-loop
-Inv-loop s levels mode count left₀ size₀ at₀ due₀ key₀ text₀ tally₀ left size at due key text tally =
-    noting.Inv levels mode count s left₀ at due left size tally key text
+Inv-loop s levels mode count tested left₀ size₀ at₀ due₀ key₀ text₀ tally₀ left size at due key text tally =
+    noting.Inv tested levels mode count s left₀ at due left size tally key text
 
 abbrev μ-loop : tie.MeasureT-loop
-μ-loop s levels mode count left₀ size₀ at₀ due₀ key₀ text₀ tally₀ left size at due key text tally = length s - at
+μ-loop s levels mode count tested left₀ size₀ at₀ due₀ key₀ text₀ tally₀ left size at due key text tally = length s - at
 
 pub entries-spec : {M : Type 1} → statement M
 entries-spec =
@@ -27,7 +27,7 @@ entries-spec =
     (tie.spec
     Inv-loop
     μ-loop
-    (λ c. record { passed = walked.passed-starts _ _ _ _ ((c .before .before .before .pre .1)) _ (noting.none-kept _ _ _ ((c .before .before .before .pre .0))); room = refl; short = omega arith })
+    (λ c. record { passed = walked.passed-starts _ _ _ _ ((c .before .before .before .pre .1)) _ (noting.none-kept _ _ _ _ ((c .before .before .before .pre .0))); room = refl; short = omega arith })
     (λ c. search needs)
     (λ c. search needs)
     (λ c. search needs)
@@ -71,4 +71,4 @@ entries-spec =
     (λ c. let b10 = c .before .before .before .before .before .before .before .before .before .before in let b11 = b10 .before in let b14 = b11 .before .before .before in let b16 = b14 .before .before in let b18 = b16 .before .before in let b22 = b18 .before .before .before .before in
     omega (arith, noting.value-inside (b22 .pre .1) (b18 .loop .inv) (b16 .past-key .ensures) (b14 .k .given .1), noting.further (b22 .pre .1) (b18 .loop .inv) (b16 .past-key .ensures) (b14 .k .given .1) (b11 .skip .ensures) (omega (arith, (b10 .if1 .left))), (b10 .if1 .left)))
     (λ c. let b4 = c .before .before .before .before in let b8 = b4 .before .before .before .before in let b9 = b8 .before in let b10 = b9 .before in let b11 = b10 .before in let b14 = b11 .before .before .before in let b16 = b14 .before .before in let b18 = b16 .before .before in let b22 = b18 .before .before .before .before in
-    noting.goes-on (b22 .pre .1) (b18 .loop .inv) (b16 .past-key .ensures) (b14 .k .given .1) (b11 .skip .ensures) (omega (arith, (b10 .if1 .left))) (b4 .note .ensures) (b9 .kept .ensures) (b8 .kept2 .ensures)))
+    noting.goes-on (b22 .pre .1) (b18 .loop .inv) (b16 .past-key .ensures) (b14 .k .given .1) (b11 .skip .ensures) (omega (arith, (b10 .if1 .left))) (b4 .noted .ensures) (b9 .kept .ensures) (b8 .kept2 .ensures)))

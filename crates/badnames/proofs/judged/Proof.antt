@@ -13,11 +13,17 @@ judged-spec =
     tie.close
     (tie.spec
     (λ c κs. search needs)
-    (λ c. noting.odd-judged _ (c .before .before .before .before .before .before .args .from) _ _ _ _ ((c .before .if1 .taken)) ((c .at .ensures)))
+    (λ c. let i = c .before in let a = i .before .before .before .before .before .args in
+    noting.odd-judged _ (a .from) _ (a .n) _ _ _ (i .if1 .taken) (c .at .ensures))
     (λ c κs. search needs)
-    (λ c. noting.bad-judged _ (c .before .before .before .before .before .before .before .args .from) _ _ _ _ ((c .before .before .if1 .left)) ((c .before .if2 .taken)) ((c .at2 .ensures)))
+    (λ c. let i = c .before in let o = i .before in let a = o .before .before .before .before .before .args in
+    noting.bad-judged _ (a .from) _ (a .n) _ _ _ (o .if1 .left) (i .if2 .taken) (c .at2 .ensures))
     (λ c κs. search needs)
-    (λ c. noting.many-judged _ (c .before .before .before .before .before .before .before .before .args .from) _ _ _ _ ((c .before .before .before .if1 .left)) ((c .before .before .if2 .left)) (omega arith) ((c .at3 .ensures)))
+    (λ c. let b = c .before .before in let o = b .before in let a = o .before .before .before .before .before .args in
+    noting.many-judged _ (a .from) _ (a .n) _ _ _ (o .if1 .left) (b .if2 .left) (omega arith) (c .at3 .ensures))
+    (λ c κs. search needs)
+    (λ c. let i = c .before in let b = i .before .before in let o = b .before in let a = o .before .before .before .before .before .args in
+    noting.once-judged _ (a .from) _ (a .n) _ _ _ (o .if1 .left) (b .if2 .left) (omega arith) (i .if4 .taken) (c .at4 .ensures))
     (λ c. search needs)
     (λ c. search needs)
     (λ c. search needs)
@@ -29,5 +35,5 @@ judged-spec =
     (λ c. search needs)
     (λ c κs. search needs)
     (λ c. search needs)
-    (λ c. let b2 = c .before .before in let b8 = b2 .before .before .before .before .before .before in let b9 = b8 .before in
-    noting.few-judged _ (b9 .before .before .before .before .before .args .from) _ _ _ _ (b9 .if1 .left) (b8 .if2 .left) (omega arith) (b2 .repeated .ensures)))
+    (λ c. let r = c .before .before in let b = r .before .before .before .before .before .before .before in let o = b .before in let a = o .before .before .before .before .before .args in
+    noting.few-judged _ (a .from) _ (a .n) _ _ _ (o .if1 .left) (b .if2 .left) (omega arith) (r .repeated .ensures)))

@@ -20,4 +20,4 @@ names-spec =
     (λ c.
     let c3 = c .before .before .before in
     let c9 = c3 .before .before .before .before .before .before in
-    subst (λ u. NamesAt 28 u 16 (c3 .named .result)) (part-to-end (c9 .args .s .now) 0) (c3 .named .ensures)))
+    subst (λ u. NamesAt 28 u 16 (c9 .args .n) (c3 .named .result)) (part-to-end (c9 .args .s .now) 0) (c3 .named .ensures)))

@@ -1,0 +1,75 @@
+-- One more name noted, tested for UTF-8 or not.
+use Prim.Native.Nat.{ℕ, suc, _+_, _-_, _≤_}
+use mathlib.Core.List.{List, [], _∷_, _++_}
+use mathlib.Core.Bool.{Bool, true, false}
+use mathlib.Core.Path.{_≡_, refl, sym, subst}
+use lib.ListN.{length, take, drop}
+use borrow.Rule.Slice.PartAt.{part-to-end}
+use Rattle.meaning.specs.Tree.{Pair}
+use Rattle.meaning.specs.Text.{utf8}
+use Rattle.walk.specs.Reading.{Ends, Reads}
+use Rattle.walk.specs.declared.Letters.{Letters}
+use Rattle.walk.specs.declared.Letters.the-variants.{NoText, Text}
+use Rattle.walk.specs.Places.{TextIs}
+use Rattle.walk.specs.Put.{put}
+use Rattle.walk.proofs.Passed.{Here}
+use Rattle.walk.proofs.Puts.{length-put}
+use Rattle.naming.specs.Naming.{tally, Tallied, Noted}
+use Rattle.naming.specs.declared.Tally.{Tally}
+use Rattle.naming.proofs.Noting.{noted-odd, noted-good, noted-bad}
+use Rattle.badnames.specs.Keys.{spelt, Known, NotedIf}
+
+module _ {m : List ℕ} {done : List (Pair Ends)} {t : Tally} {left size : List ℕ} where
+  respelt : Tallied m done t left size → Tallied m done (spelt t done) left size
+  respelt h = record { counted = h .counted; oddly = h .oddly; badly = refl; same-room = h .same-room; listed-are = h .listed-are }
+
+  -- tested, a tally is all that is known
+  known-whole : Tallied m done t left size → Known true m done t left size
+  known-whole h = record { tallied = respelt h; badly = h .badly }
+
+  whole-known : Known true m done t left size → Tallied m done t left size
+  whole-known k = let h = k .tallied in record { counted = h .counted; oddly = h .oddly; badly = k .badly; same-room = h .same-room; listed-are = h .listed-are }
+
+-- before the first pair
+pub none-known : (tested : Bool) {m left size : List ℕ} → Tallied m [] (tally 0 false false) left size → Known tested m [] (tally 0 false false) left size
+none-known true h = known-whole h
+none-known false h = record { tallied = h; badly = refl }
+
+-- ---------------------------------------------------------------- not tested
+
+-- s is lent whole to `walk::text`, which answered v
+module _ (s : List ℕ) (t : Tally) (left size : List ℕ) (v : Letters) (h : TextIs (Here s 0) v) where
+  pub unread-odd : v ≡ NoText → NotedIf false s t left size (tally (t .count + 1) true (t .bad)) (put left (t .count) 0) (put size (t .count) 0)
+  unread-odd e = (
+    length-put left (t .count) 0,
+    λ m at within is done d p r x y. record { tallied = respelt (noted-odd s (spelt t done) left size v h e .1 m at within is done d p r x (y .tallied)); badly = y .badly },
+  )
+
+  module _ (a n : ℕ) (e : v ≡ Text a n) (fits : a + n ≤ length s) where
+    pub unread-text : NotedIf false s t left size (tally (t .count + 1) (t .odd) (t .bad)) (put left (t .count) (length s - a)) (put size (t .count) n)
+    unread-text = (
+      length-put left (t .count) (length s - a),
+      λ m at within is done d p r x y. record { tallied = either m at within is done d p r x (y .tallied) (utf8 (take (a + n - a) (drop a s))) refl; badly = y .badly },
+    )
+      where
+        either : (m : List ℕ) (at : ℕ) → at ≤ length m → s ≡ drop at m → (done : List (Pair Ends)) (d : ℕ) (p : Pair Ends) (r : List ℕ) → Reads (suc d) s (p .key) r → Tallied m done (spelt t done) left size
+            → (b : Bool) → b ≡ utf8 (take (a + n - a) (drop a s))
+            → Tallied m (done ++ p ∷ []) (spelt (tally (t .count + 1) (t .odd) (t .bad)) (done ++ p ∷ [])) (put left (t .count) (length s - a)) (put size (t .count) n)
+        either m at within is done d p r x y true g = respelt (noted-good s (spelt t done) left size v h a n e fits g .1 m at within is done d p r x y)
+        either m at within is done d p r x y false g = respelt (noted-bad s (spelt t done) left size v h a n e fits g .1 m at within is done d p r x y)
+
+-- ---------------------------------------------------------------- as the code notes it
+
+module _ (s : List ℕ) (t : Tally) (left size : List ℕ) where
+  pub as-put : {t′ : Tally} {left₁ left₂ size₁ size₂ : List ℕ} → left₂ ≡ left₁ → size₂ ≡ size₁ → NotedIf false s t left size t′ left₁ size₁ → NotedIf false s t left size t′ left₂ size₂
+  as-put b c h = rw (b, c) h
+
+  module _ {tested : Bool} {t′ : Tally} {left′ size′ : List ℕ} where
+    pub by-test : tested ≡ true → Noted (Here s 0) t left size t′ left′ size′ → NotedIf tested s t left size t′ left′ size′
+    by-test e h =
+        let k : Noted s t left size t′ left′ size′ = subst (λ u. Noted u t left size t′ left′ size′) (part-to-end s 0) h in
+        subst (λ b. NotedIf b s t left size t′ left′ size′) (sym e)
+        (k .0, λ m at within is done d p r x y. known-whole (k .1 m at within is done d p r x (whole-known y)))
+
+    pub untested : tested ≡ false → NotedIf false (Here s 0) t left size t′ left′ size′ → NotedIf tested s t left size t′ left′ size′
+    untested e h = subst (λ b. NotedIf b s t left size t′ left′ size′) (sym e) (subst (λ u. NotedIf false u t left size t′ left′ size′) (part-to-end s 0) h)
