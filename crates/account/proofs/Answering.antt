@@ -3,7 +3,7 @@ use Prim.Native.Nat.{ℕ, zero, suc, _+_, _-_, _*_, _≤_, _<_}
 use native.Mathlib.Omega.{arith}
 use mathlib.Core.List.{List, [], _∷_, _++_}
 use mathlib.Core.Option.{some}
-use mathlib.Core.Path.{_≡_, refl, sym, ap, _∙_, subst}
+use mathlib.Core.Path.{_≡_, refl, sym, ap, _∙_, subst, subst₂}
 use lib.ListN.{length, take, drop, getElem?, length-append, take-append-drop}
 use lib.Seq.{length-take-le}
 use Rattle.meaning.specs.Columns.{objectWidth, componentWidth}
@@ -13,8 +13,8 @@ use Rattle.meaning.specs.Model.{Component}
 use Rattle.meaning.specs.Layouts.{Layout}
 use Rattle.meaning.specs.Frame.{Reading, reading}
 use Rattle.meaning.specs.Rows.{rows, roomFor, componentCount, answer, tableAfter, readInto}
+use Rattle.meaning.specs.Every.{Every}
 use Rattle.view.specs.All.{allComponents}
-use Rattle.panel.specs.Stands.{Each}
 use Rattle.reader.specs.declared.into.Answer.{Answer}
 use Rattle.reader.specs.Answer.{answered}
 use Rattle.shown.specs.Accepted.{Framing, BlobLies}
@@ -28,11 +28,7 @@ use Rattle.account.specs.Placed.{Placed}
 use Rattle.account.specs.declared.Bytes.{Bytes}
 use Rattle.account.proofs.OfModel.{ranges-are, rows-of, inside-is, both, adds-up}
 
-subst2 : {A B : Type 0} (Q : A → B → Type 0) {x x′ : A} {y y′ : B} → x ≡ x′ → y ≡ y′ → Q x y → Q x′ y′
-subst2 Q {x} {x′} {y} {y′} e f q = subst (λ (a : _). Q a y′) e (subst (Q x) f q)
-
-each-of : {A : Type 0} (Q : A → Type 0) (l : List A) → ((j : ℕ) (a : A) → getElem? l j ≡ some a → Q a) → Each Q l
-unfolding Each
+each-of : {A : Type 0} (Q : A → Type 0) (l : List A) → ((j : ℕ) (a : A) → getElem? l j ≡ some a → Q a) → Every Q l
 each-of Q [] f = tt
 each-of Q (a ∷ l) f = (f 0 a refl, each-of Q l (λ j b g. f (suc j) b g))
 
@@ -93,8 +89,8 @@ module _ (L : Layout) (framing : Framing L) (file work table : List ℕ) (a : An
         reads = q;
         lies = p;
         begins = ap (λ (x : Answer). x .start) f;
-        rows-lie = subst2 (λ (x : List ℕ) (y : Answer). Rows x (objectWidth * y .objects) (y .components) (y .start)) (sym l) (sym f) (rows-of (r .start) (r .model) (drop (roomFor (r .model)) work) (p .blobs) (omega (arith, s, short)));
-        within = subst2 (λ (x : List ℕ) (y : Answer). inside (ranges x (objectWidth * y .objects) (y .components)) (y .start) ≡ is.insideBytes L file r) (sym l) (sym f) (ap (λ (x : List ℕ). inside x (r .start)) (ranges-are (r .model) (drop (roomFor (r .model)) work)) ∙ inside-is L file r p);
+        rows-lie = subst₂ (λ (x : List ℕ) (y : Answer). Rows x (objectWidth * y .objects) (y .components) (y .start)) (sym l) (sym f) (rows-of (r .start) (r .model) (drop (roomFor (r .model)) work) (p .blobs) (omega (arith, s, short)));
+        within = subst₂ (λ (x : List ℕ) (y : Answer). inside (ranges x (objectWidth * y .objects) (y .components)) (y .start) ≡ is.insideBytes L file r) (sym l) (sym f) (ap (λ (x : List ℕ). inside x (r .start)) (ranges-are (r .model) (drop (roomFor (r .model)) work)) ∙ inside-is L file r p);
       }
 
   -- accepted

@@ -15,9 +15,9 @@ use Rattle.meaning.specs.Model.{Component, Object, Model}
 use Rattle.meaning.specs.Layouts.{Layout}
 use Rattle.meaning.specs.Frame.{Reading}
 use Rattle.meaning.specs.Rows.{componentRow, rowsOf, componentRows, rows, componentCount}
+use Rattle.meaning.specs.Every.{Every}
 use Rattle.view.specs.All.{allComponents}
-use Rattle.view.proofs.Columns.{offset-is, length-is, component-past, components-at, rows-lie}
-use Rattle.panel.specs.Stands.{Each}
+use Rattle.view.proofs.Columns.{offset-is, length-is, component-past, components-at, rows-lie, components-past}
 use Rattle.shown.specs.Accepted.{BlobLies}
 use Rattle.covering.specs.Covering.{count, times, covered, inside}
 use Rattle.covering.specs.Order.{Begin, End}
@@ -48,14 +48,6 @@ module _ (T : List ℕ) where
       rw (suc-add (length cs) n, offset-is T q i c (rowsOf i cs ++ Y) f, length-is T q i c (rowsOf i cs ++ Y) f)
       (ap (λ (l : List ℕ). c .offset ∷ (c .offset + c .length) ∷ l) (h ∙ ap (λ (k : ℕ). flat cs ++ ranges T k n) z))
 
-  past-one : (i : ℕ) (cs : List (Component Span)) (q : ℕ) (Y : List ℕ) → drop q T ≡ rowsOf i cs ++ Y → drop (q + componentWidth * length cs) T ≡ Y
-  unfolding rowsOf
-  past-one i [] q Y e = (let z : q + componentWidth * 0 ≡ q = omega arith in ap (λ (k : ℕ). drop k T) z) ∙ e
-  past-one i (c ∷ cs) q Y e =
-      let f = e ∙ append-assoc (componentRow i c) (rowsOf i cs) Y in
-      (let z : q + componentWidth * suc (length cs) ≡ q + componentWidth + componentWidth * length cs = omega arith in ap (λ (k : ℕ). drop k T) z)
-      ∙ past-one i cs (q + componentWidth) Y (component-past T q i c (rowsOf i cs ++ Y) f)
-
   of-all : (i : ℕ) (os : List (Object Span)) (q : ℕ) (Y : List ℕ) → drop q T ≡ componentRows i os ++ Y → ranges T q (componentCount os) ≡ flat (allComponents os)
   unfolding componentRows componentCount allComponents flat ranges
   of-all i [] q Y e = refl
@@ -63,7 +55,7 @@ module _ (T : List ℕ) where
       let f = e ∙ append-assoc (rowsOf i (o .components)) (componentRows (suc i) os) Y in
       of-one i (o .components) q (componentCount os) (componentRows (suc i) os ++ Y) f
       ∙ ap (λ (l : List ℕ). flat (o .components) ++ l)
-      (of-all (suc i) os (q + componentWidth * length (o .components)) Y (past-one i (o .components) q (componentRows (suc i) os ++ Y) f))
+      (of-all (suc i) os (q + componentWidth * length (o .components)) Y (components-past T i (o .components) q (componentRows (suc i) os ++ Y) f))
       ∙ sym (flat-append (o .components) (allComponents os))
 
 pub ranges-are : (m : Model Span) (rest : List ℕ)
@@ -73,17 +65,17 @@ ranges-are m rest = of-all (rows m ++ rest) 0 (m .objects) (objectWidth * length
 -- ---- where they lie
 
 module _ (start : ℕ) where
-  begin-flat : (cs : List (Component Span)) → Each (BlobLies start) cs → Begin 0 (start + 1) (flat cs)
-  unfolding Each flat
+  begin-flat : (cs : List (Component Span)) → Every (BlobLies start) cs → Begin 0 (start + 1) (flat cs)
+  unfolding flat
   begin-flat [] h = tt
   begin-flat (c ∷ cs) h = let b = h .0 .before-manifest in (omega arith, (omega (arith, b), begin-flat cs (h .1)))
 
-  end-flat : (cs : List (Component Span)) → Each (BlobLies start) cs → End start (flat cs)
-  unfolding Each flat
+  end-flat : (cs : List (Component Span)) → Every (BlobLies start) cs → End start (flat cs)
+  unfolding flat
   end-flat [] h = tt
   end-flat (c ∷ cs) h = (h .0 .before-manifest, end-flat cs (h .1))
 
-  pub rows-of : (m : Model Span) (rest : List ℕ) → Each (BlobLies start) (allComponents (m .objects)) → start + 1 < 18446744073709551616
+  pub rows-of : (m : Model Span) (rest : List ℕ) → Every (BlobLies start) (allComponents (m .objects)) → start + 1 < 18446744073709551616
       → Rows (rows m ++ rest) (objectWidth * length (m .objects)) (componentCount (m .objects)) start
   rows-of m rest h s = record {
     lie = rows-lie m rest;
@@ -104,13 +96,13 @@ module _ (start : ℕ) where
       by false h = ap (ltb 0) (let z : 0 + times p (flat cs) ≡ times p (flat cs) = omega arith in z) ∙ h
 
   -- none before 64, none from the manifest's start on
-  before : (cs : List (Component Span)) → Each (BlobLies start) cs → (p : ℕ) → p < 64 → is.inAny cs p ≡ false
-  unfolding Each is.inAny
+  before : (cs : List (Component Span)) → Every (BlobLies start) cs → (p : ℕ) → p < 64 → is.inAny cs p ≡ false
+  unfolding is.inAny
   before [] h p l = refl
   before (c ∷ cs) h p l = let a = h .0 .past-header in rw (lt-leb (c .offset) p (omega (arith, a, l)), before cs (h .1) p l) refl
 
-  after : (cs : List (Component Span)) → Each (BlobLies start) cs → (p : ℕ) → start ≤ p → is.inAny cs p ≡ false
-  unfolding Each is.inAny
+  after : (cs : List (Component Span)) → Every (BlobLies start) cs → (p : ℕ) → start ≤ p → is.inAny cs p ≡ false
+  unfolding is.inAny
   after [] h p l = refl
   after (c ∷ cs) h p l = by (leb (c .offset) p) (let a = h .0 .before-manifest in le-ltb p (c .offset + c .length) (omega (arith, a, l))) (after cs (h .1) p l)
     where

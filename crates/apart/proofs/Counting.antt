@@ -11,8 +11,9 @@ use lib.Seq.{ext-getD}
 use lib.Dec.{eqb, ltb}
 use borrow.Author.Tests.{eq-eqb, eqb-true, eqb-false, ne-eqb, ltb-true, ltb-false}
 use Rattle.meaning.specs.Text.{same}
-use Rattle.text.proofs.SameIsEqual.{same-eq, eq-same, ne-same}
-use Rattle.text.proofs.WordsDecide.{Agree}
+use Rattle.meaning.proofs.SameText.{same-eq}
+use Rattle.text.proofs.SameIsEqual.{eq-same, ne-same}
+use Rattle.text.specs.Order.{Agree}
 use borrow.Rule.Slice.PartAt.{part-to-end}
 use Rattle.changes.specs.Changes.{bit, howMany, least, differsAt, longer, positionApart, countApart}
 use Rattle.changes.proofs.Flags.{says-differs, somewhere-apart}

@@ -4,9 +4,9 @@ use mathlib.Core.List.{List}
 use mathlib.Core.Path.{_≡_}
 use mathlib.Core.Logic.{_⊎_}
 use lib.ListN.{length, getD}
-use Rattle.text.proofs.WordsDecide.{Agree}
 use Rattle.changes.specs.Changes.{howMany, differsAt, positionApart, countApart}
 use Rattle.apart.specs.declared.Apart.{Apart}
+use Rattle.text.specs.Order.{Agree}
 
 abbrev pub told : List ℕ → List ℕ → Apart
 told x y = record { position = positionApart x y; count = countApart x y }

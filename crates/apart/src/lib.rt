@@ -3,9 +3,9 @@ ghost use mathlib.Core.Path.{_≡_};
 ghost use mathlib.Core.Bool.{not};
 ghost use Prim.Native.Nat.{_≤_};
 ghost use lib.Dec.{eqb};
-ghost use Rattle.text.proofs.WordsDecide.{Agree};
 ghost use Rattle.changes.specs.Changes.{bit};
 ghost use Rattle.apart.specs.Told.{told, manyApart, block, Both, Passed, Run, Rest};
+ghost use Rattle.text.specs.Order.{Agree};
 
 // 0 and 0 if they are equal.
 pub struct Apart {

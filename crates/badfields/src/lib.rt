@@ -4,9 +4,9 @@ use spot::at;
 ghost use mathlib.Core.Path.{_≡_};
 ghost use Prim.Native.Nat.{_+_};
 ghost use lib.ListN.{length, replicate};
-ghost use Rattle.walk.proofs.Turns.{Modes};
 ghost use Rattle.keys.specs.Odd.{slotsAt};
 ghost use Rattle.badfields.specs.Fields as is;
+ghost use Rattle.walk.specs.Places.{Modes};
 
 // Entries that begin s, counted as `walk::map` says, of a map at this level (keys::entries), whose keys and values have `left` levels left. The places of the
 // known fields are left in p.

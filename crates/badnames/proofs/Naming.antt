@@ -2,7 +2,7 @@
 use Prim.Native.Nat.{ℕ, zero, suc, _≤_, _<_}
 use native.Mathlib.Omega.{arith}
 use mathlib.Core.List.{List, [], _∷_, _++_, map}
-use mathlib.Core.Bool.{Bool, true, false, cond, not, _&&_}
+use mathlib.Core.Bool.{Bool, true, false, cond, not}
 use mathlib.Core.Option.{Option, none, some}
 use mathlib.Core.Path.{_≡_, refl, ap, ap₂, sym, _∙_, subst}
 use lib.ListN.{length, take, length-map}
@@ -14,8 +14,10 @@ use Rattle.meaning.specs.Refusal.{KIND, KEY, TEXT, COUNT, TWICE}
 use Rattle.meaning.specs.Model.{Word, Named}
 use Rattle.meaning.specs.Kind.{Kind, number, words, list, table, null, another, kind, aTable, asTable}
 use Rattle.meaning.specs.Field.{isSome, keyKind, keyOf, nameKind, nameOf}
+use Rattle.meaning.proofs.Tests.{both-true}
 use Rattle.walk.specs.Reading.{Ends}
-use Rattle.naming.specs.Naming.{lettersOr, lettersOf, wordOr, namedAnyway}
+use Rattle.naming.specs.Naming.{lettersOf, wordOr, namedAnyway}
+use Rattle.naming.proofs.Judging.{letters-of}
 use Rattle.explained.specs.Step
 use Rattle.explained.specs.Step.{Step, _at_unless_, first, every, given}
 use Rattle.explained.specs.Order.{tableSteps, keySteps, sameNameSteps, nameSteps}
@@ -61,19 +63,6 @@ word-noted (float p n b) w e = absurd (let z : _≡_ {A = ℕ} 0 1 = cc in omega
 pub name-noted : (p : Pair Ends) → namedAnyway p .name .note ≡ noteOf (p .key)
 name-noted p = noted-alike (noteOf (p .key)) (kind (p .key)) (word-noted (p .key))
 
-letters-kind : (e : Ends) (k : Kind Ends) → wordOr e k .letters ≡ lettersOr (keyKind k)
-unfolding keyKind
-letters-kind e (number n) = refl
-letters-kind e (words w) = refl
-letters-kind e (list l) = refl
-letters-kind e (table l) = refl
-letters-kind e null = refl
-letters-kind e another = refl
-
-pub name-letters : (p : Pair Ends) → namedAnyway p .name .letters ≡ lettersOf p
-unfolding lettersOf keyOf
-name-letters p = letters-kind (noteOf (p .key)) (kind (p .key))
-
 name-kind : (e : Ends) (v : Node Ends) (k : Kind Ends) → isSome (keyKind k) ≡ true → nameKind v k ≡ pass (record { name = wordOr e k; value = v })
 unfolding nameKind keyKind isSome
 name-kind e v (number n) h = absurd (let z : _≡_ {A = ℕ} 0 1 = cc in omega arith)
@@ -87,13 +76,9 @@ name-is : (p : Pair Ends) → isSome (keyOf p) ≡ true → nameOf p ≡ pass (n
 unfolding nameOf keyOf
 name-is p h = name-kind (noteOf (p .key)) (p .value) (kind (p .key)) h
 
-both : (a b : Bool) → (a && b) ≡ true → (a ≡ true) × (b ≡ true)
-both true b e = (refl, e)
-both false b e = absurd (let z : _≡_ {A = ℕ} 0 1 = cc in omega arith)
-
 names-are : (i : ℕ) (ps : List (Pair Ends)) → all (λ p. isSome (keyOf p)) ps ≡ true → each (λ i. nameOf) i ps ≡ pass (map namedAnyway ps)
 names-are i [] h = refl
-names-are i (p ∷ ps) h = let k = both (isSome (keyOf p)) (all (λ p. isSome (keyOf p)) ps) h in rw (name-is p (k .0), names-are (suc i) ps (k .1)) refl
+names-are i (p ∷ ps) h = let k = both-true (isSome (keyOf p)) (all (λ p. isSome (keyOf p)) ps) h in rw (name-is p (k .0), names-are (suc i) ps (k .1)) refl
 
 -- ---------------------------------------------------------------- the order
 
@@ -116,7 +101,7 @@ module _ (limit : ℕ) (t : Node Ends) (ps : List (Pair Ends)) (is : kind t ≡ 
         keys-first ∙ (rw (every-right KEY (λ (p : Pair Ends). noteOf (p .key)) (λ p. isSome (keyOf p)) ps texts, names-are 0 ps texts) refl) in
         a ∙ first-++ (every TEXT (λ n. n .name .note) (λ n. utf8 (n .name .letters)) (map namedAnyway ps)) (afterTexts (map namedAnyway ps))
         ∙ ap (λ s. orElse (first s) (first (afterTexts (map namedAnyway ps))))
-        (every-map TEXT namedAnyway (λ n. n .name .note) (λ n. utf8 (n .name .letters)) (λ p. noteOf (p .key)) (λ p. utf8 (lettersOf p)) name-noted (λ p. ap utf8 (name-letters p)) ps)
+        (every-map TEXT namedAnyway (λ n. n .name .note) (λ n. utf8 (n .name .letters)) (λ p. noteOf (p .key)) (λ p. utf8 (lettersOf p)) name-noted (λ p. ap utf8 (letters-of p)) ps)
 
     pub count-first : all (λ p. utf8 (lettersOf p)) ps ≡ true → (b : Bool) → leb (length ps) limit ≡ b
         → first (nameSteps limit t) ≡ cond b (first (sameNameSteps [] (map namedAnyway ps))) (some (stepOf COUNT (noteOf t) b))
@@ -164,11 +149,11 @@ module _ (ns : List (Named Ends)) where
 letters-take : (r : ℕ) (ps : List (Pair Ends)) → map (λ (n : Named Ends). n .name .letters) (take r (map namedAnyway ps)) ≡ take r (map lettersOf ps)
 letters-take zero ps = refl
 letters-take (suc r) [] = refl
-letters-take (suc r) (p ∷ ps) = ap₂ {C = List (List ℕ)} (λ x l. x ∷ l) (name-letters p) (letters-take r ps)
+letters-take (suc r) (p ∷ ps) = ap₂ {C = List (List ℕ)} (λ x l. x ∷ l) (letters-of p) (letters-take r ps)
 
 letters-map : (ps : List (Pair Ends)) → map (λ (n : Named Ends). n .name .letters) (map namedAnyway ps) ≡ map lettersOf ps
 letters-map [] = refl
-letters-map (p ∷ ps) = ap₂ {C = List (List ℕ)} (λ x l. x ∷ l) (name-letters p) (letters-map ps)
+letters-map (p ∷ ps) = ap₂ {C = List (List ℕ)} (λ x l. x ∷ l) (letters-of p) (letters-map ps)
 
 listed-take : (f : ℕ → List ℕ) (i r n : ℕ) → r ≤ n → listed f i r ≡ take r (listed f i n)
 unfolding listed

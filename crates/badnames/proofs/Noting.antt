@@ -17,11 +17,11 @@ use Rattle.meaning.specs.Text.{all, utf8, distinct}
 use Rattle.meaning.specs.Refusal.{KIND, KEY, TEXT, COUNT, TWICE}
 use Rattle.meaning.specs.Kind.{kind, table, aTable, asTable}
 use Rattle.meaning.specs.Field.{isSome, keyOf}
-use Rattle.meaning.specs.Read.{item, beyond}
+use Rattle.meaning.proofs.Tests.{opposite}
 use Rattle.cbor.specs.Ending.{FAULT, code, itemEnd}
 use Rattle.endian.proofs.Which.{lt-or}
 use Rattle.walk.specs.Reading.{Ends, Reads}
-use Rattle.walk.specs.Places.{MapIs, EntryIs as TurnIs}
+use Rattle.walk.specs.Places.{MapIs, EntryIs as TurnIs, Modes}
 use Rattle.walk.specs.declared.Entry.{Entry}
 use Rattle.walk.specs.declared.Entry.the-variants.{End, Value}
 use Rattle.walk.specs.declared.Opening.{Opening}
@@ -29,8 +29,8 @@ use Rattle.walk.specs.declared.Opening.the-variants.{NotOpen, Opened}
 use Rattle.walk.proofs.ReadSays.{note-of}
 use Rattle.walk.proofs.Passed as walked
 use Rattle.walk.proofs.Passed.{Here, Passed}
-use Rattle.walk.proofs.Turns.{Modes}
 use Rattle.walk.proofs.Opens as opens
+use Rattle.walk.proofs.Found.{no-levels}
 use Rattle.names.specs.Names.{name, listed, Leading}
 use Rattle.naming.specs.Naming.{tally, lettersOf, namedAnyway}
 use Rattle.naming.specs.declared.Tally.{Tally}
@@ -64,11 +64,6 @@ pub record Inv (tested : Bool) (levels mode count : ℕ) (s left₀ : List ℕ) 
 pub none-kept : (tested : Bool) (s left size : List ℕ) → length size ≡ length left → {key text : ℕ} → Kept tested s left size (keysOf (tally 0 false false) key text) []
 none-kept tested s left size e = record { known = none-known tested (none-noted s left size e); odd-key = λ h. absurd (let z : _≡_ {A = ℕ} 0 1 = cc in omega arith); bad-text = λ h. absurd (let z : _≡_ {A = ℕ} 0 1 = cc in omega arith) }
 
-never-deep : (s : List ℕ) (t : Node Ends) (r : List ℕ) → Reads 0 s t r → ⊥
-unfolding item beyond
-never-deep [] t r e = let z : _≡_ {A = ℕ} 0 1 = cc in omega arith
-never-deep (b ∷ s) t r e = let z : _≡_ {A = ℕ} 0 1 = cc in omega arith
-
 -- the first that isn't UTF-8, of one key more
 text-found : (tested : Bool) (done : List (Pair Ends)) (p : Pair Ends) (bad bad′ : Bool) (held left : ℕ) → bad ≡ (tested && not (legible done)) → bad′ ≡ (tested && not (legible (done ++ p ∷ [])))
     → length (noteOf (p .key) .start) ≡ left → (bad ≡ true → shown (first (utf8Steps done)) ≡ spot TEXT held) → bad′ ≡ true → shown (first (utf8Steps (done ++ p ∷ []))) ≡ spot TEXT (cond bad held left)
@@ -82,7 +77,7 @@ module _ (tested : Bool) (s : List ℕ) (at : ℕ) (inside : at ≤ length s) (t
   pub one-more : (levels : ℕ) (done : List (Pair Ends)) (p : Pair Ends) (q : List ℕ) → Reads levels (drop at s) (p .key) q → Kept tested s left size (keysOf t key text) done
       → Kept tested s left′ size′ (keysOf t′ key′ text′) (done ++ p ∷ [])
   unfolding keySteps
-  one-more zero done p q r h = absurd (never-deep (drop at s) (p .key) q r)
+  one-more zero done p q r h = absurd (no-levels (drop at s) (p .key) q r)
   one-more (suc d) done p q r h =
       let a : Reads (suc d) (Here s at) (p .key) q = subst (λ u. Reads (suc d) u (p .key) q) (sym (part-to-end s at)) r in
       let l : length (noteOf (p .key) .start) ≡ length s - at = ap (λ (x : Ends). length (x .start)) (note-of (suc d) (drop at s) (p .key) q r) ∙ length-drop at s in
@@ -166,13 +161,6 @@ module _ (s : List ℕ) (from levels n : ℕ) (left size : List ℕ) where
         is ∙ ap (λ (x : Places). spot TWICE (x .key)) g ∙ sym (a-copy (name (drop from s) left size) n ps names k leading (let l = leading .most in omega (arith, l, o)))
 
 -- ---------------------------------------------------------------- judged
-
-opposite : {a b : Bool} → a ≡ not b → (t : Bool) → a ≡ t → b ≡ not t
-opposite {a} {b} h t e = go b t (sym h ∙ e)
-  where
-    go : (b t : Bool) → not b ≡ t → b ≡ not t
-    go true t z = ap not z
-    go false t z = ap not z
 
 module _ (s : List ℕ) (from levels n : ℕ) (keys : Keys) (left size : List ℕ) where
   abbrev KeptOf : List (Pair Ends) → Type 0

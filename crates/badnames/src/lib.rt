@@ -10,8 +10,8 @@ ghost use mathlib.Core.Path.{_≡_};
 ghost use mathlib.Core.Bool.{cond, false};
 ghost use Prim.Native.Nat.{_≤_, _<_};
 ghost use lib.ListN.{length};
-ghost use Rattle.walk.proofs.Turns.{Modes};
 ghost use Rattle.badnames.specs.Keys as is;
+ghost use Rattle.walk.specs.Places.{Modes};
 
 // The tally of a map's keys; the bytes left at the first that isn't whole text, and at the first that isn't UTF-8, where the tally says that there is one.
 pub struct Keys {

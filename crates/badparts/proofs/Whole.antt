@@ -1,11 +1,11 @@
 -- Components and rules, a branch each.
-use Prim.Native.Nat.{ℕ, suc, _-_, _*_, _≤_, _<_}
-use mathlib.Core.List.{List, [], _∷_, _++_, map}
+use Prim.Native.Nat.{ℕ, _-_, _*_, _≤_, _<_}
+use mathlib.Core.List.{List, [], _++_, map}
 use mathlib.Core.Bool.{Bool, true, false, cond}
 use mathlib.Core.Option.{Option, none, some}
 use mathlib.Core.Path.{_≡_, refl, ap, sym, _∙_, subst}
 use native.Mathlib.Omega.{arith}
-use lib.ListN.{length, getD, take, drop}
+use lib.ListN.{length, getD, take, drop, length-map}
 use lib.Dec.{ltb}
 use borrow.Author.Tests.{ltb-true, ltb-false}
 use borrow.Rule.Slice.PartAt.{part-to-end}
@@ -18,6 +18,7 @@ use Rattle.meaning.specs.Format.{Part}
 use Rattle.meaning.specs.Field.{names}
 use Rattle.meaning.specs.Judge as judge
 use Rattle.meaning.specs.Judge.{inherited, part, componentsOf}
+use Rattle.meaning.proofs.Checks.{each-length}
 use Rattle.types.specs.Known.{position, formatNames}
 use Rattle.walk.specs.Reading.{Ends, Reads}
 use Rattle.walk.proofs.Passed.{Here}
@@ -52,20 +53,6 @@ use Rattle.badparts.proofs.Blames.{Blamed, blamed, picked, got}
 
 -- ---------------------------------------------------------------- components that pass
 
--- as many as there are names
-each-length : {A B : Type 0} (f : ℕ → A → Check B) (i : ℕ) (l : List A) (r : List B) → each f i l ≡ pass r → length r ≡ length l
-each-length f i [] r e = let z : [] ≡ r = cc in sym (ap length z)
-each-length {A} {B} f i (a ∷ l) r e = go (f i a) (each f (suc i) l) refl e (each-length f (suc i) l)
-  where
-    go : (m : Check B) (k : Check (List B)) → each f (suc i) l ≡ k → (m >>= λ b. k >>= λ bs. pass (b ∷ bs)) ≡ pass r → ((r : List B) → each f (suc i) l ≡ pass r → length r ≡ length l) → length r ≡ suc (length l)
-    go (refuse x y z) k h e ih = absurd (let w : _≡_ {A = ℕ} 0 1 = cc in omega arith)
-    go (pass b) (refuse x y z) h e ih = absurd (let w : _≡_ {A = ℕ} 0 1 = cc in omega arith)
-    go (pass b) (pass bs) h e ih = let z : b ∷ bs ≡ r = cc in sym (ap length z) ∙ ap suc (ih bs h)
-
-map-length : {A B : Type 0} (f : A → B) (l : List A) → length (map f l) ≡ length l
-map-length f [] = refl
-map-length f (a ∷ l) = ap suc (map-length f l)
-
 record Listed (t : Node Ends) (cs : List (Component Ends)) : Type 0 where
   pub names-of : List (Named Ends)
   pub are : names componentLimit t ≡ pass names-of
@@ -77,7 +64,7 @@ listed L start above t cs e = go (names componentLimit t) refl e
   where
     go : (m : Check (List (Named Ends))) → names componentLimit t ≡ m → (m >>= λ ns. each (λ j c. inComponent j (judge.component L start (above (c .name .letters)) c)) 0 ns) ≡ pass cs → Listed t cs
     go (refuse x y z) h e = absurd (let w : _≡_ {A = ℕ} 0 1 = cc in omega arith)
-    go (pass ns) h e = record { names-of = ns; are = h; many = map-length part cs ∙ each-length _ 0 ns cs e }
+    go (pass ns) h e = record { names-of = ns; are = h; many = length-map cs part ∙ each-length _ 0 ns cs e }
 
 -- ---------------------------------------------------------------- whose fault ROLE is
 

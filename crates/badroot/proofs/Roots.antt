@@ -1,11 +1,9 @@
 -- The whole root: no map; or its keys and repeats, and then its values. s is lent whole to `walk::map`, which answered x.
-use Prim.Native.Nat.{ℕ, _+_, _-_, _≤_, _<_}
+use Prim.Native.Nat.{ℕ, _+_, _-_, _<_}
 use mathlib.Core.List.{List, [], _∷_, _++_}
-use mathlib.Core.Option.{Option, none, some}
 use mathlib.Core.Path.{_≡_, refl, ap, sym, _∙_, subst}
 use native.Mathlib.Omega.{arith}
-use lib.ListN.{length, getD, drop, replicate, length-drop}
-use lib.Seq.{drop-drop}
+use lib.ListN.{length, getD, drop, replicate}
 use borrow.Rule.Slice.PartAt.{part-to-end}
 use Rattle.meaning.specs.Tree.{Node, Pair, noteOf}
 use Rattle.meaning.specs.Check.{pass, fault}
@@ -21,7 +19,7 @@ use Rattle.walk.proofs.Passed.{Here}
 use Rattle.walk.proofs.ReadSays.{note-of}
 use Rattle.walk.proofs.Opens as opens
 use Rattle.fields.specs.Slots.{marks, Holds}
-use Rattle.fields.proofs.Standing.{field-stands}
+use Rattle.fields.proofs.Standing.{field-stands, holds-whole}
 use Rattle.explained.specs.Fields.{objectsField}
 use Rattle.explained.specs.Step.{first}
 use Rattle.explained.specs.Order.{tableSteps, fieldSteps}
@@ -34,15 +32,6 @@ use Rattle.spot.specs.Shown.{spot, shown}
 use Rattle.spot.specs.declared.Spot.{Spot}
 use Rattle.badnames.specs.Keys.{Tells}
 use Rattle.badroot.specs.Opening.{valueSteps, openingSteps, Stood, ValuesIs, RootIs, ObjectsAt}
-
--- what stands in a part that runs to the end stands in the whole
-holds-whole : (d : ℕ) (c : List ℕ) (a : ℕ) → a ≤ length c → (left : ℕ) (o : Option (Node Ends)) → Holds d (drop a c) left o → Holds d c left o
-holds-whole d c a l left none h = h
-holds-whole d c a l left (some t) (some-left, x) =
-    let w : left ≤ length (drop a c) = x .within in
-    let n = length-drop a c in
-    let z : a + (length (drop a c) - left) ≡ length c - left = omega arith in
-    (some-left, record { rest = x .rest; within = omega arith; left-is = x .left-is; reads = subst (λ u. Reads d u t (x .rest)) (drop-drop (length (drop a c) - left) a c ∙ ap (λ i. drop i c) z) (x .reads) })
 
 opening-first : (L : Layout) (t : Node Ends) (ps : List (Pair Ends)) → kind t ≡ table ps → first (openingSteps L t) ≡ first (entrySteps (L .root) ps ++ valueSteps L t ps)
 unfolding openingSteps fieldSteps tableSteps aTable asTable

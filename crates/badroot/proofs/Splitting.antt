@@ -20,7 +20,7 @@ use Rattle.explained.proofs.Agree.{Agree, verdict}
 use Rattle.explained.proofs.Parts.{agree-fields, fields-pairs, agree-names}
 use Rattle.explained.proofs.Why.{orElse, first-++}
 use Rattle.badfields.proofs.Firsts.{broken-first, none-first}
-use Rattle.badroot.specs.Opening.{laterSteps, valueSteps, openingSteps, eachObject}
+use Rattle.badroot.specs.Opening.{laterSteps, valueSteps, openingSteps, eachObject, Opened}
 
 -- ---------------------------------------------------------------- one list after the other
 
@@ -110,17 +110,7 @@ module _ {P : Type 0} (L : Layout) (start : ℕ) (t : Node P) where
   pub opening-breaks : (x : Step P) → first (openingSteps L t) ≡ some x → first (manifestSteps L start t) ≡ some x
   opening-breaks x e = ap first (manifest-split L start t) ∙ broken-first (openingSteps L t) (ownSteps L start t) x e
 
-  -- the objects that are gone on to
-  pub record Opened : Type 0 where
-    pub pairs : List (Pair P)
-    pub objects : Node P
-    pub named : List (Named P)
-    pub kind-is : kind t ≡ table pairs
-    pub found : field (objectsField L) pairs ≡ some objects
-    pub names-are : names objectLimit objects ≡ pass named
-    pub rest : first (manifestSteps L start t) ≡ first (eachObject L start named)
-
-  pub opening-passes : first (openingSteps L t) ≡ none → Opened
+  pub opening-passes : first (openingSteps L t) ≡ none → Opened L start t
   unfolding openingSteps valueSteps laterSteps
   opening-passes e =
       let a = both-none (fieldSteps (L .root) t) (given (aTable t) >>= valueSteps L t) e in

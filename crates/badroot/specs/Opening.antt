@@ -5,6 +5,7 @@ use mathlib.Core.Option.{Option, none, some}
 use mathlib.Core.Path.{_≡_}
 use lib.ListN.{length, getD}
 use Rattle.meaning.specs.Tree.{Node, Pair, noteOf}
+use Rattle.meaning.specs.Check.{pass}
 use Rattle.meaning.specs.Limit.{objectLimit}
 use Rattle.meaning.specs.Model.{Named}
 use Rattle.meaning.specs.Kind.{kind, table, aTable}
@@ -15,7 +16,7 @@ use Rattle.walk.specs.Places.{Whatever}
 use Rattle.fields.specs.Slots.{Holds}
 use Rattle.explained.specs.Fields.{root, versionOf, attributesOn, objectsField}
 use Rattle.explained.specs.Step.{Step, _>>=_, _>>_, first, inObject, given, eachOf}
-use Rattle.explained.specs.Order.{tableSteps, versionSteps, fieldSteps, missing, nameSteps, objectSteps}
+use Rattle.explained.specs.Order.{tableSteps, versionSteps, fieldSteps, missing, nameSteps, objectSteps, manifestSteps}
 use Rattle.spot.specs.Shown.{shown}
 use Rattle.spot.specs.declared.Spot.{Spot}
 use Rattle.badnames.specs.Keys.{Tells}
@@ -46,6 +47,17 @@ module _ {P : Type 0} (L : Layout) where
   -- the checks of each object in turn
   unfoldable pub eachObject : ℕ → List (Named P) → List (Step P)
   eachObject start = eachOf (λ i n. map (inObject i (some (n .name))) (objectSteps L start n)) 0
+
+module _ {P : Type 0} (L : Layout) (start : ℕ) (t : Node P) where
+  -- the objects that are gone on to
+  pub record Opened : Type 0 where
+    pub pairs : List (Pair P)
+    pub objects : Node P
+    pub named : List (Named P)
+    pub kind-is : kind t ≡ table pairs
+    pub found : field (objectsField L) pairs ≡ some objects
+    pub names-are : names objectLimit objects ≡ pass named
+    pub rest : first (manifestSteps L start t) ≡ first (eachObject L start named)
 
 -- ---------------------------------------------------------------- what is answered
 

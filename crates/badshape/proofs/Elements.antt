@@ -1,5 +1,5 @@
 -- The loop over a shape's elements: those that are due, and the checks that are left.
-use Prim.Native.Nat.{ℕ, zero, suc, _+_, _-_, _≤_, _<_}
+use Prim.Native.Nat.{ℕ, suc, _+_, _-_, _≤_, _<_}
 use native.Mathlib.Omega.{arith}
 use mathlib.Core.List.{List, [], _∷_, _++_}
 use mathlib.Core.Bool.{Bool, true, false}
@@ -17,7 +17,7 @@ use Rattle.meaning.specs.Limit.{rankLimit}
 use Rattle.meaning.specs.Kind as kinds
 use Rattle.meaning.specs.Kind.{aNumber, aList}
 use Rattle.meaning.specs.Read.{item, noNote}
-use Rattle.meaning.proofs.ReadPrefix.{item-exact, item-hungry, never-beyond}
+use Rattle.meaning.proofs.ReadPrefix.{item-exact, item-hungry}
 use Rattle.cbor.specs.Ending.{FAULT, code, itemEnd, took}
 use Rattle.cbor.proofs.Loops as loops
 use Rattle.walk.specs.Reading.{Ends, Reads, DueNodes}
@@ -29,6 +29,7 @@ use Rattle.walk.specs.declared.Numeral.the-variants.{NoNumber, Number}
 use Rattle.walk.proofs.Lists.{none-read, past-node}
 use Rattle.walk.proofs.Passed.{Here}
 use Rattle.walk.proofs.ReadSays.{note-of}
+use Rattle.walk.proofs.Found.{number-read}
 use Rattle.explained.specs.Step as steps
 use Rattle.explained.specs.Step.{Step, first, given, passes, every}
 use Rattle.explained.specs.Order.{shapeSteps}
@@ -102,11 +103,6 @@ pub record Passing (mode count : ℕ) (s : List ℕ) (at rank : ℕ) : Type 0 wh
 whole-is : (d : ℕ) (s : List ℕ) (t : Node Ends) (r : List ℕ) → Reads d s t r → length s ≡ length (noteOf t .start)
 whole-is d s t r e = sym (ap (λ (x : Ends). length (x .start)) (note-of d s t r e))
 
-number-here : (d : ℕ) (s : List ℕ) (v : Numeral) → NumberIs s v → (x : Node Ends) (r : List ℕ) → Reads d s x r → aNumber x ≡ numeral v
-unfolding item
-number-here zero s v h x r e = absurd (never-beyond s x r e)
-number-here (suc d) s v h x r e = h d x r e
-
 module _ (s : List ℕ) {v : Opening} (h : ListIs (Here s 0) v) where
   pub no-list : v ≡ NotOpen → {z : Spot} → z ≡ spot 8 (length s) → ShapeIs s z
   unfolding shapeSteps shown
@@ -168,7 +164,7 @@ module _ {mode count : ℕ} {s : List ℕ} {at rank : ℕ} (p : Passing mode cou
           go [] z y = absurd (let z : _≡_ {A = ℕ} 0 1 = cc in omega arith)
           go (x ∷ xs) z y =
               let c = y .due-are .chain in
-              f t x xs (c .0) (c .1) (number-here 28 (drop at s) v (subst (λ u. NumberIs u v) (part-to-end s at) is-v) x (c .0) (c .1)) y
+              f t x xs (c .0) (c .1) (number-read 28 (drop at s) v (subst (λ u. NumberIs u v) (part-to-end s at) is-v) x (c .0) (c .1)) y
 
       module _ {v : Numeral} (is-v : NumberIs (Here s at) v) where
         pub no-number : v ≡ NoNumber → {z : Spot} → z ≡ spot 8 (length s - at) → ShapeIs s z

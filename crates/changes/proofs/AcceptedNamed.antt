@@ -1,45 +1,20 @@
 -- A file that is accepted, in any layout, describes objects and components without a repeated name: the theorems hold of any two accepted files.
-use Prim.Native.Nat.{ℕ, zero, suc, _+_}
-use native.Mathlib.Omega.{arith}
+use Prim.Native.Nat.{ℕ, zero, suc}
 use mathlib.Core.List.{List, [], _∷_, map}
 use mathlib.Core.Bool.{true}
 use mathlib.Core.Option.{Option, some, Option·some-injective, Option·none-ne-some}
 use mathlib.Core.Path.{_≡_, refl, ap, _∙_, subst}
-use lib.ListN.{take, drop, getElem?}
-use Rattle.meaning.specs.Check.{Check, pass, refuse, _>>=_}
+use lib.ListN.{getElem?}
+use Rattle.meaning.specs.Check.{pass}
 use Rattle.meaning.specs.Text.{distinct}
-use Rattle.meaning.specs.Read.{Span, manifest, spanTo}
-use Rattle.meaning.specs.Model.{Component, Object, Model}
+use Rattle.meaning.specs.Read.{Span}
+use Rattle.meaning.specs.Model.{Component, Object}
 use Rattle.meaning.specs.Layouts.{Layout}
-use Rattle.meaning.specs.Judge.{judge}
-use Rattle.meaning.specs.Frame.{Frame, Reading, reading, frame, checked}
+use Rattle.meaning.specs.Frame.{Frame, Reading, reading}
 use Rattle.meaning.specs.Described.{DescribedObject, readComponent, readObject, describedBy}
-use Rattle.meaning.proofs.AcceptedModel.{Ensures, passed, refusal, Each, ObjectSound, ModelSound, accepted-sound}
+use Rattle.meaning.proofs.AcceptedModel.{ObjectSound, reading-sound}
+use Rattle.meaning.specs.Every.{Every}
 use Rattle.changes.specs.Differs.{partName, objectName, Named}
-
-abbrev Sound : Reading → Type 0
-Sound r = ModelSound (r .start) (r .model)
-
-after : {A : Type 0} (m : Check A) (k : A → Check Reading) → ((a : A) → Ensures Sound (k a)) → Ensures Sound (m >>= k)
-after (pass a) k h = h a
-after (refuse n o c) k h = refusal
-
-modelled : (start : ℕ) (m : Check (Model Span)) → Ensures (ModelSound start) m → Ensures Sound (m >>= λ x. pass (record { start = start; model = x }))
-modelled start m (passed h) = passed h
-modelled start m refusal = refusal
-
-reading-sound : (L : Layout) (file : List ℕ) → Ensures Sound (reading L file)
-unfolding reading
-reading-sound L file =
-    after (frame L file) _ λ f. after (checked (manifest (spanTo (f .start + f .size)) (take (f .size) (drop (f .start) file)))) _ λ t.
-    modelled (f .start) (judge L (f .start) t) (accepted-sound L (f .start) t)
-
-passes : {m : Check Reading} {r : Reading} → Ensures Sound m → m ≡ pass r → Sound r
-passes {m} {r} (passed {a = a} h) e = subst Sound (go a r e) h
-  where
-    go : (a r : Reading) → pass a ≡ pass r → a ≡ r
-    go a r e = cc
-passes refusal e = absurd (let z : _≡_ {A = ℕ} 0 1 = cc in omega arith)
 
 module _ (file : List ℕ) where
   parts-named : (cs : List (Component Span)) → map partName (map (readComponent file) cs) ≡ map (λ c. c .name .letters) cs
@@ -56,7 +31,7 @@ module _ (file : List ℕ) where
   unfolding readObject
   part-once start o h = ap distinct (parts-named (o .components)) ∙ h .names .once
 
-  every-once : (start : ℕ) (os : List (Object Span)) → Each (ObjectSound start) os
+  every-once : (start : ℕ) (os : List (Object Span)) → Every (ObjectSound start) os
       → (i : ℕ) (p : DescribedObject) → getElem? (map (readObject file) os) i ≡ some p → distinct (map partName (p .components)) ≡ true
   every-once start [] h i p e = absurd (Option·none-ne-some p e)
   every-once start (o ∷ os) h zero p e =
@@ -66,5 +41,5 @@ module _ (file : List ℕ) where
   pub accepted-named : (L : Layout) (r : Reading) → reading L file ≡ pass r → Named (describedBy file (r .model))
   unfolding describedBy
   accepted-named L r e =
-      let h = passes (reading-sound L file) e
+      let h = reading-sound L file r e
       in record { objects = ap distinct (objects-named (r .model .objects)) ∙ h .names .once; parts = every-once (r .start) (r .model .objects) (h .objects) }

@@ -13,7 +13,7 @@ use Rattle.meaning.specs.Described.{DescribedComponent, DescribedObject, Descri
 use Rattle.changes.specs.Changes.{Entry, entry, Found, across, positionApart, countApart, partWhat, objectWhat, unlessZero, ifAbsent, ofPart, firsts, seconds, inBoth, ofObject, olds, news, changes}
 use Rattle.changes.specs.Changes as made
 use Rattle.changes.specs.Differs.{In, Lacks, Both, Bytes, partName, objectName, PartWhat, ObjectWhat, Change, onlyFirst, onlySecond, object, part, partFirst, partSecond, Named}
-use Rattle.changes.proofs.Lists.{true-false, in-left, in-right, in-either, in-across, of-across, Seeking, somewhere, nowhere, seeking, seek-at, seek-lacks}
+use Rattle.changes.proofs.Lists.{in-left, in-right, in-either, in-across, of-across, Seeking, somewhere, nowhere, seeking, seek-at, seek-lacks}
 use Rattle.changes.proofs.Flags.{bytes-are, bytes-same}
 use Rattle.changes.proofs.Whats.{part-what, part-what-same, object-what, object-what-same}
 

@@ -11,10 +11,11 @@ use lib.ListN.{length, getElem?}
 use lib.Dec.{eqb}
 use borrow.Author.Tests.{eq-eqb, eqb-true, eqb-false, not-true, not-false}
 use Rattle.meaning.specs.Text.{same}
-use Rattle.text.proofs.SameIsEqual.{same-eq, eq-same}
+use Rattle.meaning.proofs.Tests.{not-both}
+use Rattle.meaning.proofs.SameText.{same-eq}
+use Rattle.text.proofs.SameIsEqual.{eq-same}
 use Rattle.changes.specs.Changes.{sameOption, differsAt, least, bit, howMany, longer, positionApart, countApart}
 use Rattle.changes.specs.Differs.{Flag, Counted, DiffersAt, Apart, Bytes}
-use Rattle.changes.proofs.Lists.{true-false}
 
 -- the test t says whether P
 pub record Says (t : Bool) (P : Type 0) : Type 0 where
@@ -39,7 +40,7 @@ pub says-not : {P : Type 0} (t : Bool) → Says t P → Says (not t) (P → ⊥)
 says-not t s = record { holds = λ e. s .fails (not-true t e); fails = λ e h. h (s .holds (not-false t e)) }
 
 pub says-or : {P Q : Type 0} (t u : Bool) → Says t P → Says u Q → Says (t || u) (P ⊎ Q)
-says-or true u s r = record { holds = λ e. inl (s .holds refl); fails = λ e h. true-false refl e }
+says-or true u s r = record { holds = λ e. inl (s .holds refl); fails = λ e h. not-both refl e }
 says-or {P} {Q} false u s r = record { holds = λ e. inr (r .holds e); fails = λ e h. go e h }
   where
     go : u ≡ false → P ⊎ Q → ⊥
@@ -50,12 +51,12 @@ pub says-eqb : (x y : ℕ) → Says (eqb x y) (x ≡ y)
 says-eqb x y = record { holds = eqb-true x y; fails = eqb-false x y }
 
 pub says-same : (x y : List ℕ) → Says (same x y) (x ≡ y)
-says-same x y = record { holds = same-eq x y; fails = λ e h. true-false (eq-same x y h) e }
+says-same x y = record { holds = same-eq x y; fails = λ e h. not-both (eq-same x y h) e }
 
 pub says-option : {A : Type 0} (t : A → A → Bool) → ((a b : A) → Says (t a b) (a ≡ b)) → (x y : Option A) → Says (sameOption t x y) (x ≡ y)
-says-option t h none none = record { holds = λ e. refl; fails = λ e q. true-false refl e }
-says-option t h none (some y) = record { holds = λ e. absurd (true-false e refl); fails = λ e. Option·none-ne-some y }
-says-option t h (some x) none = record { holds = λ e. absurd (true-false e refl); fails = λ e. Option·some-ne-none x }
+says-option t h none none = record { holds = λ e. refl; fails = λ e q. not-both refl e }
+says-option t h none (some y) = record { holds = λ e. absurd (not-both e refl); fails = λ e. Option·none-ne-some y }
+says-option t h (some x) none = record { holds = λ e. absurd (not-both e refl); fails = λ e. Option·some-ne-none x }
 says-option {A} t h (some x) (some y) = record { holds = λ e. ap {B = Option A} some (h x y .holds e); fails = λ e q. h x y .fails e (Option·some-injective x y q) }
 
 -- ---------------------------------------------------------------- positions
@@ -83,7 +84,7 @@ least-is t (suc n) p l h = go (t 0) refl p l h (least-is (λ i. t (suc i)) n)
   where
     go : (b : Bool) → t 0 ≡ b → (p : ℕ) → p < suc n → t p ≡ true → ((p : ℕ) → p < n → t (suc p) ≡ true → t (suc (least (λ i. t (suc i)) n)) ≡ true) → t (cond b 0 (suc (least (λ i. t (suc i)) n))) ≡ true
     go true e p l h ih = e
-    go false e zero l h ih = absurd (true-false h e)
+    go false e zero l h ih = absurd (not-both h e)
     go false e (suc p) l h ih = ih p (omega arith) h
 
 least-before : (t : ℕ → Bool) (n q : ℕ) → q < least t n → t q ≡ false
@@ -100,7 +101,7 @@ none-differs t h zero = refl
 none-differs t h (suc n) = rw (h 0, none-differs (λ i. t (suc i)) (λ i. h (suc i)) n)
 
 pub somewhere-apart : (x y : List ℕ) → same x y ≡ false → (p : ℕ) × (p < longer x y) × (differsAt x y p ≡ true)
-somewhere-apart [] [] h = absurd (true-false refl h)
+somewhere-apart [] [] h = absurd (not-both refl h)
 somewhere-apart [] (b ∷ y) h = (0, omega arith, refl)
 somewhere-apart (a ∷ x) [] h = (0, omega arith, refl)
 somewhere-apart (a ∷ x) (b ∷ y) h = go (eqb a b) refl (somewhere-apart x y)

@@ -5,15 +5,13 @@ use mathlib.Core.Bool.{Bool, true, false, cond, _||_}
 use mathlib.Core.Option.{Option, none, some, Option·some-injective, Option·none-ne-some}
 use mathlib.Core.Logic.{_⊎_, inl, inr}
 use mathlib.Core.Path.{_≡_, refl, sym, ap, ap₂, _∙_, subst}
-use native.Mathlib.Omega.{arith}
 use lib.ListN.{getElem?}
 use Rattle.meaning.specs.Text.{same, oneOf, distinct}
-use Rattle.text.proofs.SameIsEqual.{same-eq, eq-same}
+use Rattle.meaning.proofs.Tests.{not-both}
+use Rattle.meaning.proofs.SameText.{same-eq}
+use Rattle.text.proofs.SameIsEqual.{eq-same}
 use Rattle.changes.specs.Changes.{Found, later, seek, any, across}
 use Rattle.changes.specs.Differs.{In, Lacks}
-
-pub true-false : {t : Bool} → t ≡ true → t ≡ false → ⊥
-true-false e f = let z : _≡_ {A = ℕ} 0 1 = cc in absurd (omega arith)
 
 module _ {A : Type 0} where
   pub in-left : (e : A) (l m : List A) → In e l → In e (l ++ m)
@@ -40,7 +38,7 @@ module _ {A : Type 0} where
 
   -- tests over a list
   pub any-true : (t : A → Bool) (l : List A) → any t l ≡ true → (i : ℕ) × (a : A) × (getElem? l i ≡ some a) × (t a ≡ true)
-  any-true t [] h = absurd (true-false h refl)
+  any-true t [] h = absurd (not-both h refl)
   any-true t (x ∷ l) h = go (t x) refl h (any-true t l)
     where
       go : (b : Bool) → t x ≡ b → (b || any t l) ≡ true → (any t l ≡ true → (i : ℕ) × (a : A) × (getElem? l i ≡ some a) × (t a ≡ true)) → (i : ℕ) × (a : A) × (getElem? (x ∷ l) i ≡ some a) × (t a ≡ true)
@@ -73,7 +71,7 @@ module _ {A B : Type 0} where
 -- ---------------------------------------------------------------- names
 
 cond-false : (t d : Bool) → cond t false d ≡ true → (t ≡ false) × (d ≡ true)
-cond-false true d h = absurd (true-false h refl)
+cond-false true d h = absurd (not-both h refl)
 cond-false false d h = (refl, h)
 
 module _ {A : Type 0} (called : A → List ℕ) where
@@ -82,7 +80,7 @@ module _ {A : Type 0} (called : A → List ℕ) where
     nowhere : Lacks called l n → Seeking l n none
 
   lacks-more : (x : A) (l : List A) (n : List ℕ) → same (called x) n ≡ false → Lacks called l n → Lacks called (x ∷ l) n
-  lacks-more x l n e h zero a g q = true-false (eq-same (called x) n (ap called (Option·some-injective x a g) ∙ q)) e
+  lacks-more x l n e h zero a g q = not-both (eq-same (called x) n (ap called (Option·some-injective x a g) ∙ q)) e
   lacks-more x l n e h (suc k) a g q = h k a g q
 
   pub seeking : (l : List A) (n : List ℕ) → Seeking l n (seek called n l)
@@ -107,9 +105,9 @@ module _ {A : Type 0} (called : A → List ℕ) where
   unique [] d i j a b h g e = absurd (Option·none-ne-some a h)
   unique (x ∷ l) d zero zero a b h g e = (refl, sym (Option·some-injective x a h) ∙ Option·some-injective x b g)
   unique (x ∷ l) d zero (suc j) a b h g e =
-      absurd (true-false (oneOf-at l (called x) j b g (sym e ∙ ap called (sym (Option·some-injective x a h)))) (cond-false (oneOf (map called l) (called x)) (distinct (map called l)) d .0))
+      absurd (not-both (oneOf-at l (called x) j b g (sym e ∙ ap called (sym (Option·some-injective x a h)))) (cond-false (oneOf (map called l) (called x)) (distinct (map called l)) d .0))
   unique (x ∷ l) d (suc i) zero a b h g e =
-      absurd (true-false (oneOf-at l (called x) i a h (e ∙ ap called (sym (Option·some-injective x b g)))) (cond-false (oneOf (map called l) (called x)) (distinct (map called l)) d .0))
+      absurd (not-both (oneOf-at l (called x) i a h (e ∙ ap called (sym (Option·some-injective x b g)))) (cond-false (oneOf (map called l) (called x)) (distinct (map called l)) d .0))
   unique (x ∷ l) d (suc i) (suc j) a b h g e =
       let r = unique l (cond-false (oneOf (map called l) (called x)) (distinct (map called l)) d .1) i j a b h g e in (ap suc (r .0), r .1)
 

@@ -9,9 +9,10 @@ use lib.ListN.{getElem?}
 use lib.Dec.{eqb}
 use Rattle.meaning.specs.Text.{same, distinct}
 use Rattle.meaning.specs.Described.{DescribedComponent, DescribedObject}
+use Rattle.meaning.proofs.Tests.{not-both}
 use Rattle.changes.specs.Changes.{Found, seek, any, absent, sameOption, bit, otherDtype, otherType, otherBytes, partWhat, part, lone, found, shared, objectWhat}
 use Rattle.changes.specs.Differs.{Flag, Lacks, Both, partName, Lone, Shared, OtherDtype, OtherType, OtherBytes, PartWhat, ObjectWhat}
-use Rattle.changes.proofs.Lists.{true-false, any-true, any-at, Seeking, somewhere, nowhere, seeking, seek-at, seek-lacks}
+use Rattle.changes.proofs.Lists.{any-true, any-at, Seeking, somewhere, nowhere, seeking, seek-at, seek-lacks}
 use Rattle.changes.proofs.Flags.{Says, flag-of, flag-same, says-not, says-or, says-eqb, says-same, says-option}
 
 says-dtype : (c d : DescribedComponent) → Says (otherDtype c d) (OtherDtype c d)
@@ -42,17 +43,17 @@ part-what-same c d w v s r = s .sum ∙ ap₂ _+_ (ap₂ _+_ (flag-same (s .ofDt
 module _ (cs ds : List DescribedComponent) where
   lone-at : (k : ℕ) (c : DescribedComponent) → getElem? cs k ≡ some c → (r : Option (Found DescribedComponent)) → Seeking partName ds (c .name) r → absent r ≡ true → Lone cs ds
   lone-at k c h r (nowhere g) e = record { index = k; it = c; here = h; lacks = g }
-  lone-at k c h r (somewhere f at is) e = absurd (true-false e refl)
+  lone-at k c h r (somewhere f at is) e = absurd (not-both e refl)
 
   says-lone : Says (lone cs ds) (Lone cs ds)
   says-lone = record {
     holds = λ e. let r = any-true (λ c. absent (part (c .name) ds)) cs e in lone-at (r .0) (r .1) (r .2) (part (r .1 .name) ds) (seeking partName ds (r .1 .name)) (r .3);
-    fails = λ e l. true-false (any-at (λ c. absent (part (c .name) ds)) cs (l .index) (l .it) (l .here) (ap absent (seek-lacks partName ds (l .it .name) (l .lacks)))) e;
+    fails = λ e l. not-both (any-at (λ c. absent (part (c .name) ds)) cs (l .index) (l .it) (l .here) (ap absent (seek-lacks partName ds (l .it .name) (l .lacks)))) e;
   }
 
   module _ (t : DescribedComponent → DescribedComponent → Bool) (R : DescribedComponent → DescribedComponent → Type 0) (says : (c d : DescribedComponent) → Says (t c d) (R c d)) where
     shared-at : (k : ℕ) (c : DescribedComponent) → getElem? cs k ≡ some c → (r : Option (Found DescribedComponent)) → Seeking partName ds (c .name) r → found (t c) r ≡ true → Shared R cs ds
-    shared-at k c h r (nowhere g) e = absurd (true-false e refl)
+    shared-at k c h r (nowhere g) e = absurd (not-both e refl)
     shared-at k c h r (somewhere f at is) e = record {
       first = k;
       second = f .index;
@@ -66,7 +67,7 @@ module _ (cs ds : List DescribedComponent) where
     not-shared u e s = go (t (s .one) (s .other)) refl
       where
         go : (b : Bool) → t (s .one) (s .other) ≡ b → ⊥
-        go true q = true-false (any-at (λ c. found (t c) (part (c .name) ds)) cs (s .first) (s .one) (s .both .here)
+        go true q = not-both (any-at (λ c. found (t c) (part (c .name) ds)) cs (s .first) (s .one) (s .both .here)
             (ap (found (t (s .one))) (seek-at partName ds u (s .one .name) (s .second) (s .other) (s .both .there) (sym (s .both .alike))) ∙ q)) e
         go false q = says (s .one) (s .other) .fails q (s .differ)
 

@@ -4,7 +4,7 @@ use native.Mathlib.Nat.{zero-add}
 use native.Mathlib.Omega.{arith}
 use mathlib.Core.List.{List, [], _∷_, _++_, append-assoc, append-nil}
 use mathlib.Core.Bool.{Bool, true, false}
-use mathlib.Core.Path.{_≡_, refl, sym, ap, ap₂, _∙_, subst}
+use mathlib.Core.Path.{_≡_, refl, sym, ap, ap₂, _∙_, subst₂}
 use lib.ListN.{length, take, drop, replicate, length-append, length-drop}
 use lib.Seq.{length-take-le, sets, sets-eq, take-at, drop-at}
 use lib.Dec.{leb}
@@ -17,12 +17,10 @@ use Rattle.meaning.specs.Refusal.{ROOM}
 use Rattle.meaning.specs.Layouts.{Layout}
 use Rattle.meaning.specs.Frame.{Reading, reading}
 use Rattle.meaning.specs.Rows.{rows, roomFor, roomy, componentCount, answer, tableAfter, readInto}
-use Rattle.meaning.specs.Read.{Span}
-use Rattle.meaning.specs.Model.{Model}
 use Rattle.meaning.specs.Described.{DescribedObject, describedBy}
+use Rattle.meaning.proofs.Lengths.{rows-fill}
 use Rattle.reader.specs.declared.into.Answer.{Answer}
 use Rattle.reader.specs.Answer.{answered}
-use Rattle.readback.proofs.RowsOfModel.{rows-length}
 use Rattle.shown.specs.Accepted.{Framing}
 use Rattle.reader.specs.declared.Verdict.{Verdict}
 use Rattle.reader.specs.Verdict.{verdict}
@@ -200,10 +198,6 @@ same-changes first second r s {os} {ps} e f =
     (λ x p. ap (λ (i : ℕ). ifAbsent (entry 2 0 i 0 0 0 0 0) (object (p .name) os)) (zero-add x)) ps)
     ∙ ap₂ {A = List DescribedObject} {B = List DescribedObject} (λ os ps. flat (across (λ x o. ofObject x o (object (o .name) ps)) os ++ across (λ x p. ifAbsent (entry 2 0 x 0 0 0 0 0) (object (p .name) os)) ps)) e f
 
-rows-fill : (m : Model Span) → length (rows m) ≡ roomFor m
-unfolding roomFor
-rows-fill m = rows-length m
-
 module _ {L : Layout} {file before after : List ℕ} {a : Answer} (h : Held L file before after a) where
   pub room-is : objectWidth * a .objects + componentWidth * a .components ≡ roomFor (h .reading-is .model)
   unfolding roomFor
@@ -225,9 +219,6 @@ module _ {L : Layout} {file before after : List ℕ} {a : Answer} (h : Held L fi
   front-rows =
       ap (take (roomFor (h .reading-is .model))) (h .holds)
       ∙ take-at (rows (h .reading-is .model)) (drop (roomFor (h .reading-is .model)) before) (roomFor (h .reading-is .model)) (rows-fill (h .reading-is .model))
-
-subst2 : {A B : Type 0} (Q : A → B → Type 0) {x x′ : A} {y y′ : B} → x ≡ x′ → y ≡ y′ → Q x y → Q x′ y′
-subst2 Q {x} {x′} {y} {y′} e f q = subst (λ (a : _). Q a y′) e (subst (Q x) f q)
 
 -- the first stands before `room`, the second from there on
 module _ {L M : Layout} (framing : Framing L) (framed : Framing M) {first second work whole part left : List ℕ} {a b : Answer} {room : ℕ} (h : Held L first work whole a)
@@ -261,8 +252,8 @@ module _ {L M : Layout} (framing : Framing L) (framed : Framing M) {first second
   pub both-asked : (room ≤ length both) × Table (take room both) (a .objects) × Table (drop room both) (b .objects)
   both-asked = (
     (let l = ap length begins ∙ length-append (rows (r .model)) (left ++ rest) in let z = sized in omega (arith, l, z)),
-    subst2 Table (sym front) (sym (h .objects)) (table-of L framing first r (h .accepts) []),
-    subst2 Table (sym back) (sym (k .objects)) (table-of M framed second s (k .accepts) (drop (roomFor (s .model)) part ++ rest)),
+    subst₂ Table (sym front) (sym (h .objects)) (table-of L framing first r (h .accepts) []),
+    subst₂ Table (sym back) (sym (k .objects)) (table-of M framed second s (k .accepts) (drop (roomFor (s .model)) part ++ rest)),
   )
 
   numbers-are : is.numbersOf first (take room both) (a .objects) second (drop room both) (b .objects) ≡ changeNumbers (describedBy first (r .model)) (describedBy second (s .model))

@@ -12,9 +12,9 @@ use Rattle.meaning.specs.Limit.{componentLimit}
 use Rattle.meaning.specs.Text.{same}
 use Rattle.meaning.specs.Asked.{askedObject, askedComponent}
 use Rattle.meaning.specs.Described.{DescribedComponent, DescribedObject, describedComponent, describedObject}
-use Rattle.readback.specs.Every.{Every}
+use Rattle.meaning.proofs.Lengths.{each-row-length}
+use Rattle.meaning.specs.Every.{Every}
 use Rattle.rows.specs.Placed.{componentsAt}
-use Rattle.rows.proofs.EachRow.{how-many}
 use Rattle.changes.specs.Changes.{Entry, Found, numbers, flat, across, later, seek, part, object, unlessZero, ifAbsent, ofPart, ofObject, firsts, seconds, entry, partWhat, partEntry, objectWhat}
 use Rattle.pairs.specs.Objects.{objectAt, countAt}
 use Rattle.put.specs.Wrote.{most}
@@ -104,7 +104,7 @@ module _ (file table : List ℕ) (n : ℕ) where
   object-few j h =
       let k = countAt table (objectWidth * j) in
       let l : length (map (describedComponent file) (componentsAt k (startOf table n j) table)) ≡ k =
-      length-map (componentsAt k (startOf table n j) table) (describedComponent file) ∙ how-many askedComponent componentWidth k (drop (startOf table n j) table) in
+      length-map (componentsAt k (startOf table n j) table) (describedComponent file) ∙ each-row-length askedComponent componentWidth k (drop (startOf table n j) table) in
       omega (arith, h, l)
 
   objects-few : Table table n → (j k : ℕ) → j + k ≤ n → Every Few (objectsFrom file table n j k)

@@ -2,26 +2,26 @@
 use Prim.Native.Nat.{ℕ, zero, suc, _+_, _-_, _*_, _≤_, _<_}
 use native.Mathlib.Omega.{arith}
 use mathlib.Core.List.{List, [], _∷_, _++_, map}
-use mathlib.Core.Path.{_≡_, refl, sym, ap, ap₂, _∙_, subst}
-use lib.ListN.{length, take, drop, getD, length-append, length-map}
+use mathlib.Core.Path.{_≡_, refl, sym, ap, ap₂, _∙_}
+use lib.ListN.{length, drop, getD, length-append, length-map}
 use lib.Seq.{getD-drop, drop-drop}
 use borrow.Author.Tests.{leb-true}
 use Rattle.text.proofs.OrderIsTotal.{Which, less, more, equal, which}
 use Rattle.meaning.specs.Columns.{objectWidth, componentWidth, rankColumn, countColumn}
 use Rattle.meaning.specs.Limit.{objectLimit, componentLimit, rankLimit}
-use Rattle.meaning.specs.Check.{Check, pass, refuse, _>>=_}
-use Rattle.meaning.specs.Read.{Span, manifest, spanTo}
-use Rattle.meaning.specs.Model.{Object, Model}
+use Rattle.meaning.specs.Check.{pass}
+use Rattle.meaning.specs.Read.{Span}
+use Rattle.meaning.specs.Model.{Object}
 use Rattle.meaning.specs.Layouts.{Layout}
-use Rattle.meaning.specs.Judge.{judge}
-use Rattle.meaning.specs.Frame.{Reading, reading, frame, checked}
+use Rattle.meaning.specs.Frame.{Reading, reading}
 use Rattle.meaning.specs.Rows.{rows, roomFor, componentCount, attributesSpan}
 use Rattle.meaning.specs.Asked.{AskedObject, Asked, eachRow, askedObject, asked}
 use Rattle.meaning.specs.Described.{DescribedObject, Described, describedObject, describedObjects, described, describedBy}
-use Rattle.meaning.proofs.AcceptedModel.{Ensures, passed, refusal, Each, ObjectSound, ModelSound, accepted-sound}
-use Rattle.readback.specs.Every.{Every}
+use Rattle.meaning.proofs.AcceptedModel.{ObjectSound, ModelSound, reading-sound}
+use Rattle.meaning.proofs.Lengths.{rows-length}
+use Rattle.meaning.specs.Every.{Every}
 use Rattle.readback.specs.Spelled.{SpelledObject, askedOfObject, askedOfModel}
-use Rattle.readback.proofs.RowsOfModel.{rows-asked, rows-length}
+use Rattle.readback.proofs.RowsOfModel.{rows-asked}
 use Rattle.shown.specs.Accepted.{Framing}
 use Rattle.roundtrip.proofs.AcceptedSpelled.{accepted-spelled}
 use Rattle.roundtrip.proofs.WrittenAgain as again
@@ -32,35 +32,11 @@ use Rattle.models.specs.Tables.{Table, startOf, objectsFrom, objectOf}
 
 -- ---- the limits of an accepted file
 
-abbrev Sound : Reading → Type 0
-Sound r = ModelSound (r .start) (r .model)
-
-after : {A : Type 0} (m : Check A) (k : A → Check Reading) → ((a : A) → Ensures Sound (k a)) → Ensures Sound (m >>= k)
-after (pass a) k h = h a
-after (refuse n o c) k h = refusal
-
-modelled : (start : ℕ) (m : Check (Model Span)) → Ensures (ModelSound start) m → Ensures Sound (m >>= λ x. pass (record { start = start; model = x }))
-modelled start m (passed h) = passed h
-modelled start m refusal = refusal
-
-reading-sound : (L : Layout) (file : List ℕ) → Ensures Sound (reading L file)
-unfolding reading
-reading-sound L file =
-    after (frame L file) _ λ f. after (checked (manifest (spanTo (f .start + f .size)) (take (f .size) (drop (f .start) file)))) _ λ t.
-    modelled (f .start) (judge L (f .start) t) (accepted-sound L (f .start) t)
-
-passes : {m : Check Reading} {r : Reading} → Ensures Sound m → m ≡ pass r → Sound r
-passes {m} {r} (passed {a = a} h) e = subst Sound (go a r e) h
-  where
-    go : (a r : Reading) → pass a ≡ pass r → a ≡ r
-    go a r e = cc
-passes refusal e = absurd (let z : _≡_ {A = ℕ} 0 1 = cc in omega arith)
-
 pub record Within (o : Object Span) : Type 0 where
   pub rank : length (o .shape) ≤ rankLimit
   pub few : length (o .components) ≤ componentLimit
 
-each-within : (start : ℕ) (os : List (Object Span)) → Each (ObjectSound start) os → Every Within os
+each-within : (start : ℕ) (os : List (Object Span)) → Every (ObjectSound start) os → Every Within os
 each-within start [] h = tt
 each-within start (o ∷ os) (h, hs) =
     let ns = map (λ c. c .name .letters) (o .components) in
@@ -158,8 +134,8 @@ module _ (L : Layout) (framing : Framing L) (file : List ℕ) (r : Reading) (acc
   abbrev n : ℕ
   n = length (r .model .objects)
 
-  sound : Sound r
-  sound = passes (reading-sound L file) accepts
+  sound : ModelSound (r .start) (r .model)
+  sound = reading-sound L file _ accepts
 
   within : Every Within (r .model .objects)
   within = each-within (r .start) (r .model .objects) (sound .objects)

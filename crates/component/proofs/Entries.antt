@@ -7,11 +7,11 @@ use lib.ListN.{length, drop}
 use borrow.Rule.Slice.PartAt.{part-to-end}
 use Rattle.meaning.specs.Layouts.{Layout}
 use Rattle.cbor.specs.Ending.{FAULT, code, itemEnd, rest}
-use Rattle.walk.specs.Places.{EntryIs}
+use Rattle.walk.specs.Places.{EntryIs, Modes}
 use Rattle.walk.specs.declared.Entry.{Entry}
 use Rattle.walk.specs.declared.Entry.the-variants.{End, Value}
 use Rattle.walk.proofs.Turns as turns
-use Rattle.walk.proofs.Turns.{Walking, Modes}
+use Rattle.walk.proofs.Turns.{Walking}
 use Rattle.fields.specs.Slots.{marked, marks, SlotIs}
 use Rattle.fields.proofs.Marking.{marks-step, marked-length}
 use Rattle.fields.proofs.Texts.{Here}

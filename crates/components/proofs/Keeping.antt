@@ -14,6 +14,7 @@ use Rattle.meaning.specs.Judge.{component, componentsOf, part}
 use Rattle.walk.specs.Reading.{Ends}
 use Rattle.meaning.specs.Format as formats
 use Rattle.meaning.specs.Layouts.{Layout}
+use Rattle.meaning.proofs.Checks.{each-length}
 use Rattle.formats.specs.Parts.{partRow, partRows}
 use Rattle.formats.proofs.Rows.{rows-more}
 use Rattle.naming.specs.Naming.{namedAnyway, told}
@@ -44,7 +45,7 @@ module _ (L : Layout) (above : List ℕ → Option ℕ) (start : ℕ) (done : Li
       → (length done < componentLimit → take (4 * suc (length done)) rows′ ≡ take (4 * length done) rows ++ partRow (part c)) → FirstIs L above start (done ++ p ∷ []) Fine rows′
   unfolding entry entries
   still-fine c rows rows′ (cs, h, r) e put =
-      let l : length cs ≡ length done = named-entries.each-length (λ j p. entry L above start j (namedAnyway p)) 0 done cs h in
+      let l : length cs ≡ length done = each-length (λ j p. entry L above start j (namedAnyway p)) 0 done cs h in
       let s : length (cs ++ c ∷ []) ≡ suc (length done) = length-append cs (c ∷ []) ∙ (omega arith) in (
         cs ++ c ∷ [],
         one-more ∙ (rw (h, e) refl),
@@ -70,6 +71,6 @@ module _ (L : Layout) (above : List ℕ → Option ℕ) (start : ℕ) (done : Li
   pub all-fine : (m : ℕ) (rows : List ℕ) → names componentLimit x ≡ told done Names → FirstIs L above start done Fine rows → m ≡ length done → m ≤ componentLimit → FoundIs (componentsOf L start above x) (Yes m) rows
   unfolding entries
   all-fine m rows h (cs, e, r) is few =
-      let l : length cs ≡ length done = named-entries.each-length (λ j p. entry L above start j (namedAnyway p)) 0 done cs e in
+      let l : length cs ≡ length done = each-length (λ j p. entry L above start j (namedAnyway p)) 0 done cs e in
       let z : m ≡ length cs = is ∙ sym l in
       (cs, named h ∙ e, z, few, ap (λ i. take (4 * i) rows) z ∙ r .are (omega arith))

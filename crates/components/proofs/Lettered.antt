@@ -21,6 +21,7 @@ use Rattle.meaning.specs.Field.{field}
 use Rattle.meaning.specs.Layouts.{slot, Layout}
 use Rattle.meaning.specs.Types.{fitsOver, listed, logicals}
 use Rattle.meaning.specs.Judge.{component, aType}
+use Rattle.meaning.proofs.Checks.{pass-same, passed-on, passed}
 use Rattle.cbor.specs.Ending.{FAULT, headOf}
 use Rattle.endian.proofs.Which.{eq-or, lt-or}
 use Rattle.walk.specs.Reading.{Ends, Reads, Chain}
@@ -31,7 +32,7 @@ use Rattle.walk.proofs.Chains.{ate}
 use Rattle.fields.specs.Slots.{Stands}
 use Rattle.fields.proofs.Standing.{field-found-stands}
 use Rattle.components.specs.Typed.{WordAt, bare, lettered}
-use Rattle.components.proofs.Typed.{passed, passed-on, pass-same, TextsFrom, texts-from}
+use Rattle.components.proofs.Typed.{TextsFrom, texts-from}
 
 -- ---------------------------------------------------------------- the pairs of a map stand in its bytes
 

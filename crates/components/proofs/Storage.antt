@@ -18,10 +18,11 @@ use Rattle.meaning.specs.Judge.{orElse, isIndex, inherited, component}
 use Rattle.meaning.proofs.CurrentIsBase.{bind-assoc}
 use Rattle.meaning.proofs.OldIs001.{component-old}
 use Rattle.meaning.proofs.JudgeNatural.{Bind}
+use Rattle.meaning.proofs.Tests.{not-both}
+use Rattle.meaning.proofs.SameText.{same-eq}
 use Rattle.types.specs.Known.{position, fieldAt, formatNames, roleNames}
 use Rattle.types.proofs.Codes.{all-named}
-use Rattle.types.proofs.Tell.{not-both}
-use Rattle.text.proofs.SameIsEqual.{same-eq, eq-same}
+use Rattle.text.proofs.SameIsEqual.{eq-same}
 use Rattle.fields.proofs.Marks.{position-same, position-slot}
 use Rattle.walk.specs.Reading.{Ends}
 use Rattle.component.specs.Value.{given}

@@ -1,49 +1,24 @@
 -- A component that passes: where its type and its digest come from.
 use Prim.Native.Nat.{ℕ, _+_, _%_}
-use native.Mathlib.Omega.{arith}
 use mathlib.Core.List.{List}
-use mathlib.Core.Path.{_≡_, refl, ap, sym, _∙_}
+use mathlib.Core.Path.{_≡_, ap, sym, _∙_}
 use Rattle.meaning.specs.Tree.{Node, Pair, noteOf}
-use Rattle.meaning.specs.Check.{Check, pass, refuse, _>>=_, _>>_, _unless_, required, requiredIn, optional}
+use Rattle.meaning.specs.Check.{Check, pass, _unless_, required, requiredIn, optional, _>>=_, _>>_}
 use mathlib.Core.Bool.{_&&_}
 use mathlib.Core.Option.{Option}
 use lib.Dec.{leb, eqb}
 use Rattle.meaning.specs.Text.{all}
 use Rattle.meaning.specs.Model.{Word, Named, Component, ComponentFields}
 use Rattle.meaning.specs.Kind as kinds
-use Rattle.meaning.specs.Kind.{Kind, kind, present}
+use Rattle.meaning.specs.Kind.{kind, present}
 use Rattle.meaning.specs.Refusal.{KEY, TWICE, ALIGN, BOUNDS}
 use Rattle.meaning.specs.Limit.{alignment}
 use Rattle.meaning.specs.Layouts.{Slots, slot, somes, Layout, dtypeAt}
 use Rattle.meaning.specs.Field.{componentFields, fields, field, count, isSome, keyOf}
 use Rattle.meaning.specs.Judge.{orElse, component, aDtype, aType, raw}
+use Rattle.meaning.proofs.Checks.{pass-same, passed-on, passed}
+use Rattle.meaning.proofs.KindIs.{table-kind}
 use Rattle.walk.specs.Reading.{Ends}
-
-module _ {A B : Type 0} where
-  pub record Passed (m : Check A) (f : A → Check B) (b : B) : Type 0 where
-    pub value : A
-    pub is : m ≡ pass value
-    pub then : f value ≡ pass b
-
-  pub passed : (m : Check A) (f : A → Check B) (b : B) → (m >>= f) ≡ pass b → Passed m f b
-  passed (pass a) f b e = record { value = a; is = refl; then = e }
-  passed (refuse n o c) f b e = absurd (let z : _≡_ {A = ℕ} 0 1 = cc in omega arith)
-
-  pub passed-on : (m : Check A) (n : Check B) (b : B) → (m >> n) ≡ pass b → n ≡ pass b
-  passed-on (pass a) n b e = e
-  passed-on (refuse k o c) n b e = absurd (let z : _≡_ {A = ℕ} 0 1 = cc in omega arith)
-
-pub pass-same : {A : Type 0} {a b : A} → pass a ≡ pass b → a ≡ b
-pass-same e = cc
-
-table-of : (k : Kind Ends) (ps : List (Pair Ends)) → kinds.asTable k ≡ pass ps → k ≡ kinds.table ps
-unfolding kinds.asTable
-table-of (kinds.number n) ps e = absurd (let z : _≡_ {A = ℕ} 0 1 = cc in omega arith)
-table-of (kinds.words w) ps e = absurd (let z : _≡_ {A = ℕ} 0 1 = cc in omega arith)
-table-of (kinds.list l) ps e = absurd (let z : _≡_ {A = ℕ} 0 1 = cc in omega arith)
-table-of (kinds.table l) ps e = let z : l ≡ ps = cc in ap kinds.table z
-table-of kinds.null ps e = absurd (let z : _≡_ {A = ℕ} 0 1 = cc in omega arith)
-table-of kinds.another ps e = absurd (let z : _≡_ {A = ℕ} 0 1 = cc in omega arith)
 
 fielded : (slots : Slots) (t : Node Ends) (ps : List (Pair Ends)) → fields slots t ≡ pass ps → kind t ≡ kinds.table ps
 unfolding fields kinds.aTable
@@ -51,7 +26,7 @@ fielded slots t ps e =
     let b = passed (kinds.asTable (kind t)) _ ps e in
     let u = passed-on (KEY unless all (λ p. isSome (keyOf p)) (b .value)) _ ps (b .then) in
     let v : pass (b .value) ≡ pass ps = passed-on (TWICE unless all (λ n. leb (count n (b .value)) 1) (somes slots)) _ ps u in
-    table-of (kind t) ps (b .is ∙ v)
+    table-kind (kind t) ps (b .is ∙ v)
 
 pub record TextsFrom (L : Layout) (n : Named Ends) (k : Component Ends) : Type 0 where
   pub named : n .name ≡ k .name

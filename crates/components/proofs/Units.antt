@@ -10,6 +10,7 @@ use Rattle.meaning.specs.Model.{Word}
 use Rattle.meaning.specs.Kind.{aWord}
 use Rattle.meaning.specs.Types.{ratioOf, widthOf, listed, logicals}
 use Rattle.meaning.specs.Judge.{part, lettersOf}
+use Rattle.meaning.proofs.Checks.{pass-same}
 use Rattle.types.specs.Known.{unitNumber}
 use Rattle.formats.proofs.Rows.{unit-bare, unit-typed}
 use Rattle.walk.specs.Reading.{Ends}
@@ -20,7 +21,6 @@ use Rattle.component.specs.Value.{leftWord}
 use Rattle.fields.proofs.Places as places
 use Rattle.fields.proofs.Texts.{Here, no-word, word, letters}
 use Rattle.components.specs.Typed.{bare, lettered, SpeltUnit, UnitIs}
-use Rattle.components.proofs.Typed.{pass-same}
 
 module _ (s : List ℕ) (l : Letters) (h : TextIs (Here s 0) l) (code : ℕ) where
   pub unit-kind : l ≡ NoText → SpeltUnit s code 0

@@ -15,8 +15,8 @@ ghost use mathlib.Core.Path.{_≡_};
 ghost use Prim.Native.Nat.{ℕ};
 ghost use lib.ListN.{length};
 ghost use Rattle.cbor.specs.Ending.{code as ending, itemEnd, rest};
-ghost use Rattle.walk.proofs.Turns.{Modes};
 ghost use Rattle.components.specs.Firsts.{offered, Keeps, Walked, Concluded, ComponentsAre};
+ghost use Rattle.walk.specs.Places.{Modes};
 
 // The first fault among the entries so far: its number and the component.
 pub enum First {

@@ -96,15 +96,15 @@ rounds-within q x c a b =
     (λ (h : c ≤ x). rw (le-ltb x c h) (⊎-elim (λ (g : c < x). rw (lt-ltb c x g) (omega arith, omega arith)) (λ (g : x ≤ c). rw (le-ltb c x g) (omega arith, omega arith)) (lt-or c x)))
     (lt-or x c)
 
-nothing-less : (p : ℕ) → 0 < 10 ^ p
-nothing-less zero = lit< tt
-nothing-less (suc p) = rw (pow-suc 10 p) (omega (arith, nothing-less p))
+pub ten-some : (p : ℕ) → 0 < 10 ^ p
+ten-some zero = lit< tt
+ten-some (suc p) = rw (pow-suc 10 p) (omega (arith, ten-some p))
 
 module _ (n c p : ℕ) (z : 0 < c) (w : (10 ^ (8 + p) * c ≤ n) × (n < 10 ^ (9 + p) * c)) where
   near-within : (100000000 ≤ nearest n (10 ^ p * c)) × (nearest n (10 ^ p * c) ≤ 1000000000)
   unfolding nearest
   near-within =
-      let k : 0 < 10 ^ p * c = mul-pos (nothing-less p) z in
+      let k : 0 < 10 ^ p * c = mul-pos (ten-some p) z in
       let a : 100000000 * (10 ^ p * c) ≤ n = rw (pow-add 10 8 p, mul-assoc (10 ^ 8) (10 ^ p) c) at (w .0) in
       let b : n < 1000000000 * (10 ^ p * c) = rw (pow-add 10 9 p, mul-assoc (10 ^ 9) (10 ^ p) c) at (w .1) in
       rounds-within (n / (10 ^ p * c)) (2 * (n % (10 ^ p * c))) (10 ^ p * c) (le-div-iff-mul-le k .1 a) (div-lt-iff-lt-mul k .1 b)

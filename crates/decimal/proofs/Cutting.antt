@@ -18,10 +18,7 @@ use Rattle.decimal.proofs.Scale as scale
 use Rattle.decimal.specs.Limbs.{value, Limbs, unit, billion, rounded, near, most}
 use Rattle.decimal.specs.declared.digits.Decimal.{Decimal}
 use Rattle.decimal.specs.Decimal.{nearest, placeOf, digitsAt, nineOf, decimal}
-
-ten : (p : ℕ) → 0 < 10 ^ p
-ten zero = lit< tt
-ten (suc p) = rw (pow-suc 10 p) (omega (arith, ten p))
+use Rattle.decimal.proofs.Believed.{ten-some}
 
 -- The number all is value xs and something at this place: rest, whose digits were cut off. left is 1 exactly if it isn't 0.
 pub record Cut (all : ℕ) (xs : List ℕ) (place left : ℕ) : Type 0 where
@@ -92,7 +89,7 @@ module _ {all : ℕ} {xs : List ℕ} {p left : ℕ} (w : Cut all xs p left) wher
     passed = λ i k. ⊎-elim (λ (q : i < p). w .passed i q) (λ (q : p ≤ i). rw (same i k q) (cut-passed h)) (lt-or i p);
     bit = ⊎-elim (λ (q : r ≡ 0). rw (z q) (w .bit)) (λ (q : r ≡ 0 → ⊥). rw (n q) (lit< tt)) (eq-or r 0);
     none = λ y. ⊎-elim (λ (q : r ≡ 0). nothing (10 ^ p) r (w .rest) q (w .none (sym (z q) ∙ y))) (λ (q : r ≡ 0 → ⊥). absurd (clash left' y (n q))) (eq-or r 0);
-    some = λ y. ⊎-elim (λ (q : r ≡ 0). more (w .rest) (10 ^ p * r) (w .some (sym (z q) ∙ y))) (λ (q : r ≡ 0 → ⊥). positive (10 ^ p) r (w .rest) (ten p) q) (eq-or r 0);
+    some = λ y. ⊎-elim (λ (q : r ≡ 0). more (w .rest) (10 ^ p * r) (w .some (sym (z q) ∙ y))) (λ (q : r ≡ 0 → ⊥). positive (10 ^ p) r (w .rest) (ten-some p) q) (eq-or r 0);
   }
     where
       same : (i : ℕ) → i < p + 1 → p ≤ i → i ≡ p

@@ -11,12 +11,12 @@ use Rattle.meaning.specs.Layouts.{Layout}
 use Rattle.meaning.specs.Frame.{Reading, reading}
 use Rattle.meaning.specs.Rows.{roomFor, tableAfter, readInto}
 use Rattle.meaning.specs.Listing as listing
+use Rattle.meaning.specs.Every.{Every}
 use Rattle.finding.specs.Table.{undue, told}
 use Rattle.panel.specs.Summary.{words, summaryText}
-use Rattle.panel.specs.Stands.{Each}
 use Rattle.shown.specs.Accepted.{Framing}
 use Rattle.shown.specs.Found.{dueOf, findingOf}
-use Rattle.shown.proofs.AcceptedFile.{accepted, accepted-stands}
+use Rattle.shown.proofs.AcceptedFile.{accepted}
 use Rattle.shown.proofs.AfterReading.{read-accepts}
 use Rattle.summary.specs.Panel.{panelText, shown}
 use Rattle.display.specs.Display.{foundIn, blobLine, blobLines, objectLines, lines, panelOf}
@@ -27,7 +27,7 @@ module _ (L : Layout) (framing : Framing L) (file : List ℕ) where
   unfolding panelText panelOf summaryText tableAfter
   panel-is room r accepts =
       let h = accepted L framing file r accepts in
-      rw (text-is L file (r .start) (h .header) (r .model) (drop (roomFor (r .model)) (replicate room 0)) (accepted-stands L framing file r accepts) (h .objects)) refl
+      rw (text-is L file (r .start) (h .header) (r .model) (drop (roomFor (r .model)) (replicate room 0)) (h .model .objects)) refl
 
   -- for every file and room: the refusal of the reading, or the text of what was read
   pub shown-is : (room : ℕ) → shown L file room ≡ (readInto L file room >>= λ r. pass (panelOf L file r))
@@ -50,16 +50,16 @@ module _ (file : List ℕ) where
   unfolding blobLine listing.blobLine foundIn undue words
   blob-plain c h = rw h refl
 
-  blobs-plain : (cs : List (Component Span)) → Each (λ c. dueOf c ≡ false) cs → blobLines file cs ≡ listing.blobLines cs
-  unfolding blobLines listing.blobLines Each
+  blobs-plain : (cs : List (Component Span)) → Every (λ c. dueOf c ≡ false) cs → blobLines file cs ≡ listing.blobLines cs
+  unfolding blobLines listing.blobLines
   blobs-plain [] h = refl
   blobs-plain (c ∷ cs) h = rw (blob-plain c (h .0), blobs-plain cs (h .1)) refl
 
-  objects-plain : (os : List (Object Span)) → Each (λ o. Each (λ c. dueOf c ≡ false) (o .components)) os → objectLines file os ≡ listing.objectLines os
-  unfolding objectLines listing.objectLines Each
+  objects-plain : (os : List (Object Span)) → Every (λ o. Every (λ c. dueOf c ≡ false) (o .components)) os → objectLines file os ≡ listing.objectLines os
+  unfolding objectLines listing.objectLines
   objects-plain [] h = refl
   objects-plain (o ∷ os) h = rw (blobs-plain (o .components) (h .0), objects-plain os (h .1)) refl
 
-  pub lines-plain : (m : Model Span) → Each (λ o. Each (λ c. dueOf c ≡ false) (o .components)) (m .objects) → lines file m ≡ listing.listing m
+  pub lines-plain : (m : Model Span) → Every (λ o. Every (λ c. dueOf c ≡ false) (o .components)) (m .objects) → lines file m ≡ listing.listing m
   unfolding lines listing.listing
   lines-plain m h = rw (objects-plain (m .objects) h) refl

@@ -6,7 +6,6 @@ use mathlib.Core.Bool.{Bool, true, false, _&&_}
 use mathlib.Core.Option.{Option, none, some}
 use mathlib.Core.Path.{_≡_, refl, ap, _∙_}
 use lib.ListN.{length, drop}
-use lib.Seq.{drop-at}
 use lib.Dec.{eqb}
 use borrow.Author.Tests.{ne-eqb}
 use Rattle.meaning.specs.Columns.{objectWidth, componentWidth}
@@ -16,13 +15,13 @@ use Rattle.meaning.specs.Layouts.{Layout}
 use Rattle.meaning.specs.Model.{Word, Component, Object, Model}
 use Rattle.meaning.specs.Rows.{wordSpan, optionalSpan, objectRow, componentRow, objectRows, rowsOf, componentRows, rows, componentCount}
 use Rattle.meaning.specs.Listing as listing
-use Rattle.view.proofs.Columns.{onward, name-place, name-size, code-is, type-place, type-size, offset-is, length-is, component-past, blobs-width, objects-at, components-at}
+use Rattle.meaning.specs.Every.{Every, IfAny}
+use Rattle.view.proofs.Columns.{name-place, name-size, code-is, type-place, type-size, offset-is, length-is, component-past, objects-at, components-at, components-past}
 use Rattle.finding.specs.Table.{due, atRow}
 use Rattle.panel.specs.Lines.{countAt, textAt, blobLine, blobLines, objectLine, objectLines, text}
 use Rattle.panel.specs.Summary.{more}
-use Rattle.panel.specs.Stands.{Each, ObjectStands}
 use Rattle.panel.proofs.Columns.{count-is, object-past, object-line}
-use Rattle.shown.specs.Accepted.{IfAny, WordStands, ComponentAccepted, ObjectAccepted}
+use Rattle.shown.specs.Accepted.{WordStands, ComponentAccepted, ObjectAccepted}
 use Rattle.shown.specs.Found.{isNone, dueOf}
 use Rattle.display.specs.Display as is
 
@@ -60,44 +59,40 @@ module _ (L : Layout) (file : List ℕ) (start : ℕ) (header : 8 ≤ start) (T 
 
   -- ---- those of one object
 
-  blobs-are : (i : ℕ) (cs : List (Component Span)) (q : ℕ) (Y : List ℕ) → drop q T ≡ rowsOf i cs ++ Y → Each (ComponentAccepted L file start) cs
+  blobs-are : (i : ℕ) (cs : List (Component Span)) (q : ℕ) (Y : List ℕ) → drop q T ≡ rowsOf i cs ++ Y → Every (ComponentAccepted L file start) cs
       → blobLines file T ends (length cs) q ≡ is.blobLines file cs
-  unfolding blobLines is.blobLines rowsOf Each
+  unfolding blobLines is.blobLines rowsOf
   blobs-are i [] q Y e s = refl
   blobs-are i (c ∷ cs) q Y e s =
       let f = e ∙ append-assoc (componentRow i c) (rowsOf i cs) Y in
       rw (line-is q i c (rowsOf i cs ++ Y) f (s .0), blobs-are i cs (q + componentWidth) Y (component-past T q i c (rowsOf i cs ++ Y) f) (s .1)) refl
 
-  blobs-past : (i : ℕ) (cs : List (Component Span)) (q : ℕ) (Y : List ℕ) → drop q T ≡ rowsOf i cs ++ Y → drop (q + componentWidth * length cs) T ≡ Y
-  blobs-past i cs q Y e = onward T q (rowsOf i cs ++ Y) e (componentWidth * length cs) ∙ drop-at (rowsOf i cs) Y (componentWidth * length cs) (blobs-width i cs)
-
   -- ---- all objects
 
   objects-are : (i : ℕ) (os : List (Object Span)) (p q : ℕ) (X Y : List ℕ) → drop p T ≡ objectRows os ++ X → drop q T ≡ componentRows i os ++ Y
-      → Each (ObjectStands file) os → Each (ObjectAccepted L file start) os → objectLines file T ends (length os) p q ≡ is.objectLines file os
-  unfolding objectLines is.objectLines objectRows componentRows Each
-  objects-are i [] p q X Y e g t s = refl
-  objects-are i (o ∷ os) p q X Y e g t s =
+      → Every (ObjectAccepted L file start) os → objectLines file T ends (length os) p q ≡ is.objectLines file os
+  unfolding objectLines is.objectLines objectRows componentRows
+  objects-are i [] p q X Y e g s = refl
+  objects-are i (o ∷ os) p q X Y e g s =
       let f = e ∙ append-assoc (objectRow o) (objectRows os) X in
       let h = g ∙ append-assoc (rowsOf i (o .components)) (componentRows (suc i) os) Y in
       let n : countAt T p ≡ length (o .components) = count-is file T p o (objectRows os ++ X) f in
-      let past = blobs-past i (o .components) q (componentRows (suc i) os ++ Y) h in
+      let past = components-past T i (o .components) q (componentRows (suc i) os ++ Y) h in
       rw (
         n,
-        object-line file T p o (objectRows os ++ X) f (t .0),
+        object-line file T p o (objectRows os ++ X) f (s .0),
         blobs-are i (o .components) q (componentRows (suc i) os ++ Y) h (s .0 .components),
-        objects-are (suc i) os (p + objectWidth) (q + componentWidth * length (o .components)) X Y (object-past file T p o (objectRows os ++ X) f) past (t .1) (s .1),
+        objects-are (suc i) os (p + objectWidth) (q + componentWidth * length (o .components)) X Y (object-past file T p o (objectRows os ++ X) f) past (s .1),
       )
       refl
 
 -- ---- the whole
 
-module _ (L : Layout) (file : List ℕ) (start : ℕ) (header : 8 ≤ start) (m : Model Span) (rest : List ℕ)
-    (t : Each (ObjectStands file) (m .objects)) (s : Each (ObjectAccepted L file start) (m .objects)) where
+module _ (L : Layout) (file : List ℕ) (start : ℕ) (header : 8 ≤ start) (m : Model Span) (rest : List ℕ) (s : Every (ObjectAccepted L file start) (m .objects)) where
   abbrev table : List ℕ
   table = rows m ++ rest
 
   pub text-is : text file table (more true file table) (length (m .objects)) (componentCount (m .objects)) ≡ is.lines file m
   unfolding text is.lines
   text-is =
-      rw (objects-are L file start header table 0 (m .objects) 0 (objectWidth * length (m .objects)) (componentRows 0 (m .objects) ++ rest) rest (objects-at m rest) (components-at m rest) t s) refl
+      rw (objects-are L file start header table 0 (m .objects) 0 (objectWidth * length (m .objects)) (componentRows 0 (m .objects) ++ rest) rest (objects-at m rest) (components-at m rest) s) refl

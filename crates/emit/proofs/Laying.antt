@@ -201,7 +201,7 @@ back a xs zs = take a xs ++ (zs ++ drop (length xs - a) (drop a xs))
 pub part-length : (a : ℕ) (xs : List ℕ) → length (part a xs) ≡ length xs - a
 part-length a xs = ap length (part-to-end xs a) ∙ length-drop a xs
 
-back-is : (a : ℕ) (xs zs : List ℕ) → back a xs zs ≡ take a xs ++ zs
+pub back-is : (a : ℕ) (xs zs : List ℕ) → back a xs zs ≡ take a xs ++ zs
 back-is a xs zs =
     let h : length (drop a xs) ≤ length xs - a = omega (arith, length-drop a xs) in
     ap (λ (z : List ℕ). take a xs ++ (zs ++ z)) (drop-of-length-le (drop a xs) h) ∙ ap (λ (z : List ℕ). take a xs ++ z) (append-nil zs)

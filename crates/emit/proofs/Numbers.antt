@@ -4,22 +4,12 @@ use native.Mathlib.Nat.{pow-suc, pow-succ', div-div-eq-div-mul, div-one, not-suc
 use native.Mathlib.Omega.{arith}
 use mathlib.Core.List.{_∷_}
 use mathlib.Core.Path.{_≡_, refl, sym, ap, _∙_, subst}
-use lib.ListN.{length, getD}
+use lib.ListN.{getD}
 use lib.Pow.{pow-add}
 use borrow.Author.Tests.{lt-ltb, le-ltb}
 use Rattle.meaning.specs.Encoding.{big}
 use Rattle.meaning.specs.Manifest.{headOf, shortestHead}
 use Rattle.meaning.specs.WrittenFile.{littleBytes}
-
-pub big-length : (w n : ℕ) → length (big w n) ≡ w
-unfolding big
-big-length zero n = refl
-big-length (suc w) n = ap suc (big-length w (n % 256 ^ w))
-
-pub little-length : (k n : ℕ) → length (littleBytes k n) ≡ k
-unfolding littleBytes
-little-length zero n = refl
-little-length (suc k) n = ap suc (little-length k (n / 256))
 
 -- 256 ^ k as a shift
 shifted : (k : ℕ) → 256 ^ k ≡ 2 ^ (8 * k)

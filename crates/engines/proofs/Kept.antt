@@ -12,8 +12,9 @@ use Rattle.meaning.specs.Check.{Check, pass, refuse, _>>=_, _>>_, _unless_}
 use Rattle.meaning.specs.Text.{all}
 use Rattle.meaning.specs.Frame.{Reading}
 use Rattle.meaning.specs.Columns.{objectWidth, componentWidth}
-use Rattle.meaning.specs.Rows.{rows, roomFor, objectRows, componentRows, componentCount}
-use Rattle.view.proofs.Columns.{objects-width, components-width}
+use Rattle.meaning.specs.Rows.{rows, roomFor, componentCount}
+use Rattle.meaning.proofs.Tests.{both-left, both-right}
+use Rattle.meaning.proofs.Lengths.{rows-fill, none-left}
 use Rattle.engines.specs.Shared.{Who, first, second, Engine, flagOf, heldOf, objectsOf, componentsOf, layoutColumn, stateSound, nothing, Shared, own, other, noneLoaded}
 use Rattle.engines.specs.Calls.{Call, load, drops, holds, view, list, needed, layoutNumber, engineOf, readingAs, loading, taken, given, after}
 
@@ -41,9 +42,7 @@ pub eqb-same : (n : ℕ) → eqb n n ≡ true
 eqb-same n = eq-eqb n n refl
 
 pub rows-needed : (r : Reading) → length (rows (r .model)) ≡ needed r
-unfolding rows roomFor
-rows-needed r =
-    length-append (objectRows (r .model .objects)) (componentRows 0 (r .model .objects)) ∙ ap₂ {A = ℕ} {B = ℕ} (λ a b. a + b) (objects-width (r .model .objects)) (components-width 0 (r .model .objects))
+rows-needed r = rows-fill (r .model)
 
 layout-small : (n : ℕ) → leb (layoutNumber n) 1 ≡ true
 unfolding layoutNumber
@@ -80,27 +79,16 @@ zeros-are l n e = e ∙ ap (λ (k : ℕ). replicate k 0) (sym (ap length e ∙ l
 
 -- ---- an engine that has nothing loaded holds nothing
 
-pub false-not : false ≡ true → ⊥
-false-not e = let z : _≡_ {A = ℕ} 0 1 = cc in omega arith
-
-pub and-left : (a b : Bool) → a && b ≡ true → a ≡ true
-and-left true b h = refl
-and-left false b h = h
-
-pub and-right : (a b : Bool) → a && b ≡ true → b ≡ true
-and-right true b h = h
-and-right false b h = absurd (false-not h)
-
 all-zero : (l : List ℕ) → all (λ n. eqb n 0) l ≡ true → (i : ℕ) → getD l i 0 ≡ 0
 all-zero [] h i = refl
-all-zero (n ∷ l) h zero = eqb-true n 0 (and-left (eqb n 0) (all (λ n. eqb n 0) l) h)
-all-zero (n ∷ l) h (suc i) = all-zero l (and-right (eqb n 0) (all (λ n. eqb n 0) l) h) i
+all-zero (n ∷ l) h zero = eqb-true n 0 (both-left (eqb n 0) (all (λ n. eqb n 0) l) h)
+all-zero (n ∷ l) h (suc i) = all-zero l (both-right (eqb n 0) (all (λ n. eqb n 0) l) h) i
 
 idle-zeros : (a : Engine) → OkEngine a → eqb (flagOf (a .state)) 0 ≡ true → all (λ n. eqb n 0) (a .state) ≡ true
 unfolding stateSound
 idle-zeros a k e =
     let z : cond (eqb (flagOf (a .state)) 0) (all (λ n. eqb n 0) (a .state)) true ≡ true =
-    and-right (leb (flagOf (a .state)) 1 && leb (layoutColumn (a .state)) 1 && eqb (heldOf (a .state)) (objectWidth * objectsOf (a .state) + componentWidth * componentsOf (a .state)))
+    both-right (leb (flagOf (a .state)) 1 && leb (layoutColumn (a .state)) 1 && eqb (heldOf (a .state)) (objectWidth * objectsOf (a .state) + componentWidth * componentsOf (a .state)))
     (cond (eqb (flagOf (a .state)) 0) (all (λ n. eqb n 0) (a .state)) true) (k .sound) in
     ap (λ (b : Bool). cond b (all (λ n. eqb n 0) (a .state)) true) (sym e) ∙ z
 
@@ -110,17 +98,13 @@ idle-holds-none a k e = sym (k .held) ∙ all-zero (a .state) (idle-zeros a k e)
 zeros-of : (l : List ℕ) → all (λ n. eqb n 0) l ≡ true → l ≡ replicate (length l) 0
 zeros-of [] h = refl
 zeros-of (n ∷ l) h =
-    ap₂ {A = ℕ} {B = List ℕ} (λ x y. x ∷ y) (eqb-true n 0 (and-left (eqb n 0) (all (λ n. eqb n 0) l) h)) (zeros-of l (and-right (eqb n 0) (all (λ n. eqb n 0) l) h))
+    ap₂ {A = ℕ} {B = List ℕ} (λ x y. x ∷ y) (eqb-true n 0 (both-left (eqb n 0) (all (λ n. eqb n 0) l) h)) (zeros-of l (both-right (eqb n 0) (all (λ n. eqb n 0) l) h))
 
 pub idle-is-nothing : (a : Engine) → OkEngine a → eqb (flagOf (a .state)) 0 ≡ true → a ≡ nothing
 unfolding nothing
 idle-is-nothing a k e =
     ap₂ {A = List ℕ} {B = List ℕ} (λ x y. record { state = x; rows = y })
-    (zeros-of (a .state) (idle-zeros a k e) ∙ ap (λ (n : ℕ). replicate {A = ℕ} n 0) (k .eight)) (none (a .rows) (idle-holds-none a k e))
-  where
-    none : (l : List ℕ) → length l ≡ 0 → l ≡ []
-    none [] h = refl
-    none (n ∷ l) h = absurd (omega arith)
+    (zeros-of (a .state) (idle-zeros a k e) ∙ ap (λ (n : ℕ). replicate {A = ℕ} n 0) (k .eight)) (none-left (a .rows) (idle-holds-none a k e))
 
 -- ---- calls
 

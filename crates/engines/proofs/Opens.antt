@@ -1,8 +1,8 @@
 -- Shared numbers that are sound come apart as they were put together; so a state left by calls is never refused.
 use Prim.Native.Nat.{ℕ, zero, suc, _+_, _-_, _*_, _≤_, _<_}
 use native.Mathlib.Omega.{arith}
-use mathlib.Core.List.{List, [], _∷_, _++_, append-assoc}
-use mathlib.Core.Bool.{Bool, true, false, cond, _&&_}
+use mathlib.Core.List.{List, _++_, append-assoc, append-nil}
+use mathlib.Core.Bool.{Bool, true, false, cond}
 use mathlib.Core.Path.{_≡_, refl, sym, ap, ap₂, _∙_, subst}
 use lib.Dec.{eqb, leb}
 use lib.ListN.{length, take, drop, getD, replicate, length-append, length-take, length-drop, length-replicate, replicate-append-replicate, take-append-drop}
@@ -10,13 +10,9 @@ use lib.Seq.{length-take-le, take-at, drop-at, drop-drop}
 use borrow.Author.Tests.{leb-true, eqb-true, eq-eqb, le-leb}
 use Rattle.meaning.specs.Check.{Check, pass, refuse, _>>=_, _>>_, _unless_}
 use Rattle.meaning.specs.Refusal.{INDEX}
+use Rattle.meaning.proofs.Tests.{four-true}
 use Rattle.engines.specs.Shared.{Who, first, second, Engine, flagOf, heldOf, stateSound, nothing, Shared, own, other, closed, partOf, usable, apart, opened, noneLoaded, zeros}
-use Rattle.engines.proofs.Kept.{OkEngine, Ok, false-not, and-left, and-right}
-
-four : (a b c d : Bool) → a && b && c && d ≡ true → (a ≡ true) × ((b ≡ true) × ((c ≡ true) × (d ≡ true)))
-four true true c d h = (refl, (refl, (and-left c d h, and-right c d h)))
-four true false c d h = absurd (false-not h)
-four false b c d h = absurd (false-not h)
+use Rattle.engines.proofs.Kept.{OkEngine, Ok}
 
 engine-is : (a : Engine) (st rs : List ℕ) → st ≡ a .state → rs ≡ a .rows → _≡_ {A = Engine} (record { state = st; rows = rs }) a
 engine-is a st rs e f = ap₂ {A = List ℕ} {B = List ℕ} (λ x y. record { state = x; rows = y }) e f
@@ -142,7 +138,7 @@ module _ (size : ℕ) (l : List ℕ) where
       tests : usable size l a b ≡ true → Opened size l parts
       tests e =
           let x : (eqb (length l) (size + 16) ≡ true) × ((stateSound (a .state) ≡ true) × ((stateSound (b .state) ≡ true) × (leb (h₀ + h₁) size ≡ true))) =
-          four (eqb (length l) (size + 16)) (stateSound (a .state)) (stateSound (b .state)) (leb (h₀ + h₁) size) e in
+          four-true (eqb (length l) (size + 16)) (stateSound (a .state)) (stateSound (b .state)) (leb (h₀ + h₁) size) e in
           parts-opened (eqb-true (length l) (size + 16) (x .0)) (x .1 .0) (x .1 .1 .0) (leb-true (h₀ + h₁) size (x .1 .1 .1))
 
       go : (u : Bool) → usable size l a b ≡ u → _≡_ {A = Check Shared} ((INDEX unless u) >> pass parts) (pass s) → Opened size l s
@@ -154,7 +150,3 @@ pub zeros-closed : (size : ℕ) → closed (noneLoaded size) ≡ zeros size
 unfolding closed noneLoaded nothing zeros
 zeros-closed size =
     ap (λ (a : List ℕ). a ++ replicate {A = ℕ} 16 0) (append-nil (replicate size 0)) ∙ replicate-append-replicate size 16 0
-  where
-    append-nil : (l : List ℕ) → l ++ [] ≡ l
-    append-nil [] = refl
-    append-nil (n ∷ l) = ap {B = List ℕ} (λ r. n ∷ r) (append-nil l)

@@ -1,12 +1,13 @@
 -- What code stores: a load writes the rows and the engine's eight numbers and nothing else, a drop zeros in their places.
 use Prim.Native.Nat.{ℕ, zero, suc, _+_, _-_, _*_, _≤_, _<_}
 use native.Mathlib.Omega.{arith}
-use mathlib.Core.List.{List, [], _∷_, _++_, append-assoc}
+use mathlib.Core.List.{List, [], _++_, append-assoc, append-nil}
 use mathlib.Core.Path.{_≡_, refl, sym, ap, ap₂, _∙_, subst}
 use lib.ListN.{length, take, drop, getD, replicate, length-append, length-drop, length-replicate, take-append-drop}
 use lib.Seq.{length-take-le, take-at, drop-at, sets, sets-eq}
 use Rattle.meaning.specs.Check.{Check, pass, refuse}
 use Rattle.meaning.specs.Frame.{Reading}
+use Rattle.meaning.proofs.Lengths.{none-left}
 use Rattle.engines.specs.Shared.{Who, first, second, Engine, heldOf, nothing, Shared, own, closed}
 use Rattle.engines.specs.Calls.{needed, engineOf, taken, given}
 use Rattle.engines.proofs.Kept.{OkEngine, Ok, Fits, idle-holds-none, rows-needed, engine-ok, nothing-ok}
@@ -35,14 +36,6 @@ both p q q′ r u v v′ x n m e f g h =
     let k : length (t ++ u) ≡ length t + length u = length-append t u in
     ap (λ (l : List ℕ). sets l m v′) (one ∙ sym (append-assoc t u (v ++ x))) ∙ overwrite (t ++ u) v v′ x m (omega (arith, a, b, c, d, k, f, g)) h
     ∙ append-assoc t u (v′ ++ x)
-
-none-left : (l : List ℕ) → length l ≡ 0 → l ≡ []
-none-left [] h = refl
-none-left (n ∷ l) h = absurd (omega arith)
-
-append-nil : (l : List ℕ) → l ++ [] ≡ l
-append-nil [] = refl
-append-nil (n ∷ l) = ap {B = List ℕ} (λ r. n ∷ r) (append-nil l)
 
 -- the same at the end of both
 both-end : (a f q q′ u v v′ : List ℕ) (n m : ℕ) → length a + length f ≡ n → length q ≡ length q′ → length (a ++ (f ++ q)) + length u ≡ m → length v ≡ length v′

@@ -13,13 +13,13 @@ use Rattle.meaning.specs.Tree.{Node, Pair, noteOf}
 use Rattle.meaning.specs.Kind.{kind, table, aTable, asTable}
 use Rattle.meaning.specs.Check.{pass}
 use Rattle.walk.specs.Reading.{Ends, Reads, Due, foldl}
-use Rattle.walk.specs.Places.{MapIs}
+use Rattle.walk.specs.Places.{MapIs, Modes}
 use Rattle.walk.specs.declared.Opening.{Opening}
 use Rattle.walk.specs.declared.Opening.the-variants.{NotOpen, Opened}
 use Rattle.walk.proofs.Passed.{Here}
 use Rattle.walk.proofs.ReadSays.{note-of}
 use Rattle.walk.proofs.Opens as opens
-use Rattle.walk.proofs.Turns.{Walking, Modes}
+use Rattle.walk.proofs.Turns.{Walking}
 use Rattle.entry.proofs.Folding.{starts}
 use Rattle.entry.specs.Nth.{places, chosen, nth, leftBoth, Held, inTable, EntryIs}
 use Rattle.entry.specs.declared.Places.{Places}

@@ -8,12 +8,12 @@ use borrow.Rule.Slice.PartAt.{part-to-end}
 use Rattle.meaning.specs.Tree.{Pair}
 use Rattle.cbor.specs.Ending.{FAULT, code, itemEnd}
 use Rattle.walk.specs.Reading.{Ends, Due, foldl}
-use Rattle.walk.specs.Places.{EntryIs}
+use Rattle.walk.specs.Places.{EntryIs, Modes}
 use Rattle.walk.specs.declared.Entry.{Entry}
 use Rattle.walk.specs.declared.Entry.the-variants.{End, Value}
 use Rattle.walk.proofs.Passed.{Here}
 use Rattle.walk.proofs.Turns as turns
-use Rattle.walk.proofs.Turns.{Walking, Modes, Entered}
+use Rattle.walk.proofs.Turns.{Walking, Entered}
 
 module _ {S : Type 0} (f : S → Pair Ends → S) (d mode count : ℕ) (s : List ℕ) (z : S) (modes : Modes mode count) where
   pub starts : Walking f d mode count s z 0 count z

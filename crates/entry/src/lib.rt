@@ -2,8 +2,8 @@
 use walk::Entry;
 use walk::Opening;
 ghost use mathlib.Core.Path.{_≡_};
-ghost use Rattle.walk.proofs.Turns.{Modes};
 ghost use Rattle.entry.specs.Nth as is;
+ghost use Rattle.walk.specs.Places.{Modes};
 
 // Bytes left at the key and at the value; 0 and 0 for none.
 pub struct Places {

@@ -1,7 +1,7 @@
 -- The order does not look at annotations: the checks of a tree with other annotations are its checks with their annotations changed.
 use Prim.Native.Nat.{ℕ, zero, suc}
-use mathlib.Core.List.{List, [], _∷_, _++_, map}
-use mathlib.Core.Bool.{Bool, true, false, cond}
+use mathlib.Core.List.{List, [], _∷_, map}
+use mathlib.Core.Bool.{Bool}
 use mathlib.Core.Option.{Option, none, some}
 use mathlib.Core.Path.{_≡_, refl, ap, ap₂, sym, _∙_}
 use lib.ListN.{length, length-map, getD}
@@ -17,15 +17,13 @@ use Rattle.meaning.specs.Field.{isSome, keyOf, field, nameOf, names}
 use Rattle.meaning.specs.Format.{Part, Role, role}
 use Rattle.meaning.specs.Judge.{aDtype, part}
 use Rattle.meaning.proofs.JudgeNatural.{map-map, each-map, each-number, present-map, aNumber-map, aWord-map, aList-map, aTable-map, aText-map, keyOf-map, field-map, nameOf-map, names-map, aDtype-map, part-map, note-map, optional-same, shapeOf-map, componentsOf-map}
+use Rattle.meaning.proofs.Tests.{cond-map}
+use Rattle.meaning.proofs.Lengths.{map-both}
 use Rattle.explained.specs.Fields.{lengthOf}
 use Rattle.explained.specs.Step
 use Rattle.explained.specs.Step.{Step, _at_unless_, given, passes, every, eachOf, first}
 use Rattle.explained.specs.Order.{numberSteps, wordSteps, tableSteps, textSteps, dtypeSteps, typeSteps, rawSteps, versionSteps, shapeSteps, keySteps, repeatSteps, fieldSteps, missing, missingIn, sameNameSteps, nameSteps, componentSteps, componentsSteps, noteOr, lengthIn, lengthNote, allOf, ofRole, roleSteps, plainSteps, lengthSteps, denseSteps, csrSteps, cooSteps, groupSteps, formatSteps, objectSteps, objectsSteps, manifestSteps}
 use Rattle.explained.specs.Notes.{mapStep}
-
-map-++ : {A B : Type 0} (g : A → B) (l r : List A) → map g (l ++ r) ≡ map g l ++ map g r
-map-++ g [] r = refl
-map-++ {A} {B} g (a ∷ l) r = ap {B = List B} (λ x. g a ∷ x) (map-++ g l r)
 
 module _ {A B : Type 0} where
   given-map : (u : A → B) (m : Check A) → given (mapCheck u m) ≡ mapOption u (given m)
@@ -46,10 +44,6 @@ unfolding allOf
 allOf-map u (pass l) = refl
 allOf-map u (refuse n o c) = refl
 
-cond-map : {A B : Type 0} (g : A → B) (b : Bool) (x y : A) → g (cond b x y) ≡ cond b (g x) (g y)
-cond-map g true x y = refl
-cond-map g false x y = refl
-
 module _ {P Q A : Type 0} where
   map-bind : (g : Step P → Step Q) (v : Option A) (r : A → List (Step P)) → map g (Step._>>=_ v r) ≡ Step._>>=_ v (λ a. map g (r a))
   map-bind g none r = refl
@@ -60,7 +54,7 @@ module _ {P A B : Type 0} where
   bind-map u none r = refl
   bind-map u (some a) r = refl
 
-ruleset Push = (map-++, map-bind, bind-map, given-map, passes-map, some-map)
+ruleset Push = (map-both, map-bind, bind-map, given-map, passes-map, some-map)
 
 module _ {P Q : Type 0} (f : P → Q) where
   number-map : (t : Node P) → numberSteps (mapP f t) ≡ map (mapStep f) (numberSteps t)
@@ -167,7 +161,7 @@ module _ {P Q : Type 0} (f : P → Q) where
   eachOf-map : {A B : Type 0} (u : A → B) (g : ℕ → A → List (Step P)) (g′ : ℕ → B → List (Step Q)) → ((i : ℕ) (a : A) → g′ i (u a) ≡ map (mapStep f) (g i a))
       → (i : ℕ) (l : List A) → eachOf g′ i (map u l) ≡ map (mapStep f) (eachOf g i l)
   eachOf-map u g g′ h i [] = refl
-  eachOf-map u g g′ h i (a ∷ l) = rw (h i a, eachOf-map u g g′ h (suc i) l) (sym (map-++ (mapStep f) (g i a) (eachOf g (suc i) l)))
+  eachOf-map u g g′ h i (a ∷ l) = rw (h i a, eachOf-map u g g′ h (suc i) l) (sym (map-both (mapStep f) (g i a) (eachOf g (suc i) l)))
 
   module _ (L : Layout) where
     component-steps-map : (start : ℕ) (above : Option ℕ) (n : Named P) → componentSteps L start above (mapNamed f n) ≡ map (mapStep f) (componentSteps L start above n)

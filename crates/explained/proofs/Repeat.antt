@@ -1,43 +1,22 @@
 -- Repeats: the leftmost second copy, against counting each known field, and against names that differ.
-use Prim.Native.Nat.{ℕ, zero, suc}
+use Prim.Native.Nat.{ℕ, suc}
 use mathlib.Core.List.{List, [], _∷_, _++_, map}
 use mathlib.Core.Bool.{Bool, true, false, cond, not, _&&_}
 use mathlib.Core.Option.{Option, none, some}
-use mathlib.Core.Path.{_≡_, refl, ap, ap₂, sym, _∙_, subst}
-use lib.Dec.{eqb, leb, T, eqb→eq, eqb·zero-suc, eqb·suc-zero, eqb·suc-suc, leb·zero, leb·suc-zero, leb·suc-suc}
+use mathlib.Core.Path.{_≡_, refl, ap, sym, _∙_}
+use lib.Dec.{leb, leb·zero, leb·suc-zero, leb·suc-suc}
 use Rattle.meaning.specs.Tree.{Pair, noteOf}
 use Rattle.meaning.specs.Check.{Check, pass, refuse, _unless_}
 use Rattle.meaning.specs.Text.{same, oneOf, distinct, all}
 use Rattle.meaning.specs.Model.{Named}
 use Rattle.meaning.specs.Field.{isKey, keyOf, named, count}
 use Rattle.meaning.specs.Refusal.{TWICE}
+use Rattle.meaning.proofs.Tests.{both-true}
+use Rattle.meaning.proofs.SameText.{same-turned, same-eq}
 use Rattle.explained.specs.Step
 use Rattle.explained.specs.Step.{Step, _at_unless_, told}
 use Rattle.explained.specs.Order.{fresh, more, repeatSteps, sameNameSteps}
 use Rattle.explained.proofs.Agree.{Agree, verdict, agree-nothing, one-more}
-use Rattle.explained.proofs.Truly.{both-true}
-
-eqb-sym : (a b : ℕ) → eqb a b ≡ eqb b a
-eqb-sym zero zero = refl
-eqb-sym zero (suc b) = eqb·zero-suc b ∙ sym (eqb·suc-zero b)
-eqb-sym (suc a) zero = eqb·suc-zero a ∙ sym (eqb·zero-suc a)
-eqb-sym (suc a) (suc b) = eqb·suc-suc a b ∙ eqb-sym a b ∙ sym (eqb·suc-suc b a)
-
-pub same-sym : (x y : List ℕ) → same x y ≡ same y x
-same-sym [] [] = refl
-same-sym [] (b ∷ y) = refl
-same-sym (a ∷ x) [] = refl
-same-sym (a ∷ x) (b ∷ y) = ap₂ (λ u v. u && v) (eqb-sym a b) (same-sym x y)
-
-pub same→≡ : (x y : List ℕ) → same x y ≡ true → x ≡ y
-same→≡ [] [] h = refl
-same→≡ [] (b ∷ y) h = cc
-same→≡ (a ∷ x) [] h = cc
-same→≡ (a ∷ x) (b ∷ y) h = go (eqb a b) refl h (same→≡ x y)
-  where
-    go : (t : Bool) → eqb a b ≡ t → (t && same x y) ≡ true → (same x y ≡ true → x ≡ y) → (a ∷ x) ≡ (b ∷ y)
-    go true e h′ r = ap₂ {C = List ℕ} (λ u v. u ∷ v) (eqb→eq a b (subst T (sym e) tt)) (r h′)
-    go false e h′ r = cc
 
 -- ---------------------------------------------------------------- known fields
 
@@ -49,7 +28,7 @@ bound before n = cond (oneOf before n) 0 1
 one-name : (before : List (List ℕ)) (m k : List ℕ) (c : ℕ)
     → leb (cond (same m k) (suc c) c) (bound before m) ≡ (not (same m k && oneOf before k) && leb c (bound (k ∷ before) m))
 unfolding bound
-one-name before m k c = go (same m k) refl (same-sym m k)
+one-name before m k c = go (same m k) refl (same-turned m k)
   where
     at-same : (b : Bool) → leb (suc c) (cond b 0 1) ≡ (not b && leb c 0)
     at-same true = leb·suc-zero c
@@ -57,7 +36,7 @@ one-name before m k c = go (same m k) refl (same-sym m k)
 
     go : (t : Bool) → same m k ≡ t → same m k ≡ same k m
         → leb (cond t (suc c) c) (cond (oneOf before m) 0 1) ≡ (not (t && oneOf before k) && leb c (cond (cond (same k m) true (oneOf before m)) 0 1))
-    go true e f = let h : same k m ≡ true = sym f ∙ e in rw (h, same→≡ m k e) (at-same (oneOf before k))
+    go true e f = let h : same k m ≡ true = sym f ∙ e in rw (h, same-eq m k e) (at-same (oneOf before k))
     go false e f = let h : same k m ≡ false = sym f ∙ e in rw h
 
 mixed : (t b l o r : Bool) → ((not (t && b) && l) && (not (o && b) && r)) ≡ (not (cond t true o && b) && (l && r))
@@ -107,7 +86,7 @@ module _ {P : Type 0} where
 outside : (before : List (List ℕ)) (x : List ℕ) (xs : List (List ℕ))
     → all (λ y. not (oneOf (x ∷ before) y)) xs ≡ (not (oneOf xs x) && all (λ y. not (oneOf before y)) xs)
 outside before x [] = refl
-outside before x (y ∷ ys) = rw (outside before x ys, same-sym x y) (go (same y x) (oneOf before y) (oneOf ys x) (all (λ z. not (oneOf before z)) ys))
+outside before x (y ∷ ys) = rw (outside before x ys, same-turned x y) (go (same y x) (oneOf before y) (oneOf ys x) (all (λ z. not (oneOf before z)) ys))
   where
     go : (t b o r : Bool) → (not (cond t true b) && (not o && r)) ≡ (not (cond t true o) && (not b && r))
     go true b o r = refl

@@ -16,15 +16,12 @@ use Rattle.meaning.specs.Layouts.{Layout, slot}
 use Rattle.meaning.specs.Field.{field, fields, componentFields, names}
 use Rattle.meaning.specs.Format.{Part, Role, role}
 use Rattle.meaning.specs.Judge.{part, component, componentsOf}
+use Rattle.meaning.proofs.Checks.{required-some, pass-same, passed}
 use Rattle.explained.specs.Fields.{lengthOf}
 use Rattle.explained.specs.Step.{given}
 use Rattle.explained.specs.Order.{allOf, noteOr, lengthIn, lengthNote}
 use Rattle.explained.specs.Breaks.{At, first, later, Field, Under}
 use Rattle.explained.proofs.Parts.{fields-pairs}
-use Rattle.explained.proofs.Truly.{bind-pass}
-
-pass-same : {A : Type 0} (a b : A) → pass a ≡ pass b → a ≡ b
-pass-same a b e = cc
 
 role-at : (n : List ℕ) (i : ℕ) (ps : List Part) (ρ : Role) → role n i ps ≡ pass ρ → At (ρ .index) (ρ .part) i ps
 unfolding role
@@ -33,7 +30,7 @@ role-at n i (c ∷ cs) ρ e = go (same n (c .called)) e (role-at n (suc i) cs ρ
   where
     go : (b : Bool) → cond b (pass (record { index = i; part = c })) (role n (suc i) cs) ≡ pass ρ → (role n (suc i) cs ≡ pass ρ → At (ρ .index) (ρ .part) (suc i) cs)
         → At (ρ .index) (ρ .part) i (c ∷ cs)
-    go true e f = subst (λ (r : Role). At (r .index) (r .part) i (c ∷ cs)) (pass-same (record { index = i; part = c }) ρ e) first
+    go true e f = subst (λ (r : Role). At (r .index) (r .part) i (c ∷ cs)) (pass-same {a = record { index = i; part = c }} e) first
     go false e f = later (f e)
 
 module _ {A B : Type 0} where
@@ -59,12 +56,12 @@ module _ {A B : Type 0} where
   no-source g j b i = elim [ ]
 
   each-at : (g : ℕ → A → Check B) (j : ℕ) (b : B) (i : ℕ) (l : List A) (bs : List B) → each g i l ≡ pass bs → At j b i bs → Source g j b i l
-  each-at g j b i [] bs e h = no-source g j b i (subst (At j b i) (sym (pass-same [] bs e)) h)
+  each-at g j b i [] bs e h = no-source g j b i (subst (At j b i) (sym (pass-same e)) h)
   each-at g j b i (a ∷ l) bs e h =
-      let x = bind-pass (g i a) (λ c. each g (suc i) l >>= λ cs. pass (c ∷ cs)) bs e in
-      let y = bind-pass (each g (suc i) l) (λ cs. pass (x .value ∷ cs)) bs (x .rest) in
-      source-of g j b i a l (x .value) (y .value) (x .passed) (each-at g j b (suc i) l (y .value) (y .passed))
-      (subst (At j b i) (sym (pass-same (x .value ∷ y .value) bs (y .rest))) h)
+      let x = passed (g i a) (λ c. each g (suc i) l >>= λ cs. pass (c ∷ cs)) bs e in
+      let y = passed (each g (suc i) l) (λ cs. pass (x .value ∷ cs)) bs (x .then) in
+      source-of g j b i a l (x .value) (y .value) (x .is) (each-at g j b (suc i) l (y .value) (y .is))
+      (subst (At j b i) (sym (pass-same (y .then))) h)
 
   record Index (g : A → B) (j : ℕ) (a : A) (i : ℕ) (l : List A) : Type 0 where
     by : ℕ
@@ -78,10 +75,6 @@ module _ {A B : Type 0} where
   at-getD : (g : A → B) (j : ℕ) (a : A) (l : List A) (d : B) → At j a 0 l → getD (map g l) j d ≡ g a
   at-getD g j a l d h = let r = at-index g j a 0 l h in let s : j ≡ r .by = (let z = r .sum in omega (arith, z)) in rw s (r .got d)
 
-required-some : {A : Type 0} (v : Option A) (a : A) → required v ≡ pass a → v ≡ some a
-required-some none a e = cc
-required-some (some b) a e = cc
-
 module _ (L : Layout) {P : Type 0} where
   record Long (n : Named P) : Type 0 where
     at : Node P
@@ -90,13 +83,13 @@ module _ (L : Layout) {P : Type 0} where
   component-length : (start : ℕ) (above : Option ℕ) (n : Named P) (c : Component P) → component L start above n ≡ pass c → Long n
   unfolding component componentFields
   component-length start above n c e =
-      let f = bind-pass (componentFields (L .component) (n .value)) _ c e in
-      let g = bind-pass (fields (L .component) (n .value)) (λ ps. pass (taken ps)) (f .value) (f .passed) in
-      let d = bind-pass (requiredIn (slot 0 (L .component)) (f .value .dtype)) _ c (f .rest) in
-      let o = bind-pass (required (f .value .offset)) _ c (d .rest) in
-      let l = bind-pass (required (f .value .length)) _ c (o .rest) in
-      let h : field (lengthOf L) (g .value) ≡ some (l .value) = ap (λ (x : ComponentFields P). x .length) (pass-same (taken (g .value)) (f .value) (g .rest)) ∙ required-some (f .value .length) (l .value) (l .passed) in
-      record { at = l .value; ofLength = record { pairs = g .value; isMap = given-pass (aTable (n .value)) (g .value) (fields-pairs (L .component) (n .value) (g .value) (g .passed)); value = h } }
+      let f = passed (componentFields (L .component) (n .value)) _ c e in
+      let g = passed (fields (L .component) (n .value)) (λ ps. pass (taken ps)) (f .value) (f .is) in
+      let d = passed (requiredIn (slot 0 (L .component)) (f .value .dtype)) _ c (f .then) in
+      let o = passed (required (f .value .offset)) _ c (d .then) in
+      let l = passed (required (f .value .length)) _ c (o .then) in
+      let h : field (lengthOf L) (g .value) ≡ some (l .value) = ap (λ (x : ComponentFields P). x .length) (pass-same (g .then)) ∙ required-some (f .value .length) (l .value) (l .is) in
+      record { at = l .value; ofLength = record { pairs = g .value; isMap = given-pass (aTable (n .value)) (g .value) (fields-pairs (L .component) (n .value) (g .value) (g .is)); value = h } }
     where
       taken : List (Pair P) → ComponentFields P
       taken ps = record {
@@ -135,16 +128,16 @@ module _ (L : Layout) {P : Type 0} where
       → Seat cs (ρ .index)
   unfolding componentsOf allOf
   seat start above cs judged r ρ e h =
-      let b = bind-pass (names componentLimit cs) (λ ns. each (λ j c. inComponent j (component L start (above (c .name .letters)) c)) 0 ns) judged e in
+      let b = passed (names componentLimit cs) (λ ns. each (λ j c. inComponent j (component L start (above (c .name .letters)) c)) 0 ns) judged e in
       let p = at-map part (ρ .index) (ρ .part) 0 judged (role-at r 0 (map part judged) ρ h) in
-      let s = each-at (λ j c. inComponent j (component L start (above (c .name .letters)) c)) (ρ .index) (p .it) 0 (b .value) judged (b .rest) (p .at) in
+      let s = each-at (λ j c. inComponent j (component L start (above (c .name .letters)) c)) (ρ .index) (p .it) 0 (b .value) judged (b .then) (p .at) in
       let l = component-length start (above (s .it .name .letters)) (s .it) (p .it) (unplaced start (ρ .index) (s .it) (p .it) (component L start (above (s .it .name .letters)) (s .it)) (s .passed)) in
       record {
         named = s .it;
-        under = record { every = b .value; sound = b .passed; this = s .at };
+        under = record { every = b .value; sound = b .is; this = s .at };
         length = l .at;
         ofLength = l .ofLength;
-        called = ap (λ x. getD (map (λ n. some (n .name)) (allOf x)) (ρ .index) none) (b .passed) ∙ at-getD (λ n. some (n .name)) (ρ .index) (s .it) (b .value) none (s .at);
-        atMap = λ d. ap (λ x. getD (map (λ n. noteOf (n .value)) (allOf x)) (ρ .index) d) (b .passed) ∙ at-getD (λ n. noteOf (n .value)) (ρ .index) (s .it) (b .value) d (s .at);
-        atLength = λ d. ap (λ x. getD (map (lengthNote L) (allOf x)) (ρ .index) d) (b .passed) ∙ at-getD (lengthNote L) (ρ .index) (s .it) (b .value) d (s .at) ∙ length-note (s .it) l;
+        called = ap (λ x. getD (map (λ n. some (n .name)) (allOf x)) (ρ .index) none) (b .is) ∙ at-getD (λ n. some (n .name)) (ρ .index) (s .it) (b .value) none (s .at);
+        atMap = λ d. ap (λ x. getD (map (λ n. noteOf (n .value)) (allOf x)) (ρ .index) d) (b .is) ∙ at-getD (λ n. noteOf (n .value)) (ρ .index) (s .it) (b .value) d (s .at);
+        atLength = λ d. ap (λ x. getD (map (lengthNote L) (allOf x)) (ρ .index) d) (b .is) ∙ at-getD (lengthNote L) (ρ .index) (s .it) (b .value) d (s .at) ∙ length-note (s .it) l;
       }

@@ -16,13 +16,9 @@ use Rattle.meaning.specs.Rows.{roomFor}
 use Rattle.explained.specs.Step
 use Rattle.explained.specs.Step.{Step, first, given}
 use Rattle.explained.specs.Order.{manifestSteps}
-use Rattle.explained.specs.Explain.{span, frameSteps, headSpan, readSteps, root, fileSteps, roomSteps, explanation, neededBy, explain}
+use Rattle.explained.specs.Explain.{span, frameSteps, headSpan, readSteps, root, fileSteps, roomSteps, explanation, neededBy, explain, alone}
 use Rattle.explained.proofs.Whole.{agree-frame, agree-reading}
 use Rattle.explained.proofs.Jump.{first-here, first-past}
-
--- a check that breaks, before any object is looked at
-abbrev pub alone : ℕ → Span → Step Span
-alone n w = record { number = n; object = 0; component = 0; objectName = none; componentName = none; place = w; right = false }
 
 module _ (L : Layout) (file : List ℕ) (room : ℕ) where
   -- what is refused before the room is asked for

@@ -1,14 +1,14 @@
 -- What every check of a list that is not right says.
 use Prim.Native.Nat.{ℕ, suc}
 use mathlib.Core.List.{List, [], _∷_, _++_, map}
-use mathlib.Core.Bool.{Bool, true, false, _&&_}
+use mathlib.Core.Bool.{Bool, true, false}
 use mathlib.Core.Option.{Option, none, some}
 use mathlib.Core.Path.{_≡_, refl, ap, sym, _∙_}
-use native.Mathlib.Omega.{arith}
 use Rattle.meaning.specs.Check.{Check, pass, refuse, _>>=_, _>>_}
 use Rattle.meaning.specs.Text.{all}
 use Rattle.meaning.specs.Model.{Word}
 use Rattle.meaning.specs.Field.{isSome}
+use Rattle.meaning.proofs.Tests.{both-true}
 use Rattle.explained.specs.Step
 use Rattle.explained.specs.Step.{Step, _at_unless_, given, every, eachOf}
 use Rattle.explained.specs.Breaks.{At, first, later}
@@ -16,10 +16,6 @@ use Rattle.explained.specs.Breaks.{At, first, later}
 pub snoc : {A : Type 0} (l : List A) (a : A) (r : List A) → l ++ a ∷ r ≡ (l ++ a ∷ []) ++ r
 snoc [] a r = refl
 snoc {A} (b ∷ l) a r = ap {B = List A} (λ x. b ∷ x) (snoc l a r)
-
-pub both-true : (a b : Bool) → (a && b) ≡ true → (a ≡ true) × (b ≡ true)
-both-true true b e = (refl, e)
-both-true false b e = (cc, cc)
 
 pub all-snoc : {A : Type 0} (p : A → Bool) (l : List A) (a : A) → all p l ≡ true → p a ≡ true → all p (l ++ a ∷ []) ≡ true
 all-snoc p [] a e f = rw f
@@ -81,21 +77,7 @@ module _ {P : Type 0} {B : ℕ → ℕ → ℕ → Option (Word P) → Option (W
   truly-inObject i w nothing = nothing
   truly-inObject i w (also q f) = also q (λ e. truly-inObject i w (f e))
 
--- ---------------------------------------------------------------- what passes
-
-module _ {A B : Type 0} where
-  pub record Bound (m : Check A) (k : A → Check B) (b : B) : Type 0 where
-    pub value : A
-    pub passed : m ≡ pass value
-    pub rest : k value ≡ pass b
-
-  pub bind-pass : (m : Check A) (k : A → Check B) (b : B) → (m >>= k) ≡ pass b → Bound m k b
-  bind-pass (pass a) k b e = record { value = a; passed = refl; rest = e }
-  bind-pass (refuse n o c) k b e = absurd (let z : _≡_ {A = ℕ} 0 1 = cc in omega arith)
-
-  pub then-pass : (m : Check A) (k : Check B) (b : B) → (m >> k) ≡ pass b → k ≡ pass b
-  then-pass (pass a) k b e = e
-  then-pass (refuse n o c) k b e = cc
+-- ---------------------------------------------------------------- what is absent
 
 pub no-some : {A : Type 0} (v : Option A) → isSome v ≡ false → v ≡ none
 unfolding isSome

@@ -19,14 +19,16 @@ use Rattle.meaning.specs.Layouts.{Layout, Slots, slot, somes}
 use Rattle.meaning.specs.Field.{isSome, keyOf, field, nameOf, names}
 use Rattle.meaning.specs.Types.{codeFrom, logicals, listed, fitsOver}
 use Rattle.meaning.specs.Judge.{codeOr, orElse, aDtype, shapeOf}
+use Rattle.meaning.proofs.SameText.{same-eq}
+use Rattle.meaning.proofs.Checks.{passed-on, passed}
 use Rattle.explained.specs.Step.{Step, passes, given, every}
 use Rattle.explained.specs.Order.{fresh, more, numberSteps, wordSteps, tableSteps, textSteps, dtypeSteps, typeSteps, rawSteps, versionSteps, shapeSteps, keySteps, repeatSteps, fieldSteps, missing, missingIn, sameNameSteps, nameSteps, componentSteps, componentsSteps}
 use Rattle.explained.specs.Fields
 use Rattle.explained.specs.Fields.{Level, known, dtypeOn, attributesOn, versionOf, objectsField, shapeField, formatOf, componentsField, typeOf, offsetOf, lengthOf, unpackedOf, encodingOf, digestOf}
 use Rattle.explained.specs.Breaks
 use Rattle.explained.specs.Breaks.{Among, here, there, Asked, entry, entries, Field, Under, Holder, Names, Known, Text, is, Breaks}
-use Rattle.explained.proofs.Repeat.{same→≡, all-fresh, all-new, keysAfter, keys-snoc, fresh-snoc, namesAfter, names-snoc, new-snoc}
-use Rattle.explained.proofs.Truly.{snoc, Truly, nothing, also, truly-at, truly-then, truly-some, truly-given, truly-every, truly-each, truly-inComponent, bind-pass, then-pass, no-some}
+use Rattle.explained.proofs.Repeat.{all-fresh, all-new, keysAfter, keys-snoc, fresh-snoc, namesAfter, names-snoc, new-snoc}
+use Rattle.explained.proofs.Truly.{snoc, Truly, nothing, also, truly-at, truly-then, truly-some, truly-given, truly-every, truly-each, truly-inComponent, no-some}
 
 -- ---------------------------------------------------------------- lists
 
@@ -58,8 +60,8 @@ module _ {P : Type 0} where
   pub aText-word : (v : Node P) (w : Word P) → aText v ≡ pass w → aWord v ≡ pass w
   unfolding aText
   aText-word v w e =
-      let b = bind-pass (aWord v) (λ w. TEXT unless utf8 (w .letters) >> pass w) w e in
-      let h : pass (b .value) ≡ pass w = then-pass (TEXT unless utf8 (b .value .letters)) (pass (b .value)) w (b .rest) in b .passed ∙ h
+      let b = passed (aWord v) (λ w. TEXT unless utf8 (w .letters) >> pass w) w e in
+      let h : pass (b .value) ≡ pass w = passed-on (TEXT unless utf8 (b .value .letters)) (pass (b .value)) w (b .then) in b .is ∙ h
 
   pub record Coded (L : Layout) (v : Node P) (d : ℕ) : Type 0 where
     pub word : Word P
@@ -69,8 +71,8 @@ module _ {P : Type 0} where
   aDtype-coded : (L : Layout) (v : Node P) (d : ℕ) → aDtype L v ≡ pass d → Coded L v d
   unfolding aDtype
   aDtype-coded L v d e =
-      let b = bind-pass (aWord v) (λ w. codeOr (codeFrom 0 (L .dtypes) (w .letters))) d e in
-      record { word = b .value; isWord = b .passed; code = code-some (codeFrom 0 (L .dtypes) (b .value .letters)) d (b .rest) }
+      let b = passed (aWord v) (λ w. codeOr (codeFrom 0 (L .dtypes) (w .letters))) d e in
+      record { word = b .value; isWord = b .is; code = code-some (codeFrom 0 (L .dtypes) (b .value .letters)) d (b .then) }
 
   -- a code that is there is that of a dtype that is there
   record Owned (L : Layout) (o : Option (Node P)) (d : ℕ) : Type 0 where
@@ -81,16 +83,16 @@ module _ {P : Type 0} where
   owned : (L : Layout) (o : Option (Node P)) (d : ℕ) → optional (aDtype L) o ≡ pass (some d) → Owned L o d
   owned L none d e = absurd (let z : _≡_ {A = ℕ} 0 1 = cc in omega arith)
   owned L (some c) d e =
-      let b = bind-pass (aDtype L c) (λ x. pass (some x)) (some d) e in
-      let r = b .rest in
+      let b = passed (aDtype L c) (λ x. pass (some x)) (some d) e in
+      let r = b .then in
       let h : b .value ≡ d = cc in
-      record { at = c; isThere = refl; code = b .passed ∙ ap pass h }
+      record { at = c; isThere = refl; code = b .is ∙ ap pass h }
 
   ownless : (L : Layout) (o : Option (Node P)) → optional (aDtype L) o ≡ pass none → o ≡ none
   ownless L none e = refl
   ownless L (some c) e =
-      let b = bind-pass (aDtype L c) (λ x. pass (some x)) none e in
-      let r = b .rest in
+      let b = passed (aDtype L c) (λ x. pass (some x)) none e in
+      let r = b .then in
       absurd (let z : _≡_ {A = ℕ} 0 1 = cc in omega arith)
 
   presentKind-some : (u v : Node P) (k : Kind P) → presentKind u k ≡ some v → u ≡ v
@@ -120,7 +122,7 @@ module _ {P : Type 0} where
   seen-more left before p (some x) h f k e = go (same x k) refl e
     where
       go : (b : Bool) → same x k ≡ b → cond b true (oneOf before k) ≡ true → Seen (left ++ p ∷ []) k
-      go true q r = record { pair = p; among = among-last left p; called = h ∙ ap some (same→≡ x k q) }
+      go true q r = record { pair = p; among = among-last left p; called = h ∙ ap some (same-eq x k q) }
       go false q r = let s = f k r in record { pair = s .pair; among = among-left (p ∷ []) (s .among); called = s .called }
 
 -- ---------------------------------------------------------------- values and maps
@@ -229,7 +231,7 @@ module _ {P : Type 0} where
   taken-more left before n f k e = go (same (n .name .letters) k) refl e
     where
       go : (b : Bool) → same (n .name .letters) k ≡ b → cond b true (oneOf before k) ≡ true → Taken (left ++ n ∷ []) k
-      go true q r = record { named = n; among = among-last left n; called = same→≡ (n .name .letters) k q }
+      go true q r = record { named = n; among = among-last left n; called = same-eq (n .name .letters) k q }
       go false q r = let s = f k r in record { named = s .named; among = among-left (n ∷ []) (s .among); called = s .called }
 
 module _ {L : Layout} {P : Type 0} {t : Node P} where

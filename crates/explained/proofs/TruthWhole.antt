@@ -19,6 +19,8 @@ use Rattle.meaning.specs.Field.{isSome, field, names}
 use Rattle.meaning.specs.Types.{product}
 use Rattle.meaning.specs.Format.{Part, Role, unit, role, plain, multiple, wholeOf, whole}
 use Rattle.meaning.specs.Judge.{inherited, aDtype, part, shapeOf, componentsOf, judge}
+use Rattle.meaning.proofs.SameText.{same-eq}
+use Rattle.meaning.proofs.Checks.{passed-on, passed}
 use Rattle.explained.specs.Step.{Step, passes, given, first}
 use Rattle.explained.specs.Order.{missing, missingIn, allOf, lengthNote, ofRole, roleSteps, plainSteps, lengthSteps, denseSteps, csrSteps, cooSteps, groupSteps, formatSteps, objectSteps, objectsSteps, manifestSteps}
 use Rattle.explained.specs.Fields
@@ -26,8 +28,7 @@ use Rattle.explained.specs.Fields.{known, dtypeOn, attributesOn, version
 use Rattle.explained.specs.Lengths.{elementsFit, wholeFits, counted, indicesFit}
 use Rattle.explained.specs.Breaks
 use Rattle.explained.specs.Breaks.{Among, here, there, entry, entries, Field, Under, Holder, Ruled, Rule, roles, Breaks, Said}
-use Rattle.explained.proofs.Repeat.{same→≡}
-use Rattle.explained.proofs.Truly.{Truly, nothing, truly-at, truly-then, truly-after, truly-some, truly-given, truly-each, truly-inComponent, truly-inObject, truly-this, bind-pass, then-pass}
+use Rattle.explained.proofs.Truly.{Truly, nothing, truly-at, truly-then, truly-after, truly-some, truly-given, truly-each, truly-inComponent, truly-inObject, truly-this}
 use Rattle.explained.proofs.Truth.{aText-word, found, truth-table, truth-text, truth-fields, truth-missing, truth-missingIn, truth-dtype, truth-names, truth-shape, truth-version, truth-components, Codes, ofComponent, ofObject}
 use Rattle.explained.proofs.Seat.{Seat, seat}
 use Rattle.explained.specs.Promise.{Why}
@@ -54,8 +55,8 @@ unfolding whole wholeOf counted
 counted-whole r n = go (unit (r .part))
   where
     go : (u : Option ℕ) → wholeOf r u ≡ pass n → counted (r .part) u ≡ n
-    go none e = let h = then-pass (multiple r _) (pass none) n e in cc
-    go (some u) e = let h = then-pass (multiple r u) (pass (some _)) n e in cc
+    go none e = let h = passed-on (multiple r _) (pass none) n e in cc
+    go (some u) e = let h = passed-on (multiple r u) (pass (some _)) n e in cc
 
 -- where its dtype stands is where a component's code comes from
 codes-of : (L : Layout) {P : Type 0} → Sided L → (m : Node P) (ps : List (Pair P)) (d : Option ℕ)
@@ -73,7 +74,7 @@ codes-of L (onObject {n} w y x) m ps d g e f r =
     go : (v : Option (Node _)) (d : Option ℕ) → all (λ s. s .right) (missingIn (some n) m v) ≡ true → optional (aDtype L) v ≡ pass d → Codes L (inherited f d r)
     go v (some c) g e = ofObject y x
     go none none g e = absurd (let z : _≡_ {A = ℕ} 0 1 = cc in omega arith)
-    go (some t) none g e = absurd (let b = bind-pass (aDtype L t) (λ k. pass (some k)) none e in let q = b .rest in let z : _≡_ {A = ℕ} 0 1 = cc in omega arith)
+    go (some t) none g e = absurd (let b = passed (aDtype L t) (λ k. pass (some k)) none e in let q = b .then in let z : _≡_ {A = ℕ} 0 1 = cc in omega arith)
 
 module _ (L : Layout) {P : Type 0} (start : ℕ) (t : Node P) {i : ℕ} (B : ℕ → ℕ → ℕ → Option (Word P) → Option (Word P) → P → Type 0)
     (up : (x : ℕ) (w : P) → Breaks L start t x i 0 w → B x 0 0 none none w) (cs : Node P)
@@ -163,7 +164,7 @@ module _ (L : Layout) {P : Type 0} (start : ℕ) (t : Node P) {i : ℕ} (B : ℕ
       nothing)))
     where
       as′ : (g : List ℕ) → same g f ≡ true → Ruled L start t i g s shape cs ps
-      as′ g e = subst (λ x. Ruled L start t i x s shape cs ps) (sym (same→≡ g f e)) k
+      as′ g e = subst (λ x. Ruled L start t i x s shape cs ps) (sym (same-eq g f e)) k
 
 module _ {P : Type 0} where
   record Shaped (v : Node P) (s : List ℕ) : Type 0 where
@@ -174,9 +175,9 @@ module _ {P : Type 0} where
   shapeOf-shaped : (v : Node P) (s : List ℕ) → shapeOf v ≡ pass s → Shaped v s
   unfolding shapeOf
   shapeOf-shaped v s e =
-      let a = bind-pass (aList v) (λ dims. each (λ i. aNumber) 0 dims >>= λ s. COUNT unless leb (length s) rankLimit >> pass s) s e in
-      let b = bind-pass (each (λ i. aNumber) 0 (a .value)) (λ s. COUNT unless leb (length s) rankLimit >> pass s) s (a .rest) in
-      record { dims = a .value; isList = a .passed; isShape = b .passed ∙ then-pass (COUNT unless leb (length (b .value)) rankLimit) (pass (b .value)) s (b .rest) }
+      let a = passed (aList v) (λ dims. each (λ i. aNumber) 0 dims >>= λ s. COUNT unless leb (length s) rankLimit >> pass s) s e in
+      let b = passed (each (λ i. aNumber) 0 (a .value)) (λ s. COUNT unless leb (length s) rankLimit >> pass s) s (a .then) in
+      record { dims = a .value; isList = a .is; isShape = b .is ∙ passed-on (COUNT unless leb (length (b .value)) rankLimit) (pass (b .value)) s (b .then) }
 
 module _ (L : Layout) {P : Type 0} (start : ℕ) (t : Node P) {i : ℕ} {B : ℕ → ℕ → ℕ → Option (Word P) → Option (Word P) → P → Type 0} (n : Named P)
     (up : (x : ℕ) (w : P) → Breaks L start t x i 0 w → B x 0 0 none none w)

@@ -20,6 +20,10 @@ use Rattle.explained.specs.Order.{manifestSteps}
 abbrev pub span : ℕ → ℕ → Span
 span p s = record { place = p; size = s }
 
+-- a check that breaks, before any object is looked at
+abbrev pub alone : ℕ → Span → Step Span
+alone n w = record { number = n; object = 0; component = 0; objectName = none; componentName = none; place = w; right = false }
+
 -- 1: the file; 2: the first eight bytes; 3: the footer's, the last eight; 4, 5: the size's eight
 unfoldable pub frameSteps : Layout → List ℕ → List (Step Span)
 frameSteps L file = do

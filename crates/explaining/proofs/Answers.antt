@@ -24,8 +24,7 @@ use Rattle.reader.specs.declared.Told.the-variants.{No, Yes}
 use Rattle.explained.specs.Fields.{Sided}
 use Rattle.explained.specs.Notes.{mapStep}
 use Rattle.explained.specs.Explain as explain
-use Rattle.explained.specs.Explain.{span}
-use Rattle.explained.proofs.Stages.{alone}
+use Rattle.explained.specs.Explain.{span, alone}
 use Rattle.spot.specs.declared.Spot.{Spot}
 use Rattle.entry.specs.declared.Places.{Places}
 use Rattle.entry.specs.Nth.{EntryIs}

@@ -22,16 +22,16 @@ use Rattle.meaning.specs.Frame.{Frame, checked, Reading, reading}
 use Rattle.meaning.specs.Rows.{roomFor, componentCount}
 use Rattle.meaning.proofs.ReadNatural.{mapOut, item-follows}
 use Rattle.meaning.proofs.JudgeNatural.{judge-map}
-use Rattle.meaning.proofs.AcceptedModel.{Ensures, passed, ModelSound, ObjectSound, Each, accepted-sound}
+use Rattle.meaning.proofs.AcceptedModel.{Ensures, passed, ModelSound, ObjectSound, accepted-sound}
+use Rattle.meaning.specs.Every.{Every}
 use Rattle.walk.specs.Reading.{Ends, ends, Reads}
 use Rattle.table.specs.Spans.{spanOf}
 use Rattle.table.proofs.Objecting.{count-mapped}
 use Rattle.reader.specs.Verdict.{manifestReading, Accepted}
 use Rattle.explained.specs.Explain as explain
-use Rattle.explained.specs.Explain.{span, headSpan, root}
+use Rattle.explained.specs.Explain.{span, headSpan, root, alone}
 use Rattle.explained.proofs.Natural.{first-steps-map}
 use Rattle.explained.proofs.Stages as stages
-use Rattle.explained.proofs.Stages.{alone}
 use Rattle.shown.specs.Accepted.{Framing}
 use Rattle.shown.proofs.Judged.{between, passed-so, refused-so}
 use Rattle.shown.proofs.ReadingJudged as shown
@@ -166,7 +166,7 @@ module _ (L : Layout) (m : List ℕ) (start end : ℕ) where
         let y = a .objects-are in
         omega (arith, l, x, y)
 
-    few-each : (os : List (Object Ends)) → Each (ObjectSound start) os → componentCount os ≤ 16 * length os
+    few-each : (os : List (Object Ends)) → Every (ObjectSound start) os → componentCount os ≤ 16 * length os
     unfolding componentCount
     few-each [] h = omega arith
     few-each (o ∷ os) h =

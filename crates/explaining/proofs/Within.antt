@@ -37,8 +37,8 @@ use Rattle.met.specs.Met.{StandsIn}
 use Rattle.met.proofs.Honest.{first-stands}
 use Rattle.indexed.specs.Entry.{EntryAt}
 use Rattle.indexed.proofs.Named.{named-entry}
-use Rattle.badroot.specs.Opening.{openingSteps, eachObject, ObjectsAt}
-use Rattle.badroot.proofs.Splitting.{opening-breaks, Opened, opening-passes}
+use Rattle.badroot.specs.Opening.{openingSteps, eachObject, ObjectsAt, Opened}
+use Rattle.badroot.proofs.Splitting.{opening-breaks, opening-passes}
 use Rattle.pointed.specs.Pointed.{Met}
 use Rattle.explaining.proofs.Bare.{opening-nameless, opening-unplaced, opening-numbered}
 

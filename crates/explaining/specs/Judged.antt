@@ -24,10 +24,8 @@ use Rattle.explained.specs.Step.{Step, first}
 use Rattle.explained.specs.Notes.{mapStep}
 use Rattle.explained.specs.Order.{manifestSteps, objectSteps}
 use Rattle.explained.specs.Explain as explain
-use Rattle.explained.specs.Explain.{span}
-use Rattle.explained.proofs.Stages.{alone}
-use Rattle.badroot.specs.Opening.{ObjectsAt}
-use Rattle.badroot.proofs.Splitting.{Opened}
+use Rattle.explained.specs.Explain.{span, alone}
+use Rattle.badroot.specs.Opening.{ObjectsAt, Opened}
 use Rattle.sentence.specs.Given as given
 use Rattle.sentence.specs.declared.Explanation.{Explanation}
 

@@ -15,12 +15,11 @@ use Rattle.meaning.specs.Layouts.{Slots, slot, somes}
 use Rattle.meaning.specs.Field.{keyOf, get, field}
 use Rattle.cbor.specs.Ending.{FAULT, code, itemEnd, rest}
 use Rattle.walk.specs.Reading.{Ends, Reads, Chain, foldl}
-use Rattle.walk.specs.Places.{EntryIs}
+use Rattle.walk.specs.Places.{EntryIs, Modes}
 use Rattle.walk.specs.declared.Entry.{Entry}
 use Rattle.walk.specs.declared.Entry.the-variants.{End, Value}
 use Rattle.walk.proofs.Passed as passed
 use Rattle.walk.proofs.Passed.{Passed}
-use Rattle.walk.proofs.Turns.{Modes}
 use Rattle.fields.specs.Slots.{slotOf, marked, marks, SlotIs}
 use Rattle.fields.specs.Keeping.{Held, Noted, Walked, ValueIs}
 use Rattle.fields.proofs.Texts.{Here}

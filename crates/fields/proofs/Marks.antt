@@ -15,10 +15,11 @@ use Rattle.meaning.specs.Text.{same, all, oneOf, distinct}
 use Rattle.meaning.specs.Layouts.{Slots, slot, somes}
 use Rattle.meaning.specs.Field as field
 use Rattle.meaning.proofs.FieldsAlike.{slot-listed}
+use Rattle.meaning.proofs.Tests.{not-both}
+use Rattle.meaning.proofs.SameText.{same-eq}
 use Rattle.types.specs.Known.{fieldAt}
 use Rattle.types.proofs.Codes.{field-most}
-use Rattle.types.proofs.Tell.{not-both}
-use Rattle.text.proofs.SameIsEqual.{same-eq, eq-same, ne-same}
+use Rattle.text.proofs.SameIsEqual.{eq-same, ne-same}
 use Rattle.walk.specs.Reading.{Ends, leftAt, foldl}
 use Rattle.fields.specs.Slots.{slotOf, marks}
 use Rattle.fields.proofs.Marking.{mark-late, mark-first, mark-again, marked-length}

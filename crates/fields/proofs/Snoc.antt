@@ -11,7 +11,7 @@ use Rattle.meaning.specs.Text.{distinct}
 use Rattle.meaning.specs.Layouts.{Slots, slot, somes}
 use Rattle.meaning.specs.Field as field
 use Rattle.meaning.specs.Field.{keyOf, get}
-use Rattle.text.proofs.SameIsEqual.{same-eq}
+use Rattle.meaning.proofs.SameText.{same-eq}
 use Rattle.types.specs.Known.{fieldAt}
 use Rattle.walk.specs.Reading.{Ends, Chain, foldl}
 use Rattle.fields.specs.Slots.{slotOf, marks, Holds}

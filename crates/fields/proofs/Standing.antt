@@ -114,3 +114,12 @@ pub field-found-stands : (d : ℕ) (s : List ℕ) (o : Option (List ℕ)) (ps : 
 unfolding field.field
 field-found-stands d s none ps at l r h t e = absurd (let z : _≡_ {A = ℕ} 0 1 = cc in omega arith)
 field-found-stands d s (some n) ps at l r h t e = get-stands d s n ps at l r h t e
+
+-- what stands in a part that runs to the end stands in the whole
+pub holds-whole : (d : ℕ) (c : List ℕ) (a : ℕ) → a ≤ length c → (left : ℕ) (o : Option (Node Ends)) → Holds d (drop a c) left o → Holds d c left o
+holds-whole d c a l left none h = h
+holds-whole d c a l left (some t) (there, x) =
+    let w : left ≤ length (drop a c) = x .within in
+    let n = length-drop a c in
+    let z : a + (length (drop a c) - left) ≡ length c - left = omega arith in
+    (there, record { rest = x .rest; within = omega arith; left-is = x .left-is; reads = subst (λ u. Reads d u t (x .rest)) (drop-drop (length (drop a c) - left) a c ∙ ap (λ i. drop i c) z) (x .reads) })

@@ -1,44 +1,24 @@
 -- The whole text that begins s, as `walk::text` answers it for s lent whole: for every tree that is read there, and for the slot of a key.
 use mathlib.Core.Path.{_≡_, refl, ap, _∙_, subst}
 use mathlib.Core.List.{List}
-use mathlib.Core.Option.{none, some}
 use Prim.Native.Nat.{ℕ, suc, _+_, _-_, _≤_}
 use native.Mathlib.Omega.{arith}
 use lib.ListN.{length, take, drop}
 use borrow.Rule.Slice.PartAt.{part-to-end}
 use Rattle.meaning.specs.Check.{pass, fault}
 use Rattle.meaning.specs.Refusal.{KIND}
-use Rattle.meaning.specs.Model.{Word}
 use Rattle.meaning.specs.Kind as kinds
-use Rattle.meaning.specs.Kind.{Kind, kind}
+use Rattle.meaning.specs.Kind.{kind}
 use Rattle.meaning.specs.Layouts.{Slots}
-use Rattle.meaning.specs.Field.{keyKind}
+use Rattle.meaning.proofs.KindIs.{key-of-word, key-of-none}
 use Rattle.types.specs.Known.{fieldAt}
 use Rattle.types.proofs.Codes.{field-most}
-use Rattle.walk.specs.Reading.{Ends, ends}
+use Rattle.walk.specs.Reading.{ends}
 use Rattle.walk.specs.Places.{Whatever, textAt, TextIs, Inside}
 pub use Rattle.walk.proofs.Passed.{Here}
 use Rattle.walk.specs.declared.Letters.{Letters}
 use Rattle.walk.specs.declared.Letters.the-variants.{NoText, Text}
 use Rattle.fields.specs.Slots.{slotOf, SlotIs}
-
-no-key : (k : Kind Ends) → kinds.asWord k ≡ fault KIND → keyKind k ≡ none
-unfolding kinds.asWord keyKind
-no-key (kinds.number n) e = refl
-no-key (kinds.words w) e = absurd (let z : _≡_ {A = ℕ} 0 1 = cc in omega arith)
-no-key (kinds.list l) e = refl
-no-key (kinds.table l) e = refl
-no-key kinds.null e = refl
-no-key kinds.another e = refl
-
-key-is : (k : Kind Ends) (w : Word Ends) → kinds.asWord k ≡ pass w → keyKind k ≡ some (w .letters)
-unfolding kinds.asWord keyKind
-key-is (kinds.number n) w e = absurd (let z : _≡_ {A = ℕ} 0 1 = cc in omega arith)
-key-is (kinds.words v) w e = let z : v ≡ w = cc in ap (λ (u : Word Ends). some (u .letters)) z
-key-is (kinds.list l) w e = absurd (let z : _≡_ {A = ℕ} 0 1 = cc in omega arith)
-key-is (kinds.table l) w e = absurd (let z : _≡_ {A = ℕ} 0 1 = cc in omega arith)
-key-is kinds.null w e = absurd (let z : _≡_ {A = ℕ} 0 1 = cc in omega arith)
-key-is kinds.another w e = absurd (let z : _≡_ {A = ℕ} 0 1 = cc in omega arith)
 
 module _ (s : List ℕ) (l : Letters) where
   pub letters-in : Inside (Here s 0) l → (at n : ℕ) → l ≡ Text at n → at + n ≤ length s
@@ -54,7 +34,7 @@ module _ (s : List ℕ) (l : Letters) where
 
       pub slot-odd : (slots : Slots) (m : ℕ) → length slots ≡ m → SlotIs slots s (suc m)
       unfolding slotOf kinds.aWord
-      slot-odd slots m places d t r q = rw (no-key (kind t) (no-word d t r q), ← places) refl
+      slot-odd slots m places d t r q = rw (key-of-none (kind t) (no-word d t r q), ← places) refl
 
     module _ (at n : ℕ) (e : l ≡ Text at n) where
       -- its letters, as they are lent
@@ -68,4 +48,4 @@ module _ (s : List ℕ) (l : Letters) where
 
       pub slot-known : (slots : Slots) (m : ℕ) → length slots ≡ m → (k : ℕ) → k ≡ fieldAt slots letters → (k ≤ suc m) × SlotIs slots s k
       unfolding slotOf kinds.aWord
-      slot-known slots m places k is = (omega (arith, field-most slots letters, places, is), λ d t r q. rw (key-is (kind t) _ (word d t r q)) is)
+      slot-known slots m places k is = (omega (arith, field-most slots letters, places, is), λ d t r q. rw (key-of-word (kind t) _ (word d t r q)) is)

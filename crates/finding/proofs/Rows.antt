@@ -13,6 +13,7 @@ use Rattle.meaning.specs.Check.{Check, pass, refuse, _>>=_, _>>_, _unless_}
 use Rattle.meaning.specs.Read.{Span}
 use Rattle.meaning.specs.Types.{f32}
 use Rattle.meaning.specs.View.{viewed}
+use Rattle.meaning.proofs.Tests.{both-right}
 use Rattle.view.specs.Told as view
 use Rattle.view.specs.declared.Extent.{Extent}
 use Rattle.finding.specs.Finding.{finding, shown}
@@ -26,10 +27,6 @@ Whole s = take (length s - 0) (drop 0 s)
 
 twenty-six : _≡_ {A = ℕ} 26 0 → ⊥
 twenty-six e = omega (arith, e)
-
-second : (a b : Bool) → a && b ≡ true → b ≡ true
-second true b e = e
-second false b e = let z : _≡_ {A = ℕ} 0 1 = cc in absurd (omega arith)
 
 -- ---- whether one is due
 
@@ -87,7 +84,7 @@ module _ (file table : List ℕ) (objects components index : ℕ) where
   unfolding viewed found told row place size
   by true true e f = record {
     none = λ h. absurd (h (rw (e, f) refl));
-    lies = λ h. leb-true (row + componentWidth) (length table) (second (ltb index components) (leb (row + componentWidth) (length table)) e);
+    lies = λ h. leb-true (row + componentWidth) (length table) (both-right (ltb index components) (leb (row + componentWidth) (length table)) e);
     some = λ g h i. rw (e, f, i) refl;
   }
   by true false e f = record { none = λ h. rw (e, f) refl; lies = λ h. absurd (twenty-six (rw (e, f) at h)); some = λ g h i. absurd (twenty-six (rw (e, f) at h)) }

@@ -2,7 +2,7 @@
 use Prim.Native.Nat.{ℕ, zero, suc, _+_, _-_, _*_, _≤_, _<_, min}
 use native.Mathlib.Omega.{arith}
 use mathlib.Core.List.{List, [], _∷_, _++_, map}
-use mathlib.Core.Bool.{Bool, true, false, _&&_}
+use mathlib.Core.Bool.{Bool, true, false}
 use mathlib.Core.Logic.{⊎-elim}
 use mathlib.Core.Path.{_≡_, refl, sym, ap, _∙_}
 use lib.ListN.{length, take, drop, getD, length-append, drop-of-length-le}
@@ -17,11 +17,13 @@ use Rattle.meaning.specs.Check.{pass, _>>_, _unless_}
 use Rattle.meaning.specs.Read.{bytesAt}
 use Rattle.meaning.specs.Asked.{AskedComponent, eachRow, spanAt, askedObject, askedComponent}
 use Rattle.meaning.specs.Described.{describedComponent, describedObject, describedObjects}
+use Rattle.meaning.proofs.Lengths.{each-row-length}
+use Rattle.meaning.proofs.Tests.{and-false}
 use Rattle.names.specs.Names.{name, listed}
 use Rattle.walk.specs.Put.{put}
 use Rattle.walk.proofs.Puts.{length-put}
 use Rattle.naming.proofs.Noting.{all-snoc, one-more}
-use Rattle.rows.proofs.EachRow.{next-row-at, how-many, some-rows, split-rows}
+use Rattle.rows.proofs.EachRow.{next-row-at, some-rows, split-rows}
 use Rattle.readback.specs.Judged.{judgedNames}
 use Rattle.foresee.specs.declared.texts.Held.the-variants.{Right, Wrong}
 use Rattle.foresee.specs.Told.{told}
@@ -50,11 +52,7 @@ left-at buffer place k = ⊎-elim within past (lt-or place (length buffer))
 
 all-with-odd : (p : List ℕ → Bool) (l : List (List ℕ)) (a : List ℕ) (r : List (List ℕ)) → p a ≡ false → all p (l ++ a ∷ r) ≡ false
 all-with-odd p [] a r e = rw e refl
-all-with-odd p (x ∷ l) a r e = rw (all-with-odd p l a r e) (by (p x))
-  where
-    by : (b : Bool) → (b && false) ≡ false
-    by true = refl
-    by false = refl
+all-with-odd p (x ∷ l) a r e = rw (all-with-odd p l a r e) (and-false (p x))
 
 abbrev nameIn : List ℕ → List ℕ → List ℕ
 nameIn buffer row = bytesAt buffer (spanAt row nameColumn)
@@ -90,7 +88,7 @@ module _ (buffer rows left size : List ℕ) where
 
       count : length before ≡ i
       unfolding namesOf
-      count = how-many (nameIn buffer) width i rows
+      count = each-row-length (nameIn buffer) width i rows
 
       noted : Noted buffer (namesOf buffer width (i + 1) rows) (put left i (length buffer - place)) (put size i long)
       noted = record {
@@ -153,7 +151,7 @@ module _ (buffer rows left size : List ℕ) (width n : ℕ) (h : Noted buffer (n
 
   as-many : length names ≡ n
   unfolding namesOf
-  as-many = how-many (nameIn buffer) width n rows
+  as-many = each-row-length (nameIn buffer) width n rows
 
   pub too-many : length left < n → judgedNames room names ≡ told (Wrong 15)
   too-many l = many-names room names (h .texts) (omega (arith, l, as-many, roomy))

@@ -15,12 +15,13 @@ use Rattle.meaning.specs.Read.{Span}
 use Rattle.meaning.specs.Asked.{AskedComponent, eachRow, askedObject, askedComponent, asked, presentAt}
 use Rattle.meaning.specs.Described.{DescribedComponent, DescribedObject, describedComponent, describedObject, describedObjects, described}
 use Rattle.meaning.specs.Sound.{objectSound, rowsSound}
+use Rattle.meaning.proofs.Lengths.{each-row-length}
 use Rattle.formats.specs.declared.Ruled.{Ruled}
 use Rattle.formats.specs.declared.Ruled.the-variants.{Right as Fits, Wrong as Breaks}
 use Rattle.formats.specs.Parts as rules
 use Rattle.readback.specs.Judged.{judgedNames, judgedComponent, partOf, judgedObject, judgedObjects, deepOption, anyTooDeep, tooDeep, judged}
 use Rattle.rows.specs.Running.{counted}
-use Rattle.rows.proofs.EachRow.{first-so, how-many}
+use Rattle.rows.proofs.EachRow.{first-so}
 use Rattle.rows.proofs.Describes.{described-none, described-next, counted-next, rows-counted}
 use Rattle.rows.proofs.SoundRow.{object-rank-small}
 use Rattle.rows.proofs.Whole.{sound-lies, sound-objects}
@@ -58,7 +59,7 @@ module _ (buffer row rows : List ℕ) (n : ℕ) where
       unfolding namesOf
       few-components =
           omega
-          (arith, few-names 16 (namesOf buffer componentWidth n rows) (named ∙ ap told well), how-many (λ (row : List ℕ). take (getD row 1 0) (drop (getD row 0 0) buffer)) componentWidth n rows)
+          (arith, few-names 16 (namesOf buffer componentWidth n rows) (named ∙ ap told well), each-row-length (λ (row : List ℕ). take (getD row 1 0) (drop (getD row 0 0) buffer)) componentWidth n rows)
 
       pub last-parts : verdict ≡ (eachComponent 0 parts >> formatRules format (askedObject row .shape) (map partOf parts))
       unfolding judgedObject describedObject askedObject eachComponent

@@ -1,7 +1,7 @@
 -- For those who fill the rows: their number, one more row, and the numbers of a component with and without a logical type. Assumes nothing.
 use mathlib.Core.Path.{_≡_, refl, sym, ap, _∙_}
 use mathlib.Core.List.{List, [], _∷_, _++_, append-assoc}
-use mathlib.Core.Bool.{Bool, true, false, _&&_}
+use mathlib.Core.Bool.{false}
 use mathlib.Core.Option.{none, some}
 use Prim.Native.Nat.{ℕ, _*_}
 use native.Mathlib.Omega.{arith}
@@ -10,6 +10,7 @@ use lib.ListN.{length}
 use lib.Dec.{eqb}
 use Rattle.meaning.specs.Types.{widthOf, u64, logicals, listed, ratioOf, typeRatio}
 use Rattle.meaning.specs.Format.{Part, plain, untyped}
+use Rattle.meaning.proofs.Tests.{and-true, and-false}
 use Rattle.types.specs.Known.{unitNumber}
 use Rattle.formats.specs.Parts.{unitCode, partRow, partRows}
 
@@ -31,11 +32,7 @@ module _ (c : Part) where
 
     pub plain-bare : plain c ≡ eqb (c .code) 8
     unfolding plain untyped u64
-    plain-bare = rw bare (go (eqb (c .code) 8))
-      where
-        go : (t : Bool) → (t && true) ≡ t
-        go true = refl
-        go false = refl
+    plain-bare = rw bare (and-true (eqb (c .code) 8))
 
   module _ (w : List ℕ) (typed : c .typed ≡ some w) where
     pub unit-typed : unitCode c ≡ unitNumber (ratioOf (listed logicals w)) (widthOf (c .code))
@@ -44,8 +41,4 @@ module _ (c : Part) where
 
     pub plain-typed : plain c ≡ false
     unfolding plain untyped u64
-    plain-typed = rw typed (go (eqb (c .code) 8))
-      where
-        go : (t : Bool) → (t && false) ≡ false
-        go true = refl
-        go false = refl
+    plain-typed = rw typed (and-false (eqb (c .code) 8))

@@ -14,6 +14,7 @@ use Rattle.meaning.specs.Layouts.{Layout, current}
 use Rattle.meaning.specs.Frame.{Reading, reading}
 use Rattle.meaning.specs.Rows.{roomFor, readInto}
 use Rattle.meaning.specs.Described.{Described, describedBy}
+use Rattle.meaning.proofs.Checks.{pass-same}
 use Rattle.readback.specs.Lent.{Held}
 use Rattle.readback.specs.Back.{ReadsBack}
 use Rattle.shown.specs.Accepted.{Framing}
@@ -25,15 +26,12 @@ use Rattle.changes.proofs.AcceptedNamed.{accepted-named}
 use Rattle.changes.proofs.Itself as itself
 use Rattle.comparing.specs.Told.{refused, listed, comparedBy, compared, fitting, told}
 
-passed-same : {A : Type 0} {a b : A} → pass a ≡ pass b → a ≡ b
-passed-same e = cc
-
 -- what was written reads back
 written-back : {d : Described} {c : Check (List ℕ)} {once : List ℕ} → WrittenOrSize d c → c ≡ pass once → ReadsBack once d
 written-back too-far e = absurd (let z : _≡_ {A = ℕ} 0 1 = cc in omega arith)
 written-back too-big e = absurd (let z : _≡_ {A = ℕ} 0 1 = cc in omega arith)
 written-back no-room e = absurd (let z : _≡_ {A = ℕ} 0 1 = cc in omega arith)
-written-back {d} (reads-back b) e = subst (λ (f : List ℕ). ReadsBack f d) (passed-same e) b
+written-back {d} (reads-back b) e = subst (λ (f : List ℕ). ReadsBack f d) (pass-same e) b
 
 -- any list has room for no entries
 nothing-told : (list : ℕ) → told (listed []) list ≡ record { number = 0; file = 0; object = 0; component = 0; entries = 0 }
@@ -55,7 +53,7 @@ module _ (L : Layout) (framing : Framing L) (file table : List ℕ) (held : Held
 
   module _ (s : Reading) (again : reading current once ≡ pass s) where
     same : describedBy once (s .model) ≡ says
-    same = ap (λ (r : Reading). describedBy once (r .model)) (passed-same (sym again ∙ import-reads-back .is)) ∙ import-reads-back .back
+    same = ap (λ (r : Reading). describedBy once (r .model)) (pass-same (sym again ∙ import-reads-back .is)) ∙ import-reads-back .back
 
     pub nothing-changed : changes says (describedBy once (s .model)) ≡ []
     nothing-changed = ap (changes says) same ∙ itself.unchanged says (accepted-named file L r accepts)

@@ -16,8 +16,8 @@ use Rattle.meaning.specs.Described.{DescribedComponent, DescribedObject, Descri
 use Rattle.meaning.specs.Manifest.{Keyed, under, given, entryBytes, mapBytes, shortestHead, textBytes, manifestBytes}
 use Rattle.meaning.specs.Placement.{placement}
 use Rattle.meaning.specs.WrittenFile.{littleBytes, over, blobsOver, closing, fileOf}
+use Rattle.meaning.proofs.Lengths.{map-both, each-row-length, described-counted}
 use Rattle.rows.specs.Running.{begun, offsetAt, stepped, reached, offsetsFrom, blobLengths, objectFrom, objectsFrom, counted}
-use Rattle.rows.proofs.EachRow.{how-many}
 use Rattle.rows.proofs.Running.{manifest-placed, offsets-by-rule, reached-joined}
 use Rattle.rows.proofs.Whole.{sound-components}
 use Rattle.rows.proofs.Describes as describes
@@ -32,10 +32,6 @@ use Rattle.joint.specs.Joint.{Rows, frontOf, manifestOf, wholeOf}
 joined-both : {A : Type 0} (f : A → List ℕ) (xs ys : List A) → joined (map f (xs ++ ys)) ≡ joined (map f xs) ++ joined (map f ys)
 joined-both f [] ys = refl
 joined-both f (x ∷ xs) ys = ap (λ (r : List ℕ). f x ++ r) (joined-both f xs ys) ∙ sym (append-assoc (f x) (joined (map f xs)) (joined (map f ys)))
-
-map-both : {A B : Type 0} (f : A → B) (xs ys : List A) → map f (xs ++ ys) ≡ map f xs ++ map f ys
-map-both f [] ys = refl
-map-both {A} {B} f (x ∷ xs) ys = ap (λ (r : List B). f x ∷ r) (map-both f xs ys)
 
 pub blobs-both : (os ps : List DescribedObject) → blobsIn (os ++ ps) ≡ blobsIn os ++ blobsIn ps
 unfolding blobsIn
@@ -93,7 +89,7 @@ module _ (buffer rows : List ℕ) (objects components : ℕ) (attributes : Span)
   pub objects-counted : length (of-rows .objects) ≡ objects
   unfolding described asked
   objects-counted =
-      meant.described-counted buffer (eachRow askedObject objectWidth objects rows) (eachRow askedComponent componentWidth components (drop (objectWidth * objects) rows)) ∙ how-many askedObject objectWidth objects rows
+      described-counted buffer (eachRow askedObject objectWidth objects rows) (eachRow askedComponent componentWidth components (drop (objectWidth * objects) rows)) ∙ each-row-length askedObject objectWidth objects rows
 
   pub blobs-placed : (file : List ℕ) → blobsOf buffer [] rows file components (objectWidth * objects) turn ≡ blobsOver file (offsetsFrom [] turn (map length (blobs of-rows))) (blobs of-rows)
   blobs-placed file =

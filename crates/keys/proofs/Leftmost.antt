@@ -1,5 +1,5 @@
 -- A walk that keeps the first odd key and the first second copy has found the leftmost, in the order of document 01's checks.
-use Prim.Native.Nat.{ℕ, zero, suc, _+_, _≤_, _<_}
+use Prim.Native.Nat.{ℕ, zero, suc, _+_, _<_}
 use native.Mathlib.Omega.{arith}
 use mathlib.Core.List.{List, [], _∷_, _++_}
 use mathlib.Core.Bool.{Bool, true, false, cond, not, _&&_}
@@ -12,14 +12,16 @@ use Rattle.meaning.specs.Tree.{Node, Pair, noteOf}
 use Rattle.meaning.specs.Text.{same, oneOf}
 use Rattle.meaning.specs.Layouts.{Slots, somes}
 use Rattle.meaning.specs.Field.{isSome, isKey, keyOf, named, get}
+use Rattle.meaning.proofs.SameText.{same-turned}
 use Rattle.types.specs.Known.{fieldAt}
+use Rattle.types.proofs.Codes.{field-most}
 use Rattle.walk.specs.Reading.{Ends, foldl, leftAt}
 use Rattle.fields.specs.Slots.{slotOf, marks}
 use Rattle.fields.proofs.Marks.{AllSome, field-is}
 use Rattle.fields.proofs.Snoc.{foldl-snoc}
 use Rattle.explained.specs.Step.{Step, first}
 use Rattle.explained.specs.Order.{fresh, more, keySteps, repeatSteps}
-use Rattle.explained.proofs.Repeat.{same-sym, keysAfter, keys-snoc}
+use Rattle.explained.proofs.Repeat.{keysAfter, keys-snoc}
 use Rattle.keys.specs.Odd.{firstOr, afterKey, afterCopy, leftFirst}
 
 abbrev pub keyLeft : Pair Ends → ℕ
@@ -49,16 +51,6 @@ first-then seen left later h = go (eqb seen 0) refl
     go : (b : Bool) → eqb seen 0 ≡ b → cond (eqb (cond b left seen) 0) later (cond b left seen) ≡ cond b left seen
     go true e = rw (ne-eqb left 0 (λ z. omega (arith, z, h)))
     go false e = rw e
-
-field-most : (ns : Slots) (k : List ℕ) → fieldAt ns k ≤ length ns
-unfolding fieldAt
-field-most [] k = omega arith
-field-most (none ∷ ns) k = let h = field-most ns k in omega (arith, h)
-field-most (some n ∷ ns) k = go (same n k) (field-most ns k)
-  where
-    go : (b : Bool) → fieldAt ns k ≤ length ns → cond b 0 (suc (fieldAt ns k)) ≤ suc (length ns)
-    go true h = omega arith
-    go false h = omega (arith, h)
 
 known-is : (ns : Slots) (k : List ℕ) → ltb (fieldAt ns k) (length ns) ≡ oneOf (somes ns) k
 unfolding fieldAt
@@ -139,7 +131,7 @@ seen-is k before (q ∷ ps) = seen-is k (more before (keyOf q)) ps ∙ go (keyOf
 
     go : (o : Option (List ℕ)) → cond (oneOf (more before o) k) true (isSome (get k ps)) ≡ cond (oneOf before k) true (isSome (cond (isKey k o) (some (q .value)) (get k ps)))
     go none = refl
-    go (some x) = two (same x k) (oneOf before k) (q .value) ∙ ap (λ (b : Bool). cond (oneOf before k) true (isSome (cond b (some (q .value)) (get k ps)))) (same-sym x k)
+    go (some x) = two (same x k) (oneOf before k) (q .value) ∙ ap (λ (b : Bool). cond (oneOf before k) true (isSome (cond b (some (q .value)) (get k ps)))) (same-turned x k)
 
 module _ (ns : Slots) (z : List ℕ) (none-yet : (j : ℕ) → getD z j 0 ≡ 0) (l : length z ≡ length ns + 3) where
   -- what the slots say of a key, and what the checks say of it

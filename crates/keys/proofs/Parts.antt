@@ -7,20 +7,20 @@ use mathlib.Core.Path.{_≡_, refl, ap, sym, _∙_, subst}
 use lib.ListN.{length, getD, drop, replicate, length-drop, length-replicate}
 use lib.Dec.{eqb, ltb}
 use borrow.Author.Tests.{eq-eqb, ne-eqb, lt-ltb, le-ltb}
-use Rattle.meaning.specs.Tree.{Node, Pair, noteOf}
+use Rattle.meaning.specs.Tree.{Pair, noteOf}
 use Rattle.meaning.specs.Field.{keyOf}
 use Rattle.meaning.specs.Layouts.{Slots, somes, layoutOf}
 use Rattle.types.specs.Known.{fieldAt}
-use Rattle.meaning.specs.Read.{item, noNote, beyond}
 use Rattle.cbor.specs.Ending.{FAULT}
-use Rattle.cbor.proofs.Passing.{Fine, fine-ending}
 use Rattle.walk.specs.Reading.{Ends, Reads, Chain, Due, foldl}
 use Rattle.walk.proofs.ReadSays.{note-of}
-use Rattle.walk.proofs.Chains.{ate}
-use Rattle.walk.proofs.Turns.{Walking, Modes}
+use Rattle.walk.proofs.Turns.{Walking}
+use Rattle.walk.specs.Places.{Modes}
+use Rattle.walk.proofs.Found.{no-levels}
 use Rattle.fields.specs.Slots.{slotOf, marked, marks, SlotIs}
 use Rattle.fields.proofs.Marks.{AllSome}
 use Rattle.fields.proofs.Marking.{marks-step, marked-length}
+use Rattle.fields.proofs.Standing.{some-left}
 use Rattle.explained.specs.Step.{first}
 use Rattle.explained.specs.Order.{keySteps, repeatSteps}
 use Rattle.explained.proofs.Repeat.{keysAfter}
@@ -74,19 +74,11 @@ module _ (level : ℕ) where
 
 -- ---------------------------------------------------------------- the walk
 
-reads-some : (d : ℕ) (s : List ℕ) (t : Node Ends) (r : List ℕ) → Reads d s t r → 0 < length (noteOf t .start)
-reads-some d s t r h =
-    let a = ate d s t r h in
-    let n = ap (λ (x : Ends). length (x .start)) (note-of d s t r h) in
-    let k = a .some in
-    let w : a .size ≤ length s = subst (Fine s) (a .ends-so) (fine-ending s (item noNote d s)) in
-    omega (arith, n, k, w)
-
 pub chain-some : (d : ℕ) (s : List ℕ) (ps : List (Pair Ends)) (r : List ℕ) → Chain d s ps r → AllSome ps × KeysSome ps
 chain-some d s [] r h = (tt, tt)
 chain-some d s (p ∷ ps) r h =
     let k = chain-some d (h .1) ps r (h .4) in
-    ((reads-some d (h .0) (p .value) (h .1) (h .3), k .0), (reads-some d s (p .key) (h .0) (h .2), k .1))
+    ((some-left d (h .0) (p .value) (h .1) (h .3), k .0), (some-left d s (p .key) (h .0) (h .2), k .1))
 
 zeros : (n j : ℕ) → _≡_ {A = ℕ} (getD {A = ℕ} (replicate n 0) j 0) 0
 zeros zero j = refl
@@ -120,16 +112,11 @@ turned-at ns m d places s at v st j slot p key again ep ek ea q r₁ r₂ k w =
     let a : p ≡ marks ns (st .slots) q = marks-step ns m places d s at v (st .slots) p j slot ep q r₁ r₂ k w in
     rw (left, ← same, places, ← a, ← ek, ← ea) refl
 
-never-deep : (s : List ℕ) (t : Node Ends) (r : List ℕ) → Reads 0 s t r → ⊥
-unfolding item beyond
-never-deep [] t r e = let z : _≡_ {A = ℕ} 0 1 = cc in omega arith
-never-deep (b ∷ s) t r e = let z : _≡_ {A = ℕ} 0 1 = cc in omega arith
-
 pub turned : (ns : Slots) (m left : ℕ) → length ns ≡ m → (s : List ℕ) (at v : ℕ) (st : State) (j : ℕ) → SlotIs ns (drop at s) j → (p : List ℕ) (key again : ℕ)
     → p ≡ marked m (st .slots) j (length s - v) → key ≡ afterKey m j (length s - at) (st .key) → again ≡ afterCopy m j (getD (st .slots) j 0) (length s - at) (st .again)
     → (q : Pair Ends) (r₁ r₂ : List ℕ) → Reads left (drop at s) (q .key) r₁ → Reads left (drop v s) (q .value) r₂
     → _≡_ {A = State} (record { slots = p; key = key; again = again }) (step ns st q)
-turned ns m zero places s at v st j slot p key again ep ek ea q r₁ r₂ k w = absurd (never-deep (drop at s) (q .key) r₁ k)
+turned ns m zero places s at v st j slot p key again ep ek ea q r₁ r₂ k w = absurd (no-levels (drop at s) (q .key) r₁ k)
 turned ns m (suc d) places s at v st j slot p key again ep ek ea q r₁ r₂ k w = turned-at ns m d places s at v st j slot p key again ep ek ea q r₁ r₂ k w
 
 pub within-list : {B : Type 0} (k m : ℕ) → (k ≤ suc m) × B → (k ≤ m + 1) × B

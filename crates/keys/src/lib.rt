@@ -5,10 +5,10 @@ use walk::Letters;
 ghost use mathlib.Core.Path.{_≡_};
 ghost use Prim.Native.Nat.{ℕ, _+_, _≤_};
 ghost use lib.ListN.{length, replicate};
-ghost use Rattle.walk.proofs.Turns.{Modes};
 ghost use Rattle.types.specs.Known.{fieldAt};
 ghost use Rattle.fields.specs.Slots.{SlotIs};
 ghost use Rattle.keys.specs.Odd as is;
+ghost use Rattle.walk.specs.Places.{Modes};
 
 // Bytes left at the leftmost key that isn't whole text, and at the leftmost second copy; 0 for none.
 pub struct Odd {

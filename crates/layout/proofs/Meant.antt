@@ -15,13 +15,14 @@ use Rattle.meaning.specs.Read.{joined}
 use Rattle.meaning.specs.Notes.{mapOption}
 use Rattle.meaning.specs.Types.{storageOf}
 use Rattle.meaning.specs.Layouts.{rootNames, objectNames, componentNames, magic}
-use Rattle.meaning.specs.Asked.{AskedObject, AskedComponent, eachRow, askedObject, askedComponent, asked, presentAt}
+use Rattle.meaning.specs.Asked.{AskedComponent, eachRow, askedObject, askedComponent, asked, presentAt}
 use Rattle.meaning.specs.Sound.{componentSound, rowsSound}
 use Rattle.meaning.specs.Described.{DescribedComponent, DescribedObject, Described, blobs, describedComponent, describedObject, describedObjects, described}
 use Rattle.meaning.specs.Manifest.{Keyed, under, given, entryBytes, mapBytes, shortestHead, numberBytes, textBytes, listBytes, componentBytes, manifestBytes}
 use Rattle.meaning.specs.WrittenFile.{littleBytes, over, blobsOver, closing, fileOf}
+use Rattle.meaning.proofs.Lengths.{each-row-length, described-counted}
 use Rattle.rows.specs.Running.{begun, offsetAt, stepped, reached, offsetsFrom, blobLengths, entriesFrom, objectFrom, objectsFrom, counted}
-use Rattle.rows.proofs.EachRow.{how-many, later-rows, all-dropped}
+use Rattle.rows.proofs.EachRow.{later-rows, all-dropped}
 use Rattle.rows.proofs.Running.{manifest-placed}
 use Rattle.rows.proofs.Whole.{sound-components}
 use Rattle.rows.proofs.Steps.{next-object, own-sound}
@@ -30,6 +31,7 @@ use Rattle.rows.proofs.Describes.{counted-next, rows-counted}
 use Rattle.layout.specs.Pieces.{presence, range, optional, componentAt, objectFront, objectRest, blobsOf, componentsOf, reachedPast, objectsOf, rootFront, manifestFrom, wholeOf}
 use Rattle.layout.specs.Rows.{Within, ComponentRow, ComponentRows, ObjectRows, WholeRows}
 use Rattle.layout.proofs.Walking.{within-length, first-component, next-components, its-components, next-objects}
+use Rattle.sizes.proofs.Exact.{entries-many}
 
 abbrev pub field : String → List ℕ → List ℕ
 field key value = textBytes (ascii key) ++ value
@@ -123,20 +125,10 @@ module _ (buffer : List ℕ) where
 
   -- ---- objects
 
-  entries-counted : (plan : List ℕ) (n : ℕ) (cs : List DescribedComponent) → length (entriesFrom plan n cs) ≡ length cs
-  unfolding entriesFrom
-  entries-counted plan n [] = refl
-  entries-counted plan n (c ∷ cs) = ap suc (entries-counted plan (stepped plan n (length (c .blob))) cs)
-
   pub objects-counted : (plan : List ℕ) (n : ℕ) (os : List DescribedObject) → length (objectsFrom plan n os) ≡ length os
   unfolding objectsFrom
   objects-counted plan n [] = refl
   objects-counted plan n (o ∷ os) = ap suc (objects-counted plan (reached plan n (blobLengths (o .components))) os)
-
-  pub described-counted : (os : List AskedObject) (cs : List AskedComponent) → length (describedObjects buffer os cs) ≡ length os
-  unfolding describedObjects
-  described-counted [] cs = refl
-  described-counted (o ∷ os) cs = ap suc (described-counted os (drop (o .count) cs))
 
   regrouped : (N H s S f F A k h E : List ℕ) → (N ++ (H ++ (s ++ S))) ++ (((f ++ F) ++ (A ++ (k ++ h))) ++ E) ≡ N ++ (H ++ ((s ++ S) ++ ((f ++ F) ++ (A ++ (k ++ (h ++ E))))))
   regrouped N H s S f F A k h E = simp append-assoc
@@ -157,7 +149,7 @@ module _ (buffer : List ℕ) where
       unfolding mapBytes
       components-map rs =
           ap (λ (k : ℕ). shortestHead 5 k ++ joined (map entryBytes (entriesFrom plan place (map (describedComponent buffer) its))))
-          (entries-counted plan place (map (describedComponent buffer) its) ∙ length-map its (describedComponent buffer) ∙ how-many askedComponent componentWidth count (drop from rows) ∙ sym (getD-drop row rows countColumn 0))
+          (entries-many plan buffer place (map (describedComponent buffer) its) ∙ length-map its (describedComponent buffer) ∙ each-row-length askedComponent componentWidth count (drop from rows) ∙ sym (getD-drop row rows countColumn 0))
           ∙ ap (λ (z : List ℕ). shortestHead 5 (getD (drop row rows) countColumn 0) ++ z) (sym (components-meant plan rows count from place rs))
 
       object-meant : ComponentRows buffer plan rows count from place
@@ -274,7 +266,7 @@ module _ (buffer plan rows : List ℕ) (objects components place size : ℕ) (so
   unfolding mapBytes described asked
   objects-map =
       ap (λ (k : ℕ). shortestHead 5 k ++ joined (map entryBytes (objectsFrom plan (begun plan) (d .objects))))
-      (objects-counted buffer plan (begun plan) (d .objects) ∙ described-counted buffer (eachRow askedObject objectWidth objects rows) cs ∙ how-many askedObject objectWidth objects rows)
+      (objects-counted buffer plan (begun plan) (d .objects) ∙ described-counted buffer (eachRow askedObject objectWidth objects rows) cs ∙ each-row-length askedObject objectWidth objects rows)
       ∙ ap (λ (z : List ℕ). shortestHead 5 objects ++ z)
       (sym (objects-meant buffer plan rows objects 0 (objectWidth * objects) (begun plan) (whole .each)
       (subst (λ (m : ℕ). all (componentSound buffer) (eachRow askedComponent componentWidth m (drop (objectWidth * objects) rows)) ≡ true) (sym all-there) all-sound)

@@ -17,7 +17,7 @@ use Rattle.meaning.specs.Layouts.{current}
 use Rattle.meaning.specs.Frame.{Reading, reading}
 use Rattle.meaning.specs.Rows.{componentCount, roomFor, roomy, readInto}
 use Rattle.meaning.specs.Listing.{digits, decimal, hex, shown, shownText, blanked, line, blobLine, blobLines, objectLine, objectLines, listing, listingOf, printed}
-use Rattle.readback.specs.Every.{Every}
+use Rattle.meaning.specs.Every.{Every}
 use Rattle.roundtrip.proofs.If.{passed-so}
 use Rattle.listing.specs.Weight.{sumOf, componentWeight, objectWeight, modelWeight}
 use Rattle.listing.specs.Output.{heading, lentPath, lentHeading, lentText}

@@ -20,8 +20,8 @@ use Rattle.meaning.specs.Field.{isSome, isKey, keyOf, count, named, get, field,
 use Rattle.meaning.specs.Format.{formatRules}
 use Rattle.meaning.specs.Judge.{orElse, inherited, aDtype, aType, raw, attributesOf, component, part, shapeOf, componentsOf, object, aVersion, objectsOf, judge}
 use Rattle.meaning.specs.Frame.{frame, checked, Reading, reading}
-use Rattle.text.proofs.SameIsEqual.{same-eq}
-use Rattle.readback.specs.Spelled.{IfAny}
+use Rattle.meaning.proofs.SameText.{same-eq}
+use Rattle.meaning.specs.Every.{IfAny}
 use Rattle.roundtrip.proofs.If.{Any, If, passes, anyhow, passed-so, in-object, is-required, bind, then, tested}
 use Rattle.listing.specs.Weight.{sumOf, weight, weightOfPairs, pairWeight, namedWeight, componentWeight, objectWeight, modelWeight}
 use Rattle.listing.proofs.Weighed.{Got, manifest-light}

@@ -5,10 +5,11 @@ use native.Mathlib.Omega.{arith}
 use mathlib.Core.List.{List, [], _∷_, map}
 use mathlib.Core.Bool.{Bool, true, false, cond, _&&_}
 use mathlib.Core.Option.{Option, none, some}
-use mathlib.Core.Path.{_≡_, refl, ap, ap₂, sym, _∙_}
-use lib.ListN.{length, length-map}
+use mathlib.Core.Path.{_≡_, refl, ap, ap₂, sym, _∙_, subst}
+use lib.ListN.{length, take, drop, length-map}
 use lib.Dec.{eqb, leb}
 use Rattle.meaning.specs.Tree.{Node}
+use Rattle.meaning.specs.Read.{manifest, spanTo}
 use Rattle.meaning.specs.Check.{Check, pass, refuse, _>>=_, _>>_, _unless_, inObject, inComponent, required, requiredIn, optional, each}
 use Rattle.meaning.specs.Text.{all, utf8, distinct, same}
 use Rattle.meaning.specs.Refusal.{TEXT, TYPE, ALIGN, BOUNDS, COUNT, TWICE}
@@ -19,8 +20,11 @@ use Rattle.meaning.specs.Layouts.{Layout, slot, dtypeAt}
 use Rattle.meaning.specs.Types.{storages, codeFrom, u64, logicals, listed, fitsOver}
 use Rattle.meaning.specs.Field.{rootFields, objectFields, componentFields, nameOf, names}
 use Rattle.meaning.specs.Format.{formatRules}
+use Rattle.meaning.specs.Frame.{frame, checked, Reading, reading}
+use Rattle.meaning.proofs.Checks.{pass-same, refused-is-not}
 use Rattle.meaning.proofs.JudgeNatural.{all-map}
 use Rattle.meaning.specs.Judge.{codeOr, isIndex, orElse, aDtype, aType, raw, attributesOf, inherited, aVersion, part, shapeOf, component, componentsOf, object, objectsOf, judge}
+use Rattle.meaning.specs.Every.{Every, IfAny}
 
 -- if it passes, then so
 pub data Ensures {A : Type 0} (Q : A → Type 0) : Check A → Type 0 where
@@ -61,19 +65,9 @@ module _ {B : Type 0} {Q : B → Type 0} where
   object-ensures j (passed h) = passed h
   object-ensures j refusal = refusal
 
--- of what may be absent
-abbrev pub IfAny : {A : Type 0} → (A → Type 0) → Option A → Type 0
-IfAny Q none = Unit {0}
-IfAny Q (some a) = Q a
-
 optional-ensures : {A B : Type 0} {Q : B → Type 0} (f : A → Check B) → ((a : A) → Ensures Q (f a)) → (o : Option A) → Ensures (IfAny Q) (optional f o)
 optional-ensures f h none = passed tt
 optional-ensures f h (some a) = bind-ensures (λ b. pass (some b)) (h a) λ b r. passed r
-
--- of each
-abbrev pub Each : {A : Type 0} → (A → Type 0) → List A → Type 0
-Each Q [] = Unit {0}
-Each Q (a ∷ l) = Q a × Each Q l
 
 -- a storage code
 abbrev Code : ℕ → Type 0
@@ -140,12 +134,12 @@ module _ {P : Type 0} where
     pub rank : leb (length (o .shape)) rankLimit ≡ true
     pub format : Utf8 (o .format)
     pub names : NamesSound componentLimit (map (λ c. c .name .letters) (o .components))
-    pub components : Each (ComponentSound start) (o .components)
+    pub components : Every (ComponentSound start) (o .components)
     pub rules : formatRules (o .format .letters) (o .shape) (map part (o .components)) ≡ pass tt
 
   pub record ModelSound (start : ℕ) (m : Model P) : Type 0 where
     pub names : NamesSound objectLimit (map (λ o. o .name .letters) (m .objects))
-    pub objects : Each (ObjectSound start) (m .objects)
+    pub objects : Every (ObjectSound start) (m .objects)
 
   text-ensures : (t : Node P) → Ensures Utf8 (aText t)
   unfolding aText
@@ -179,7 +173,7 @@ module _ {P : Type 0} where
 -- each in turn: the results keep the names, and each is sound
 module _ {A B : Type 0} (keyA : A → List ℕ) (keyB : B → List ℕ) (Q : B → Type 0) (g : ℕ → A → Check B)
     (h : (i : ℕ) (a : A) → Ensures (λ b. (keyB b ≡ keyA a) × Q b) (g i a)) where
-  each-ensures : (i : ℕ) (l : List A) → Ensures (λ m. (map keyB m ≡ map keyA l) × Each Q m) (each g i l)
+  each-ensures : (i : ℕ) (l : List A) → Ensures (λ m. (map keyB m ≡ map keyA l) × Every Q m) (each g i l)
   each-ensures i [] = passed (refl, tt)
   each-ensures i (a ∷ l) =
       bind-ensures _ (h i a) λ b r. bind-ensures _ (each-ensures (suc i) l) λ m s.
@@ -198,7 +192,7 @@ module _ {P : Type 0} where
       })
 
   components-sound : (L : Layout) (start : ℕ) (above : List ℕ → Option ℕ) → ((r : List ℕ) → IfAny Code (above r)) → (t : Node P)
-      → Ensures (λ cs. NamesSound componentLimit (map (λ c. c .name .letters) cs) × Each (ComponentSound start) cs) (componentsOf L start above t)
+      → Ensures (λ cs. NamesSound componentLimit (map (λ c. c .name .letters) cs) × Every (ComponentSound start) cs) (componentsOf L start above t)
   unfolding componentsOf
   components-sound L start above given t =
       bind-ensures _ (names-ensures componentLimit t) λ ns h.
@@ -226,7 +220,7 @@ module _ {P : Type 0} where
       ruled (formatRules (f .letters) s (map part cs)) _ λ h.
       passed (refl, record { rank = hs; format = hf; names = hc .0; components = hc .1; rules = h })
 
-  objects-sound : (L : Layout) (start : ℕ) (t : Node P) → Ensures (λ os. NamesSound objectLimit (map (λ o. o .name .letters) os) × Each (ObjectSound start) os) (objectsOf L start t)
+  objects-sound : (L : Layout) (start : ℕ) (t : Node P) → Ensures (λ os. NamesSound objectLimit (map (λ o. o .name .letters) os) × Every (ObjectSound start) os) (objectsOf L start t)
   unfolding objectsOf
   objects-sound L start t =
       bind-ensures _ (names-ensures objectLimit t) λ ns h.
@@ -244,3 +238,17 @@ module _ {P : Type 0} where
       after (required (r .objects)) _ λ objects e₄.
       bind-ensures _ (objects-sound L start objects) λ os h.
       passed (record { names = h .0; objects = h .1 }))
+
+-- and so of a file that is accepted
+pub ensured : {A : Type 0} {Q : A → Type 0} {m : Check A} {a : A} → Ensures Q m → m ≡ pass a → Q a
+ensured {A} {Q} (passed h) e = subst Q (pass-same e) h
+ensured refusal e = absurd (refused-is-not e)
+
+pub reading-sound : (L : Layout) (file : List ℕ) (r : Reading) → reading L file ≡ pass r → ModelSound (r .start) (r .model)
+unfolding reading
+reading-sound L file r e = ensured ensures e
+  where
+    ensures : Ensures (λ (r : Reading). ModelSound (r .start) (r .model)) (reading L file)
+    ensures =
+        after (frame L file) _ λ f _. after (checked (manifest (spanTo (f .start + f .size)) (take (f .size) (drop (f .start) file)))) _ λ t _.
+        bind-ensures _ (accepted-sound L (f .start) t) λ m h. passed h

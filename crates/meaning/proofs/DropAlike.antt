@@ -16,8 +16,9 @@ use Rattle.meaning.specs.Drop.{plainVersion, known, holds, inMap, inText
 use Rattle.meaning.specs.Moved.{first, Entries, end, next, InMaps, alike, maps}
 use Rattle.meaning.proofs.Alike.{Values, PairAlike, Rearranged, done, put, more, VersionAlike, versions, ComponentAlike, ObjectValue, ObjectAlike, RootValue, RootAlike}
 use Rattle.meaning.proofs.Alike
-use Rattle.meaning.proofs.FieldsAlike.{same→≡, slot-listed}
+use Rattle.meaning.proofs.FieldsAlike.{slot-listed}
 use Rattle.meaning.proofs.AlikeVerdict.{object-value-self, root-value-self}
+use Rattle.meaning.proofs.SameText.{same-eq}
 
 once : (n : List ℕ) (ns : List (List ℕ)) → oneOf ns n ≡ true → distinct (n ∷ ns) ≡ true → _≡_ {A = ℕ} 0 1
 once n ns o d = cc
@@ -44,7 +45,7 @@ module _ {P : Type 0} where
     where
       go : (k : Option (List ℕ)) → isKey m k ≡ true → isKey n k ≡ true → m ≡ n
       go none e f = cc
-      go (some k) e f = same→≡ m k e ∙ sym (same→≡ n k f)
+      go (some k) e f = same-eq m k e ∙ sym (same-eq n k f)
 
   holds-listed : (slots : Slots) (i : ℕ) (n : List ℕ) (p : Pair P) → holds (slot i slots) p ≡ true → named n p ≡ true → oneOf (somes slots) n ≡ true
   unfolding holds

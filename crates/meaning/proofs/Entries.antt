@@ -23,6 +23,7 @@ use Rattle.meaning.specs.Notes.{mapCheck, mapOption, mapPair}
 use Rattle.meaning.specs.Drop.{plainVersion, known, holds, inMap, inText, onValue, onField, dropComponent, dropObject, dropRoot}
 use Rattle.meaning.proofs.JudgeNatural.{aTable-map, field-map, map-map}
 use Rattle.meaning.proofs.DropFields.{aTable-inMap, field-known, field-changed, value-same, value-apart, key-same}
+use Rattle.meaning.proofs.Checks.{required-some}
 
 -- ---------------------------------------------------------------- the entries of a manifest
 
@@ -159,11 +160,6 @@ module _ {A B : Type 0} {R : B → Type 0} where
   then (pass a) k h = h
   then (refuse n o c) k h = record { is = tt }
 
--- what is required and passes is there
-required-is : {A : Type 0} (o : Option A) (a : A) → required o ≡ pass a → o ≡ some a
-required-is none a e = cc
-required-is (some b) a e = cc
-
 -- two lists, one beside the other
 module _ {A B : Type 0} where
   abbrev pub Along : (A → B → Type 0) → List A → List B → Type 0
@@ -261,7 +257,7 @@ module _ {P : Type 0} where
         bind (optional (aDtype L) dtype) _ λ d e. bind (shapeOf shape) _ λ s e. bind (aText format) _ λ f e. bind (optional attributesOf (o .attributes)) _ λ a e.
         bind (componentsOf L start (inherited (f .letters) d) components) _ λ cs are.
         then (formatRules (f .letters) s (map part cs)) _ (passes _ (subst (λ x. Along EntryIs cs (valuesIn x))
-        (sym (required-is (o .components) components there) ∙ given (components-field (n .value)) has) (given (components-give start (inherited (f .letters) d) components) are)))
+        (sym (required-some (o .components) components there) ∙ given (components-field (n .value)) has) (given (components-give start (inherited (f .letters) d) components) are)))
 
     objects-give : (start : ℕ) (t : Node P) → Gives (λ os. Along EntriesAre os (map (entriesIn L) (valuesIn (some t)))) (objectsOf L start t)
     unfolding objectsOf
@@ -276,7 +272,7 @@ module _ {P : Type 0} where
     judge-gives start t =
         bind (rootFields (L .root) t) _ λ r has. bind (required (r .version)) _ λ version e. then (aVersion version) _ (bind (optional attributesOf (r .attributes)) _ λ a e.
         bind (required (r .objects)) _ λ objects there. bind (objectsOf L start objects) _ λ os are.
-        passes _ (subst (λ x. Along EntriesAre os (map (entriesIn L) (valuesIn x))) (sym (required-is (r .objects) objects there) ∙ given (objects-field t) has) (given (objects-give start objects) are)))
+        passes _ (subst (λ x. Along EntriesAre os (map (entriesIn L) (valuesIn x))) (sym (required-some (r .objects) objects there) ∙ given (objects-field t) has) (given (objects-give start objects) are)))
 
     -- the components of a manifest that passes were read from its entries, in order
     pub judged-entries : (start : ℕ) (t : Node P) (m : Model P) → judge L start t ≡ pass m → Along EntriesAre (m .objects) (entriesOf L t)

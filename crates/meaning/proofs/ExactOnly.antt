@@ -3,7 +3,7 @@ use Prim.Native.Nat.{ℕ, zero, suc, _+_, _-_, _≤_, _<_, _/_, _%_, _*_, _^_}
 use native.Mathlib.Omega.{arith}
 use native.Mathlib.Nat.{pow-suc, mul-le-mul-right, mul-add-div-right, mul-add-mod-self-right, div-eq-of-lt, mod-eq-of-lt}
 use mathlib.Core.List.{List, [], _∷_, _++_, append-assoc, append-nil}
-use mathlib.Core.Bool.{Bool, true, false, cond, _&&_}
+use mathlib.Core.Bool.{Bool, true, false, cond}
 use mathlib.Core.Path.{_≡_, refl, ap, sym, _∙_, subst}
 use lib.Dec.{eqb, leb, ltb}
 use lib.Pow.{areBytes}
@@ -21,6 +21,7 @@ use Rattle.meaning.specs.Encoding.{Bytes, big, Low, inside, one, two, fo
 use Rattle.meaning.specs.Encoding.{uint, nint, bytes, text, chunkedBytes, chunkedText, array, openArray, dict, openDict, tag, simple, float}
 use Rattle.meaning.proofs.ReadPrefix.{never-got, Alike, alike, never-beyond}
 use Rattle.meaning.proofs.ExactEvery.{Each, none, more, large-enough}
+use Rattle.meaning.proofs.Tests.{both-true}
 
 -- what was taken off s, where r was left
 pub record Taken (E : List ℕ → Type 0) (s r : List ℕ) : Type 0 where
@@ -37,13 +38,9 @@ Sound {A} m E = (s : List ℕ) (a : A) (r : List ℕ) → Bytes s → m s ≡ go
 
 -- ---- bytes
 
-both : (a b : Bool) → a && b ≡ true → (a ≡ true) × (b ≡ true)
-both true b h = (refl, h)
-both false b h = let z : _≡_ {A = Bool} true false = cc in (cc, cc)
-
 bytes-after : (c r : List ℕ) → Bytes (c ++ r) → Bytes r
 bytes-after [] r h = h
-bytes-after (b ∷ c) r h = bytes-after c r (both (ltb b 256) (areBytes (c ++ r)) h .1)
+bytes-after (b ∷ c) r h = bytes-after c r (both-true (ltb b 256) (areBytes (c ++ r)) h .1)
 
 -- ---- readers, one after the other
 
@@ -63,7 +60,7 @@ module _ {A : Type 0} (G : A → List ℕ → Type 0) where
   unfolding byte
   byte-sound k f [] a r h e = absurd (never-got e)
   byte-sound k f (b ∷ s) a r h e =
-      let p : (ltb b 256 ≡ true) × (areBytes s ≡ true) = both (ltb b 256) (areBytes s) h in
+      let p : (ltb b 256 ≡ true) × (areBytes s ≡ true) = both-true (ltb b 256) (areBytes s) h in
       let t : Taken (λ c. G a (b ∷ c)) s r = f b (ltb-true b 256 (p .0)) s a r (p .1) e in
       record { eaten = b ∷ t .eaten; split = ap (λ z. b ∷ z) (t .split); encodes = t .encodes }
 

@@ -5,7 +5,7 @@ use mathlib.Core.List.{List, [], _∷_, map}
 use mathlib.Core.Bool.{Bool, true, false, cond, _&&_, not}
 use mathlib.Core.Option.{Option, none, some}
 use mathlib.Core.Path.{_≡_, refl, ap, ap₂, sym, _∙_, subst}
-use lib.Dec.{eqb, leb, T, eqb→eq, eqb-refl, leb→le}
+use lib.Dec.{leb, T, leb→le}
 use Rattle.meaning.specs.Tree.{Node, Pair, Pairs, dict, pairList}
 use Rattle.meaning.specs.Check.{Check, pass, refuse, _>>=_, _>>_, _unless_, required, requiredIn}
 use Rattle.meaning.specs.Text.{all, same, oneOf}
@@ -16,24 +16,7 @@ use Rattle.meaning.specs.Field.{isSome, isKey, keyOf, named, count, get,
 use Rattle.meaning.specs.Drop.{isUnknown, known, holds}
 use Rattle.meaning.specs.Moved.{Inserted, first, later, InMaps, alike, maps}
 use Rattle.meaning.proofs.Alike.{Values, PairAlike, Rearranged, done, put, more, less}
-
-pub same→≡ : (x y : List ℕ) → same x y ≡ true → x ≡ y
-same→≡ [] [] h = refl
-same→≡ [] (b ∷ y) h = cc
-same→≡ (a ∷ x) [] h = cc
-same→≡ (a ∷ x) (b ∷ y) h = go (eqb a b) refl h (same→≡ x y)
-  where
-    go : (t : Bool) → eqb a b ≡ t → (t && same x y) ≡ true → (same x y ≡ true → x ≡ y) → (a ∷ x) ≡ (b ∷ y)
-    go true e h′ r = ap₂ {C = List ℕ} (λ u v. u ∷ v) (eqb→eq a b (subst T (sym e) tt)) (r h′)
-    go false e h′ r = cc
-
-T→≡ : (b : Bool) → T b → b ≡ true
-T→≡ true h = refl
-T→≡ false h = absurd h
-
-pub same-self : (x : List ℕ) → same x x ≡ true
-same-self [] = refl
-same-self (a ∷ x) = rw (T→≡ (eqb a a) (eqb-refl a)) (same-self x)
+use Rattle.meaning.proofs.SameText.{same-self, same-eq}
 
 listed-more : (y x : List ℕ) (ys : List (List ℕ)) → oneOf ys x ≡ true → oneOf (y ∷ ys) x ≡ true
 listed-more y x ys h = go (same y x)
@@ -61,7 +44,7 @@ all-at q [] n h o = cc
 all-at q (m ∷ ns) n h o = go (q m) (same m n) refl refl h o (all-at q ns n)
   where
     go : (b c : Bool) → q m ≡ b → same m n ≡ c → (b && all q ns) ≡ true → cond c true (oneOf ns n) ≡ true → (all q ns ≡ true → oneOf ns n ≡ true → q n ≡ true) → q n ≡ true
-    go true true e f h′ o′ r = rw (same→≡ m n f) at e
+    go true true e f h′ o′ r = rw (same-eq m n f) at e
     go true false e f h′ o′ r = r h′ o′
     go false c e f h′ o′ r = cc
 
@@ -139,7 +122,7 @@ module _ {P : Type 0} where
   unknown-other slots n o p = go (keyOf p)
     where
       go₂ : (k : List ℕ) (b : Bool) → same n k ≡ b → not (not (oneOf (somes slots) k)) ≡ false → same n k ≡ false
-      go₂ k true e h = let e₂ : n ≡ k = same→≡ n k e in let c : not (not (oneOf (somes slots) n)) ≡ false = rw e₂ h in cc
+      go₂ k true e h = let e₂ : n ≡ k = same-eq n k e in let c : not (not (oneOf (somes slots) n)) ≡ false = rw e₂ h in cc
       go₂ k false e h = e
 
       go : (k : Option (List ℕ)) → not (isUnknown (somes slots) k) ≡ false → isKey n k ≡ false

@@ -15,6 +15,7 @@ use Rattle.meaning.specs.Layouts.{Slots, somes, Layout}
 use Rattle.meaning.specs.Field.{isSome, keyKind, keyOf, named, count, get, field, fields, rootFields, objectFields, componentFields, nameKind, nameOf, names}
 use Rattle.meaning.specs.Judge.{aDtype, aType, raw, component, part, lettersOf, attributesOf, shapeOf, componentsOf, object, aVersion, objectsOf, judge}
 use Rattle.meaning.specs.Notes.{mapCheck, mapOption, mapWord, mapPair, mapNamed, mapKind, mapRoot, mapObjectFields, mapComponentFields, mapComponent, mapObject, mapModel}
+use Rattle.meaning.proofs.Tests.{cond-map}
 
 module _ {A B C : Type 0} where
   pub map-bind : (h : B → C) (m : Check A) (k : A → Check B) → mapCheck h (m >>= k) ≡ (m >>= λ a. mapCheck h (k a))
@@ -190,10 +191,6 @@ module _ {P Q : Type 0} (f : P → Q) where
   unfolding count
   count-map n [] = refl
   count-map n (p ∷ ps) = rw (named-map n p, count-map n ps)
-
-  cond-map : {A B : Type 0} (g : A → B) (b : Bool) (x y : A) → g (cond b x y) ≡ cond b (g x) (g y)
-  cond-map g true x y = refl
-  cond-map g false x y = refl
 
   pub get-map : (n : List ℕ) (ps : List (Pair P)) → get n (map (mapPair f) ps) ≡ mapOption (mapP f) (get n ps)
   unfolding get

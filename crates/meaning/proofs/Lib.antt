@@ -1,3 +1,9 @@
+pub mod Tests
+pub mod SameText
+pub mod Checks
+pub mod KindIs
+pub mod Lengths
+pub mod Every
 pub mod ReadNatural
 pub mod ReadPrefix
 pub mod ReadTurns

@@ -11,9 +11,7 @@ use borrow.Author.Tests.{leb-true, leb-false, eqb-true, ne-eqb}
 use Rattle.meaning.specs.Plan.{ranged, apart}
 use Rattle.meaning.specs.Placement.{endFrom}
 use Rattle.meaning.specs.WrittenFile.{over, blobsOver}
-
-false-not : false ≡ true → ⊥
-false-not e = let z : _≡_ {A = ℕ} 0 1 = cc in omega arith
+use Rattle.meaning.proofs.Tests.{false-not}
 
 -- what stands between two parts
 pub between : (a b c : List ℕ) (n : ℕ) → length a ≡ n → take (length b) (drop n (a ++ (b ++ c))) ≡ b

@@ -58,11 +58,11 @@ module _ {A B : Type 0} (g : A → B) (m : Reader A) (m′ : Reader B) (hm : Fol
   toBreak-follows s = until-follows (length s) s
 
 module _ {P Q : Type 0} (f : P → Q) where
-  nodes-map : (l : List (Node P)) → nodes (map (mapP f) l) ≡ mapNodes f (nodes l)
+  pub nodes-map : (l : List (Node P)) → nodes (map (mapP f) l) ≡ mapNodes f (nodes l)
   nodes-map [] = refl
   nodes-map (n ∷ l) = ap {B = Nodes Q} (λ r. _▸_ (mapP f n) r) (nodes-map l)
 
-  pairs-map : (l : List (Pair P)) → pairs (map (mapPair f) l) ≡ mapPairs f (pairs l)
+  pub pairs-map : (l : List (Pair P)) → pairs (map (mapPair f) l) ≡ mapPairs f (pairs l)
   pairs-map [] = refl
   pairs-map (p ∷ l) = ap {B = Pairs Q} (λ r. _⇒_▸_ (mapP f (p .key)) (mapP f (p .value)) r) (pairs-map l)
 

@@ -1,3 +1,4 @@
+pub mod Every
 pub mod Refusal
 pub mod Limit
 pub mod Tree
@@ -25,6 +26,7 @@ pub mod Encoding
 pub mod Asked
 pub mod Described
 pub mod Sound
+pub mod Stands
 pub mod Placement
 pub mod Plan
 pub mod Manifest

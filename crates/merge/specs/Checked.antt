@@ -17,8 +17,7 @@ use Rattle.readback.specs.Lent.{Held}
 use Rattle.rows.specs.Running.{reached}
 use Rattle.sizes.specs.Size.{optionalCopy}
 use Rattle.roundtrip.specs.Again.{plainFile}
-use Rattle.merging.specs.Merge.{merged, refused, merge}
-use Rattle.merging.proofs.MergeAnswers.{roomed}
+use Rattle.merging.specs.Merge.{merged, refused, merge, roomed}
 use Rattle.merge.specs.declared.Verdict.{Verdict}
 use Rattle.merge.specs.declared.Verdict.the-variants.{No, Yes}
 

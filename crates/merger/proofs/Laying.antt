@@ -2,10 +2,10 @@
 use Prim.Native.Nat.{ℕ, _+_, _-_, _*_, _≤_, _<_}
 use native.Mathlib.Omega.{arith}
 use native.Mathlib.Nat.{zero-add}
-use mathlib.Core.List.{List, [], _∷_, _++_, map, append-nil}
+use mathlib.Core.List.{List, [], _∷_, _++_, map}
 use mathlib.Core.Bool.{Bool, true, false, cond, _&&_}
 use mathlib.Core.Path.{_≡_, refl, sym, ap, ap₂, _∙_, subst}
-use lib.ListN.{length, take, drop, length-append, length-drop, length-map, drop-of-length-le, replicate}
+use lib.ListN.{length, take, drop, length-append, length-drop, length-map, replicate}
 use lib.Seq.{take-at, drop-at}
 use lib.Dec.{eqb, leb}
 use borrow.Author.Tests.{le-leb, lt-leb, leb-true}
@@ -21,14 +21,15 @@ use Rattle.meaning.specs.Rows.{rows, componentCount, roomFor, roomy, attributes
 use Rattle.meaning.specs.Asked.{asked, presentAt}
 use Rattle.meaning.specs.Sound.{rowsSound}
 use Rattle.meaning.specs.Described.{Described, blobs, described, describedBy}
-use Rattle.readback.specs.Every.{Every}
-use Rattle.readback.proofs.RowsOfModel.{rows-length}
+use Rattle.meaning.proofs.Tests.{both-true}
+use Rattle.meaning.proofs.Lengths.{rows-length}
+use Rattle.meaning.specs.Every.{Every}
 use Rattle.frame.proofs.Frames.{size-back}
 use Rattle.rows.specs.Running.{turnLimit, reached}
 use Rattle.rows.proofs.Running.{reached-above, reached-joined, last-is-reached}
 use Rattle.emit.specs.Laid.{Room, Laid}
 use Rattle.shown.specs.Accepted.{Framing}
-use Rattle.emit.proofs.Laying.{part, back, part-length}
+use Rattle.emit.proofs.Laying.{part, back, part-length, back-is}
 use Rattle.layout.specs.Rows.{Within}
 use Rattle.layout.proofs.Fit as fit-of
 use Rattle.roundtrip.specs.Again.{plainFile}
@@ -84,11 +85,6 @@ cleared table t e f = f ∙ ap (λ (n : ℕ). replicate n 0) e
 
 -- ---- the tests of room
 
-both-true : (x z : Bool) → x && z ≡ true → (x ≡ true) × (z ≡ true)
-both-true true z h = (refl, h)
-both-true false true h = (h, refl)
-both-true false false h = (h, h)
-
 pub enough-so : {n c k d long : ℕ} {rows out : List ℕ} {t : Bool} → t ≡ leb long (length out) && leb (objectWidth * (n + k) + componentWidth * (c + d)) (length rows) → t ≡ true → Enough n c k d long rows out
 enough-so {n} {c} {k} {d} {long} {rows} {out} e f =
     let p : ℕ = objectWidth * (n + k) + componentWidth * (c + d) in
@@ -112,11 +108,6 @@ module _ (L : Layout) (framing : Framing L) (file : List ℕ) (r : Reading) (acc
   read-says = rw (s, o, k) (again.rows-described L framing file r accepts R)
 
 -- ---- a part that is lent to its list's end
-
-back-is : (a : ℕ) (xs zs : List ℕ) → back a xs zs ≡ take a xs ++ zs
-back-is a xs zs =
-    let h : length (drop a xs) ≤ length xs - a = omega (arith, length-drop a xs) in
-    ap (λ (z : List ℕ). take a xs ++ (zs ++ z)) (drop-of-length-le (drop a xs) h) ∙ ap (λ (z : List ℕ). take a xs ++ z) (append-nil zs)
 
 at-front : (bs xs : List ℕ) → take 0 xs ++ (bs ++ drop (0 + length bs) xs) ≡ bs ++ drop (length bs) xs
 at-front bs xs = rw (zero-add (length bs)) refl

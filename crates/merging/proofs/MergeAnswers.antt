@@ -18,7 +18,7 @@ use Rattle.meaning.specs.Layouts.{Layout}
 use Rattle.readback.specs.Lent.{Held}
 use Rattle.readback.proofs.ReadBack.{written-plain-is}
 use Rattle.roundtrip.specs.Again.{plainFile}
-use Rattle.merging.specs.Merge.{merged, rowsRoom, Merge, done, short, about, mergeInto, merge}
+use Rattle.merging.specs.Merge.{merged, rowsRoom, done, short, about, mergeInto, merge, roomed}
 use Rattle.merging.specs.Merging.{Says}
 use Rattle.merging.proofs.SaysFine.{says-fine, says-few, merged-fine}
 use Rattle.merging.proofs.MergedJudged.{merged-judged}
@@ -35,9 +35,6 @@ module _ (d : Described) where
   refusals =
       (COUNT unless leb (lastEnd offsets (map length (blobs d))) endLimit) >> ((BIG unless leb (length (manifestBytes d offsets)) manifestLimit)
       >> ((COUNT unless leb (length called) objectLimit) >> (TWICE unless distinct called)))
-
-  abbrev pub roomed : ℕ → ℕ → Merge
-  roomed lent room = cond (leb (length (plainFile d)) room && leb (rowsRoom d) lent) (done (plainFile d)) (short (length (plainFile d)))
 
 module _ {L M : Layout} {first second : List ℕ} {a b : Described} (h : Held first) (k : Held second) (f : Says L first a) (s : Says M second b) (lent room : ℕ) where
   pub merge-answers : mergeInto (merged a b) lent room ≡ about 0 (refusals (merged a b)) (λ u. roomed (merged a b) lent room)

@@ -14,6 +14,7 @@ use Rattle.meaning.specs.Limit.{objectLimit}
 use Rattle.meaning.specs.Layouts.{Layout}
 use Rattle.meaning.specs.Sound.{rootLevels, objectLevels}
 use Rattle.meaning.specs.Described.{DescribedObject, Described}
+use Rattle.meaning.proofs.Tests.{false-not}
 use Rattle.readback.specs.Judged.{judgedObject, deepOption, anyTooDeep, judged}
 use Rattle.roundtrip.proofs.AcceptedPassed.{Passed, passed-judged, accepted-passed}
 use Rattle.merging.specs.Merge.{orElse, merged}
@@ -38,9 +39,6 @@ texts-append : (a b : List DescribedObject) → all utf8 (map (λ o. o .name) a)
 texts-append [] b h k = k
 texts-append (o ∷ a) b h k = go (utf8 (o .name)) (λ g. texts-append a b g k) h
   where
-    false-not : false ≡ true → ⊥
-    false-not e = let z : _≡_ {A = ℕ} 0 1 = cc in omega arith
-
     go : (t : Bool) → (all utf8 (map (λ o. o .name) a) ≡ true → all utf8 (map (λ o. o .name) (a ++ b)) ≡ true) → t && all utf8 (map (λ o. o .name) a) ≡ true → t && all utf8 (map (λ o. o .name) (a ++ b)) ≡ true
     go true f h = f h
     go false f h = absurd (false-not h)

@@ -16,9 +16,10 @@ use Rattle.meaning.specs.Placement.{placement, lastEnd}
 use Rattle.meaning.specs.Manifest.{manifestBytes}
 use Rattle.meaning.specs.WrittenFile.{fileOf}
 use Rattle.meaning.specs.Write.{writtenAt, writtenPlain}
+use Rattle.meaning.proofs.Checks.{pass-same, refused-is-not, passed-on}
 use Rattle.readback.specs.Lent.{Held}
 use Rattle.readback.specs.Back.{ReadsBack}
-use Rattle.readback.proofs.ReadBack.{refused-is-not, written-plain-reads-back}
+use Rattle.readback.proofs.ReadBack.{written-plain-reads-back}
 use Rattle.shown.specs.Accepted.{Framing}
 use Rattle.roundtrip.specs.Again.{plainFile}
 use Rattle.merging.specs.Merge.{merged, rowsRoom, done, refused, short, about, mergeInto, merge}
@@ -31,13 +32,6 @@ unless-passes : {A : Type 0} (n : ℕ) (b : Bool) (k : Check A) {a : A} → ((n 
 unless-passes n true k h = h
 unless-passes n false k h = absurd (refused-is-not h)
 
-then-passes : {A B : Type 0} (m : Check A) (k : Check B) {b : B} → (m >> k) ≡ pass b → k ≡ pass b
-then-passes (pass a) k h = h
-then-passes (refuse n o c) k h = absurd (refused-is-not h)
-
-passed-same : {A : Type 0} {a b : A} → pass a ≡ pass b → a ≡ b
-passed-same e = cc
-
 -- ---- the writer's file is the one its description gives
 
 pub written-plain-file : (d : Described) (room : ℕ) (file : List ℕ) → writtenPlain d room ≡ pass file → file ≡ plainFile d
@@ -49,8 +43,8 @@ written-plain-file d room file h =
     let roomy : Check (List ℕ) = (ROOM unless leb (length F) room) >> pass F in
     let k₁ = unless-passes COUNT (leb (lastEnd offsets lengths) endLimit) ((BIG unless leb (length (manifestBytes d offsets)) manifestLimit) >> (reading current F >> roomy)) h in
     let k₂ = unless-passes BIG (leb (length (manifestBytes d offsets)) manifestLimit) (reading current F >> roomy) k₁ in
-    let k₃ = unless-passes ROOM (leb (length F) room) (pass F) (then-passes (reading current F) roomy k₂) in
-    sym (passed-same k₃)
+    let k₃ = unless-passes ROOM (leb (length F) room) (pass F) (passed-on (reading current F) roomy _ k₂) in
+    sym (pass-same k₃)
 
 -- ---- an accepted merge
 

@@ -7,9 +7,10 @@ use Rattle.meaning.specs.Layouts.{Layout, current}
 use Rattle.meaning.specs.Frame.{Reading, reading}
 use Rattle.meaning.specs.Described.{Described, describedBy}
 use Rattle.meaning.specs.Write.{writtenPlain}
+use Rattle.meaning.proofs.Checks.{refused-is-not}
 use Rattle.readback.specs.Lent.{Held}
 use Rattle.readback.specs.Back.{ReadsBack}
-use Rattle.readback.proofs.ReadBack.{refused-is-not, written-plain-reads-back}
+use Rattle.readback.proofs.ReadBack.{written-plain-reads-back}
 use Rattle.readback.proofs.RowsOfReading.{written-again}
 use Rattle.shown.specs.Accepted.{Framing}
 use Rattle.shown.proofs.ReadingJudged.{current-framing}

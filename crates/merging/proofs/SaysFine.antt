@@ -7,12 +7,12 @@ use mathlib.Core.Bool.{true}
 use mathlib.Core.Path.{_≡_, sym, ap, _∙_, subst}
 use lib.ListN.{length, length-append}
 use Rattle.meaning.specs.Limit.{objectLimit}
-use Rattle.meaning.specs.Check.{pass}
 use Rattle.meaning.specs.Layouts.{Layout, current}
 use Rattle.meaning.specs.Frame.{Reading}
 use Rattle.meaning.specs.Sound.{aMap, absentOr, rootLevels}
 use Rattle.meaning.specs.Described.{Described, describedBy}
-use Rattle.readback.specs.Every.{Every}
+use Rattle.meaning.proofs.Checks.{pass-same}
+use Rattle.meaning.specs.Every.{Every}
 use Rattle.readback.specs.Fine.{FineObject, Fine}
 use Rattle.readback.specs.Lent.{Held}
 use Rattle.readback.specs.Back.{ReadsBack}
@@ -24,13 +24,10 @@ use Rattle.roundtrip.proofs.HeldFine.{accepted-fine}
 use Rattle.merging.specs.Merge.{orElse, merged}
 use Rattle.merging.specs.Merging.{Says}
 
-passed-same : {A : Type 0} {a b : A} → pass a ≡ pass b → a ≡ b
-passed-same e = cc
-
 -- a file says one thing
 pub one-meaning : {L : Layout} {file : List ℕ} {d e : Described} → Says L file d → Says L file e → d ≡ e
 one-meaning {L} {file} h k =
-    let r : h .read ≡ k .read = passed-same (sym (h .is) ∙ k .is) in
+    let r : h .read ≡ k .read = pass-same (sym (h .is) ∙ k .is) in
     sym (h .back) ∙ ap (λ (r : Reading). describedBy file (r .model)) r ∙ k .back
 
 pub back-says : {file : List ℕ} {d : Described} → ReadsBack file d → Says current file d

@@ -43,6 +43,10 @@ unfoldable pub about : {A : Type 0} → ℕ → Check A → (A → Merge) → Me
 about file (pass a) k = k a
 about file (refuse n o c) k = refused file n o c
 
+-- what is left to answer of a description that nothing refuses: its file, or ROOM
+abbrev pub roomed : Described → ℕ → ℕ → Merge
+roomed d lent room = cond (leb (length (plainFile d)) room && leb (rowsRoom d) lent) (done (plainFile d)) (short (length (plainFile d)))
+
 -- COUNT (2 ^ 40), BIG, the reader's refusal; then ROOM, for the output or for rows, whichever is short. The writer is given all the room that its file takes, so that ROOM is the merge's own.
 unfoldable pub mergeInto : Described → ℕ → ℕ → Merge
 mergeInto d lent room =

@@ -7,7 +7,7 @@ use mathlib.Core.Option.{Option, none, some}
 use mathlib.Core.Path.{_≡_, refl, ap, sym, _∙_, subst}
 use lib.Dec.{eqb, leb}
 use lib.ListN.{length}
-use Rattle.meaning.specs.Tree.{Node, Nodes, Pairs, Pair, uint, nint, bytes, text, chunkedBytes, chunkedText, array, dict, tag, simple, float, _▸_, _⇒_▸_, mapP, mapNodes, mapPairs, nodes, pairs, nothing}
+use Rattle.meaning.specs.Tree.{Node, Pair, uint, nint, bytes, text, chunkedBytes, chunkedText, array, dict, tag, simple, float, mapP, nodes, pairs, nothing}
 use Rattle.meaning.specs.Notes.{mapPair, mapOption}
 use Rattle.meaning.specs.Refusal.{CBOR}
 use Rattle.meaning.specs.Limit.{depthLimit}
@@ -15,7 +15,7 @@ use Rattle.meaning.specs.Layouts.{Layout}
 use Rattle.meaning.specs.Read.{Outcome, got, refused, Reader, after, _>>=_, pure, here, byte, run, stop, times, untilBreak, toBreak}
 use Rattle.meaning.specs.Read.{Argument, known, indefinite, argument, majorOf, infoOf, chunk, reserved, joined, close, pair, content, item, noNote}
 use Rattle.meaning.specs.Read.{Major, unsigned, negative, byteString, textString, arrayOf, mapOf, tagged, special}
-use Rattle.meaning.proofs.ReadNatural.{mapOut, item-follows}
+use Rattle.meaning.proofs.ReadNatural.{mapOut, item-follows, nodes-map, pairs-map}
 use Rattle.meaning.proofs.ReadPrefix.{still, Took, Exact, Alike, alike, never-got, never-beyond, byte-exact, argument-exact, run-exact, chunk-exact, chunk-hungry, toBreak-exact}
 use Rattle.walk.specs.Reading.{Ends, ends, Reads}
 use Rattle.explained.specs.Step.{Step, first}
@@ -24,15 +24,6 @@ use Rattle.explained.specs.Order.{manifestSteps}
 use Rattle.explained.proofs.Natural.{first-steps-map}
 use Rattle.met.specs.Met.{Tail, Passed, Met, met, StandsIn}
 use Rattle.met.proofs.Deeper.{deeper}
-
-module _ {P Q : Type 0} (f : P → Q) where
-  nodes-map : (l : List (Node P)) → nodes (map (mapP f) l) ≡ mapNodes f (nodes l)
-  nodes-map [] = refl
-  nodes-map (n ∷ l) = ap {B = Nodes Q} (λ r. _▸_ (mapP f n) r) (nodes-map l)
-
-  pairs-map : (l : List (Pair P)) → pairs (map (mapPair f) l) ≡ mapPairs f (pairs l)
-  pairs-map [] = refl
-  pairs-map (p ∷ l) = ap {B = Pairs Q} (λ r. _⇒_▸_ (mapP f (p .key)) (mapP f (p .value)) r) (pairs-map l)
 
 -- in the bytes m
 module _ (m : List ℕ) where

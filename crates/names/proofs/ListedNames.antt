@@ -7,8 +7,9 @@ use native.Mathlib.Omega.{arith}
 use lib.Dec.{eqb}
 use borrow.Author.Tests.{eq-eqb, ne-eqb}
 use Rattle.meaning.specs.Text.{same, oneOf, distinct}
+use Rattle.meaning.proofs.SameText.{same-eq}
 use Rattle.text.proofs.OrderIsTotal.{Which, less, more, equal, which}
-use Rattle.text.proofs.SameIsEqual.{same-eq, eq-same, ne-same}
+use Rattle.text.proofs.SameIsEqual.{eq-same, ne-same}
 use Rattle.names.specs.Names.{listed, Differ, Copy, Leading}
 
 module _ (f : ℕ → List ℕ) where

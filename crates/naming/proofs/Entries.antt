@@ -2,7 +2,7 @@
 use Prim.Native.Nat.{ℕ, suc, _+_}
 use native.Mathlib.Omega.{arith}
 use mathlib.Core.List.{List, [], _∷_, _++_, map}
-use mathlib.Core.Path.{_≡_, refl, ap, sym, _∙_}
+use mathlib.Core.Path.{_≡_, refl, _∙_}
 use lib.ListN.{length}
 use Rattle.meaning.specs.Tree.{Node, Pair}
 use Rattle.meaning.specs.Check.{Check, pass, refuse, _>>=_, each}
@@ -27,17 +27,6 @@ module _ {A B : Type 0} (f : ℕ → A → Check B) where
       go (pass b) (refuse n o c) e = refl
       go (pass b) (pass bs) (refuse n o c) = refl
       go (pass b) (pass bs) (pass y) = refl
-
-  -- as many pass as there are
-  pub each-length : (i : ℕ) (l : List A) (bs : List B) → each f i l ≡ pass bs → length bs ≡ length l
-  each-length i [] bs e = let z : [] ≡ bs = cc in ap length (sym z)
-  each-length i (x ∷ l) bs e = go (f i x) (each f (suc i) l) refl e (each-length (suc i) l)
-    where
-      go : (c : Check B) (d : Check (List B)) → each f (suc i) l ≡ d → (c >>= λ y. d >>= λ ys. pass (y ∷ ys)) ≡ pass bs
-          → ((ys : List B) → each f (suc i) l ≡ pass ys → length ys ≡ length l) → length bs ≡ suc (length l)
-      go (refuse n o c) d h e ih = absurd (let z : _≡_ {A = ℕ} 0 1 = cc in omega arith)
-      go (pass y) (refuse n o c) h e ih = absurd (let z : _≡_ {A = ℕ} 0 1 = cc in omega arith)
-      go (pass y) (pass ys) h e ih = let z : y ∷ ys ≡ bs = cc in ap length (sym z) ∙ ap suc (ih ys h)
 
 pub each-of-map : {A B C : Type 0} (f : ℕ → B → Check C) (u : A → B) (i : ℕ) (l : List A) → each f i (map u l) ≡ each (λ i a. f i (u a)) i l
 each-of-map f u i [] = refl

@@ -2,7 +2,7 @@
 use Prim.Native.Nat.{ℕ, zero, suc, _-_, _≤_, _<_, min}
 use native.Mathlib.Omega.{arith}
 use mathlib.Core.List.{List, [], _∷_, map}
-use mathlib.Core.Bool.{Bool, true, false, cond, not}
+use mathlib.Core.Bool.{Bool, true, false, cond}
 use mathlib.Core.Path.{_≡_, refl, ap, sym, _∙_, subst}
 use lib.ListN.{length, length-map}
 use lib.Seq.{take-all}
@@ -17,6 +17,7 @@ use Rattle.meaning.specs.Kind as kinds
 use Rattle.meaning.specs.Kind.{Kind, kind, aTable}
 use Rattle.meaning.specs.Field.{isSome, keyOf, keyKind, nameKind, nameOf, names}
 use Rattle.meaning.proofs.JudgeNatural.{all-map, map-map}
+use Rattle.meaning.proofs.Tests.{opposite}
 use Rattle.names.specs.Names.{name, listed}
 use borrow.Rule.Slice.PartAt.{part-to-end}
 use Rattle.walk.specs.Reading.{Ends}
@@ -48,7 +49,7 @@ letters-kind e (kinds.table l) = refl
 letters-kind e kinds.null = refl
 letters-kind e kinds.another = refl
 
-letters-of : (p : Pair Ends) → namedAnyway p .name .letters ≡ lettersOf p
+pub letters-of : (p : Pair Ends) → namedAnyway p .name .letters ≡ lettersOf p
 unfolding lettersOf keyOf
 letters-of p = letters-kind (noteOf (p .key)) (kind (p .key))
 
@@ -79,13 +80,6 @@ module _ (limit : ℕ) (x : Node Ends) (ps : List (Pair Ends)) (is : kind x ≡ 
       (simp (all-map, map-map, length-map, letters-of))
 
 -- ---------------------------------------------------------------- by the tally
-
-opposite : {a b : Bool} → a ≡ not b → (t : Bool) → a ≡ t → b ≡ not t
-opposite {a} {b} h t e = let z : not b ≡ t = sym h ∙ e in go b t z
-  where
-    go : (b t : Bool) → not b ≡ t → b ≡ not t
-    go true t z = ap not z
-    go false t z = ap not z
 
 module _ (m : List ℕ) (t : Tally) (left size : List ℕ) (done : List (Pair Ends)) (h : Tallied m done t left size) (x : Node Ends) (is : kind x ≡ kinds.table done) where
   pub judge-odd : t .odd ≡ true → names (length left) x ≡ told done (No 9)

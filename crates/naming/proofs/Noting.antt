@@ -10,13 +10,12 @@ use lib.ListN.{length, take, drop, length-append, length-map, length-drop}
 use lib.Seq.{getD-set-same, getD-set-other, drop-drop, take-all, take-append-le}
 use borrow.Author.Tests.{lt-ltb, le-ltb}
 use Rattle.meaning.specs.Tree.{Pair}
-use Rattle.meaning.specs.Check.{pass, fault}
 use Rattle.meaning.specs.Text.{all, utf8, following}
-use Rattle.meaning.specs.Refusal.{KIND}
-use Rattle.meaning.specs.Model.{Word}
 use Rattle.meaning.specs.Kind as kinds
-use Rattle.meaning.specs.Kind.{Kind, kind}
-use Rattle.meaning.specs.Field.{isSome, keyOf, keyKind}
+use Rattle.meaning.specs.Kind.{kind}
+use Rattle.meaning.specs.Field.{isSome, keyOf}
+use Rattle.meaning.proofs.Tests.{and-true, and-false}
+use Rattle.meaning.proofs.KindIs.{key-of-word, key-of-none}
 use Rattle.names.specs.Names.{name, listed}
 use Rattle.endian.proofs.Which.{lt-or}
 use Rattle.walk.specs.Reading.{Ends, ends, Reads}
@@ -33,11 +32,7 @@ use Rattle.naming.specs.Naming.{tally, lettersOf, Tallied, Noted}
 -- ---------------------------------------------------------------- lists with one more at the end
 
 pub all-snoc : {A : Type 0} (p : A → Bool) (l : List A) (a : A) → all p (l ++ a ∷ []) ≡ (all p l && p a)
-all-snoc p [] a = go (p a)
-  where
-    go : (b : Bool) → (b && true) ≡ b
-    go true = refl
-    go false = refl
+all-snoc p [] a = and-true (p a)
 all-snoc p (x ∷ l) a = rw (all-snoc p l a) (go (p x))
   where
     go : (b : Bool) → (b && (all p l && p a)) ≡ (b && all p l && p a)
@@ -96,24 +91,6 @@ module _ (m : List ℕ) (left size : List ℕ) (same : length size ≡ length le
 
 -- ---------------------------------------------------------------- a key
 
-key-of-word : (k : Kind Ends) (w : Word Ends) → kinds.asWord k ≡ pass w → keyKind k ≡ some (w .letters)
-unfolding kinds.asWord keyKind
-key-of-word (kinds.number n) w e = absurd (let z : _≡_ {A = ℕ} 0 1 = cc in omega arith)
-key-of-word (kinds.words v) w e = let z : v ≡ w = cc in ap (λ u. some (u .letters)) z
-key-of-word (kinds.list l) w e = absurd (let z : _≡_ {A = ℕ} 0 1 = cc in omega arith)
-key-of-word (kinds.table l) w e = absurd (let z : _≡_ {A = ℕ} 0 1 = cc in omega arith)
-key-of-word kinds.null w e = absurd (let z : _≡_ {A = ℕ} 0 1 = cc in omega arith)
-key-of-word kinds.another w e = absurd (let z : _≡_ {A = ℕ} 0 1 = cc in omega arith)
-
-key-of-none : (k : Kind Ends) → kinds.asWord k ≡ fault KIND → keyKind k ≡ none
-unfolding kinds.asWord keyKind
-key-of-none (kinds.number n) e = refl
-key-of-none (kinds.words v) e = absurd (let z : _≡_ {A = ℕ} 0 1 = cc in omega arith)
-key-of-none (kinds.list l) e = refl
-key-of-none (kinds.table l) e = refl
-key-of-none kinds.null e = refl
-key-of-none kinds.another e = refl
-
 -- what the text that begins a key says of the pair's key
 pub no-key : (s : List ℕ) → TextIs s NoText → (d : ℕ) (p : Pair Ends) (r : List ℕ) → Reads (suc d) s (p .key) r → keyOf p ≡ none
 unfolding keyOf kinds.aWord
@@ -122,14 +99,6 @@ no-key s h d p r e = key-of-none (kind (p .key)) (h d (p .key) r e)
 pub a-key : (s : List ℕ) (at n : ℕ) → TextIs s (Text at n) → (d : ℕ) (p : Pair Ends) (r : List ℕ) → Reads (suc d) s (p .key) r → keyOf p ≡ some (take n (drop at s))
 unfolding keyOf kinds.aWord
 a-key s at n h d p r e = key-of-word (kind (p .key)) (record { note = ends s r; letters = take n (drop at s) }) (h d (p .key) r e)
-
-and-true : (b : Bool) → (b && true) ≡ b
-and-true true = refl
-and-true false = refl
-
-and-false : (b : Bool) → (b && false) ≡ false
-and-false true = refl
-and-false false = refl
 
 -- ---------------------------------------------------------------- the tally
 

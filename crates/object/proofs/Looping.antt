@@ -10,14 +10,13 @@ use borrow.Author.Tests.{eq-eqb, ne-eqb, eqb-true, eqb-false}
 use borrow.Rule.Slice.PartAt.{part-to-end}
 use Rattle.meaning.specs.Layouts.{layoutOf}
 use Rattle.meaning.specs.Judge.{inherited}
+use Rattle.meaning.proofs.Tests.{not-both}
 use Rattle.types.specs.Known.{position, formatNames}
-use Rattle.types.proofs.Tell.{not-both}
 use Rattle.component.specs.Value.{given}
 use Rattle.cbor.specs.Ending.{FAULT, code, itemEnd, rest}
-use Rattle.walk.specs.Places.{EntryIs}
+use Rattle.walk.specs.Places.{EntryIs, Modes}
 use Rattle.walk.specs.declared.Entry.{Entry}
 use Rattle.walk.specs.declared.Entry.the-variants.{End, Value}
-use Rattle.walk.proofs.Turns.{Modes}
 use Rattle.fields.specs.Slots.{marked, SlotIs}
 use Rattle.fields.proofs.Texts.{Here}
 use Rattle.fields.proofs.Keeping as keeping

@@ -15,13 +15,13 @@ use Rattle.meaning.specs.Model.{Object}
 use Rattle.meaning.specs.Format.{formatRules}
 use Rattle.meaning.specs.Judge.{inherited, aDtype, shapeOf, componentsOf, part}
 use Rattle.meaning.specs.Layouts.{layoutOf}
+use Rattle.meaning.proofs.Checks.{pass-same}
 use Rattle.walk.specs.Reading.{Ends, Reads}
 use Rattle.fields.proofs.Texts.{Here}
 use Rattle.shape.specs.Shape.{ShapeIs}
 use Rattle.shape.specs.declared.Shaped.{Shaped}
 use Rattle.shape.specs.declared.Shaped.the-variants.{No as NoShape, Yes as Ranked}
 use Rattle.components.specs.Firsts.{FoundIs, offered, ComponentsAre}
-use Rattle.components.proofs.Typed.{pass-same}
 use Rattle.component.specs.Value.{given}
 use Rattle.components.specs.declared.Found.{Found}
 use Rattle.components.specs.declared.Found.the-variants.{No as Refused, Yes as Holding}

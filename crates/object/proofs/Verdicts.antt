@@ -18,8 +18,7 @@ use Rattle.meaning.specs.Field as field
 use Rattle.meaning.specs.Layouts.{slot, somes, Layout, dtypeAt, current, old, layoutOf}
 use Rattle.meaning.specs.Format.{formatRules}
 use Rattle.meaning.specs.Judge as judge
-use Rattle.types.proofs.Tagged.{both-left, both-right}
-use Rattle.types.proofs.Tell.{not-both}
+use Rattle.meaning.proofs.Tests.{not-both, both-left, both-right}
 use Rattle.component.proofs.Verdicts.{asked-for, asked-in-vain, none-left}
 use Rattle.walk.specs.Reading.{Ends, Chain, foldl}
 use Rattle.fields.specs.Slots.{marks, Holds}

@@ -8,9 +8,9 @@ ghost use Prim.Native.Nat.{_≤_};
 ghost use lib.ListN.{length, replicate};
 ghost use Rattle.meaning.specs.Layouts.{layoutOf};
 ghost use Rattle.cbor.specs.Ending.{code, itemEnd, rest};
-ghost use Rattle.walk.proofs.Turns.{Modes};
 ghost use Rattle.fields.specs.Slots.{SlotIs};
 ghost use Rattle.object.specs.Verdict.{waiting, Walked, ValueIs};
+ghost use Rattle.walk.specs.Places.{Modes};
 
 // The slot of the key that begins s.
 fn slot(layout: u64, s: &[u8]) -> usize

@@ -1,7 +1,7 @@
 -- An object that passes has no more components than an object may have; and totals of components.
-use Prim.Native.Nat.{ℕ, _+_, _≤_}
+use Prim.Native.Nat.{ℕ, _≤_}
 use native.Mathlib.Omega.{arith}
-use mathlib.Core.List.{List, [], _∷_, _++_, map}
+use mathlib.Core.List.{List, map}
 use mathlib.Core.Path.{_≡_, ap, subst}
 use mathlib.Core.Option.{Option}
 use mathlib.Core.Bool.{Bool, true, false}
@@ -14,13 +14,11 @@ use Rattle.meaning.specs.Kind.{aText}
 use Rattle.meaning.specs.Field.{objectFields, names}
 use Rattle.meaning.specs.Format.{formatRules}
 use Rattle.meaning.specs.Judge.{inherited, aDtype, attributesOf, shapeOf, component, componentsOf, part, object}
-use Rattle.meaning.specs.Rows.{componentCount}
 use Rattle.meaning.specs.Layouts.{Layout, slot, dtypeAt}
+use Rattle.meaning.proofs.Checks.{pass-same, passed-on, passed, each-length}
 use Rattle.walk.specs.Reading.{Ends}
 use Rattle.naming.proofs.Judging.{few-names}
-use Rattle.naming.proofs.Entries.{each-length}
 use Rattle.objects.specs.Found.{passedOver, judging}
-use Rattle.components.proofs.Typed.{passed, passed-on, pass-same}
 
 few-components : (L : Layout) (start : ℕ) (above : List ℕ → Option ℕ) (t : Node Ends) (cs : List (Component Ends)) → componentsOf L start above t ≡ pass cs → length cs ≤ componentLimit
 unfolding componentsOf
@@ -51,8 +49,3 @@ pub few-in-judging : (deep : Bool) (L : Layout) (start : ℕ) (n : Named Ends) (
 unfolding judging passedOver
 few-in-judging true L start n o e = few-in-object L start n o e
 few-in-judging false L start n o e = subst (λ (o : Object Ends). length (o .components) ≤ componentLimit) (pass-same e) (omega arith)
-
-pub count-snoc : (os : List (Object Ends)) (o : Object Ends) → componentCount (os ++ o ∷ []) ≡ componentCount os + length (o .components)
-unfolding componentCount
-count-snoc [] o = omega arith
-count-snoc (x ∷ os) o = let ih = count-snoc os o in omega arith

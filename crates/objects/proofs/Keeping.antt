@@ -13,6 +13,8 @@ use Rattle.meaning.specs.Model.{Object}
 use Rattle.meaning.specs.Field.{names}
 use Rattle.meaning.specs.Rows.{componentCount}
 use Rattle.meaning.specs.Layouts.{Layout}
+use Rattle.meaning.proofs.Lengths.{count-snoc}
+use Rattle.meaning.proofs.Checks.{each-length}
 use Rattle.walk.specs.Reading.{Ends}
 use Rattle.naming.specs.Naming.{namedAnyway, told}
 use Rattle.naming.specs.declared.Named.the-variants.{No as NoNames, Yes as Names}
@@ -26,7 +28,7 @@ use Rattle.objects.specs.declared.First.the-variants.{Fine, Fault}
 use Rattle.objects.specs.declared.Found.the-variants.{No, Yes}
 use Rattle.objects.specs.Found.{judging, objectsBy, judged}
 use Rattle.objects.specs.Firsts.{plus, entry, entries, FirstIs, Keeps}
-use Rattle.objects.proofs.Few.{few-in-judging, count-snoc}
+use Rattle.objects.proofs.Few.{few-in-judging}
 
 module _ (deep : Bool) (L : Layout) (start : ℕ) (done : List (Pair Ends)) (p : Pair Ends) where
   one-more : entries deep L start (done ++ p ∷ []) ≡ (entries deep L start done >>= λ os. entry deep L start (length done) (namedAnyway p) >>= λ o. pass (os ++ o ∷ []))
@@ -94,7 +96,7 @@ module _ (deep : Bool) (L : Layout) (start : ℕ) (done : List (Pair Ends)) (x :
     pub all-fine : (m total : ℕ) → m ≡ length done → FirstIs deep L start done (Fine total) → Yes m total ≡ judged (objectsBy deep L start x)
     unfolding entries
     all-fine m total is f =
-        let same = named-entries.each-length (λ i p. entry deep L start i (namedAnyway p)) 0 done (f .found) (f .passed) in
+        let same = each-length (λ i p. entry deep L start i (namedAnyway p)) 0 done (f .found) (f .passed) in
         let few = few-names objectLimit x (map namedAnyway done) h in
         let all = length-map done namedAnyway in
         let a : m ≡ length (f .found) = is ∙ sym same in

@@ -8,9 +8,9 @@ ghost use mathlib.Core.Path.{_≡_};
 ghost use lib.ListN.{length};
 ghost use Rattle.meaning.specs.Layouts.{layoutOf};
 ghost use Rattle.cbor.specs.Ending.{code, itemEnd, rest};
-ghost use Rattle.walk.proofs.Turns.{Modes};
 ghost use Rattle.objects.specs.Found.{ObjectsIs};
 ghost use Rattle.objects.specs.Firsts.{plus, OneIs, Keeps, Walked, Concluded};
+ghost use Rattle.walk.specs.Places.{Modes};
 
 // The first fault among the entries so far: its number, object and component; or how many components there are.
 pub enum First {

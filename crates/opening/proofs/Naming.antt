@@ -15,23 +15,22 @@ use Rattle.meaning.specs.Check.{Check, pass, refuse, _>>=_, _>>_, _unless_, inO
 use Rattle.meaning.specs.Read.{Span}
 use Rattle.meaning.specs.Model.{RootFields, Named, Object, Model}
 use Rattle.meaning.specs.Notes.{mapCheck, mapNamed, mapObject}
-use Rattle.meaning.specs.Kind as kinds
 use Rattle.meaning.specs.Kind.{kind, table, aTable, asTable}
 use Rattle.meaning.specs.Layouts.{Layout, slot, somes, objectsAt}
 use Rattle.meaning.specs.Field.{isSome, keyOf, count, field, fields, rootFields, names}
 use Rattle.meaning.specs.Judge.{attributesOf, aVersion, object}
 use Rattle.meaning.proofs.JudgeNatural.{Bind, rootFields-map, names-map, optional-attributes, object-map, aVersion-map}
+use Rattle.meaning.proofs.Checks.{pass-same, required-some, passed-on, passed}
+use Rattle.meaning.proofs.KindIs.{table-kind, attributes-stay}
 use Rattle.cbor.specs.Ending.{FAULT}
 use Rattle.walk.specs.Reading.{Ends, Reads, leftAt}
 use Rattle.walk.proofs.Chains.{ate}
 use Rattle.walk.proofs.ReadSays.{note-of}
 use Rattle.fields.specs.Slots.{Holds}
-use Rattle.fields.proofs.Standing.{field-found-stands}
-use Rattle.components.proofs.Typed.{passed, passed-on, pass-same}
+use Rattle.fields.proofs.Standing.{field-found-stands, holds-whole}
 use Rattle.components.proofs.Lettered.{pairs-chained}
 use Rattle.objects.specs.Found.{passedOver, judging, objectsBy}
 use Rattle.root.specs.Verdict.{judgeBy}
-use Rattle.root.proofs.Walks.{holds-whole}
 use Rattle.table.specs.Spans.{spanOf}
 use Rattle.rescuing.specs.Sift.{Dropped, Opened, opened, kept, dropped, verdicts}
 use Rattle.opening.specs.Opened.{spanned}
@@ -60,27 +59,6 @@ module _ {P : Type 0} (L : Layout) (start : ℕ) where
   by-names t = simp (over-names, Bind)
 
 -- ---- what a root that passes is made of
-
-required-some : {A : Type 0} (o : Option A) (a : A) → required o ≡ pass a → o ≡ some a
-required-some none a e = absurd (let z : _≡_ {A = ℕ} 0 1 = cc in omega arith)
-required-some (some b) a e = let z : b ≡ a = pass-same e in ap some z
-
-attributes-stay : (o a : Option (Node Ends)) → optional attributesOf o ≡ pass a → a ≡ o
-unfolding attributesOf
-attributes-stay none a e = sym (pass-same e)
-attributes-stay (some t) a e =
-    let b = passed (attributesOf t) (λ b. pass (some b)) a e in
-    let c : t ≡ b .value = pass-same (passed-on (aTable t) (pass t) (b .value) (b .is)) in
-    sym (pass-same (b .then)) ∙ ap some (sym c)
-
-table-kind : (k : kinds.Kind Ends) (ps : List (Pair Ends)) → asTable k ≡ pass ps → k ≡ table ps
-unfolding asTable
-table-kind (kinds.number n) ps e = absurd (let z : _≡_ {A = ℕ} 0 1 = cc in omega arith)
-table-kind (kinds.words w) ps e = absurd (let z : _≡_ {A = ℕ} 0 1 = cc in omega arith)
-table-kind (kinds.list l) ps e = absurd (let z : _≡_ {A = ℕ} 0 1 = cc in omega arith)
-table-kind (kinds.table l) ps e = ap table (pass-same e)
-table-kind kinds.null ps e = absurd (let z : _≡_ {A = ℕ} 0 1 = cc in omega arith)
-table-kind kinds.another ps e = absurd (let z : _≡_ {A = ℕ} 0 1 = cc in omega arith)
 
 -- the place of the attributes in a root's list
 abbrev attributesAt : ℕ

@@ -28,7 +28,7 @@ use Rattle.matching.specs.Named.{named}
 use Rattle.matching.specs.Matched.{Sorted}
 use Rattle.parts.specs.Parts.{partsAt, Known}
 use Rattle.parts.specs.Seen.{firstsFrom, secondsFrom, PartsSeen, LonesSeen}
-use Rattle.parts.proofs.Turns.{flat-append, across-same}
+use Rattle.parts.proofs.Turns.{flat-append, across-same, bit-small}
 use Rattle.pairs.specs.Objects.{objectAt, countAt, Lie, BothSeen}
 
 -- ---- later first
@@ -152,11 +152,7 @@ module _ (o p : DescribedObject) (i j at : ℕ) (xs : List ℕ) {past : ℕ} {zs
   what-is = rw (ho, hs .names, hs .dtypes, hs .kinds, hs .bytes) refl
 
   pub what-fits : own + s .names + s .dtypes + s .kinds + s .bytes ≤ 63
-  what-fits = rw what-is (omega (arith, small 1 (not (same (o .shape) (p .shape))), small 2 (not (same (o .format) (p .format))), small 4 (lone (o .components) (p .components) || lone (p .components) (o .components)), small 8 (shared otherDtype (o .components) (p .components)), small 16 (shared otherType (o .components) (p .components)), small 32 (shared otherBytes (o .components) (p .components))))
-    where
-      small : (n : ℕ) (t : Bool) → bit n t ≤ n
-      small n true = omega arith
-      small n false = omega arith
+  what-fits = rw what-is (omega (arith, bit-small 1 (not (same (o .shape) (p .shape))), bit-small 2 (not (same (o .format) (p .format))), bit-small 4 (lone (o .components) (p .components) || lone (p .components) (o .components)), bit-small 8 (shared otherDtype (o .components) (p .components)), bit-small 16 (shared otherType (o .components) (p .components)), bit-small 32 (shared otherBytes (o .components) (p .components))))
 
   after-it : Wrote (flat (firsts i j o p) ++ flat (seconds i j o p)) past xs zs (s .at)
   after-it =

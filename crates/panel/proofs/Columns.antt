@@ -12,32 +12,35 @@ use Rattle.meaning.specs.Read.{Span}
 use Rattle.meaning.specs.Model.{Word, Component, Object}
 use Rattle.meaning.specs.Rows.{wordSpan, objectRow, componentRow}
 use Rattle.meaning.specs.Listing as meaning
+use Rattle.meaning.specs.Stands.{WordStands, ComponentStands, ObjectStands, InFile}
+use Rattle.meaning.specs.Tree.{Node}
+use Rattle.meaning.specs.Layouts.{thirteen}
 use Rattle.view.proofs.Columns.{column, first, onward, shape, ending, nine, name-place, name-size, code-is, offset-is, length-is}
 use Rattle.panel.specs.Lines.{plain, countAt, textAt, rangeInside, componentSound, objectSound, blobLine, objectLine}
-use Rattle.panel.specs.Stands.{Stands, ComponentStands, ObjectStands}
 
 module _ (file T : List ℕ) where
   inside-is : (i a n : ℕ) → getD T i 0 ≡ a → getD T (i + 1) 0 ≡ n → a + n ≤ length file → rangeInside file T i ≡ true
   unfolding rangeInside
   inside-is i a n e f h = rw (e, f, le-leb (a + n) (length file) h) refl
 
-  text-is : (i : ℕ) (w : Word Span) → getD T i 0 ≡ wordSpan w .place → getD T (i + 1) 0 ≡ wordSpan w .size → Stands file w → textAt file T i ≡ w .letters
+  text-is : {Lies : Span → Type 0} (i : ℕ) (w : Word Span) → getD T i 0 ≡ wordSpan w .place → getD T (i + 1) 0 ≡ wordSpan w .size → WordStands Lies file w → textAt file T i ≡ w .letters
   unfolding textAt
   text-is i w e f s = rw (e, f) (s .spelled)
 
   -- a component's row
-  module _ (q i : ℕ) (c : Component Span) (Y : List ℕ) (e : drop q T ≡ componentRow i c ++ Y) (s : ComponentStands file c) where
+  module _ (q i : ℕ) (c : Component Span) (Y : List ℕ) (e : drop q T ≡ componentRow i c ++ Y)
+      {Lies : Span → Type 0} {Attributes : ℕ → Node Span → Type 0} {Part : Component Span → Type 0} (s : ComponentStands Lies Attributes Part file c) where
     after-offset : getD T (q + offsetColumn + 1) 0 ≡ c .length
     after-offset = (let z : q + offsetColumn + 1 ≡ q + lengthColumn = omega arith in ap (λ (k : ℕ). getD T k 0) z) ∙ length-is T q i c Y e
 
-    pub component-sound : componentSound file T q ≡ true
+    pub component-sound : InFile Lies Attributes Part file → componentSound file T q ≡ true
     unfolding componentSound
-    component-sound =
+    component-sound inside =
         rw (
-          inside-is q (wordSpan (c .name) .place) (wordSpan (c .name) .size) (name-place T q i c Y e) (name-size T q i c Y e) (s .name .inside),
+          inside-is q (wordSpan (c .name) .place) (wordSpan (c .name) .size) (name-place T q i c Y e) (name-size T q i c Y e) (inside .spans _ (s .name .lies)),
           (code-is T q i c Y e),
-          lt-ltb (c .dtype) 13 (s .storage),
-          inside-is (q + offsetColumn) (c .offset) (c .length) (offset-is T q i c Y e) after-offset (s .blob),
+          lt-ltb (c .dtype) 13 (let d = s .dtype in omega (arith, d, thirteen)),
+          inside-is (q + offsetColumn) (c .offset) (c .length) (offset-is T q i c Y e) after-offset (inside .blobs c (s .part)),
         )
         refl
 
@@ -84,13 +87,13 @@ module _ (file T : List ℕ) where
         ∙ ap (λ (n : ℕ). drop (n + 5) (shape o ++ (ending o ++ X))) (sym (nine o))
         ∙ drop-append-add (shape o) (ending o ++ X) 5
 
-    module _ (s : ObjectStands file o) where
-      pub object-sound : objectSound file T p ≡ true
+    module _ {Lies : Span → Type 0} {Attributes : ℕ → Node Span → Type 0} {Part : Component Span → Type 0} (s : ObjectStands Lies Attributes Part file o) where
+      pub object-sound : InFile Lies Attributes Part file → objectSound file T p ≡ true
       unfolding objectSound
-      object-sound =
+      object-sound inside =
           rw (
-            inside-is p (wordSpan (o .name) .place) (wordSpan (o .name) .size) object-name-place object-name-size (s .name .inside),
-            inside-is (p + formatColumn) (wordSpan (o .format) .place) (wordSpan (o .format) .size) format-place format-size (s .format .inside),
+            inside-is p (wordSpan (o .name) .place) (wordSpan (o .name) .size) object-name-place object-name-size (inside .spans _ (s .name .lies)),
+            inside-is (p + formatColumn) (wordSpan (o .format) .place) (wordSpan (o .format) .size) format-place format-size (inside .spans _ (s .format .lies)),
           )
           refl
 

@@ -9,7 +9,7 @@ use lib.Dec.{leb, eqb}
 use borrow.Author.Tests.{le-leb, lt-leb, lt-ltb, le-ltb, eq-eqb, ne-eqb, leb-true, eqb-true, eqb-false}
 use borrow.Rule.Slice.PartAt.{part-to-end}
 use Rattle.meaning.specs.Columns.{objectWidth, componentWidth, formatColumn, dtypeColumn, offsetColumn}
-use Rattle.types.proofs.Tagged.{both-left, both-right}
+use Rattle.meaning.proofs.Tests.{both-left, both-right}
 use Rattle.panel.specs.Lines.{countAt, counted, rangeInside, componentSound, objectSound, every, sound}
 
 -- what is asked of a file and a table that are lent whole

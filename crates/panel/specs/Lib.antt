@@ -2,4 +2,3 @@
 pub mod Lines
 pub mod Summary
 pub mod Told
-pub mod Stands

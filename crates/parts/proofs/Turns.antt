@@ -169,7 +169,7 @@ module _ (ds cs : List DescribedComponent) (i j at : ℕ) (xs : List ℕ) where
 
 -- ---- sums that fit
 
-bit-small : (n : ℕ) (t : Bool) → bit n t ≤ n
+pub bit-small : (n : ℕ) (t : Bool) → bit n t ≤ n
 bit-small n true = omega arith
 bit-small n false = omega arith
 

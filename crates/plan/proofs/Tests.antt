@@ -12,9 +12,10 @@ use Rattle.meaning.specs.Limit.{endLimit}
 use Rattle.meaning.specs.Text.{all}
 use Rattle.meaning.specs.Read.{Span}
 use Rattle.meaning.specs.Plan.{ranged, apart, allowed}
+use Rattle.meaning.proofs.Tests.{both-left, both-right}
 use Rattle.readback.specs.Follows.{Before}
 use Rattle.readback.proofs.Planned.{apart-before}
-use Rattle.rows.proofs.Both.{both-left, both-right, same-test}
+use Rattle.rows.proofs.Both.{same-test}
 use Rattle.plan.specs.Earlier.{here, earlier, Earlier, Next}
 
 module _ (offset size ceiling : ℕ) where

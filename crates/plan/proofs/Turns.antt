@@ -19,10 +19,10 @@ use Rattle.meaning.specs.Layouts.{magic}
 use Rattle.meaning.specs.Asked.{AskedComponent, eachRow, askedComponent}
 use Rattle.meaning.specs.Placement.{endFrom, lastEnd}
 use Rattle.meaning.specs.Plan.{ranged, apart, allowed, plannedFrom, planned}
+use Rattle.meaning.proofs.Tests.{both-left}
 use Rattle.rows.specs.Placed.{componentsAt}
 use Rattle.rows.specs.Running.{blobSizes}
 use Rattle.rows.proofs.EachRow.{no-row, next-row-at}
-use Rattle.rows.proofs.Both.{both-left}
 use Rattle.readback.specs.Follows.{Before}
 use Rattle.readback.proofs.Planned.{before-more}
 use Rattle.plan.specs.Earlier.{here, earlier, Earlier, Next, sizes, Judges}

@@ -5,6 +5,7 @@ use mathlib.Core.List.{List, [], _∷_}
 use mathlib.Core.Bool.{Bool, true, false}
 use mathlib.Core.Path.{_≡_, refl, subst}
 use Rattle.meaning.specs.Check.{Check, pass, refuse, _>>=_, _>>_, _unless_, inObject, inComponent, each}
+use Rattle.meaning.proofs.Checks.{pass-same}
 use Rattle.readback.specs.Agrees.{Agrees, passes, refuses}
 
 module _ {A B C D : Type 0} {R : A → Type 0} {S : C → Type 0} where
@@ -45,10 +46,7 @@ module _ {A B : Type 0} {R : A → Type 0} where
 
   -- what passed has the property
   pub passed-has : {m : Check A} {m′ : Check B} {a : A} → Agrees R m m′ → m ≡ pass a → R a
-  passed-has (passes {a} r) e = subst R (pass-is e) r
-    where
-      pass-is : {x y : A} → pass x ≡ pass y → x ≡ y
-      pass-is e = cc
+  passed-has (passes {a} r) e = subst R (pass-same e) r
   passed-has refuses e = absurd (let z : _≡_ {A = ℕ} 0 1 = cc in omega arith)
 
   -- and what is done afterwards, whatever was passed, is the same

@@ -19,7 +19,7 @@ use Rattle.readback.specs.Piece.{Piece, Ends, allWritten}
 use Rattle.readback.specs.Trees.{deepAt, copiedPiece}
 use Rattle.readback.specs.Judged.{deepOption}
 use Rattle.meaning.proofs.Over.{between}
-use Rattle.readback.proofs.EveryPart.{false-not, and-left}
+use Rattle.meaning.proofs.Tests.{false-not, both-left}
 use Rattle.readback.proofs.PiecesAreRead.{copied-goes}
 
 -- ---- what begins as a map is one, with the annotation of its place
@@ -59,7 +59,7 @@ module _ {P : Type 0} (note : List ℕ → List ℕ → P) where
   copied-is-map d [] x h k = absurd (false-not h)
   copied-is-map d (b ∷ s) x h k =
       let T : Node P = copiedPiece note (suc d) (b ∷ s) .meant x in
-      map-read d b (s ++ x) T x (and-left (eqb (b / 32) 5) (fillsOrDeep (item noNote (suc d) (b ∷ s))) h)
+      map-read d b (s ++ x) T x (both-left (eqb (b / 32) 5) (fillsOrDeep (item noNote (suc d) (b ∷ s))) h)
       (subst (λ (q : Bool). Ends q (item note (suc d) (b ∷ (s ++ x))) T x) k (copied-goes note (suc d) (b ∷ s) h x))
 
 -- ---- where they stand

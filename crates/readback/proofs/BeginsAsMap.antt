@@ -7,13 +7,14 @@ use mathlib.Core.Path.{_≡_, refl, ap, sym, _∙_}
 use lib.Dec.{eqb, leb}
 use lib.ListN.{getD}
 use borrow.Author.Tests.{ne-eqb}
-use Rattle.meaning.specs.Check.{pass, refuse}
+use Rattle.meaning.specs.Check.{pass}
 use Rattle.meaning.specs.Tree.{Node, Pair, uint, nint, bytes, text, chunkedBytes, chunkedText, array, dict, tag, simple, float, meaning, nodes, pairs}
 use Rattle.meaning.specs.Read.{Outcome, got, refused, Reader, after, _>>=_, here, byte, run, times, toBreak, joined, Argument, known, indefinite, argument, infoOf, chunk, reserved, malformed, close, pair, content, item, noNote}
 use Rattle.meaning.specs.Read.{Major, unsigned, negative, byteString, textString, arrayOf, mapOf, tagged, special, majors, majorOf}
 use Rattle.meaning.specs.Kind as kinds
 use Rattle.meaning.specs.Sound.{aMap, beginsAsMap, fillsOrDeep}
 use Rattle.meaning.proofs.ReadPrefix.{never-got}
+use Rattle.meaning.proofs.Checks.{refused-is-not}
 
 abbrev Bare : Type 0
 Bare = Node (Unit {0})
@@ -103,28 +104,25 @@ item-as d b s t r e = go (argument (b ∷ s) (infoOf b) s) e
     go (got a s′) e = content-as (item noNote d) (b ∷ s) s′ t r (getD majors (b / 32) special) a e ∙ major-as (b / 32)
     go (refused n q) e = absurd (never-got e)
 
-fault-not : {A : Type 0} {n o c : ℕ} {a : A} → refuse n o c ≡ pass a → ⊥
-fault-not e = let z : _≡_ {A = ℕ} 0 1 = cc in omega arith
-
 simple-not : {P : Type 0} (b : Bool) (l : List (Pair P)) → kinds.asTable (cond b kinds.null kinds.another) ≡ pass l → ⊥
 unfolding kinds.asTable
-simple-not true l e = fault-not e
-simple-not false l e = fault-not e
+simple-not true l e = refused-is-not e
+simple-not false l e = refused-is-not e
 
 -- a node that is a table
 table-is : {P : Type 0} (t : Node P) (l : List (Pair P)) → kinds.aTable t ≡ pass l → isDict (meaning t) ≡ true
 unfolding isDict kinds.aTable kinds.asTable kinds.kind
-table-is (uint p n) l e = absurd (fault-not e)
-table-is (nint p n) l e = absurd (fault-not e)
-table-is (bytes p b) l e = absurd (fault-not e)
-table-is (text p b) l e = absurd (fault-not e)
-table-is (chunkedBytes p b) l e = absurd (fault-not e)
-table-is (chunkedText p b) l e = absurd (fault-not e)
-table-is (array p ns) l e = absurd (fault-not e)
+table-is (uint p n) l e = absurd (refused-is-not e)
+table-is (nint p n) l e = absurd (refused-is-not e)
+table-is (bytes p b) l e = absurd (refused-is-not e)
+table-is (text p b) l e = absurd (refused-is-not e)
+table-is (chunkedBytes p b) l e = absurd (refused-is-not e)
+table-is (chunkedText p b) l e = absurd (refused-is-not e)
+table-is (array p ns) l e = absurd (refused-is-not e)
 table-is (dict p ps) l e = refl
-table-is (tag p n t) l e = absurd (fault-not e)
+table-is (tag p n t) l e = absurd (refused-is-not e)
 table-is (simple p n) l e = absurd (simple-not (eqb n 22) l e)
-table-is (float p w b) l e = absurd (fault-not e)
+table-is (float p w b) l e = absurd (refused-is-not e)
 
 nothing-read : (d : ℕ) (t : Bare) → item noNote (suc d) [] ≡ got t [] → ⊥
 unfolding item here byte

@@ -25,11 +25,11 @@ use Rattle.meaning.specs.Judge.{component, lettersOf}
 use Rattle.meaning.specs.Described.{DescribedComponent, readComponent}
 use Rattle.meaning.specs.Manifest.{given}
 use Rattle.meaning.specs.Layouts.{current}
+use Rattle.meaning.proofs.Tests.{both-left, both-right}
 use Rattle.readback.specs.Trees.{numberPiece, textPiece, several, entryPiece, mapPiece, componentPiece}
 use Rattle.readback.specs.Judged.{judgedType, judgedText, judgedComponent}
 use Rattle.readback.specs.Agrees.{Agrees, passes, refuses}
 use Rattle.readback.specs.Back.{BlobAt, Tells}
-use Rattle.readback.proofs.EveryPart.{and-left, and-right}
 use Rattle.readback.proofs.Agreeing.{agrees-bind, agrees-map}
 
 -- ---- every code is found by its name
@@ -51,10 +51,10 @@ below p (suc n) = p n && below p n
 below-holds : (p : ℕ → Bool) (n i : ℕ) → below p n ≡ true → i < n → p i ≡ true
 unfolding below
 below-holds p zero i h l = absurd (omega arith)
-below-holds p (suc n) i h l = go (eqb i n) refl (below-holds p n i (and-right (p n) (below p n) h))
+below-holds p (suc n) i h l = go (eqb i n) refl (below-holds p n i (both-right (p n) (below p n) h))
   where
     go : (t : Bool) → eqb i n ≡ t → (i < n → p i ≡ true) → p i ≡ true
-    go true e ih = rw (eqb-true i n e) (and-left (p n) (below p n) h)
+    go true e ih = rw (eqb-true i n e) (both-left (p n) (below p n) h)
     go false e ih = ih (omega (arith, eqb-false i n e))
 
 pub dtype-back : (c : ℕ) → c < length storages → codeFrom 0 (map (λ s. s .called) storages) (storageOf c .called) ≡ some c

@@ -13,7 +13,7 @@ use Rattle.meaning.specs.Format.{Part}
 use Rattle.meaning.specs.Judge.{component, componentsOf, part}
 use Rattle.meaning.specs.Described.{DescribedComponent, readComponent}
 use Rattle.meaning.specs.Layouts.{current}
-use Rattle.readback.specs.Every.{Every}
+use Rattle.meaning.specs.Every.{Every}
 use Rattle.readback.specs.Trees.{mapPiece, componentPieces}
 use Rattle.readback.specs.Judged.{judgedNames, judgedComponent, partOf}
 use Rattle.readback.specs.Fine.{FineComponent}

@@ -16,7 +16,8 @@ use Rattle.meaning.specs.Frame.{little, Frame, frame, checked, Reading, reading
 use Rattle.meaning.specs.WrittenFile.{littleBytes, closing}
 use Rattle.meaning.proofs.CurrentIsBase.{frame-current}
 use Rattle.meaning.proofs.Over.{between}
-use Rattle.readback.proofs.Placed.{little-length, closing-length}
+use Rattle.meaning.proofs.Lengths.{little-length}
+use Rattle.readback.proofs.Placed.{closing-length}
 
 -- a number's bytes, the least significant first, are that number
 pub little-back : (k n : ℕ) → n < 256 ^ k → little (littleBytes k n) ≡ n

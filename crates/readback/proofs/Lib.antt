@@ -1,4 +1,3 @@
-pub mod EveryPart
 pub mod Planned
 pub mod Placed
 pub mod Framed

@@ -21,7 +21,8 @@ use Rattle.meaning.specs.Sound.{rootLevels, objectLevels}
 use Rattle.meaning.specs.Described.{DescribedComponent, DescribedObject, Described, blobsIn, describedBy}
 use Rattle.meaning.specs.Manifest.{Keyed, under, given}
 use Rattle.meaning.specs.Layouts.{rootNames, current}
-use Rattle.readback.specs.Every.{Every}
+use Rattle.meaning.proofs.Lengths.{none-left}
+use Rattle.meaning.specs.Every.{Every}
 use Rattle.readback.specs.Piece.{Piece, allWritten}
 use Rattle.readback.specs.Trees.{textPiece, several, copiedPiece, entryPiece, mapPiece, objectPiece, objectPieces, manifestPiece}
 use Rattle.readback.specs.Judged.{judgedNames, judgedObject, judgedObjects, deepOption, anyTooDeep, tooDeep}
@@ -45,10 +46,6 @@ cond-second false b h = h
 version-passes : (p : Span) → aVersion (text p (ascii "1.2.0")) ≡ pass tt
 unfolding computed
 version-passes p = refl
-
-nothing-left : (offsets : List ℕ) → length offsets ≡ 0 → offsets ≡ []
-nothing-left [] h = refl
-nothing-left (o ∷ os) h = absurd (omega arith)
 
 described-is : (d : Described) {a : Option (List ℕ)} {os : List DescribedObject} → a ≡ d .attributes → os ≡ d .objects → record { attributes = a; objects = os } ≡ d
 described-is d ea eo = rw (ea, eo)
@@ -75,7 +72,7 @@ module _ (file pre M post : List ℕ) (split : file ≡ pre ++ (M ++ post)) (sta
       → Suffix M (allWritten (map (entryPiece span) (objectPieces span offsets os)) ++ x)
       → Agrees (TellsObjects file offsets os) (each (λ i n. inObject i (object current start n)) i (namedOf span (objectPieces span offsets os) x)) (each (λ i o. inObject i (judgedObject o)) i os)
   unfolding objectPieces anyTooDeep offsetsIn blobsIn
-  objects-agree i offsets [] x f k s h = passes (record { same = refl; placed = λ e. sym (nothing-left offsets e) })
+  objects-agree i offsets [] x f k s h = passes (record { same = refl; placed = λ e. sym (none-left offsets e) })
   objects-agree i offsets (o ∷ os) x (f, fs) k (s, ss) h =
       let n : ℕ = length (o .components) in
       let rest : List (Keyed (Piece (Node Span))) = objectPieces span (drop n offsets) os in

@@ -13,7 +13,7 @@ use Rattle.meaning.specs.Check.{pass, fault}
 use Rattle.meaning.specs.Frame.{checked}
 use Rattle.meaning.specs.Described.{Described}
 use Rattle.meaning.specs.Manifest.{shortestHead, Keyed, entryBytes, mapBytes, manifestBytes}
-use Rattle.readback.specs.Every.{Every}
+use Rattle.meaning.specs.Every.{Every}
 use Rattle.readback.specs.Piece.{Piece, Ends}
 use Rattle.readback.specs.Trees.{manifestPiece}
 use Rattle.readback.specs.Judged.{tooDeep}

@@ -11,7 +11,7 @@ use Rattle.meaning.specs.Encoding.{big, inside, one, two, four, eight, Head, he
 use Rattle.meaning.specs.Manifest.{shortestHead}
 use Rattle.meaning.proofs.ReadPrefix.{bind-got}
 use Rattle.meaning.proofs.ExactEvery.{low-reads, low-fits, major-at, info-at}
-use Rattle.readback.specs.Every.{Every}
+use Rattle.meaning.specs.Every.{Every}
 use Rattle.readback.specs.Piece.{Piece, Ends, allWritten, allMeant, anyDeep, Goes}
 
 module _ {A B : Type 0} where

@@ -20,11 +20,12 @@ use Rattle.meaning.specs.Described.{DescribedComponent, DescribedObject, Descri
 use Rattle.meaning.specs.Manifest.{shortestHead, numberBytes, textBytes, Keyed, given}
 use Rattle.meaning.proofs.ReadPrefix.{still, Took, bind-got, run-at, item-exact}
 use Rattle.meaning.proofs.ReadNatural.{mapOut, item-follows}
-use Rattle.readback.specs.Every.{Every}
+use Rattle.meaning.proofs.Tests.{false-not, both-left, both-right}
+use Rattle.meaning.specs.Every.{Every}
+use Rattle.meaning.proofs.Every.{every-take, every-drop}
 use Rattle.readback.specs.Piece.{Piece, Sunk, Ends, allWritten, allMeant, anyDeep, Goes}
 use Rattle.readback.specs.Trees.{isDeep, deepAt, numberPiece, textPiece, several, listPiece, gotOr, copiedPiece, entryPiece, mapPiece, componentPiece, componentPieces, objectPiece, objectPieces, manifestPiece}
 use Rattle.readback.specs.Fine.{Fits, Brief, BriefOption, FineComponent, FineObject, Fine}
-use Rattle.readback.proofs.EveryPart.{every-take, every-drop, false-not, and-left, and-right}
 use Rattle.readback.proofs.Pieces.{ends-bind, ends-then, times-goes, shortest-is-head, item-at}
 use Rattle.readback.proofs.DeepStays.{item-stays}
 
@@ -34,12 +35,12 @@ short n = ltb (length n) (256 ^ 8)
 
 all-brief : (ns : List (List ℕ)) → all short ns ≡ true → Every Brief ns
 all-brief [] h = tt
-all-brief (n ∷ ns) h = (ltb-true (length n) (256 ^ 8) (and-left (short n) (all short ns) h), all-brief ns (and-right (short n) (all short ns) h))
+all-brief (n ∷ ns) h = (ltb-true (length n) (256 ^ 8) (both-left (short n) (all short ns) h), all-brief ns (both-right (short n) (all short ns) h))
 
 stored-brief : (ss : List Storage) (c : ℕ) → all (λ s. short (s .called)) ss ≡ true → Brief (getD ss c (record { called = []; width = 0 }) .called)
 stored-brief [] c h = omega arith
-stored-brief (s ∷ ss) zero h = ltb-true (length (s .called)) (256 ^ 8) (and-left (short (s .called)) (all (λ s. short (s .called)) ss) h)
-stored-brief (s ∷ ss) (suc c) h = stored-brief ss c (and-right (short (s .called)) (all (λ s. short (s .called)) ss) h)
+stored-brief (s ∷ ss) zero h = ltb-true (length (s .called)) (256 ^ 8) (both-left (short (s .called)) (all (λ s. short (s .called)) ss) h)
+stored-brief (s ∷ ss) (suc c) h = stored-brief ss c (both-right (short (s .called)) (all (λ s. short (s .called)) ss) h)
 
 dtype-brief : (c : ℕ) → Brief (storageOf c .called)
 unfolding storageOf storages
@@ -135,7 +136,7 @@ module _ {P : Type 0} (note : List ℕ → List ℕ → P) where
 
   pub copied-goes : (levels : ℕ) (bs : List ℕ) → aMap levels bs ≡ true → Goes (it levels) (copiedPiece note levels bs)
   unfolding copiedPiece deepAt isDeep aMap fillsOrDeep
-  copied-goes levels bs h x = go (item noNote levels bs) refl (and-right (beginsAsMap bs) (fillsOrDeep (item noNote levels bs)) h)
+  copied-goes levels bs h x = go (item noNote levels bs) refl (both-right (beginsAsMap bs) (fillsOrDeep (item noNote levels bs)) h)
     where
       deep : (t : Bool) (n : ℕ) (s : List ℕ) → eqb n DEEP ≡ t → item noNote levels bs ≡ refused n s → t ≡ true
           → Ends t (it levels (bs ++ x)) (gotOr note (note [] []) (it levels (bs ++ x))) x

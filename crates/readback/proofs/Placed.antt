@@ -1,17 +1,17 @@
 -- How long a file gets whose blobs stand at any offsets, and the bound that document 01 gives for its own rule.
-use Prim.Native.Nat.{ℕ, zero, suc, _+_, _*_, _/_, _≤_, max}
+use Prim.Native.Nat.{ℕ, _+_, _*_, _≤_, max}
 use native.Mathlib.Omega.{arith}
 use mathlib.Core.List.{List, [], _∷_, _++_, map}
-use mathlib.Core.Path.{_≡_, refl, ap, _∙_}
+use mathlib.Core.Path.{_≡_, ap, _∙_}
 use lib.ListN.{length, length-append, length-map}
 use Rattle.meaning.specs.Layouts.{magic}
 use Rattle.meaning.specs.Placement.{aligned, placedFrom, placement, endFrom, lastEnd}
 use Rattle.meaning.specs.Described.{Described, blobs}
 use Rattle.meaning.specs.Manifest.{manifestBytes}
-use Rattle.meaning.specs.WrittenFile.{littleBytes, blobsOver, closing, fileOf}
+use Rattle.meaning.specs.WrittenFile.{blobsOver, closing, fileOf}
 use Rattle.readback.specs.Follows.{sum}
 use Rattle.meaning.proofs.Over.{blobs-length}
-use Rattle.readback.proofs.Planned.{aligned-above}
+use Rattle.meaning.proofs.Lengths.{little-length, aligned-above}
 
 aligned-near : (n : ℕ) → aligned n ≤ n + 63
 unfolding aligned
@@ -23,11 +23,6 @@ placed-end n [] = omega arith
 placed-end n (l ∷ ls) =
     let m : max n (aligned n + l) ≡ aligned n + l = omega (arith, aligned-above n) in
     omega (arith, ap (λ (k : ℕ). endFrom k (placedFrom (aligned n + l) ls) ls) m, placed-end (aligned n + l) ls, aligned-near n)
-
-pub little-length : (k n : ℕ) → length (littleBytes k n) ≡ k
-unfolding littleBytes
-little-length zero n = refl
-little-length (suc k) n = ap suc (little-length k (n / 256))
 
 pub closing-length : (m : List ℕ) → length (closing m) ≡ length m + 16
 unfolding closing magic

@@ -12,7 +12,7 @@ use borrow.Author.Tests.{leb-true, le-leb, eqb-true, eq-eqb}
 use Rattle.meaning.specs.Limit.{alignment, endLimit}
 use Rattle.meaning.specs.Refusal.{PLAN}
 use Rattle.meaning.specs.Text.{all}
-use Rattle.meaning.specs.Check.{Check, pass, refuse, _>>=_, _>>_, _unless_, inObject}
+use Rattle.meaning.specs.Check.{Check, pass, _>>=_, _>>_, _unless_, inObject}
 use Rattle.meaning.specs.Read.{Span}
 use Rattle.meaning.specs.Layouts.{magic}
 use Rattle.meaning.specs.Placement.{aligned, placedFrom, placement, endFrom, lastEnd}
@@ -20,38 +20,37 @@ use Rattle.meaning.specs.Plan.{ranged, apart, allowed, plannedFrom, planned}
 use Rattle.meaning.specs.WrittenFile.{over, blobsOver}
 use Rattle.readback.specs.Follows.{Allowed, Follows, none, next, In, here, later, Outside, Before}
 use Rattle.readback.specs.Back.{AllAt}
-use Rattle.readback.proofs.EveryPart.{false-not, and-left, and-right}
 use Rattle.meaning.proofs.Over.{over-length, over-here, over-keeps, over-front, byte-before, byte-after, blobs-length, end-above}
+use Rattle.meaning.proofs.Tests.{false-not, both-left, both-right}
+use Rattle.meaning.proofs.Checks.{refused-is-not}
+use Rattle.meaning.proofs.Lengths.{aligned-above}
 
 -- ---- from the verdict
-
-refused-passes : {A : Type 0} {n o c : ℕ} {a : A} → refuse n o c ≡ pass a → ⊥
-refused-passes e = let z : _≡_ {A = ℕ} 0 1 = cc in omega arith
 
 -- a test of the i-th row that was passed
 row-passes : {A : Type 0} (i : ℕ) (t : Bool) (k : Check A) {a : A} → (inObject i (PLAN unless t) >> k) ≡ pass a → (t ≡ true) × (k ≡ pass a)
 row-passes i true k e = (refl, e)
-row-passes i false k e = absurd (refused-passes e)
+row-passes i false k e = absurd (refused-is-not e)
 
 is-allowed : (ceiling o l : ℕ) → allowed ceiling (ranged o l) ≡ true → Allowed ceiling o l
 unfolding allowed
 is-allowed ceiling o l e =
-    let both = and-left (eqb (o % alignment) 0 && leb alignment o) (leb (o + l) ceiling) e in
+    let both = both-left (eqb (o % alignment) 0 && leb alignment o) (leb (o + l) ceiling) e in
     record {
-      multiple = eqb-true (o % alignment) 0 (and-left (eqb (o % alignment) 0) (leb alignment o) both);
-      low = leb-true alignment o (and-right (eqb (o % alignment) 0) (leb alignment o) both);
-      ends = leb-true (o + l) ceiling (and-right (eqb (o % alignment) 0 && leb alignment o) (leb (o + l) ceiling) e);
+      multiple = eqb-true (o % alignment) 0 (both-left (eqb (o % alignment) 0) (leb alignment o) both);
+      low = leb-true alignment o (both-right (eqb (o % alignment) 0) (leb alignment o) both);
+      ends = leb-true (o + l) ceiling (both-right (eqb (o % alignment) 0 && leb alignment o) (leb (o + l) ceiling) e);
     }
 
 follows-from : (ceiling i : ℕ) (earlier : List Span) (os ls : List ℕ) → plannedFrom ceiling i earlier os ls ≡ pass tt → Follows ceiling earlier os ls
 unfolding plannedFrom
 follows-from ceiling i earlier [] [] e = none
-follows-from ceiling i earlier [] (l ∷ ls) e = absurd (refused-passes e)
-follows-from ceiling i earlier (o ∷ os) [] e = absurd (refused-passes e)
+follows-from ceiling i earlier [] (l ∷ ls) e = absurd (refused-is-not e)
+follows-from ceiling i earlier (o ∷ os) [] e = absurd (refused-is-not e)
 follows-from ceiling i earlier (o ∷ os) (l ∷ ls) e =
     let k = row-passes i (allowed ceiling (ranged o l) && all (apart (ranged o l)) earlier) (plannedFrom ceiling (suc i) (ranged o l ∷ earlier) os ls) e in
-    next (is-allowed ceiling o l (and-left (allowed ceiling (ranged o l)) (all (apart (ranged o l)) earlier) (k .0)))
-    (and-right (allowed ceiling (ranged o l)) (all (apart (ranged o l)) earlier) (k .0))
+    next (is-allowed ceiling o l (both-left (allowed ceiling (ranged o l)) (all (apart (ranged o l)) earlier) (k .0)))
+    (both-right (allowed ceiling (ranged o l)) (all (apart (ranged o l)) earlier) (k .0))
     (follows-from ceiling (suc i) (ranged o l ∷ earlier) os ls (k .1))
 
 pub record Accepted (ceiling : ℕ) (plan lengths : List ℕ) : Type 0 where
@@ -64,7 +63,7 @@ accepted ceiling plan ls = go (leb ceiling endLimit) refl
   where
     go : (t : Bool) → leb ceiling endLimit ≡ t → ((PLAN unless t) >> plannedFrom ceiling 0 [] plan ls) ≡ pass tt → Accepted ceiling plan ls
     go true q e = record { low = leb-true ceiling endLimit q; follows = follows-from ceiling 0 [] plan ls e }
-    go false q e = absurd (refused-passes e)
+    go false q e = absurd (refused-is-not e)
 
 -- as many offsets as blobs
 pub as-many : {ceiling : ℕ} {earlier : List Span} {os ls : List ℕ} → Follows ceiling earlier os ls → length os ≡ length ls
@@ -83,8 +82,8 @@ unfolding lastEnd magic
 ends-in-time a = omega (arith, ends-low 8 (a .follows), a .low)
 
 in-all : {A : Type 0} (p : A → Bool) {a : A} {as′ : List A} → In a as′ → all p as′ ≡ true → p a ≡ true
-in-all p (here {as′}) e = and-left (p _) (all p as′) e
-in-all p (later {b} {as′} i) e = in-all p i (and-right (p b) (all p as′) e)
+in-all p (here {as′}) e = both-left (p _) (all p as′) e
+in-all p (later {b} {as′} i) e = in-all p i (both-right (p b) (all p as′) e)
 
 -- an earlier blob stays where it is
 blobs-keep : {ceiling : ℕ} {earlier : List Span} (file os : List ℕ) (bs : List (List ℕ)) → Follows ceiling earlier os (map length bs) → (s : Span) → In s earlier
@@ -132,10 +131,6 @@ uncovered file (o ∷ os) [] k h = refl
 uncovered file (o ∷ os) (b ∷ bs) k (h, hs) = uncovered (over file o b) os bs k hs ∙ ⊎-elim (byte-before file o b k) (byte-after file o b k) h
 
 -- ---- the rule's offsets are accepted
-
-pub aligned-above : (n : ℕ) → n ≤ aligned n
-unfolding aligned
-aligned-above n = omega arith
 
 pub aligned-multiple : (n : ℕ) → aligned n % alignment ≡ 0
 unfolding aligned

@@ -21,6 +21,7 @@ use Rattle.meaning.specs.Described.{Described, blobs}
 use Rattle.meaning.specs.Manifest.{manifestBytes}
 use Rattle.meaning.specs.WrittenFile.{littleBytes, blobsOver, closing, fileOf}
 use Rattle.meaning.specs.Write.{writtenAt, writtenPlain, writtenPlanned}
+use Rattle.meaning.proofs.Checks.{refused-is-not}
 use Rattle.readback.specs.Trees.{manifestPiece}
 use Rattle.readback.specs.Judged.{tooDeep, judgedObjects, judged}
 use Rattle.readback.specs.Fine.{Fine}
@@ -84,9 +85,6 @@ module _ (d : Described) (offsets X : List ℕ) (fine : Fine d) where
         (finish-agrees (tooDeep d) refl)
 
 -- ---- by any accepted plan
-
-pub refused-is-not : {A : Type 0} {n o c : ℕ} {a : A} → refuse n o c ≡ pass a → ⊥
-refused-is-not e = let z : _≡_ {A = ℕ} 0 1 = cc in omega arith
 
 nothing-passes : {A B : Type 0} (n : ℕ) (m : Check A) {b : B} → (m >> refuse n 0 0) ≡ pass b → ⊥
 nothing-passes n (pass a) e = refused-is-not e

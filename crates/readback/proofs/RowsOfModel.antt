@@ -3,22 +3,19 @@ use Prim.Native.Nat.{ℕ, suc, _+_, _*_, _≤_}
 use native.Mathlib.Omega.{arith}
 use mathlib.Core.List.{List, [], _∷_, _++_, map, append-assoc}
 use mathlib.Core.Path.{_≡_, refl, ap, sym, _∙_}
-use lib.ListN.{length, take, drop, getD, replicate, length-append, length-replicate}
-use lib.Seq.{take-at, drop-drop, take-append-le, take-take, drop-append-add, getD-append-add, length-take-le}
+use lib.ListN.{length, take, drop, getD, replicate}
+use lib.Seq.{take-at, drop-drop, take-append-le, take-take, drop-append-add, getD-append-add}
 use Rattle.meaning.specs.Columns.{objectWidth, componentWidth}
 use Rattle.meaning.specs.Limit.{rankLimit}
 use Rattle.meaning.specs.Read.{Span}
 use Rattle.meaning.specs.Model.{Component, Object, Model}
 use Rattle.meaning.specs.Rows.{wordSpan, attributesSpan, dimensions, objectRow, componentRow, objectRows, rowsOf, componentRows, rows, componentCount}
 use Rattle.meaning.specs.Asked.{AskedComponent, askedObject, askedComponent, eachRow, asked}
-use Rattle.readback.specs.Every.{Every}
+use Rattle.meaning.proofs.Lengths.{dimensions-length}
+use Rattle.meaning.specs.Every.{Every}
 use Rattle.readback.specs.Spelled.{askedOf, askedOfObject, askedOfAll, askedOfModel}
 
 -- ---- an object's row
-
-dimensions-length : (shape : List ℕ) → length (dimensions shape) ≡ 8
-unfolding dimensions
-dimensions-length shape = length-take-le 8 (shape ++ replicate 8 0) (omega (arith, length-append shape (replicate 8 0), length-replicate {A = ℕ} 8 0))
 
 shape-back : (shape rest : List ℕ) → length shape ≤ rankLimit → take (length shape) (dimensions shape ++ rest) ≡ shape
 unfolding dimensions
@@ -110,27 +107,3 @@ rows-asked m R h =
     )
 
 -- ---- how many numbers they are
-
-object-length : (o : Object Span) → length (objectRow o) ≡ objectWidth
-unfolding objectRow
-object-length o = omega (arith, length-append (length (o .shape) ∷ dimensions (o .shape)) (ending o []), dimensions-length (o .shape))
-
-objects-length : (os : List (Object Span)) → length (objectRows os) ≡ objectWidth * length os
-unfolding objectRows
-objects-length [] = refl
-objects-length (o ∷ os) = omega (arith, length-append (objectRow o) (objectRows os), object-length o, objects-length os)
-
-components-length : (i : ℕ) (cs : List (Component Span)) → length (rowsOf i cs) ≡ componentWidth * length cs
-unfolding rowsOf componentRow
-components-length i [] = refl
-components-length i (c ∷ cs) = omega (arith, components-length i cs)
-
-all-length : (i : ℕ) (os : List (Object Span)) → length (componentRows i os) ≡ componentWidth * componentCount os
-unfolding componentRows componentCount
-all-length i [] = refl
-all-length i (o ∷ os) =
-    omega (arith, length-append (rowsOf i (o .components)) (componentRows (suc i) os), components-length i (o .components), all-length (suc i) os)
-
-pub rows-length : (m : Model Span) → length (rows m) ≡ objectWidth * length (m .objects) + componentWidth * componentCount (m .objects)
-unfolding rows
-rows-length m = omega (arith, length-append (objectRows (m .objects)) (componentRows 0 (m .objects)), objects-length (m .objects), all-length 0 (m .objects))

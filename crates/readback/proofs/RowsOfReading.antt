@@ -7,10 +7,10 @@ use mathlib.Core.Option.{Option, none, some}
 use mathlib.Core.Path.{_≡_, refl, ap, ap₂, _∙_}
 use lib.ListN.{length, replicate, length-append, length-map}
 use lib.Seq.{take-at, drop-at}
-use borrow.Author.Tests.{le-leb, lt-ltb, eq-eqb, ne-eqb}
+use borrow.Author.Tests.{le-leb, lt-ltb, ne-eqb}
 use Rattle.meaning.specs.Columns.{objectWidth, componentWidth}
 use Rattle.meaning.specs.Limit.{rankLimit}
-use Rattle.meaning.specs.Text.{all, same}
+use Rattle.meaning.specs.Text.{all}
 use Rattle.meaning.specs.Tree.{Node, noteOf}
 use Rattle.meaning.specs.Read.{Span, bytesAt}
 use Rattle.meaning.specs.Notes.{mapOption}
@@ -23,10 +23,12 @@ use Rattle.meaning.specs.Sound.{rootLevels, objectLevels, absentOr, owners, ins
 use Rattle.meaning.specs.Check.{pass}
 use Rattle.meaning.specs.Write.{writtenPlain, written}
 use Rattle.meaning.specs.Described.{DescribedComponent, DescribedObject, Described, describedComponent, describedObject, describedObjects, described, readComponent, readObject, describedBy}
-use Rattle.readback.specs.Every.{Every}
+use Rattle.meaning.proofs.SameText.{same-self}
+use Rattle.meaning.proofs.Lengths.{rows-length}
+use Rattle.meaning.specs.Every.{IfAny, Every}
 use Rattle.readback.specs.Back.{ReadsBack}
-use Rattle.readback.specs.Spelled.{IfAny, SpelledWord, SpelledMap, SpelledComponent, SpelledObject, Spelled, askedOf, askedOfObject, askedOfAll, askedOfModel}
-use Rattle.readback.proofs.RowsOfModel.{rows-asked, rows-length}
+use Rattle.readback.specs.Spelled.{SpelledWord, SpelledMap, SpelledComponent, SpelledObject, Spelled, askedOf, askedOfObject, askedOfAll, askedOfModel}
+use Rattle.readback.proofs.RowsOfModel.{rows-asked}
 
 module _ (file : List ℕ) where
   -- ---- ranges
@@ -74,7 +76,7 @@ module _ (file : List ℕ) where
   unfolding described describedBy askedOfModel
   model-same m h = rw (attributes-present rootLevels (m .attributes) (h .attributes), objects-same 0 (m .objects) (h .objects))
 
-  ranks : (os : List (Object Span)) → Every (SpelledObject file) os → Every (λ o. length (o .shape) ≤ rankLimit) os
+  pub ranks : (os : List (Object Span)) → Every (SpelledObject file) os → Every (λ o. length (o .shape) ≤ rankLimit) os
   ranks [] h = tt
   ranks (o ∷ os) (h, hs) = (h .rank, ranks os hs)
 
@@ -101,7 +103,7 @@ module _ (file : List ℕ) where
         inside-true (wordSpan (c .name)) (h .name .lies .inside),
         lt-ltb (c .dtype) (length storages) (h .dtype),
         inside-option (c .type) (h .type),
-        inside-true (record { place = c .offset; size = c .length }) (h .blob),
+        inside-true (record { place = c .offset; size = c .length }) (h .part),
         inside-option (c .digest) (h .digest),
       )
 
@@ -136,10 +138,6 @@ module _ (file : List ℕ) where
   unfolding askedOfAll
   all-sound i [] h = refl
   all-sound i (o ∷ os) (h, hs) = components-sound i (o .components) (askedOfAll (suc i) os) (h .components) (all-sound (suc i) os hs)
-
-same-self : (a : List ℕ) → same a a ≡ true
-same-self [] = refl
-same-self (x ∷ a) = rw (eq-eqb x x refl) (same-self a)
 
 owners-of-one : (i : ℕ) (cs : List (Component Span)) (rest : List AskedComponent)
     → replicate (length cs) i ++ map (λ c. c .owner) rest ≡ map (λ c. c .owner) (map (askedOf i) cs ++ rest)

@@ -4,42 +4,38 @@ use native.Mathlib.Omega.{arith}
 use mathlib.Core.List.{List, [], _∷_, _++_, map}
 use mathlib.Core.Bool.{Bool, true, false}
 use mathlib.Core.Path.{_≡_, refl, ap, ap₂, sym, _∙_, subst}
-use lib.Dec.{eqb, leb}
-use lib.ListN.{length, take, drop, replicate, length-append, length-take, length-drop, length-replicate, length-map, take-append-drop}
+use lib.Dec.{leb}
+use lib.ListN.{length, take, drop, replicate, length-append, length-drop, length-replicate, length-map, take-append-drop}
 use borrow.Author.Tests.{leb-true}
 use Rattle.meaning.specs.Columns.{objectWidth, componentWidth}
 use Rattle.meaning.specs.Refusal.{ROW, BIG, COUNT, ROOM}
 use Rattle.meaning.specs.Limit.{manifestLimit, endLimit}
-use Rattle.meaning.specs.Check.{Check, pass, refuse, _>>_, _unless_}
-use Rattle.meaning.specs.Text.{same}
+use Rattle.meaning.specs.Check.{Check, pass, _>>_, _unless_}
 use Rattle.meaning.specs.Read.{Span, bytesAt}
 use Rattle.meaning.specs.Layouts.{current}
 use Rattle.meaning.specs.Frame.{Reading, reading}
 use Rattle.meaning.specs.Asked.{AskedObject, AskedComponent, askedComponent, asked}
-use Rattle.meaning.specs.Sound.{owners, inside, componentSound, rowsSound}
+use Rattle.meaning.specs.Sound.{owners, componentSound, rowsSound}
 use Rattle.meaning.specs.Placement.{placement, lastEnd}
 use Rattle.meaning.specs.Described.{Described, blobsIn, blobs, describedComponent, describedObject, describedObjects, described}
 use Rattle.meaning.specs.Manifest.{manifestBytes}
 use Rattle.meaning.specs.WrittenFile.{fileOf}
 use Rattle.meaning.specs.Plan.{planned}
 use Rattle.meaning.specs.Write.{writtenPlain, writtenPlanned, written, writtenBy}
-use Rattle.readback.specs.Every.{Every}
+use Rattle.meaning.proofs.SameText.{same-length}
+use Rattle.meaning.proofs.Checks.{pass-same, refused-is-not, passed-on}
+use Rattle.meaning.proofs.Lengths.{part-length, each-row-length}
+use Rattle.meaning.specs.Every.{Every}
+use Rattle.meaning.proofs.Every.{every-all}
 use Rattle.readback.specs.Follows.{sum}
 use Rattle.readback.specs.Judged.{judged}
 use Rattle.readback.specs.Fine.{Fits, Brief}
 use Rattle.readback.specs.Back.{offsetsIn, ReadsBack, ReadsBackAt}
-use Rattle.readback.proofs.EveryPart.{every-all, false-not, and-right}
 use Rattle.readback.proofs.Placed.{length-bound}
-use Rattle.readback.proofs.ReadBack.{refused-is-not, written-plain-is, written-plain-placed, written-planned-is, written-planned-placed}
-use Rattle.readback.proofs.SoundIsFine.{each-row-length, component-tests, tests, sound-is-fine}
+use Rattle.readback.proofs.ReadBack.{written-plain-is, written-plain-placed, written-planned-is, written-planned-placed}
+use Rattle.readback.proofs.SoundIsFine.{component-tests, tests, sound-is-fine}
 
 -- ---- the blobs are those of the component rows, in row order
-
-same-length : (a b : List ℕ) → same a b ≡ true → length a ≡ length b
-same-length [] [] h = refl
-same-length [] (y ∷ b) h = absurd (false-not h)
-same-length (x ∷ a) [] h = absurd (false-not h)
-same-length (x ∷ a) (y ∷ b) h = ap suc (same-length a b (and-right (eqb x y) (same a b) h))
 
 counts : List AskedObject → ℕ
 counts [] = 0
@@ -74,14 +70,10 @@ module _ (buffer : List ℕ) where
       ap₂ {A = List (List ℕ)} {B = List (List ℕ)} (λ a b. a ++ b) (described-blobs (take (o .count) cs)) (blobs-are os (drop (o .count) cs) (omega (arith, length-drop (o .count) cs)))
       ∙ sym (map-append (take (o .count) cs) (drop (o .count) cs)) ∙ ap (map blobOf) (take-append-drop (o .count) cs)
 
-  part-length : (s : Span) → inside buffer s ≡ true → length (bytesAt buffer s) ≡ s .size
-  unfolding inside
-  part-length s h = let l : s .place + s .size ≤ length buffer = leb-true (s .place + s .size) (length buffer) h in simp (length-take, length-drop) (omega arith)
-
   lengths-are : (cs : List AskedComponent) → Every (λ c. componentSound buffer c ≡ true) cs → map length (map blobOf cs) ≡ map (λ c. c .blob .size) cs
   lengths-are [] h = refl
   lengths-are (c ∷ cs) (h, hs) =
-      ap₂ {A = ℕ} {B = List ℕ} (λ a b. a ∷ b) (part-length (c .blob) (component-tests buffer c h .1 .1 .1)) (lengths-are cs hs)
+      ap₂ {A = ℕ} {B = List ℕ} (λ a b. a ∷ b) (part-length buffer (c .blob) (component-tests buffer c h .1 .1 .1)) (lengths-are cs hs)
 
 -- ---- the writer
 
@@ -89,20 +81,13 @@ unless-passes : {A : Type 0} (n : ℕ) (b : Bool) (k : Check A) {a : A} → ((n 
 unless-passes n true k h = (refl, h)
 unless-passes n false k h = absurd (refused-is-not h)
 
-then-passes : {A B : Type 0} (m : Check A) (k : Check B) {b : B} → (m >> k) ≡ pass b → k ≡ pass b
-then-passes (pass a) k h = h
-then-passes (refuse n o c) k h = absurd (refused-is-not h)
-
-passed-same : {A : Type 0} {a b : A} → pass a ≡ pass b → a ≡ b
-passed-same e = cc
-
 pub rows-counted : (rows : List ℕ) (objects components : ℕ) (attributes : Span) → length (asked rows objects components attributes .components) ≡ components
 unfolding asked
 rows-counted rows objects components attributes = each-row-length askedComponent componentWidth components (drop (objectWidth * objects) rows)
 
 -- the offsets of whatever was read
 read-offsets : {file : List ℕ} {d : Described} {offsets : List ℕ} → ReadsBackAt file d offsets → (r : Reading) → reading current file ≡ pass r → offsetsIn (r .model .objects) ≡ offsets
-read-offsets b r e = ap (λ (r : Reading). offsetsIn (r .model .objects)) (passed-same (sym e ∙ b .reads .is)) ∙ b .placed
+read-offsets b r e = ap (λ (r : Reading). offsetsIn (r .model .objects)) (pass-same (sym e ∙ b .reads .is)) ∙ b .placed
 
 -- the file of an accepted writing
 pub record Accepted (sound : Bool) (whole file : List ℕ) (room : ℕ) : Type 0 where
@@ -200,8 +185,8 @@ module _ (rows : List ℕ) (fit : Every Fits rows) (few : Brief rows) (buffer : 
       let k₁ = unless-passes COUNT (leb (lastEnd offsets (map length (blobs of-rows))) endLimit)
       ((BIG unless leb (length (manifestBytes of-rows offsets)) manifestLimit) >> (judged of-rows >> roomy)) (k₀ .1) in
       let k₂ = unless-passes BIG (leb (length (manifestBytes of-rows offsets)) manifestLimit) (judged of-rows >> roomy) (k₁ .1) in
-      let k₃ = unless-passes ROOM (leb (length F) room) (pass F) (then-passes (judged of-rows) roomy (k₂ .1)) in
-      let e : F ≡ file = passed-same (k₃ .1) in
+      let k₃ = unless-passes ROOM (leb (length F) room) (pass F) (passed-on (judged of-rows) roomy _ (k₂ .1)) in
+      let e : F ≡ file = pass-same (k₃ .1) in
       record { rows = k₀ .0; is = sym e; fits = subst (λ (f : List ℕ). length f ≤ room) e (leb-true (length F) room (k₃ .0)) }
 
   -- whatever the reader's answer to the file of a plan holds, its components' offsets are the plan, one for each row

@@ -4,7 +4,7 @@ use native.Mathlib.Omega.{arith}
 use mathlib.Core.List.{List, [], _∷_, map}
 use mathlib.Core.Bool.{Bool, true, false, cond, _&&_}
 use mathlib.Core.Option.{none, some}
-use mathlib.Core.Path.{_≡_, refl, ap}
+use mathlib.Core.Path.{_≡_}
 use lib.Dec.{eqb, leb, ltb}
 use lib.ListN.{length, take, drop, getD, length-take, length-map}
 use borrow.Author.Tests.{leb-true, ltb-true}
@@ -16,18 +16,15 @@ use Rattle.meaning.specs.Types.{storages}
 use Rattle.meaning.specs.Asked.{AskedObject, AskedComponent, Asked, askedObject, askedComponent, eachRow, asked, presentAt}
 use Rattle.meaning.specs.Sound.{aMap, rootLevels, objectLevels, absentOr, owners, inside, attributesSound, objectSound, componentSound, askedSound, rowsSound}
 use Rattle.meaning.specs.Described.{describedComponent, describedObject, describedObjects, described}
-use Rattle.readback.specs.Every.{Every}
+use Rattle.meaning.proofs.Tests.{both-left, both-right, four-true}
+use Rattle.meaning.proofs.Lengths.{take-shorter, drop-shorter, each-row-length, described-counted}
+use Rattle.meaning.specs.Every.{Every}
+use Rattle.meaning.proofs.Every.{every-take, every-drop, every-map, every-all}
 use Rattle.readback.specs.Fine.{Fits, Brief, BriefOption, FineComponent, FineObject, Fine}
-use Rattle.readback.proofs.EveryPart.{every-take, every-drop, every-map, every-all, four, and-left, and-right}
 
 -- ---- rows
 
 module _ {A : Type 0} (read : List ℕ → A) (width : ℕ) where
-  pub each-row-length : (n : ℕ) (rows : List ℕ) → length (eachRow read width n rows) ≡ n
-  unfolding eachRow
-  each-row-length zero rows = refl
-  each-row-length (suc n) rows = ap suc (each-row-length n (drop width rows))
-
   each-row-every : (Q : A → Type 0) (n : ℕ) (rows : List ℕ) → ((s : List ℕ) → Every Fits s → Q (read s)) → Every Fits rows → Every Q (eachRow read width n rows)
   unfolding eachRow
   each-row-every Q zero rows k h = tt
@@ -35,22 +32,12 @@ module _ {A : Type 0} (read : List ℕ → A) (width : ℕ) where
 
 -- ---- parts of the buffer
 
-take-shorter : {A : Type 0} (n : ℕ) (l : List A) → length (take n l) ≤ length l
-take-shorter zero l = omega arith
-take-shorter (suc n) [] = omega arith
-take-shorter (suc n) (a ∷ l) = omega (arith, take-shorter n l)
-
-drop-shorter : {A : Type 0} (n : ℕ) (l : List A) → length (drop n l) ≤ length l
-drop-shorter zero l = omega arith
-drop-shorter (suc n) [] = omega arith
-drop-shorter (suc n) (a ∷ l) = omega (arith, drop-shorter n l)
-
 -- name, code, type, blob
 pub component-tests : (buffer : List ℕ) (c : AskedComponent) → componentSound buffer c ≡ true
     → (inside buffer (c .name) ≡ true) × ((ltb (c .dtype) (length storages) ≡ true) × ((inside buffer (c .type) ≡ true) × (inside buffer (c .blob) ≡ true)))
 unfolding componentSound
 component-tests buffer c h =
-    four (inside buffer (c .name)) (ltb (c .dtype) (length storages)) (inside buffer (c .type)) (inside buffer (c .blob)) (and-left _ (inside buffer (c .digest)) h)
+    four-true (inside buffer (c .name)) (ltb (c .dtype) (length storages)) (inside buffer (c .type)) (inside buffer (c .blob)) (both-left _ (inside buffer (c .digest)) h)
 
 module _ (buffer : List ℕ) (small : Brief buffer) where
   part-brief : (s : Span) → Brief (bytesAt buffer s)
@@ -79,7 +66,7 @@ module _ (buffer : List ℕ) (small : Brief buffer) where
 
   attributes-fine : (levels : ℕ) (s : Span) → attributesSound buffer levels s ≡ true → absentOr (aMap levels) (presentAt buffer s) ≡ true
   unfolding attributesSound
-  attributes-fine levels s h = and-right (inside buffer s) (absentOr (aMap levels) (presentAt buffer s)) h
+  attributes-fine levels s h = both-right (inside buffer s) (absentOr (aMap levels) (presentAt buffer s)) h
 
   -- a row whose dimensions fit, and no longer than its rank says
   pub record Shaped (o : AskedObject) : Type 0 where
@@ -90,7 +77,7 @@ module _ (buffer : List ℕ) (small : Brief buffer) where
       → FineObject (describedObject buffer o cs)
   unfolding objectSound describedObject
   object-fine o cs shaped h n g =
-      let k = four (inside buffer (o .name)) (leb (o .rank) rankLimit) (inside buffer (o .format)) (attributesSound buffer objectLevels (o .attributes)) h in
+      let k = four-true (inside buffer (o .name)) (leb (o .rank) rankLimit) (inside buffer (o .format)) (attributesSound buffer objectLevels (o .attributes)) h in
       record {
         name = part-brief (o .name);
         rank = let r : o .rank ≤ rankLimit = leb-true (o .rank) rankLimit (k .1 .0) in omega (arith, r, shaped .short);
@@ -110,11 +97,6 @@ module _ (buffer : List ℕ) (small : Brief buffer) where
     objects-fine os (drop (o .count) cs) ps hs (omega (arith, drop-shorter (o .count) cs)) (every-drop (λ c. componentSound buffer c ≡ true) (o .count) cs g),
   )
 
-  objects-length : (os : List AskedObject) (cs : List AskedComponent) → length (describedObjects buffer os cs) ≡ length os
-  unfolding describedObjects
-  objects-length [] cs = refl
-  objects-length (o ∷ os) cs = ap suc (objects-length os (drop (o .count) cs))
-
   shaped : (row : List ℕ) → Every Fits row → Shaped (askedObject row)
   unfolding askedObject
   shaped row h = record {
@@ -128,16 +110,16 @@ module _ (buffer : List ℕ) (small : Brief buffer) where
 
     long-enough : objectWidth * objects + componentWidth * components ≤ length rows
     unfolding rowsSound
-    long-enough = leb-true (objectWidth * objects + componentWidth * components) (length rows) (and-left _ (askedSound buffer all-asked) sound)
+    long-enough = leb-true (objectWidth * objects + componentWidth * components) (length rows) (both-left _ (askedSound buffer all-asked) sound)
 
     -- owners, attributes, objects, components
     pub tests : (same (owners 0 (all-asked .objects)) (map (λ c. c .owner) (all-asked .components)) ≡ true) × ((attributesSound buffer rootLevels (all-asked .attributes) ≡ true)
         × ((all (objectSound buffer) (all-asked .objects) ≡ true) × (all (componentSound buffer) (all-asked .components) ≡ true)))
     unfolding rowsSound askedSound
     tests =
-        four (same (owners 0 (all-asked .objects)) (map (λ c. c .owner) (all-asked .components))) (attributesSound buffer rootLevels (all-asked .attributes))
+        four-true (same (owners 0 (all-asked .objects)) (map (λ c. c .owner) (all-asked .components))) (attributesSound buffer rootLevels (all-asked .attributes))
         (all (objectSound buffer) (all-asked .objects)) (all (componentSound buffer) (all-asked .components))
-        (and-right (leb (objectWidth * objects + componentWidth * components) (length rows)) _ sound)
+        (both-right (leb (objectWidth * objects + componentWidth * components) (length rows)) _ sound)
 
     pub sound-is-fine : Fine (described buffer (asked rows objects components attributes))
     unfolding described asked
@@ -148,7 +130,7 @@ module _ (buffer : List ℕ) (small : Brief buffer) where
         let no : length os ≡ objects = each-row-length askedObject objectWidth objects rows in
         record {
           attributes = attributes-fine rootLevels attributes (tests .1 .0);
-          count = rw (objects-length os cs) (omega (arith, no, long-enough));
+          count = rw (described-counted buffer os cs) (omega (arith, no, long-enough));
           objects = objects-fine os cs (each-row-every askedObject objectWidth Shaped objects rows shaped fit) (every-all (objectSound buffer) os (tests .1 .1 .0)) (omega (arith, nc, long-enough))
               (every-all (componentSound buffer) cs (tests .1 .1 .1));
         }

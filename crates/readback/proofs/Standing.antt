@@ -4,7 +4,7 @@ use native.Mathlib.Omega.{arith}
 use mathlib.Core.List.{List, [], _∷_, _++_, map}
 use lib.ListN.{length, take, drop}
 use Rattle.meaning.specs.Described.{DescribedComponent, DescribedObject, blobsIn}
-use Rattle.readback.specs.Every.{Every}
+use Rattle.meaning.specs.Every.{Every}
 use Rattle.readback.specs.Fine.{Fits}
 use Rattle.readback.specs.Back.{AllAt, Stand, StandAll}
 

@@ -9,7 +9,7 @@ use Rattle.meaning.specs.Limit.{rankLimit}
 use Rattle.meaning.specs.Types.{storages}
 use Rattle.meaning.specs.Sound.{aMap, rootLevels, objectLevels, absentOr}
 use Rattle.meaning.specs.Described.{DescribedComponent, DescribedObject, Described}
-use Rattle.readback.specs.Every.{Every}
+use Rattle.meaning.specs.Every.{Every}
 
 -- a head's argument
 abbrev pub Fits : ℕ → Type 0

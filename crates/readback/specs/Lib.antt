@@ -1,5 +1,4 @@
 pub mod Follows
-pub mod Every
 pub mod Piece
 pub mod Trees
 pub mod Fine

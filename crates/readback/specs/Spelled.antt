@@ -1,23 +1,16 @@
 -- A model whose texts and attributes stand in its file where their spans say, after the header: what the model of an accepted file is.
-use Prim.Native.Nat.{ℕ, suc, _+_, _≤_, _<_}
+use Prim.Native.Nat.{ℕ, suc, _+_, _≤_}
 use mathlib.Core.List.{List, [], _∷_, _++_, map}
 use mathlib.Core.Bool.{true}
-use mathlib.Core.Option.{Option, none, some}
 use mathlib.Core.Path.{_≡_}
 use lib.ListN.{length}
-use Rattle.meaning.specs.Limit.{rankLimit}
 use Rattle.meaning.specs.Tree.{Node, noteOf}
 use Rattle.meaning.specs.Read.{Span, bytesAt}
 use Rattle.meaning.specs.Model.{Word, Component, Object, Model}
-use Rattle.meaning.specs.Types.{storages}
 use Rattle.meaning.specs.Rows.{wordSpan, optionalSpan, attributesSpan}
 use Rattle.meaning.specs.Asked.{AskedObject, AskedComponent, Asked}
-use Rattle.meaning.specs.Sound.{aMap, rootLevels, objectLevels}
-use Rattle.readback.specs.Every.{Every}
-
-abbrev pub IfAny : {A : Type 0} → (A → Type 0) → Option A → Type 0
-IfAny P none = Unit {0}
-IfAny P (some a) = P a
+use Rattle.meaning.specs.Sound.{aMap}
+use Rattle.meaning.specs.Stands.{WordStands, ComponentStands, ObjectStands, ModelStands}
 
 module _ (file : List ℕ) where
   -- inside the file, and not at its beginning
@@ -25,32 +18,25 @@ module _ (file : List ℕ) where
     pub inside : s .place + s .size ≤ length file
     pub later : 1 ≤ s .place
 
-  pub record SpelledWord (w : Word Span) : Type 0 where
-    pub lies : Within (wordSpan w)
-    pub spelled : bytesAt file (wordSpan w) ≡ w .letters
+  abbrev pub SpelledWord : Word Span → Type 0
+  SpelledWord = WordStands Within file
 
   -- one well-formed map where so many levels are left
   pub record SpelledMap (levels : ℕ) (t : Node Span) : Type 0 where
     pub lies : Within (noteOf t)
     pub well-formed : aMap levels (bytesAt file (noteOf t)) ≡ true
 
-  pub record SpelledComponent (c : Component Span) : Type 0 where
-    pub name : SpelledWord (c .name)
-    pub dtype : c .dtype < length storages
-    pub type : IfAny SpelledWord (c .type)
-    pub digest : IfAny SpelledWord (c .digest)
-    pub blob : c .offset + c .length ≤ length file
+  abbrev pub BlobInside : Component Span → Type 0
+  BlobInside c = c .offset + c .length ≤ length file
 
-  pub record SpelledObject (o : Object Span) : Type 0 where
-    pub name : SpelledWord (o .name)
-    pub rank : length (o .shape) ≤ rankLimit
-    pub format : SpelledWord (o .format)
-    pub attributes : IfAny (SpelledMap objectLevels) (o .attributes)
-    pub components : Every SpelledComponent (o .components)
+  abbrev pub SpelledComponent : Component Span → Type 0
+  SpelledComponent = ComponentStands Within SpelledMap BlobInside file
 
-  pub record Spelled (m : Model Span) : Type 0 where
-    pub attributes : IfAny (SpelledMap rootLevels) (m .attributes)
-    pub objects : Every SpelledObject (m .objects)
+  abbrev pub SpelledObject : Object Span → Type 0
+  SpelledObject = ObjectStands Within SpelledMap BlobInside file
+
+  abbrev pub Spelled : Model Span → Type 0
+  Spelled = ModelStands Within SpelledMap BlobInside file
 
 -- ---- a model's rows, by name
 

@@ -18,7 +18,6 @@ use Rattle.meaning.specs.Text.{all}
 use Rattle.meaning.specs.Refusal.{KEY, TWICE}
 use Rattle.meaning.specs.Model.{Model, RootFields}
 use Rattle.meaning.specs.Notes.{mapOption, mapModel, mapObject}
-use Rattle.meaning.specs.Kind as kinds
 use Rattle.meaning.specs.Kind.{kind, table, aTable, asTable}
 use Rattle.meaning.specs.Field as field
 use Rattle.meaning.specs.Layouts.{Layout, slot, somes, objectsAt, layoutOf}
@@ -26,16 +25,16 @@ use Rattle.meaning.specs.Field.{rootFields, isSome, keyOf, count}
 use Rattle.meaning.specs.Judge.{judge, aVersion, attributesOf, objectsOf}
 use Rattle.meaning.specs.Frame.{Reading, frame, reading}
 use Rattle.meaning.specs.Rows.{attributesSpan, componentCount, rows, roomFor, roomy, answer, tableAfter, readInto}
+use Rattle.meaning.proofs.Checks.{pass-same, required-some, passed-on, passed}
+use Rattle.meaning.proofs.KindIs.{table-kind, attributes-stay}
 use Rattle.cbor.specs.Ending.{FAULT, took, code, itemEnd}
 use Rattle.walk.specs.Reading.{Ends, Reads, leftAt}
 use Rattle.walk.proofs.Passed.{Here}
 use Rattle.walk.proofs.Chains.{ate}
 use Rattle.walk.proofs.ReadSays.{note-of}
 use Rattle.fields.specs.Slots.{Holds}
-use Rattle.fields.proofs.Standing.{field-found-stands}
-use Rattle.components.proofs.Typed.{passed, passed-on, pass-same}
+use Rattle.fields.proofs.Standing.{field-found-stands, holds-whole}
 use Rattle.components.proofs.Lettered.{pairs-chained}
-use Rattle.root.proofs.Walks.{holds-whole}
 use Rattle.table.specs.Spans.{spanOf, spanned, WholeIs}
 use Rattle.table.specs.Objects.{Written}
 use Rattle.table.specs.declared.span.Span.{Span}
@@ -70,18 +69,6 @@ module _ (m : List ℕ) (left end size : ℕ) (skipped : size ≡ code (itemEnd 
 
 -- ---------------------------------------------------------------- what an accepted root is made of
 
-required-some : {A : Type 0} (o : Option A) (a : A) → required o ≡ pass a → o ≡ some a
-required-some none a e = absurd (let z : _≡_ {A = ℕ} 0 1 = cc in omega arith)
-required-some (some b) a e = let z : b ≡ a = pass-same e in ap some z
-
-attributes-stay : (o a : Option (Node Ends)) → optional attributesOf o ≡ pass a → a ≡ o
-unfolding attributesOf
-attributes-stay none a e = sym (pass-same e)
-attributes-stay (some t) a e =
-    let b = passed (attributesOf t) (λ b. pass (some b)) a e in
-    let c : t ≡ b .value = pass-same (passed-on (aTable t) (pass t) (b .value) (b .is)) in
-    sym (pass-same (b .then)) ∙ ap some (sym c)
-
 -- the place of the attributes in a root's list
 abbrev attributesAt : ℕ
 attributesAt = 1
@@ -93,15 +80,6 @@ pub record Parts (L : Layout) (start : ℕ) (t : Node Ends) (m : Model Ends) : T
   pub objects-there : field.field (slot objectsAt (L .root)) pairs ≡ some objects
   pub objects-judged : objectsOf L start objects ≡ pass (m .objects)
   pub attributes-are : m .attributes ≡ field.field (slot attributesAt (L .root)) pairs
-
-table-kind : (k : kinds.Kind Ends) (ps : List (Pair Ends)) → asTable k ≡ pass ps → k ≡ table ps
-unfolding asTable
-table-kind (kinds.number n) ps e = absurd (let z : _≡_ {A = ℕ} 0 1 = cc in omega arith)
-table-kind (kinds.words w) ps e = absurd (let z : _≡_ {A = ℕ} 0 1 = cc in omega arith)
-table-kind (kinds.list l) ps e = absurd (let z : _≡_ {A = ℕ} 0 1 = cc in omega arith)
-table-kind (kinds.table l) ps e = ap table (pass-same e)
-table-kind kinds.null ps e = absurd (let z : _≡_ {A = ℕ} 0 1 = cc in omega arith)
-table-kind kinds.another ps e = absurd (let z : _≡_ {A = ℕ} 0 1 = cc in omega arith)
 
 parts-of : (L : Layout) (start : ℕ) (t : Node Ends) (m : Model Ends) → judge L start t ≡ pass m → Parts L start t m
 unfolding judge rootFields field.fields aTable

@@ -25,7 +25,8 @@ use Rattle.fields.proofs.Texts.{Here}
 use Rattle.root.specs.declared.Judged.{Judged}
 use Rattle.root.specs.declared.Judged.the-variants.{No, Yes}
 use Rattle.root.specs.Verdict.{judged, RootIs, ObjectsAt}
-use Rattle.reader.specs.Verdict.{spanOf, manifestReading, Accepted}
+use Rattle.reader.specs.Verdict.{manifestReading, Accepted}
+use Rattle.table.specs.Spans.{spanOf}
 
 module _ (L : Layout) (end start : ℕ) where
   abbrev spans : Ends → Span

@@ -5,7 +5,7 @@ use mathlib.Core.Path.{_≡_}
 use lib.ListN.{length}
 use Rattle.meaning.specs.Tree.{Node}
 use Rattle.meaning.specs.Check.{Check, pass, refuse, _>>=_}
-use Rattle.meaning.specs.Read.{Span, spanTo, manifest}
+use Rattle.meaning.specs.Read.{spanTo, manifest}
 use Rattle.meaning.specs.Model.{Model}
 use Rattle.meaning.specs.Notes.{mapModel}
 use Rattle.meaning.specs.Judge.{judge}
@@ -17,6 +17,7 @@ use Rattle.root.specs.Verdict.{ObjectsAt}
 use Rattle.reader.specs.declared.Verdict.{Verdict}
 use Rattle.reader.specs.declared.Told.{Told}
 use Rattle.reader.specs.declared.Told.the-variants.{No, Yes}
+use Rattle.table.specs.Spans.{spanOf}
 
 abbrev pub refusal : ℕ → ℕ → ℕ → Verdict
 refusal n o c = record { number = n; object = o; component = c }
@@ -24,9 +25,6 @@ refusal n o c = record { number = n; object = o; component = c }
 abbrev pub verdict : Check Reading → Verdict
 verdict (pass r) = refusal 0 0 0
 verdict (refuse n o c) = refusal n o c
-
-abbrev pub spanOf : ℕ → Ends → Span
-spanOf end n = spanTo end (n .start) (n .rest)
 
 -- the part of a file's reading that follows its frame: the manifest s, which begins at `start` and ends at `end`
 abbrev pub manifestReading : Layout → ℕ → ℕ → List ℕ → Check Reading

@@ -17,7 +17,7 @@ use Rattle.meaning.specs.Judge.{object}
 use Rattle.meaning.specs.Layouts.{Layout, layoutOf}
 use Rattle.meaning.specs.Rows.{componentCount, attributesSpan}
 use Rattle.meaning.specs.Described.{Described, blobs, describedBy}
-use Rattle.readback.specs.Every.{Every}
+use Rattle.meaning.specs.Every.{Every}
 use Rattle.readback.specs.Lent.{Held}
 use Rattle.readback.specs.Spelled.{SpelledObject, Spelled}
 use Rattle.walk.specs.Reading.{Ends}
@@ -37,9 +37,9 @@ use Rattle.totals.proofs.OfModel as of-model
 use Rattle.totals.proofs.OfSum as of-sum
 use Rattle.roundtrip.specs.Again.{plainFile, writtenAgain}
 use Rattle.rescuing.specs.Sift.{kept, dropped, verdicts, sifted}
-use Rattle.rescuing.specs.Rescue.{refused, after, rescue}
+use Rattle.rescuing.specs.Rescue.{refused, after, rescue, roomed}
 use Rattle.rescuing.proofs.KeptStands.{kept-spelled}
-use Rattle.rescuing.proofs.RescueAnswers.{refusals, roomed, kept-written, rescue-answers}
+use Rattle.rescuing.proofs.RescueAnswers.{refusals, kept-written, rescue-answers}
 use Rattle.sieve.specs.declared.Sieve.{Sieve}
 use Rattle.sieve.specs.Sieved.{Bounded, Sifted}
 use Rattle.opening.specs.declared.Found.{Found}

@@ -12,14 +12,13 @@ use Rattle.meaning.specs.Layouts.{layoutOf}
 use Rattle.meaning.specs.Rows.{componentCount}
 use Rattle.meaning.specs.Described.{describedBy}
 use Rattle.meaning.specs.Write.{writtenPlain}
-use Rattle.readback.specs.Every.{Every}
+use Rattle.meaning.specs.Every.{Every}
 use Rattle.readback.specs.Lent.{Held}
 use Rattle.walk.specs.Reading.{Ends, Reads}
 use Rattle.roundtrip.specs.Again.{plainFile}
 use Rattle.window.specs.Summed.{InWindow, Sum, spans}
 use Rattle.rescuing.specs.Sift.{kept, dropped, verdicts, sifted}
-use Rattle.rescuing.specs.Rescue.{refused, rescue}
-use Rattle.rescuing.proofs.RescueAnswers.{roomed}
+use Rattle.rescuing.specs.Rescue.{refused, rescue, roomed}
 use Rattle.sieve.specs.declared.Sieve.{Sieve}
 use Rattle.opening.specs.Opened.{OpensAt, between}
 use Rattle.rescue.specs.declared.Verdict.{Verdict}

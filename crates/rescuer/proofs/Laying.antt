@@ -19,7 +19,6 @@ use Rattle.meaning.specs.Layouts.{layoutOf}
 use Rattle.meaning.specs.Rows.{rows, objectRows, componentRows, componentCount, roomFor}
 use Rattle.meaning.specs.Described.{Described, describedBy}
 use Rattle.meaning.specs.Write.{written, outputAfter}
-use Rattle.readback.proofs.RowsOfModel.{rows-length}
 use Rattle.walk.specs.Reading.{Ends}
 use Rattle.walk.proofs.Passed.{Here}
 use Rattle.naming.proofs.Judging.{few-names}
@@ -28,6 +27,7 @@ use Rattle.table.proofs.Laying.{sets-append}
 use Rattle.table.proofs.Objecting.{count-mapped}
 use Rattle.table.specs.Spans.{spanOf}
 use Rattle.meaning.specs.Notes.{mapObject}
+use Rattle.meaning.proofs.Lengths.{objects-length, rows-length}
 use Rattle.roundtrip.specs.Again.{plainFile}
 use Rattle.writer.specs.Told.{Answered}
 use Rattle.writer.specs.declared.Written.{Written}
@@ -36,7 +36,7 @@ use Rattle.rescuing.specs.Rescue.{Rescue, done, refused, short, entryWidth, ent
 use Rattle.rescuing.proofs.RescueAnswers.{kept-rows}
 use Rattle.sieve.specs.declared.Sieve.{Sieve}
 use Rattle.sieve.specs.Sieved.{SieveOf, Sifted}
-use Rattle.sieve.proofs.Sieving.{entries-length, objects-length}
+use Rattle.sieve.proofs.Sieving.{entries-length}
 use Rattle.opening.specs.Opened.{between}
 use Rattle.rescue.specs.Checked.{Ready, Cases, CheckedIs}
 use Rattle.rescue.specs.declared.Verdict.{Verdict}

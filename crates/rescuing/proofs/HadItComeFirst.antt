@@ -4,7 +4,7 @@ use native.Mathlib.Omega.{arith}
 use mathlib.Core.List.{List, [], _∷_, map}
 use mathlib.Core.Bool.{Bool, true, false, cond, _&&_}
 use mathlib.Core.Option.{Option, none, some}
-use mathlib.Core.Path.{_≡_, refl, sym, ap, ap₂, _∙_, subst}
+use mathlib.Core.Path.{_≡_, refl, ap, ap₂, _∙_}
 use lib.ListN.{length}
 use lib.Dec.{leb}
 use Rattle.meaning.specs.Refusal.{KEY, TEXT, TWICE, COUNT}
@@ -20,8 +20,9 @@ use Rattle.meaning.specs.Field.{isSome, keyOf, named, count, field, fields, roo
 use Rattle.meaning.specs.Judge.{attributesOf, aVersion, object, judge}
 use Rattle.meaning.specs.Drop.{inMap, onField}
 use Rattle.meaning.proofs.DropFields.{field-changed, value-same, key-same, value-apart, aTable-inMap}
-use Rattle.meaning.proofs.FieldsAlike.{named-key, same→≡, same-self}
-use Rattle.readback.specs.Every.{Every}
+use Rattle.meaning.proofs.FieldsAlike.{named-key}
+use Rattle.meaning.proofs.SameText.{same-turned}
+use Rattle.meaning.specs.Every.{Every}
 use Rattle.roundtrip.proofs.If.{If}
 use Rattle.roundtrip.proofs.AcceptedJudged.{called, Beside, each-beside}
 use Rattle.rescuing.specs.Sift.{Dropped, Opened, opened, dropped, verdicts}
@@ -79,15 +80,6 @@ module _ {A : Type 0} where
 
 -- ---- names, none twice
 
-same-either : (x y : List ℕ) → same x y ≡ same y x
-same-either x y = by (same x y) (same y x) refl refl
-  where
-    by : (a b : Bool) → same x y ≡ a → same y x ≡ b → a ≡ b
-    by true true e f = refl
-    by true false e f = sym (same-self x) ∙ (subst (λ (z : List ℕ). same z x ≡ same y x) (sym (same→≡ x y e)) refl ∙ f)
-    by false true e f = sym (sym (same-self y) ∙ (subst (λ (z : List ℕ). same z y ≡ same x y) (sym (same→≡ y x f)) refl ∙ e))
-    by false false e f = refl
-
 one-behind : (x a : List ℕ) (l : List (List ℕ)) → oneOf (behind a l) x ≡ oneOf (a ∷ l) x
 one-behind x a [] = refl
 one-behind x a (b ∷ l) = by (same a x) (same b x)
@@ -106,7 +98,7 @@ one-front x (suc i) (a ∷ l) = one-behind x a (toFront i l) ∙ ap (λ (b : Boo
 
 distinct-behind : (a : List ℕ) (l : List (List ℕ)) → distinct (behind a l) ≡ distinct (a ∷ l)
 distinct-behind a [] = refl
-distinct-behind a (b ∷ l) = rw (same-either b a) (by (same a b) (oneOf l a) (oneOf l b))
+distinct-behind a (b ∷ l) = rw (same-turned b a) (by (same a b) (oneOf l a) (oneOf l b))
   where
     by : (s t u : Bool) → cond (cond s true u) false (cond t false (distinct l)) ≡ cond (cond s true t) false (cond u false (distinct l))
     by true t u = refl

@@ -21,18 +21,17 @@ use Rattle.meaning.specs.Field.{rootFields, names}
 use Rattle.meaning.specs.Judge.{attributesOf, aVersion, object}
 use Rattle.meaning.specs.Frame.{frame, checked}
 use Rattle.meaning.specs.Described.{Described, describedBy}
-use Rattle.readback.specs.Every.{Every}
+use Rattle.meaning.specs.Every.{Every, IfAny}
 use Rattle.readback.specs.Fine.{Fine}
 use Rattle.readback.specs.Lent.{Held}
 use Rattle.readback.specs.Spelled.{Spelled}
 use Rattle.readback.specs.Judged.{judgedNames, judged}
-use Rattle.panel.specs.Stands.{Each}
-use Rattle.shown.specs.Accepted.{Framing, IfAny, AttributesStand, ObjectAccepted}
+use Rattle.shown.specs.Accepted.{Framing, AttributesStand, ObjectAccepted, ModelAccepted}
 use Rattle.shown.proofs.Judged as shown
 use Rattle.shown.proofs.Judged.{Judged, JudgedFrom}
 use Rattle.shown.proofs.AcceptsExactly.{bytes-take, bytes-drop}
 use Rattle.shown.proofs.Judgement as placed
-use Rattle.shown.proofs.Judgement.{At, Naming, ModelStands}
+use Rattle.shown.proofs.Judgement.{At, Naming}
 use Rattle.shown.proofs.ReadingJudged.{frame-so, tree-so}
 use Rattle.roundtrip.specs.Small.{Small}
 use Rattle.roundtrip.specs.Sized.{SizedObject, Sized}
@@ -134,20 +133,20 @@ module _ {P : Type 0} (L : Layout) (start : ℕ) where
 -- ---- what is kept of a tree
 
 module _ (L : Layout) (file : List ℕ) (start : ℕ) where
-  kept-each : (ns : List (Named Span)) → Each (Naming L file start 30) ns → Each (ObjectAccepted L file start) (kept (verdicts L start ns))
-  unfolding Each kept verdicts
+  kept-each : (ns : List (Named Span)) → Every (Naming L file start 30) ns → Every (ObjectAccepted L file start) (kept (verdicts L start ns))
+  unfolding kept verdicts
   kept-each [] h = tt
   kept-each (n ∷ ns) h = by (object L start n) (placed.object-so L file start n (h .0)) (kept-each ns (h .1))
     where
-      by : (k : Check (Object Span)) → Judged (ObjectAccepted L file start) k → Each (ObjectAccepted L file start) (kept (verdicts L start ns))
-          → Each (ObjectAccepted L file start) (kept (k ∷ verdicts L start ns))
+      by : (k : Check (Object Span)) → Judged (ObjectAccepted L file start) k → Every (ObjectAccepted L file start) (kept (verdicts L start ns))
+          → Every (ObjectAccepted L file start) (kept (k ∷ verdicts L start ns))
       by (pass o) q r = (q .is, r)
       by (refuse m o c) q r = r
 
   -- the attributes and each object stand in the manifest
   record OpenedStands (o : Opened Span) : Type 0 where
     attributes : IfAny (AttributesStand L file start 31) (o .attributes)
-    named : Each (Naming L file start 30) (o .named)
+    named : Every (Naming L file start 30) (o .named)
 
   opened-stands : (t : Node Span) → At L file start 32 t → Judged OpenedStands (opened L t)
   unfolding opened
@@ -184,7 +183,7 @@ pub record KeptStands (L : Layout) (file : List ℕ) (s : Sifted) : Type 0 where
   pub start : ℕ
   pub header : 8 ≤ start
   pub inside : start ≤ length file
-  pub stands : ModelStands L file start (s .model)
+  pub stands : ModelAccepted L file start (s .model)
   pub good : GoodModel (s .model)
   pub sized : Sized (s .model)
 

@@ -28,7 +28,7 @@ use Rattle.shown.specs.Accepted.{Framing}
 use Rattle.shown.proofs.ReadingJudged.{current-framing}
 use Rattle.roundtrip.specs.Again.{placed, plainFile, rewritten, writtenAgain}
 use Rattle.rescuing.specs.Sift.{Dropped, Sifted, sifted}
-use Rattle.rescuing.specs.Rescue.{Rescue, done, refused, short, after, entryWidth, rescueInto, rescue}
+use Rattle.rescuing.specs.Rescue.{Rescue, done, refused, short, after, entryWidth, rescueInto, rescue, roomed}
 use Rattle.rescuing.proofs.Opening.{AsReader, sound, refuses, ReadBeside, earlier, opens, read-beside}
 use Rattle.rescuing.proofs.KeptStands.{kept-spelled, kept-fine, kept-judged}
 
@@ -39,11 +39,6 @@ module _ (file : List ℕ) (s : Sifted) where
   -- told by what is kept alone
   abbrev pub refusals : Check (Unit {0})
   refusals = (COUNT unless leb (lastEnd (placed says) (map length (blobs says))) endLimit) >> (BIG unless leb (length (manifestBytes says (placed says))) manifestLimit)
-
-  abbrev pub roomed : ℕ → ℕ → ℕ → Rescue
-  roomed lent list room =
-      cond (leb (roomFor (s .model)) lent && leb (entryWidth * length (s .dropped)) list && leb (length (plainFile says)) room)
-      (done (plainFile says) (length (s .model .objects)) (s .dropped)) (short (length (s .model .objects)) (length (s .dropped)) (length (plainFile says)))
 
 -- ---- of a file that passes the checks up to its names
 

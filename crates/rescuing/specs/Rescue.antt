@@ -32,6 +32,13 @@ unfoldable pub entries : List Dropped → List ℕ
 entries [] = []
 entries (d ∷ ds) = d .index ∷ d .number ∷ d .component ∷ entries ds
 
+-- what is left to answer of a file of which nothing that is kept is refused: the file written, or ROOM
+abbrev pub roomed : List ℕ → Sifted → ℕ → ℕ → ℕ → Rescue
+roomed file s lent list room =
+    let once = plainFile (describedBy file (s .model)) in
+    cond (leb (roomFor (s .model)) lent && leb (entryWidth * length (s .dropped)) list && leb (length once) room)
+    (done once (length (s .model .objects)) (s .dropped)) (short (length (s .model .objects)) (length (s .dropped)) (length once))
+
 -- what is kept is written: COUNT (2 ^ 40), BIG; then ROOM, for rows, list or output, whichever is short. The writer is given all the room that its file takes, so that ROOM is the rescue's own.
 unfoldable pub rescueInto : List ℕ → Sifted → ℕ → ℕ → ℕ → Rescue
 rescueInto file s lent list room =

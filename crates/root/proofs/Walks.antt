@@ -4,12 +4,10 @@ use Prim.Native.Nat.{ℕ, _+_, _-_, _≤_, _<_}
 use native.Mathlib.Omega.{arith}
 use mathlib.Core.List.{List}
 use mathlib.Core.Bool.{Bool, true}
-use mathlib.Core.Option.{Option, none, some}
-use mathlib.Core.Path.{_≡_, refl, sym, ap, _∙_, subst}
-use lib.ListN.{length, getD, drop, replicate, length-drop}
-use lib.Seq.{drop-drop}
+use mathlib.Core.Path.{_≡_, refl, sym, _∙_, subst}
+use lib.ListN.{length, getD, drop, replicate}
 use borrow.Rule.Slice.PartAt.{part-to-end}
-use Rattle.meaning.specs.Tree.{Node, Pair}
+use Rattle.meaning.specs.Tree.{Pair}
 use Rattle.meaning.specs.Check.{pass, fault}
 use Rattle.meaning.specs.Refusal.{KIND}
 use Rattle.meaning.specs.Kind.{table, aTable, asTable}
@@ -17,16 +15,14 @@ use Rattle.meaning.specs.Layouts.{Layout, slot, objectsAt}
 use Rattle.meaning.specs.Field.{rootFields, fields, field}
 use Rattle.meaning.specs.Judge.{objectsOf, judge}
 use Rattle.cbor.specs.Ending.{FAULT, code, itemEnd, rest}
-use Rattle.walk.specs.Reading.{Ends, Reads}
-use Rattle.walk.specs.Places.{MapIs, EntryIs}
+use Rattle.walk.specs.Places.{MapIs, EntryIs, Modes}
 use Rattle.walk.specs.declared.Entry.{Entry}
 use Rattle.walk.specs.declared.Entry.the-variants.{End, Value}
 use Rattle.walk.specs.declared.Opening.{Opening}
 use Rattle.walk.specs.declared.Opening.the-variants.{NotOpen, Opened}
-use Rattle.walk.proofs.Turns.{Modes}
 use Rattle.walk.proofs.Opens as opens
 use Rattle.fields.specs.Slots.{marked, SlotIs, Holds}
-use Rattle.fields.proofs.Standing.{field-stands}
+use Rattle.fields.proofs.Standing.{field-stands, holds-whole}
 use Rattle.fields.proofs.Texts.{Here}
 use Rattle.fields.proofs.Keeping as keeping
 use Rattle.objects.specs.declared.Found.{Found}
@@ -92,15 +88,6 @@ module _ (deep : Bool) (L : Layout) (start mode count : ℕ) (s : List ℕ) (mod
             loops-on j slot found′ valued q m = keeping.loops-on (L .root) 3 (L .rootPlaces) objectsAt objects-known (L .rootApart) (Says deep L start) 30 mode count s modes room at n p found w x h k is e ended l j slot found′ valued q m
 
 -- ---------------------------------------------------------------- the whole value
-
--- what stands in a part that runs to the end stands in the whole
-pub holds-whole : (d : ℕ) (c : List ℕ) (a : ℕ) → a ≤ length c → (left : ℕ) (o : Option (Node Ends)) → Holds d (drop a c) left o → Holds d c left o
-holds-whole d c a l left none h = h
-holds-whole d c a l left (some t) (some-left, x) =
-    let w : left ≤ length (drop a c) = x .within in
-    let n = length-drop a c in
-    let z : a + (length (drop a c) - left) ≡ length c - left = omega arith in
-    (some-left, record { rest = x .rest; within = omega arith; left-is = x .left-is; reads = subst (λ u. Reads d u t (x .rest)) (drop-drop (length (drop a c) - left) a c ∙ ap (λ i. drop i c) z) (x .reads) })
 
 module _ (deep : Bool) (L : Layout) (c : List ℕ) (start : ℕ) (x : Opening) (h : MapIs (Here c 0) x) where
   pub no-map : x ≡ NotOpen → WholeIs deep L c start (No 8 0 0)

@@ -5,7 +5,7 @@ use mathlib.Core.List.{List, [], _∷_, map}
 use mathlib.Core.Bool.{Bool, true, false, cond, not, _&&_}
 use mathlib.Core.Option.{Option, none, some}
 use mathlib.Core.Path.{_≡_, refl, sym, ap, ap₂, _∙_, subst}
-use lib.ListN.{length, take, drop, length-take, length-drop}
+use lib.ListN.{length, take, drop, length-take, length-drop, length-map}
 use lib.Dec.{eqb, leb}
 use Rattle.meaning.specs.Tree.{Node, noteOf}
 use Rattle.meaning.specs.Check.{Check, pass, refuse, _>>=_, _>>_, _unless_, inObject, inComponent, required, requiredIn, optional, each}
@@ -22,7 +22,7 @@ use Rattle.meaning.specs.Types.{logicals, listed, fitsOver}
 use Rattle.meaning.specs.Format.{Part, formatRules}
 use Rattle.meaning.specs.Judge.{orElse, inherited, aDtype, aType, raw, attributesOf, component, lettersOf, part, shapeOf, componentsOf, object, aVersion, objectsOf, judge}
 use Rattle.meaning.specs.Frame.{frame, checked, Reading, reading}
-use Rattle.readback.specs.Every.{Every}
+use Rattle.meaning.specs.Every.{Every}
 use Rattle.readback.specs.Judged.{judgedNames, judgedType, judgedText}
 use Rattle.roundtrip.proofs.If.{Any, If, passes, anyhow, passed-so, bind, then, tested}
 
@@ -69,10 +69,6 @@ all-map : {A : Type 0} (f : A → List ℕ) (l : List A) → all utf8 (map f l) 
 all-map f [] = refl
 all-map f (a ∷ l) = rw (all-map f l) refl
 
-map-length : {A B : Type 0} (f : A → B) (l : List A) → length (map f l) ≡ length l
-map-length f [] = refl
-map-length f (a ∷ l) = ap suc (map-length f l)
-
 module _ {P : Type 0} where
   abbrev pub called : Named P → List ℕ
   called n = n .name .letters
@@ -86,7 +82,7 @@ module _ {P : Type 0} where
       bind (each (λ i. nameOf) 0 ps) _ (anyhow (each (λ i. nameOf) 0 ps)) λ ns v.
       tested TEXT (all (λ n. utf8 (n .name .letters)) ns) _ λ e.
       tested COUNT (leb (length ns) limit) _ λ f.
-      tested TWICE (distinct (map (λ n. n .name .letters) ns)) _ λ g. passes ns (rw (all-map called ns, e, map-length called ns, f, g) refl)
+      tested TWICE (distinct (map (λ n. n .name .letters) ns)) _ λ g. passes ns (rw (all-map called ns, e, length-map ns called, f, g) refl)
 
   -- ---- components
 

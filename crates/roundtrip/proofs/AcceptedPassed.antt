@@ -21,18 +21,17 @@ use Rattle.meaning.specs.Judge.{lettersOf, part}
 use Rattle.meaning.specs.Frame.{Reading, reading}
 use Rattle.meaning.specs.Sound.{rootLevels, objectLevels}
 use Rattle.meaning.specs.Described.{DescribedComponent, DescribedObject, Described, readComponent, readObject, describedBy}
-use Rattle.readback.specs.Every.{Every}
+use Rattle.meaning.proofs.Checks.{refused-is-not}
+use Rattle.meaning.specs.Every.{Every, IfAny}
 use Rattle.readback.specs.Trees.{isDeep, deepAt}
 use Rattle.readback.specs.Spelled.{SpelledComponent, SpelledObject, Spelled}
 use Rattle.readback.specs.Back.{ReadsBack}
 use Rattle.readback.specs.Judged.{judgedNames, judgedComponent, partOf, judgedObject, judgedObjects, deepOption, anyTooDeep, tooDeep, judged}
-use Rattle.panel.specs.Stands.{Each}
-use Rattle.shown.specs.Accepted.{Framing, IfAny, AttributesStand, ObjectAccepted}
+use Rattle.shown.specs.Accepted.{Framing, AttributesStand, ObjectAccepted, ModelAccepted}
 use Rattle.shown.proofs.ReadingJudged.{current-framing}
-use Rattle.shown.proofs.Judgement.{ModelStands}
 use Rattle.shown.proofs.AcceptedFile.{accepted}
 use Rattle.roundtrip.proofs.If.{passed-so}
-use Rattle.roundtrip.proofs.AcceptedSpelled.{accepted-stands, accepted-spelled}
+use Rattle.roundtrip.proofs.AcceptedSpelled.{accepted-spelled}
 use Rattle.roundtrip.proofs.AcceptedJudged.{GoodComponent, GoodObject, GoodModel, reading-good}
 
 -- a description whose parts have nothing left to refuse
@@ -92,7 +91,7 @@ module _ (file : List ℕ) where
   part-same : (c : Component Span) → SpelledComponent file c → partOf (readComponent file c) ≡ part c
   unfolding partOf readComponent part sized
   part-same c h =
-      let b = h .blob in
+      let b = h .part in
       let e : length (bytesAt file (record { place = c .offset; size = c .length })) ≡ c .length = simp (length-take, length-drop) (omega (arith, b)) in
       ap (sized c) e
 
@@ -115,8 +114,8 @@ module _ (file : List ℕ) where
     shallow-option levels none h = refl
     shallow-option levels (some t) h = rw (h .stands .read) refl
 
-    shallow-objects : (os : List (Object Span)) → Each (ObjectAccepted L file start) os → anyTooDeep (map (readObject file) os) ≡ false
-    unfolding anyTooDeep readObject Each
+    shallow-objects : (os : List (Object Span)) → Every (ObjectAccepted L file start) os → anyTooDeep (map (readObject file) os) ≡ false
+    unfolding anyTooDeep readObject
     shallow-objects [] h = refl
     shallow-objects (o ∷ os) h = rw (shallow-option objectLevels (o .attributes) (h .0 .attributes)) (shallow-objects os (h .1))
 
@@ -129,19 +128,16 @@ names-texts : (limit : ℕ) (ns : List (List ℕ)) → judgedNames limit ns ≡ 
 unfolding judgedNames
 names-texts limit ns = go (all utf8 ns)
   where
-    refused-not : {n o c : ℕ} {a : Unit {0}} → refuse n o c ≡ pass a → ⊥
-    refused-not e = let z : _≡_ {A = ℕ} 0 1 = cc in omega arith
-
     go : (b : Bool) → ((TEXT unless b) >> ((COUNT unless leb (length ns) limit) >> (TWICE unless distinct ns))) ≡ pass tt → b ≡ true
     go true h = refl
-    go false h = absurd (refused-not h)
+    go false h = absurd (refused-is-not h)
 
 names-left : (limit : ℕ) (ns : List (List ℕ)) → judgedNames limit ns ≡ pass tt → ((COUNT unless leb (length ns) limit) >> (TWICE unless distinct ns)) ≡ pass tt
 unfolding judgedNames
 names-left limit ns h = sym (rw (names-texts limit ns h) refl) ∙ h
 
 -- of a model whose texts and attributes stand in the manifest and whose parts have passed their checks
-module _ (L : Layout) (file : List ℕ) (start : ℕ) (m : Model Span) (g : GoodModel m) (stands : ModelStands L file start m) (spelled : Spelled file m) where
+module _ (L : Layout) (file : List ℕ) (start : ℕ) (m : Model Span) (g : GoodModel m) (stands : ModelAccepted L file start m) (spelled : Spelled file m) where
   pub good-passed : Passed (describedBy file m)
   unfolding describedBy
   good-passed = record {
@@ -161,8 +157,8 @@ module _ (L : Layout) (framing : Framing L) (file : List ℕ) (r : Reading) (acc
   good : GoodModel (r .model)
   good = passed-so (reading-good L file) accepts
 
-  stands : ModelStands L file (r .start) (r .model)
-  stands = accepted-stands L file r (accepted L framing file r accepts)
+  stands : ModelAccepted L file (r .start) (r .model)
+  stands = accepted L framing file r accepts .model
 
   pub accepted-passed : Passed (describedBy file (r .model))
   accepted-passed = good-passed L file (r .start) (r .model) good stands (accepted-spelled L framing file r accepts)

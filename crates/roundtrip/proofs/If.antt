@@ -6,8 +6,7 @@ use mathlib.Core.Option.{Option, none, some}
 use mathlib.Core.Path.{_≡_, refl, ap, subst}
 use lib.ListN.{length}
 use Rattle.meaning.specs.Check.{Check, pass, refuse, _>>=_, _>>_, _unless_, inObject, required, optional, each}
-use Rattle.readback.specs.Every.{Every}
-use Rattle.readback.specs.Spelled.{IfAny}
+use Rattle.meaning.specs.Every.{IfAny, Every}
 
 abbrev pub Any : {A : Type 0} → A → Type 0
 Any a = Unit {0}

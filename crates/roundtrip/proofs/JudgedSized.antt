@@ -21,9 +21,8 @@ use Rattle.meaning.specs.Format.{formatRules}
 use Rattle.meaning.specs.Judge.{inherited, aDtype, attributesOf, component, part, shapeOf, componentsOf, object, aVersion, objectsOf, judge}
 use Rattle.meaning.specs.Frame.{frame, checked, Reading, reading}
 use Rattle.meaning.specs.Encoding.{Bytes}
-use Rattle.readback.specs.Every.{Every}
+use Rattle.meaning.specs.Every.{IfAny, Every}
 use Rattle.readback.specs.Fine.{Fits}
-use Rattle.readback.specs.Spelled.{IfAny}
 use Rattle.shown.proofs.AcceptsExactly.{bytes-take, bytes-drop}
 use Rattle.roundtrip.specs.Sized.{SizedObject, Sized}
 use Rattle.roundtrip.specs.Small.{Small, SmallNodes, SmallPairs}

@@ -1,11 +1,11 @@
 -- What is spelled in a file of bytes shorter than 2 ^ 64 makes a fine description, if dimensions and counts fit.
-use Prim.Native.Nat.{ℕ, zero, suc, _+_, _≤_, _<_}
+use Prim.Native.Nat.{ℕ, _+_, _≤_, _<_}
 use native.Mathlib.Omega.{arith}
 use mathlib.Core.List.{List, [], _∷_, _++_, map}
 use mathlib.Core.Bool.{true}
 use mathlib.Core.Option.{Option, none, some}
 use mathlib.Core.Path.{_≡_, refl, ap}
-use lib.ListN.{length, take, drop, length-map, length-append}
+use lib.ListN.{length, drop, length-map, length-append}
 use Rattle.meaning.specs.Limit.{objectLimit, componentLimit}
 use Rattle.meaning.specs.Tree.{Node, noteOf}
 use Rattle.meaning.specs.Read.{Span, bytesAt}
@@ -15,21 +15,12 @@ use Rattle.meaning.specs.Judge.{lettersOf}
 use Rattle.meaning.specs.Rows.{wordSpan}
 use Rattle.meaning.specs.Sound.{aMap, absentOr, rootLevels, objectLevels}
 use Rattle.meaning.specs.Described.{Described, DescribedObject, readComponent, readObject, describedBy}
-use Rattle.readback.specs.Every.{Every}
+use Rattle.meaning.proofs.Lengths.{take-shorter, drop-shorter}
+use Rattle.meaning.specs.Every.{IfAny, Every}
+use Rattle.meaning.proofs.Every.{every-map}
 use Rattle.readback.specs.Fine.{Fits, Brief, BriefOption, FineComponent, FineObject, Fine}
-use Rattle.readback.specs.Spelled.{IfAny, SpelledWord, SpelledMap, SpelledComponent, SpelledObject, Spelled}
-use Rattle.readback.proofs.EveryPart.{every-map}
+use Rattle.readback.specs.Spelled.{SpelledWord, SpelledMap, SpelledComponent, SpelledObject, Spelled}
 use Rattle.roundtrip.specs.Sized.{SizedObject, Sized}
-
-take-shorter : {A : Type 0} (n : ℕ) (l : List A) → length (take n l) ≤ length l
-take-shorter zero l = omega arith
-take-shorter (suc n) [] = omega arith
-take-shorter (suc n) (a ∷ l) = omega (arith, take-shorter n l)
-
-drop-shorter : {A : Type 0} (n : ℕ) (l : List A) → length (drop n l) ≤ length l
-drop-shorter zero l = omega arith
-drop-shorter (suc n) [] = omega arith
-drop-shorter (suc n) (a ∷ l) = omega (arith, drop-shorter n l)
 
 module _ (file : List ℕ) (small : Brief file) where
   part-brief : (s : Span) → Brief (bytesAt file s)

@@ -1,5 +1,5 @@
 -- A written file, read into any table with room for its rows: number 0, the counts that were asked, and rows that describe what was asked.
-use Prim.Native.Nat.{ℕ, zero, suc, _+_, _*_, _≤_}
+use Prim.Native.Nat.{ℕ, zero, _+_, _*_, _≤_}
 use native.Mathlib.Omega.{arith}
 use mathlib.Core.List.{List, [], _∷_, _++_, map}
 use mathlib.Core.Bool.{Bool, true, false}
@@ -14,24 +14,19 @@ use Rattle.meaning.specs.Layouts.{current}
 use Rattle.meaning.specs.Frame.{Reading, reading}
 use Rattle.meaning.specs.Columns.{objectWidth, componentWidth}
 use Rattle.meaning.specs.Rows.{rows, componentCount, roomFor, roomy, attributesSpan, answer, tableAfter, readInto}
-use Rattle.meaning.specs.Asked.{AskedObject, AskedComponent, askedObject, asked}
+use Rattle.meaning.specs.Asked.{AskedComponent, askedObject, asked}
 use Rattle.meaning.specs.Sound.{rowsSound}
-use Rattle.meaning.specs.Described.{DescribedObject, DescribedComponent, Described, blobsIn, blobs, described, describedObjects, readComponent, readObject, describedBy}
+use Rattle.meaning.specs.Described.{DescribedObject, DescribedComponent, Described, blobsIn, blobs, described, readComponent, readObject, describedBy}
 use Rattle.meaning.specs.Write.{written}
+use Rattle.meaning.proofs.Lengths.{each-row-length, described-counted}
 use Rattle.readback.specs.Lent.{Lent}
 use Rattle.readback.specs.Back.{ReadsBack}
-use Rattle.readback.proofs.SoundIsFine.{each-row-length}
 use Rattle.readback.proofs.RowsWritten.{written-reads-back, written-file, blobs-of-rows, rows-counted}
 use Rattle.shown.proofs.ReadingJudged.{current-framing}
 use Rattle.roundtrip.specs.TableBack.{TableBack}
 use Rattle.roundtrip.proofs.WrittenAgain as again
 
 -- ---- counts
-
-objects-counted : (buffer : List ℕ) (os : List AskedObject) (cs : List AskedComponent) → length (describedObjects buffer os cs) ≡ length os
-unfolding describedObjects
-objects-counted buffer [] cs = refl
-objects-counted buffer (o ∷ os) cs = ap suc (objects-counted buffer os (drop (o .count) cs))
 
 blobs-counted : (file : List ℕ) (os : List (Object Span)) → length (blobsIn (map (readObject file) os)) ≡ componentCount os
 unfolding blobsIn componentCount readObject
@@ -85,7 +80,7 @@ module _ {rows buffer : List ℕ} (lent : Lent rows buffer) (objects components 
   unfolding describedBy described asked
   objects-are =
       sym (length-map (model .objects) (readObject file)) ∙ ap (λ (d : Described). length (d .objects)) (reads-back .back)
-      ∙ objects-counted buffer (asked rows objects components attributes .objects) (asked rows objects components attributes .components)
+      ∙ described-counted buffer (asked rows objects components attributes .objects) (asked rows objects components attributes .components)
       ∙ each-row-length askedObject objectWidth objects rows
 
   components-are : componentCount (model .objects) ≡ components

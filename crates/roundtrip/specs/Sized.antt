@@ -4,7 +4,7 @@ use mathlib.Core.List.{List}
 use lib.ListN.{length}
 use Rattle.meaning.specs.Limit.{objectLimit, componentLimit}
 use Rattle.meaning.specs.Model.{Object, Model}
-use Rattle.readback.specs.Every.{Every}
+use Rattle.meaning.specs.Every.{Every}
 use Rattle.readback.specs.Fine.{Fits}
 
 module _ {P : Type 0} where

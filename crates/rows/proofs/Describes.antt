@@ -6,19 +6,20 @@ use mathlib.Core.Bool.{true}
 use mathlib.Core.Path.{_≡_, refl, sym, ap, _∙_}
 use lib.ListN.{length, take, drop, getD, replicate, length-append, length-drop, length-replicate, length-map}
 use lib.Seq.{getD-drop}
-use lib.Dec.{eqb}
 use Rattle.meaning.specs.Columns.{objectWidth, componentWidth, countColumn}
 use Rattle.meaning.specs.Text.{same, all}
 use Rattle.meaning.specs.Read.{Span, bytesAt}
 use Rattle.meaning.specs.Asked.{AskedObject, AskedComponent, eachRow, askedObject, askedComponent, asked}
 use Rattle.meaning.specs.Sound.{owners, componentSound, rowsSound}
 use Rattle.meaning.specs.Described.{DescribedComponent, DescribedObject, blobsIn, blobs, describedComponent, describedObject, describedObjects, described}
+use Rattle.meaning.proofs.Tests.{both-left, both-right}
+use Rattle.meaning.proofs.SameText.{same-length}
+use Rattle.meaning.proofs.Lengths.{part-length, each-row-length}
 use Rattle.rows.specs.Placed.{objectsAt, componentsAt}
 use Rattle.rows.specs.Owner.{ownersIn}
 use Rattle.rows.specs.Running.{counted, blobSizes, blobLengths}
-use Rattle.rows.proofs.Both.{both-left, both-right, not-so}
-use Rattle.rows.proofs.EachRow.{no-row, next-row-at, how-many, first-rows, later-rows, parts-mapped}
-use Rattle.rows.proofs.SoundRow.{as-long, component-blob-inside}
+use Rattle.rows.proofs.EachRow.{no-row, next-row-at, first-rows, later-rows, parts-mapped}
+use Rattle.rows.proofs.SoundRow.{component-blob-inside}
 use Rattle.rows.proofs.Whole.{sound-order, sound-components}
 
 -- ---- one row after the other
@@ -60,12 +61,6 @@ counted-next os left p h =
     ap counted (next-row-at askedObject objectWidth left p os h)
     ∙ ap (λ (k : ℕ). k + counted (objectsAt (left - 1) (p + objectWidth) os)) (getD-drop p os countColumn 0)
 
-same-length : (xs ys : List ℕ) → same xs ys ≡ true → length xs ≡ length ys
-same-length [] [] e = refl
-same-length [] (y ∷ ys) e = absurd (not-so e)
-same-length (x ∷ xs) [] e = absurd (not-so e)
-same-length (x ∷ xs) (y ∷ ys) e = ap suc (same-length xs ys (both-right (eqb x y) (same xs ys) e))
-
 owners-length : (i : ℕ) (os : List AskedObject) → length (owners i os) ≡ counted os
 unfolding owners counted
 owners-length i [] = refl
@@ -100,7 +95,7 @@ module _ (buffer : List ℕ) where
   unfolding describedComponent
   blobs-as-long [] e = refl
   blobs-as-long (c ∷ cs) e =
-      rw (as-long buffer (c .blob) (component-blob-inside buffer c (both-left _ (all (componentSound buffer) cs) e)), blobs-as-long cs (both-right (componentSound buffer c) _ e)) refl
+      rw (part-length buffer (c .blob) (component-blob-inside buffer c (both-left _ (all (componentSound buffer) cs) e)), blobs-as-long cs (both-right (componentSound buffer c) _ e)) refl
 
   lengths-of : (cs : List AskedComponent) → map length (blobsOf cs) ≡ blobLengths (map (describedComponent buffer) cs)
   unfolding describedComponent
@@ -114,11 +109,11 @@ module _ (buffer rows : List ℕ) (objects components : ℕ) (attributes : Span)
   pub rows-counted : counted (eachRow askedObject objectWidth objects rows) ≡ components
   rows-counted =
       counts-match 0 (eachRow askedObject objectWidth objects rows) Cs (sound-order buffer rows objects components attributes sound)
-      ∙ how-many askedComponent componentWidth components (drop (objectWidth * objects) rows)
+      ∙ each-row-length askedComponent componentWidth components (drop (objectWidth * objects) rows)
 
   pub blobs-are : blobs (described buffer (asked rows objects components attributes)) ≡ blobsOf buffer Cs
   unfolding described asked
-  blobs-are = blobs-in buffer (eachRow askedObject objectWidth objects rows) Cs (rows-counted ∙ sym (how-many askedComponent componentWidth components (drop (objectWidth * objects) rows)))
+  blobs-are = blobs-in buffer (eachRow askedObject objectWidth objects rows) Cs (rows-counted ∙ sym (each-row-length askedComponent componentWidth components (drop (objectWidth * objects) rows)))
 
   pub blob-lengths : map length (blobs (described buffer (asked rows objects components attributes))) ≡ blobSizes Cs
   blob-lengths = ap (map length) blobs-are ∙ lengths-of buffer Cs ∙ blobs-as-long buffer Cs (sound-components buffer rows objects components attributes sound)

@@ -4,11 +4,12 @@ use native.Mathlib.Omega.{arith}
 use mathlib.Core.List.{List, [], _∷_, _++_, map}
 use mathlib.Core.Bool.{Bool, true, false, _&&_}
 use mathlib.Core.Path.{_≡_, refl, sym, ap, _∙_}
-use lib.ListN.{length, take, drop}
+use lib.ListN.{take, drop}
 use lib.Seq.{drop-drop, take-at, drop-at}
 use Rattle.meaning.specs.Text.{all}
 use Rattle.meaning.specs.Asked.{eachRow}
-use Rattle.rows.proofs.Both.{both-left, both-right}
+use Rattle.meaning.proofs.Tests.{both-left, both-right}
+use Rattle.meaning.proofs.Lengths.{each-row-length}
 
 module _ {A : Type 0} (read : List ℕ → A) (width : ℕ) where
   pub no-row : (n : ℕ) (s : List ℕ) → n ≤ 0 → eachRow read width n s ≡ []
@@ -24,11 +25,6 @@ module _ {A : Type 0} (read : List ℕ → A) (width : ℕ) where
   -- where rows begin at the place p
   pub next-row-at : (n p : ℕ) (rows : List ℕ) → 0 < n → eachRow read width n (drop p rows) ≡ read (drop p rows) ∷ eachRow read width (n - 1) (drop (p + width) rows)
   next-row-at n p rows h = next-row n (drop p rows) h ∙ ap (λ (s : List ℕ). read (drop p rows) ∷ eachRow read width (n - 1) s) (drop-drop width p rows)
-
-  pub how-many : (n : ℕ) (s : List ℕ) → length (eachRow read width n s) ≡ n
-  unfolding eachRow
-  how-many zero s = refl
-  how-many (suc n) s = ap suc (how-many n (drop width s))
 
   pub some-rows : (n m : ℕ) (s : List ℕ) → eachRow read width (n + m) s ≡ eachRow read width n s ++ eachRow read width m (drop (width * n) s)
   unfolding eachRow
@@ -60,10 +56,10 @@ module _ {A : Type 0} (read : List ℕ → A) (width : ℕ) where
     others = eachRow read width (n - k) (drop (p + width * k) rows)
 
     pub first-rows : take k (eachRow read width n (drop p rows)) ≡ eachRow read width k (drop p rows)
-    first-rows = ap (take k) split-rows ∙ take-at front others k (how-many k (drop p rows))
+    first-rows = ap (take k) split-rows ∙ take-at front others k (each-row-length read width k (drop p rows))
 
     pub later-rows : drop k (eachRow read width n (drop p rows)) ≡ eachRow read width (n - k) (drop (p + width * k) rows)
-    later-rows = ap (drop k) split-rows ∙ drop-at front others k (how-many k (drop p rows))
+    later-rows = ap (drop k) split-rows ∙ drop-at front others k (each-row-length read width k (drop p rows))
 
 -- what is asked of each row
 module _ {A : Type 0} (p : A → Bool) (read : List ℕ → A) (width n at : ℕ) (rows : List ℕ) where

@@ -12,9 +12,10 @@ use Rattle.meaning.specs.Columns.{objectWidth, componentWidth, countColumn, own
 use Rattle.meaning.specs.Text.{same}
 use Rattle.meaning.specs.Asked.{AskedObject, AskedComponent, eachRow, askedObject, askedComponent}
 use Rattle.meaning.specs.Sound.{owners}
+use Rattle.meaning.proofs.Lengths.{each-row-length}
 use Rattle.rows.specs.Placed.{objectsAt, componentsAt}
 use Rattle.rows.specs.Owner.{ownersIn}
-use Rattle.rows.proofs.EachRow.{no-row, next-row-at, how-many, split-rows}
+use Rattle.rows.proofs.EachRow.{no-row, next-row-at, split-rows}
 
 -- ---- two lists of numbers
 
@@ -42,7 +43,7 @@ owners-joined [] bs = refl
 owners-joined (a ∷ as′) bs = ap (λ (l : List ℕ). a .owner ∷ l) (owners-joined as′ bs)
 
 owners-counted : (n : ℕ) (s : List ℕ) → length (ownersIn (eachRow askedComponent componentWidth n s)) ≡ n
-owners-counted n s = length-map (eachRow askedComponent componentWidth n s) (λ c. c .owner) ∙ how-many askedComponent componentWidth n s
+owners-counted n s = length-map (eachRow askedComponent componentWidth n s) (λ c. c .owner) ∙ each-row-length askedComponent componentWidth n s
 
 -- ---- one owner's components
 
@@ -88,7 +89,7 @@ module _ (i left row due from : ℕ) (os cs : List ℕ) where
   pub none-due : left ≤ 0 → eqb due 0 ≡ order i left row due from
   unfolding owners
   none-due h =
-      by due (componentsAt due from cs) (how-many askedComponent componentWidth due (drop from cs))
+      by due (componentsAt due from cs) (each-row-length askedComponent componentWidth due (drop from cs))
       ∙ sym (ap (λ (l : List AskedObject). same (owners i l) (ownersIn (componentsAt due from cs))) (no-row askedObject objectWidth left (drop row os) h))
     where
       by : (k : ℕ) (l : List AskedComponent) → length l ≡ k → eqb k 0 ≡ same (owners i []) (ownersIn l)

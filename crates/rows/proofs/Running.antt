@@ -13,15 +13,12 @@ use Rattle.meaning.specs.Asked.{AskedComponent, askedComponent}
 use Rattle.meaning.specs.Placement.{aligned, placedFrom, placement, endFrom, lastEnd}
 use Rattle.meaning.specs.Described.{DescribedComponent, DescribedObject, Described, blobsIn, blobs}
 use Rattle.meaning.specs.Manifest.{Keyed, under, given, textBytes, mapBytes, componentBytes, componentEntries, objectBytes, objectEntries, manifestBytes}
+use Rattle.meaning.proofs.Lengths.{aligned-above}
 use Rattle.rows.specs.Placed.{componentsAt}
 use Rattle.rows.specs.Running.{begun, offsetAt, stepped, reached, offsetsFrom, blobLengths, entriesFrom, objectFrom, objectsFrom, blobSizes}
 use Rattle.rows.proofs.EachRow.{no-row, next-row-at, split-rows}
 
 -- ---- the turn that is reached
-
-pub aligned-above : (n : ℕ) → n ≤ aligned n
-unfolding aligned
-aligned-above n = omega arith
 
 step-above : (plan : List ℕ) (n l : ℕ) → n ≤ stepped plan n l
 unfolding stepped

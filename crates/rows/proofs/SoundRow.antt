@@ -1,27 +1,19 @@
 -- What one sound row gives: its ranges lie in the buffer, its rank and code are known; so each text and blob is as long as its row says.
-use Prim.Native.Nat.{ℕ, _+_, _≤_, _<_}
-use native.Mathlib.Omega.{arith}
+use Prim.Native.Nat.{ℕ, _≤_, _<_}
 use mathlib.Core.List.{List}
 use mathlib.Core.Bool.{true, _&&_}
 use mathlib.Core.Path.{_≡_}
-use lib.ListN.{length, drop, length-drop}
-use lib.Seq.{length-take-le}
+use lib.ListN.{length}
 use lib.Dec.{leb, ltb}
 use borrow.Author.Tests.{leb-true, ltb-true}
 use Rattle.meaning.specs.Limit.{rankLimit}
 use Rattle.meaning.specs.Types.{storages}
-use Rattle.meaning.specs.Read.{Span, bytesAt}
+use Rattle.meaning.specs.Read.{Span}
 use Rattle.meaning.specs.Asked.{AskedObject, AskedComponent, presentAt}
 use Rattle.meaning.specs.Sound.{absentOr, aMap, inside, attributesSound, objectSound, componentSound}
-use Rattle.rows.proofs.Both.{both-left, both-right}
+use Rattle.meaning.proofs.Tests.{both-left, both-right}
 
 module _ (buffer : List ℕ) where
-  pub as-long : (s : Span) → inside buffer s ≡ true → length (bytesAt buffer s) ≡ s .size
-  unfolding inside
-  as-long s e =
-      let h = leb-true (s .place + s .size) (length buffer) e in
-      length-take-le (s .size) (drop (s .place) buffer) (omega (arith, h, length-drop (s .place) buffer))
-
   module _ (c : AskedComponent) (e : componentSound buffer c ≡ true) where
     before-digest : inside buffer (c .name) && ltb (c .dtype) (length storages) && inside buffer (c .type) && inside buffer (c .blob) ≡ true
     unfolding componentSound

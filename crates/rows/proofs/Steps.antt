@@ -12,10 +12,11 @@ use Rattle.meaning.specs.Asked.{AskedComponent, askedObject, askedComponent}
 use Rattle.meaning.specs.Sound.{componentSound}
 use Rattle.meaning.specs.Described.{describedComponent, describedObject, describedObjects}
 use Rattle.meaning.specs.Manifest.{Keyed, under, componentBytes}
+use Rattle.meaning.proofs.Lengths.{part-length}
 use Rattle.rows.specs.Placed.{objectsAt, componentsAt}
 use Rattle.rows.specs.Running.{offsetAt, stepped, reached, blobSizes, entriesFrom, objectFrom, objectsFrom}
 use Rattle.rows.proofs.EachRow.{no-row, next-row-at, all-taken, first-rows}
-use Rattle.rows.proofs.SoundRow.{as-long, component-blob-inside}
+use Rattle.rows.proofs.SoundRow.{component-blob-inside}
 use Rattle.rows.proofs.Describes.{described-none, described-next, blobs-as-long}
 
 -- ---- components: n of them from the place `at` on in rows, where the turn p is reached
@@ -39,7 +40,7 @@ module _ (plan buffer rows : List ℕ) (n at p : ℕ) where
   next-entry h e =
       ap (λ (l : List AskedComponent). entriesFrom plan p (map (describedComponent buffer) l)) (next-row-at askedComponent componentWidth n at rows h)
       ∙ ap (λ (k : ℕ). under (bytesAt buffer (here .name)) (componentBytes (offsetAt plan p) (describedComponent buffer here)) ∷ entries-at (n - 1) (at + componentWidth) (stepped plan p k))
-      (as-long buffer (here .blob) (component-blob-inside buffer here e) ∙ getD-drop at rows lengthColumn 0)
+      (part-length buffer (here .blob) (component-blob-inside buffer here e) ∙ getD-drop at rows lengthColumn 0)
 
 -- ---- objects: `left` of them from the place `row` on in os, `due` components from the place `from` on in cs, where the turn p is reached
 

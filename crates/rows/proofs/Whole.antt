@@ -11,9 +11,9 @@ use Rattle.meaning.specs.Text.{same, all}
 use Rattle.meaning.specs.Read.{Span}
 use Rattle.meaning.specs.Asked.{AskedObject, AskedComponent, eachRow, askedObject, asked}
 use Rattle.meaning.specs.Sound.{owners, attributesSound, objectSound, componentSound, askedSound, rowsSound}
+use Rattle.meaning.proofs.Tests.{both-left, both-right}
 use Rattle.rows.specs.Placed.{componentsAt}
 use Rattle.rows.specs.Owner.{ownersIn}
-use Rattle.rows.proofs.Both.{both-left, both-right}
 
 module _ (buffer rows : List ℕ) (objects components : ℕ) (attributes : Span) where
   abbrev Os : List AskedObject

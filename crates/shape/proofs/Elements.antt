@@ -1,5 +1,5 @@
 -- The loop over a shape's elements: the numbers so far, the elements still due, and the verdict on the whole.
-use Prim.Native.Nat.{ℕ, zero, suc, _+_, _-_, _≤_, _<_}
+use Prim.Native.Nat.{ℕ, suc, _+_, _-_, _≤_, _<_}
 use native.Mathlib.Omega.{arith}
 use mathlib.Core.List.{List, [], _∷_, _++_, append-assoc, append-nil}
 use mathlib.Core.Bool.{Bool, true, false}
@@ -16,7 +16,7 @@ use Rattle.meaning.specs.Limit.{rankLimit}
 use Rattle.meaning.specs.Kind as kinds
 use Rattle.meaning.specs.Kind.{aNumber}
 use Rattle.meaning.specs.Read.{item, noNote}
-use Rattle.meaning.proofs.ReadPrefix.{item-exact, item-hungry, never-beyond}
+use Rattle.meaning.proofs.ReadPrefix.{item-exact, item-hungry}
 use Rattle.cbor.specs.Ending.{FAULT, code, took, itemEnd}
 use Rattle.cbor.proofs.Loops as loops
 use Rattle.walk.specs.Reading.{Ends, Reads, DueNodes}
@@ -29,6 +29,7 @@ use Rattle.walk.proofs.Lists.{none-read, past-node}
 use Rattle.meaning.specs.Judge.{shapeOf}
 use Rattle.walk.specs.Put.{put}
 use Rattle.walk.proofs.Puts.{length-put}
+use Rattle.walk.proofs.Found.{number-read}
 use Rattle.shape.specs.Shape.{ShapeRead}
 use Rattle.shape.specs.declared.Shaped.the-variants.{No, Yes}
 
@@ -63,11 +64,6 @@ pub record Passing (d mode count : ℕ) (s dims : List ℕ) (at rank : ℕ) : Ty
   pub trees : (t : Node Ends) (r : List ℕ) → Reads (suc d) s t r → Standing d mode (count - rank) (drop at s) dims rank (shapeOf t)
 
 -- ---------------------------------------------------------------- one element
-
-number-here : (d : ℕ) (s : List ℕ) (v : Numeral) → NumberIs s v → (x : Node Ends) (r : List ℕ) → Reads d s x r → aNumber x ≡ numeral v
-unfolding item
-number-here zero s v h x r e = absurd (never-beyond s x r e)
-number-here (suc d) s v h x r e = h d x r e
 
 joined-next : (found : List ℕ) (n : ℕ) (c : Check (List ℕ)) → joined found (c >>= λ more. pass (n ∷ more)) ≡ joined (found ++ n ∷ []) c
 joined-next found n (pass more) = ap bounded (sym (append-assoc found (n ∷ []) more))
@@ -162,7 +158,7 @@ module _ {d mode count : ℕ} {s dims : List ℕ} {at rank : ℕ} (p : Passing d
           go [] z y = absurd (let z : _≡_ {A = ℕ} 0 1 = cc in omega arith)
           go (x ∷ xs) z y =
               let c = y .due .chain in
-              f t (p .trees t r e .found) x xs (number-here d (drop at s) v (subst (λ u. NumberIs u v) (part-to-end s at) is-v) x (c .0) (c .1)) y
+              f t (p .trees t r e .found) x xs (number-read d (drop at s) v (subst (λ u. NumberIs u v) (part-to-end s at) is-v) x (c .0) (c .1)) y
 
       module _ {v : Numeral} (is-v : NumberIs (From s at) v) where
         pub no-number : v ≡ NoNumber → ShapeRead d s dims (No 8)

@@ -8,7 +8,6 @@ use mathlib.Core.Path.{_≡_, refl, ap, sym, _∙_}
 use lib.ListN.{take, drop}
 use lib.Dec.{ltb}
 use lib.Pow.{areBytes}
-use Rattle.types.proofs.Tagged.{both-left, both-right}
 use Rattle.endian.proofs.Which.{lt-or}
 use Rattle.meaning.specs.Check.{Check, pass, refuse, _>>=_}
 use Rattle.meaning.specs.Refusal.{CBOR, DEEP, KIND}
@@ -24,6 +23,8 @@ use Rattle.meaning.specs.Frame.{Frame, frame, checked, Reading, reading}
 use Rattle.meaning.proofs.Exact.{exactly-the-encodings-are-read}
 use Rattle.meaning.proofs.ReadNatural.{mapOut, item-follows}
 use Rattle.meaning.proofs.JudgeNatural.{judge-map}
+use Rattle.meaning.proofs.Tests.{both-left, both-right}
+use Rattle.meaning.proofs.Checks.{refused-is-not}
 use Rattle.reader.specs.Verdict.{verdict}
 use Rattle.shown.specs.Accepted.{Framing}
 use Rattle.shown.specs.Placed.{Placed}
@@ -130,9 +131,6 @@ module _ (L : Layout) (fits : Framing L) (file : List ℕ) (h : Bytes file) wher
   unfolding checked
   accepted-sound z = let q = accept-zero L fits file z in framing (frame L file) refl (q .0) (q .1)
     where
-      never-passed : {A : Type 0} {n o c : ℕ} {r : A} → refuse n o c ≡ pass r → ⊥
-      never-passed e = let z : _≡_ {A = ℕ} 0 1 = cc in omega arith
-
       judging : (f : Frame) → frame L file ≡ pass f → (t : Node Span) → Encodes depthLimit (meaning t) (manifestIn file f) → (k : Check (Model Span)) → judge L (f .start) t ≡ k → (r : Reading)
           → (k >>= λ m. pass (record { start = f .start; model = m })) ≡ pass r → Sound L file
       judging f e t i (pass m) j r g = record {
@@ -143,16 +141,16 @@ module _ (L : Layout) (fits : Framing L) (file : List ℕ) (h : Bytes file) wher
         model = mapModel nothing m;
         judged = judge-map nothing L (f .start) t ∙ ap (mapCheck (mapModel nothing)) j;
       }
-      judging f e t i (refuse n o c) j r g = absurd (never-passed g)
+      judging f e t i (refuse n o c) j r g = absurd (refused-is-not g)
 
       treeing : (f : Frame) → frame L file ≡ pass f → (o : Outcome (Node Span)) → manifest (spanTo (endOf f)) (manifestIn file f) ≡ o → (r : Reading)
           → (checked o >>= rest f) ≡ pass r → Sound L file
       treeing f e (got t q) i r g = judging f e t (read-encodes (endOf f) (manifestIn file f) (part f) t q i) (judge L (f .start) t) refl r g
-      treeing f e (refused n q) i r g = absurd (never-passed g)
+      treeing f e (refused n q) i r g = absurd (refused-is-not g)
 
       framing : (k : Check Frame) → frame L file ≡ k → (r : Reading) → reading L file ≡ pass r → Sound L file
       framing (pass f) e r g = treeing f e (manifest (spanTo (endOf f)) (manifestIn file f)) refl r (sym (step-of (pass f) e) ∙ g)
-      framing (refuse n o c) e r g = absurd (never-passed (sym (step-of (refuse n o c) e) ∙ g))
+      framing (refuse n o c) e r g = absurd (refused-is-not (sym (step-of (refuse n o c) e) ∙ g))
 
   module _ (f : Frame) (e : frame L file ≡ pass f) where
     so : Framed L file f

@@ -23,7 +23,7 @@ use Rattle.view.proofs.OfRows.{all-counted, entry-of-rows, viewed-of-rows, view
 use Rattle.panel.proofs.OfRows.{listed-of-rows}
 use Rattle.shown.specs.Accepted.{Framing}
 use Rattle.shown.specs.Shown.{viewedThen, viewThen, listedThen, entryThen, EntryShown, Shown}
-use Rattle.shown.proofs.AcceptedFile.{refusals-of-reading, accepted-stands, accepted-component, accepted-blobs}
+use Rattle.shown.proofs.AcceptedFile.{refusals-of-reading, accepted, lies-in-file, accepted-component, accepted-blobs}
 
 -- a reading into a table is an accepted one, if there is room
 module _ (L : Layout) (file : List ℕ) (room : ℕ) where
@@ -73,7 +73,7 @@ module _ (L : Layout) (framing : Framing L) (file table : List ℕ) (r : Reading
   pub read-entry : (j : ℕ) (c : Component Span) → getElem? (allComponents (r .model .objects)) j ≡ some c → EntryShown L file table r j c
   unfolding answer tableAfter
   read-entry j c there =
-      let own = accepted-component L framing file r read-so j c there .entry in
+      let own = accepted-component L framing file r read-so j c there .part .entry in
       let n = entry-of-rows (drop (roomFor (r .model)) table) (r .model) j c there in
       let said : entryThen L file table j ≡ c .entry = rw reads (ap₂ (λ (p s : ℕ). record { place = p; size = s }) (n .0) (n .1)) in
       record {
@@ -85,7 +85,7 @@ module _ (L : Layout) (framing : Framing L) (file table : List ℕ) (r : Reading
 
   pub read-listing : listedThen L file table ≡ pass (listing (r .model))
   unfolding answer tableAfter
-  read-listing = rw reads (listed-of-rows file (drop (roomFor (r .model)) table) (r .model) (accepted-stands L framing file r read-so))
+  read-listing = let all = accepted L framing file r read-so in rw reads (listed-of-rows file (drop (roomFor (r .model)) table) (r .model) (lies-in-file L file r all) (all .model .objects))
 
   -- every index below the count is a component's
   pub read-index : (j : ℕ) → j < answer (readInto L file (length table)) .components → (c : Component Span) × (getElem? (allComponents (r .model .objects)) j ≡ some c)

@@ -16,12 +16,13 @@ use Rattle.meaning.specs.Layouts.{Layout}
 use Rattle.meaning.specs.Types.{f32}
 use Rattle.meaning.specs.Frame.{Reading}
 use Rattle.meaning.specs.Rows.{optionalSpan, wordSpan, rows, roomFor, componentCount, answer, tableAfter, readInto}
+use Rattle.meaning.specs.Every.{IfAny}
 use Rattle.view.specs.All.{allComponents}
 use Rattle.view.proofs.Columns.{code-is, type-place, type-size, offset-is, length-is}
 use Rattle.view.proofs.OfRows.{row-of-rows, viewed-of-rows}
 use Rattle.finding.specs.Finding.{finding, shown}
 use Rattle.finding.specs.Table.{due, undue, atRow, told, found}
-use Rattle.shown.specs.Accepted.{Framing, IfAny, WordStands}
+use Rattle.shown.specs.Accepted.{Framing, WordStands}
 use Rattle.shown.specs.Found.{isNone, dueOf, findingOf}
 use Rattle.shown.specs.Shown.{foundThen}
 use Rattle.shown.proofs.AcceptedFile.{accepted, accepted-component, accepted-blobs}

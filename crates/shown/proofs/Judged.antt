@@ -9,8 +9,7 @@ use lib.Dec.{leb, T}
 use borrow.Author.Tests.{leb-true, le-leb}
 use Rattle.meaning.specs.Check.{Check, pass, refuse, _>>=_, _>>_, _unless_, fault, inObject, inComponent, required, optional, each}
 use Rattle.meaning.specs.Refusal.{SHORT, KIND, LENGTH}
-use Rattle.panel.specs.Stands.{Each}
-use Rattle.shown.specs.Accepted.{IfAny}
+use Rattle.meaning.specs.Every.{Every, IfAny}
 
 -- computed, so that a number written out needs no proof
 abbrev pub Between : ℕ → ℕ → ℕ → Type 0
@@ -111,8 +110,7 @@ test n true h = record { is = tt }
 test n false h = record { is = h }
 
 module _ {A B : Type 0} {least : ℕ} {Q : A → Type 0} {R : B → Type 0} (f : ℕ → A → Check B) (g : (i : ℕ) (a : A) → Q a → JudgedFrom least R (f i a)) where
-  pub each-so : (i : ℕ) (l : List A) → Each Q l → JudgedFrom least (Each R) (each f i l)
-  unfolding Each
+  pub each-so : (i : ℕ) (l : List A) → Every Q l → JudgedFrom least (Every R) (each f i l)
   each-so i [] h = passes [] tt
   each-so i (a ∷ l) h = bind (f i a) _ (g i a (h .0)) λ b q. bind (each f (suc i) l) _ (each-so (suc i) l (h .1)) λ bs qs. passes (b ∷ bs) (q, qs)
 
@@ -121,7 +119,6 @@ pub widened : {A : Type 0} {Q : A → Type 0} (k : Check A) → Judged Q k → J
 widened (pass a) h = record { is = h .is }
 widened (refuse n o c) h = let a = between n (h .is) in record { is = is-between n (let b = a .0 in omega (arith, b)) (a .1) }
 
-pub any-each : {A : Type 0} (l : List A) → Each Any l
-unfolding Each
+pub any-each : {A : Type 0} (l : List A) → Every Any l
 any-each [] = tt
 any-each (a ∷ l) = (tt, any-each l)

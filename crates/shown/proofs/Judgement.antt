@@ -8,14 +8,13 @@ use mathlib.Core.Path.{_≡_, refl, ap, sym, subst, _∙_}
 use lib.ListN.{length}
 use lib.Dec.{eqb, leb}
 use borrow.Author.Tests.{leb-true, eqb-true}
-use Rattle.types.proofs.Tagged.{both-left, both-right}
 use Rattle.meaning.specs.Tree.{Node, Pairs, uint, nint, bytes, text, chunkedBytes, chunkedText, array, dict, tag, simple, float, ∅, _⇒_▸_, Pair, pairList, noteOf}
 use Rattle.meaning.specs.Check.{Check, pass, refuse, _>>_, inObject, inComponent, required, requiredIn, optional, each}
 use Rattle.meaning.specs.Text.{ascii, same, all, distinct, utf8}
 use Rattle.meaning.specs.Refusal.{KIND, KEY, TEXT, TWICE, VERSION, MAJOR, COUNT, DTYPE, ENCODING, TYPE, ALIGN, BOUNDS}
 use Rattle.meaning.specs.Limit.{objectLimit, componentLimit, alignment}
 use Rattle.meaning.specs.Read.{Span}
-use Rattle.meaning.specs.Model.{Word, Named, Component, Model, RootFields, ObjectFields, ComponentFields}
+use Rattle.meaning.specs.Model.{Word, Named, Component, RootFields, ObjectFields, ComponentFields}
 use Rattle.meaning.specs.Kind.{Kind, number, words, list, table, null, another, kind, asNumber, asWord, asList, asTable, aNumber, aWord, aList, aTable, aText, presentKind, present}
 use Rattle.meaning.specs.Version.{versionShape, majorOne}
 use Rattle.meaning.specs.Layouts.{Slots, slot, somes, Layout, dtypeAt, componentsAt, objectsAt, thirteen}
@@ -24,8 +23,9 @@ use Rattle.meaning.specs.Types.{u64, codeFrom, logicals, listed, fitsOver}
 use Rattle.meaning.specs.Format.{formatRules}
 use Rattle.meaning.specs.Judge.{codeOr, orElse, isIndex, inherited, aDtype, aType, raw, attributesOf, component, part, shapeOf, componentsOf, object, aVersion, objectsOf, judge}
 use Rattle.meaning.proofs.Entries.{pairsOr, pairsIn, valuesIn, entriesIn, entriesOf}
-use Rattle.panel.specs.Stands.{Each}
-use Rattle.shown.specs.Accepted.{IfAny, WordStands, AttributesStand, BlobLies, ComponentAccepted, ObjectAccepted}
+use Rattle.meaning.proofs.Tests.{both-left, both-right}
+use Rattle.meaning.specs.Every.{Every, IfAny}
+use Rattle.shown.specs.Accepted.{WordStands, AttributesStand, BlobLies, ComponentAccepted, ObjectAccepted, ModelAccepted}
 use Rattle.shown.specs.Placed.{less, Placed, PlacedPairs, PlacedPair}
 use Rattle.shown.proofs.Judged.{Any, Judged, passes, faults, with-verdict, so-too, in-object, in-component, is-required, bind, then, if-any, tested, test, each-so, any-each}
 use Rattle.shown.proofs.FormatNumbered.{format-so}
@@ -103,12 +103,11 @@ module _ (L : Layout) (file : List ℕ) (start : ℕ) where
   Kinds d (number n) = Unit {0}
   Kinds d (words w) = Spelt w
   Kinds d (list l) = Unit {0}
-  Kinds d (table ps) = Each (Pairing (less d)) ps
+  Kinds d (table ps) = Every (Pairing (less d)) ps
   Kinds d null = Unit {0}
   Kinds d another = Unit {0}
 
-  pairs-so : (d : ℕ) (ps : Pairs Span) → PlacedPairs L file start d ps → Each (Pairing d) (pairList ps)
-  unfolding Each
+  pairs-so : (d : ℕ) (ps : Pairs Span) → PlacedPairs L file start d ps → Every (Pairing d) (pairList ps)
   pairs-so d ∅ h = tt
   pairs-so d (_⇒_▸_ k v ps) h = (h .0, pairs-so d ps (h .1))
 
@@ -157,7 +156,7 @@ module _ (L : Layout) (file : List ℕ) (start : ℕ) where
   asList-so null = faults KIND tt
   asList-so another = faults KIND tt
 
-  asTable-so : (d : ℕ) (k : Kind Span) → Kinds d k → Judged (Each (Pairing (less d))) (asTable k)
+  asTable-so : (d : ℕ) (k : Kind Span) → Kinds d k → Judged (Every (Pairing (less d))) (asTable k)
   unfolding asTable
   asTable-so d (number n) h = faults KIND tt
   asTable-so d (words w) h = faults KIND tt
@@ -195,7 +194,7 @@ module _ (L : Layout) (file : List ℕ) (start : ℕ) where
   unfolding aWord
   word-so d t h = asWord-so d (kind t) (kind-so d t h)
 
-  table-so : (d : ℕ) (t : Node Span) → At d t → Judged (Each (Pairing (less d))) (aTable t)
+  table-so : (d : ℕ) (t : Node Span) → At d t → Judged (Every (Pairing (less d))) (aTable t)
   unfolding aTable
   table-so d t h = asTable-so d (kind t) (kind-so d t h)
 
@@ -208,8 +207,8 @@ module _ (L : Layout) (file : List ℕ) (start : ℕ) where
   present-so d none h = tt
   present-so d (some t) h = presentKind-so d t (kind t) h
 
-  get-so : (d : ℕ) (n : List ℕ) (ps : List (Pair Span)) → Each (Pairing d) ps → IfAny (At d) (get n ps)
-  unfolding get Each
+  get-so : (d : ℕ) (n : List ℕ) (ps : List (Pair Span)) → Every (Pairing d) ps → IfAny (At d) (get n ps)
+  unfolding get
   get-so d n [] h = tt
   get-so d n (p ∷ ps) h = by (named n p) (get n ps) (get-so d n ps (h .1))
     where
@@ -217,7 +216,7 @@ module _ (L : Layout) (file : List ℕ) (start : ℕ) where
       by true r q = h .0 .1
       by false r q = q
 
-  field-so : (d : ℕ) (s : Option (List ℕ)) (ps : List (Pair Span)) → Each (Pairing d) ps → IfAny (At d) (field s ps)
+  field-so : (d : ℕ) (s : Option (List ℕ)) (ps : List (Pair Span)) → Every (Pairing d) ps → IfAny (At d) (field s ps)
   unfolding field
   field-so d none ps h = tt
   field-so d (some n) ps h = get-so d n ps h
@@ -226,13 +225,13 @@ module _ (L : Layout) (file : List ℕ) (start : ℕ) where
   unfolding field
   no-field s ps e = ap (λ (s : Option (List ℕ)). field s ps) e
 
-  fields-so : (d : ℕ) (known : Slots) (t : Node Span) → At d t → Judged (λ ps. (aTable t ≡ pass ps) × Each (Pairing (less d)) ps) (fields known t)
+  fields-so : (d : ℕ) (known : Slots) (t : Node Span) → At d t → Judged (λ ps. (aTable t ≡ pass ps) × Every (Pairing (less d)) ps) (fields known t)
   unfolding fields
   fields-so d known t h =
       bind (aTable t) _ (with-verdict (aTable t) (table-so d t h)) λ ps q.
       tested KEY (all (λ p. isSome (keyOf p)) ps) _ tt λ e. tested TWICE (all (λ n. leb (count n ps) 1) (somes known)) _ tt λ f. passes ps q
 
-  pub names-so : (d limit : ℕ) (t : Node Span) → At d t → Judged (Each (Naming (less d))) (names limit t)
+  pub names-so : (d limit : ℕ) (t : Node Span) → At d t → Judged (Every (Naming (less d))) (names limit t)
   unfolding names nameOf
   names-so d limit t h =
       bind (aTable t) _ (table-so d t h) λ ps q.
@@ -338,21 +337,23 @@ module _ (L : Layout) (file : List ℕ) (start : ℕ) where
           let f = q .1 in
           record {
             name = f .name;
-            storage = f .storage;
+            dtype = let d = f .storage in omega (arith, d, thirteen);
             type = f .type;
             digest = f .digest;
-            blob = f .blob;
-            entry = record {
-              node = n .value;
-              noted = f .noted;
-              stands = f .map;
-              above = above;
-              ungiven = given .ungiven;
-              judged = ap (λ (w : Word Span). component L start above (record { name = w; value = n .value })) (sym (f .named)) ∙ q .0;
+            part = record {
+              blob = f .blob;
+              entry = record {
+                node = n .value;
+                noted = f .noted;
+                stands = f .map;
+                above = above;
+                ungiven = given .ungiven;
+                judged = ap (λ (w : Word Span). component L start above (record { name = w; value = n .value })) (sym (f .named)) ∙ q .0;
+              };
             };
           }
 
-  components-so : (above : List ℕ → Option ℕ) → ((role : List ℕ) → Given (above role)) → (t : Node Span) → At 29 t → Judged (Each (ComponentAccepted L file start)) (componentsOf L start above t)
+  components-so : (above : List ℕ → Option ℕ) → ((role : List ℕ) → Given (above role)) → (t : Node Span) → At 29 t → Judged (Every (ComponentAccepted L file start)) (componentsOf L start above t)
   unfolding componentsOf
   components-so above given t h =
       bind (names componentLimit t) _ (names-so 29 componentLimit t h)
@@ -371,7 +372,7 @@ module _ (L : Layout) (file : List ℕ) (start : ℕ) where
   unfolding attributesOf
   attributes-so d t h = by (aTable t) refl (table-so d t h)
     where
-      by : (k : Check (List (Pair Span))) → aTable t ≡ k → Judged (Each (Pairing (less d))) k → Judged (AttributesStand L file start d) (k >> pass t)
+      by : (k : Check (List (Pair Span))) → aTable t ≡ k → Judged (Every (Pairing (less d))) k → Judged (AttributesStand L file start d) (k >> pass t)
       by (pass ps) e j = passes t (record { stands = h .0; pairs = ps; map = e })
       by (refuse n o c) e j = record { is = j .is }
 
@@ -415,7 +416,7 @@ module _ (L : Layout) (file : List ℕ) (start : ℕ) where
       then (formatRules (f .letters) s (map part cs)) _ (format-so (f .letters) s (map part cs))
       (passes _ (record { name = h .0; rank = rank; format = spelt; attributes = lie; components = accepted }))
 
-  objects-so : (t : Node Span) → At 31 t → Judged (Each (ObjectAccepted L file start)) (objectsOf L start t)
+  objects-so : (t : Node Span) → At 31 t → Judged (Every (ObjectAccepted L file start)) (objectsOf L start t)
   unfolding objectsOf
   objects-so t h =
       bind (names objectLimit t) _ (names-so 31 objectLimit t h)
@@ -437,11 +438,7 @@ module _ (L : Layout) (file : List ℕ) (start : ℕ) where
   rootFields-so t h =
       bind (fields (L .root) t) _ (fields-so 32 (L .root) t h) λ ps q. passes _ (record { version = field-so 31 _ ps (q .1); attributes = field-so 31 _ ps (q .1); objects = field-so 31 _ ps (q .1) })
 
-  pub record ModelStands (m : Model Span) : Type 0 where
-    pub attributes : IfAny (AttributesStand L file start 31) (m .attributes)
-    pub objects : Each (ObjectAccepted L file start) (m .objects)
-
-  pub judge-so : (t : Node Span) → At 32 t → Judged ModelStands (judge L start t)
+  pub judge-so : (t : Node Span) → At 32 t → Judged (ModelAccepted L file start) (judge L start t)
   unfolding judge
   judge-so t h =
       bind (rootFields (L .root) t) _ (rootFields-so t h) λ r p.
@@ -454,34 +451,34 @@ module _ (L : Layout) (file : List ℕ) (start : ℕ) where
 
   -- ---- the entries of its components have 28 levels left
 
-  pairs-in-so : (d : ℕ) (t : Node Span) → At d t → Each (Pairing (less d)) (pairsIn t)
-  unfolding pairsIn pairsOr Each
+  pairs-in-so : (d : ℕ) (t : Node Span) → At d t → Every (Pairing (less d)) (pairsIn t)
+  unfolding pairsIn pairsOr
   pairs-in-so d t h = by (aTable t) (table-so d t h)
     where
-      by : (k : Check (List (Pair Span))) → Judged (Each (Pairing (less d))) k → Each (Pairing (less d)) (pairsOr k)
+      by : (k : Check (List (Pair Span))) → Judged (Every (Pairing (less d))) k → Every (Pairing (less d)) (pairsOr k)
       by (pass ps) j = j .is
       by (refuse n o c) j = tt
 
-  values-so : (d : ℕ) (o : Option (Node Span)) → IfAny (At d) o → Each (At (less d)) (valuesIn o)
-  unfolding valuesIn Each
+  values-so : (d : ℕ) (o : Option (Node Span)) → IfAny (At d) o → Every (At (less d)) (valuesIn o)
+  unfolding valuesIn
   values-so d none h = tt
   values-so d (some t) h = by (pairsIn t) (pairs-in-so d t h)
     where
-      by : (ps : List (Pair Span)) → Each (Pairing (less d)) ps → Each (At (less d)) (map (λ p. p .value) ps)
+      by : (ps : List (Pair Span)) → Every (Pairing (less d)) ps → Every (At (less d)) (map (λ p. p .value) ps)
       by [] h = tt
       by (p ∷ ps) h = (h .0 .1, by ps (h .1))
 
-  entries-in-so : (t : Node Span) → At 30 t → Each (At 28) (entriesIn L t)
+  entries-in-so : (t : Node Span) → At 30 t → Every (At 28) (entriesIn L t)
   unfolding entriesIn
   entries-in-so t h = values-so 29 (field (slot componentsAt (L .object)) (pairsIn t)) (field-so 29 (slot componentsAt (L .object)) (pairsIn t) (pairs-in-so 30 t h))
 
-  pub entries-so : (t : Node Span) → At 32 t → Each (Each (At 28)) (entriesOf L t)
-  unfolding entriesOf Each
+  pub entries-so : (t : Node Span) → At 32 t → Every (Every (At 28)) (entriesOf L t)
+  unfolding entriesOf
   entries-so t h = by (valuesIn objects) (values-so 31 objects (field-so 31 (slot objectsAt (L .root)) (pairsIn t) (pairs-in-so 32 t h)))
     where
       objects : Option (Node Span)
       objects = field (slot objectsAt (L .root)) (pairsIn t)
 
-      by : (ts : List (Node Span)) → Each (At 30) ts → Each (Each (At 28)) (map (entriesIn L) ts)
+      by : (ts : List (Node Span)) → Every (At 30) ts → Every (Every (At 28)) (map (entriesIn L) ts)
       by [] h = tt
       by (o ∷ ts) h = (entries-in-so o (h .0), by ts (h .1))

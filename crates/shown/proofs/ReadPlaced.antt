@@ -12,7 +12,7 @@ use Rattle.meaning.specs.Read.{Outcome, got, refused, Reader, after, _>>=_, pur
 use Rattle.meaning.specs.Read.{Argument, known, indefinite, wide, longArguments, argument, majorOf, infoOf, definite, chunk, closed, reserved, close, pair, content, beyond, item, manifest, Span, spanTo}
 use Rattle.meaning.specs.Read.{Major, unsigned, negative, byteString, textString, arrayOf, mapOf, tagged, special}
 use Rattle.meaning.specs.Layouts.{Layout}
-use Rattle.panel.specs.Stands.{Each}
+use Rattle.meaning.specs.Every.{Every}
 use Rattle.shown.specs.Placed.{Placed, Within, PlacedNodes, PlacedPairs, PlacedPair}
 use Rattle.shown.proofs.Judged.{Between, Any}
 use Rattle.shown.proofs.Spans.{Later, at-once, later-on, Left, left-later, word-stands, node-stands}
@@ -59,9 +59,8 @@ module _ (file back : List ℕ) (start end : ℕ) where
     cond-keeps true m n hm hn = hm
     cond-keeps false m n hm hn = hn
 
-    getD-keeps : {Q : A → Type 0} (ms : List (List ℕ → Reader A)) (d : List ℕ → Reader A) → Each (λ (m : List ℕ → Reader A). (o : List ℕ) → Keeps Q (m o)) ms
+    getD-keeps : {Q : A → Type 0} (ms : List (List ℕ → Reader A)) (d : List ℕ → Reader A) → Every (λ (m : List ℕ → Reader A). (o : List ℕ) → Keeps Q (m o)) ms
         → ((o : List ℕ) → Keeps Q (d o)) → (i : ℕ) (o : List ℕ) → Keeps Q (getD ms i d o)
-    unfolding Each
     getD-keeps [] d hs hd i = hd
     getD-keeps (m ∷ ms) d hs hd zero = hs .0
     getD-keeps (m ∷ ms) d hs hd (suc i) = getD-keeps ms d (hs .1) hd i
@@ -96,19 +95,19 @@ module _ (file back : List ℕ) (start end : ℕ) where
   stop-keeps (b ∷ s) l = so-cond (eqb b 255) _ _ (record { is = (tt, record { eaten = b ∷ []; split = refl }) }) (record { is = (tt, at-once (b ∷ s)) })
 
   module _ {A : Type 0} {Q : A → Type 0} (m : Reader A) (hm : Keeps Q m) where
-    times-keeps : (n : ℕ) → Keeps (Each Q) (times m n)
-    unfolding times Each
+    times-keeps : (n : ℕ) → Keeps (Every Q) (times m n)
+    unfolding times
     times-keeps zero = pure-keeps [] tt
     times-keeps (suc n) = bind-keeps m _ hm λ x q. bind-keeps (times m n) _ (times-keeps n) λ xs qs. pure-keeps (x ∷ xs) (q, qs)
 
-    until-keeps : (f : ℕ) → Keeps (Each Q) (untilBreak m f)
-    unfolding untilBreak Each
+    until-keeps : (f : ℕ) → Keeps (Every Q) (untilBreak m f)
+    unfolding untilBreak
     until-keeps zero = λ s l. ended []
     until-keeps (suc f) =
         bind-keeps stop _ stop-keeps λ b u. cond-keeps b _ _ (pure-keeps [] tt)
         (bind-keeps m _ hm λ x q. bind-keeps (untilBreak m f) _ (until-keeps f) λ xs qs. pure-keeps (x ∷ xs) (q, qs))
 
-    toBreak-keeps : Keeps (Each Q) (toBreak m)
+    toBreak-keeps : Keeps (Every Q) (toBreak m)
     unfolding toBreak
     toBreak-keeps s = until-keeps (length s) s
 
@@ -117,7 +116,7 @@ module _ (file back : List ℕ) (start end : ℕ) where
   wide-keeps w o = bind-keeps (number w 0) _ (number-keeps w 0) λ n q. pure-keeps (known w n) tt
 
   argument-keeps : (o : List ℕ) (i : ℕ) → Keeps Any (argument o i)
-  unfolding argument longArguments Each
+  unfolding argument longArguments
   argument-keeps o i =
       cond-keeps (ltb i 24) _ _ (pure-keeps (known 0 i) tt)
       (getD-keeps longArguments malformed
@@ -138,13 +137,11 @@ module _ (file back : List ℕ) (start end : ℕ) where
   -- ---- the nodes
 
   module _ (L : Layout) where
-    nodes-placed : (d : ℕ) (xs : List (Node Span)) → Each (Placed L file start d) xs → PlacedNodes L file start d (nodes xs)
-    unfolding Each
+    nodes-placed : (d : ℕ) (xs : List (Node Span)) → Every (Placed L file start d) xs → PlacedNodes L file start d (nodes xs)
     nodes-placed d [] h = tt
     nodes-placed d (x ∷ xs) h = (h .0, nodes-placed d xs (h .1))
 
-    pairs-placed : (d : ℕ) (ps : List (Pair Span)) → Each (PlacedPair L file start d) ps → PlacedPairs L file start d (pairs ps)
-    unfolding Each
+    pairs-placed : (d : ℕ) (ps : List (Pair Span)) → Every (PlacedPair L file start d) ps → PlacedPairs L file start d (pairs ps)
     pairs-placed d [] h = tt
     pairs-placed d (p ∷ ps) h = (h .0, pairs-placed d ps (h .1))
 

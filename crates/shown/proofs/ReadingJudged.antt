@@ -8,7 +8,6 @@ use lib.ListN.{length, take, drop, take-append-drop, length-drop}
 use lib.Seq.{length-take-le, drop-drop}
 use lib.Dec.{leb}
 use borrow.Author.Tests.{leb-true}
-use Rattle.types.proofs.Tagged.{both-left, both-right}
 use Rattle.meaning.specs.Text.{same}
 use Rattle.meaning.specs.Refusal.{SHORT, HEADER, FOOTER, BIG, FIT, CBOR, DEEP}
 use Rattle.meaning.specs.Limit.{manifestLimit, depthLimit}
@@ -17,6 +16,7 @@ use Rattle.meaning.specs.Read.{Span, spanTo, Outcome, got, refused, manifest}
 use Rattle.meaning.specs.Judge.{judge}
 use Rattle.meaning.specs.Layouts.{Layout, magic, current, old}
 use Rattle.meaning.specs.Frame.{little, Frame, frame, checked, reading}
+use Rattle.meaning.proofs.Tests.{both-left, both-right}
 use Rattle.shown.specs.Accepted.{Framing, Accepted}
 use Rattle.shown.specs.Placed.{Placed}
 use Rattle.shown.proofs.Judged.{JudgedFrom, between, is-between, widened, passes, bind, tested}
@@ -97,4 +97,4 @@ reading-so L framing file =
     bind (checked (manifest (spanTo (f .start + f .size)) (take (f .size) (drop (f .start) file)))) _ (tree-so L file f h) λ t placed.
     bind (judge L (f .start) t) _ (widened (judge L (f .start) t) (judge-so L file (f .start) t placed)) λ m s.
     let e = h .ends in let b = h .some-bytes in
-    passes _ (record { header = h .header; footer = omega (arith, e, b); attributes = s .attributes; objects = s .objects })
+    passes _ (record { header = h .header; footer = omega (arith, e, b); model = s })

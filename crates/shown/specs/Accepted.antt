@@ -1,24 +1,18 @@
 -- What holds of an accepted file: its texts, attributes and component maps stand in the manifest where their rows say, and its blobs lie between header and manifest.
-use Prim.Native.Nat.{ℕ, _+_, _%_, _≤_, _<_}
+use Prim.Native.Nat.{ℕ, _+_, _%_, _≤_}
 use mathlib.Core.List.{List, []}
-use mathlib.Core.Option.{Option, none, some}
+use mathlib.Core.Option.{Option, none}
 use mathlib.Core.Path.{_≡_}
 use lib.ListN.{length, take, drop}
 use Rattle.meaning.specs.Tree.{Node, Pair, noteOf, meaning}
 use Rattle.meaning.specs.Check.{pass}
 use Rattle.meaning.specs.Read.{Span, got, item, noNote}
 use Rattle.meaning.specs.Kind.{aTable}
-use Rattle.meaning.specs.Model.{Word, Component, Object}
+use Rattle.meaning.specs.Model.{Word, Component, Object, Model}
 use Rattle.meaning.specs.Layouts.{slot, Layout, dtypeAt}
 use Rattle.meaning.specs.Judge.{component}
 use Rattle.meaning.specs.Frame.{Reading}
-use Rattle.meaning.specs.Rows.{wordSpan}
-use Rattle.panel.specs.Stands.{Each}
-
--- of what may be absent
-abbrev pub IfAny : {A : Type 0} → (A → Type 0) → Option A → Type 0
-IfAny Q none = Unit {0}
-IfAny Q (some a) = Q a
+use Rattle.meaning.specs.Stands as stands
 
 -- a blob begins at a multiple of 64, after the header, and ends before a manifest that begins at `start`
 pub record BlobLies (start : ℕ) (c : Component Span) : Type 0 where
@@ -37,9 +31,8 @@ module _ (L : Layout) (file : List ℕ) (start : ℕ) where
     pub ends : s .place + s .size + L .sizeBack ≤ length file
 
   -- the text's letters are the file's bytes at the place and of the length that its row gives
-  pub record WordStands (w : Word Span) : Type 0 where
-    pub lies : InManifest (wordSpan w)
-    pub spelled : take (wordSpan w .size) (drop (wordSpan w .place) file) ≡ w .letters
+  abbrev pub WordStands : Word Span → Type 0
+  WordStands = stands.WordStands InManifest file
 
   -- the item's own bytes, read where d levels are left, are this node and nothing more
   pub record NodeStands (d : ℕ) (t : Node Span) : Type 0 where
@@ -62,26 +55,23 @@ module _ (L : Layout) (file : List ℕ) (start : ℕ) where
     pub ungiven : slot dtypeAt (L .object) ≡ none → above ≡ none
     pub judged : component L start above (record { name = c .name; value = node }) ≡ pass c
 
-  pub record ComponentAccepted (c : Component Span) : Type 0 where
-    pub name : WordStands (c .name)
-    pub storage : c .dtype < 13
-    pub type : IfAny WordStands (c .type)
-    pub digest : IfAny WordStands (c .digest)
+  pub record PartAccepted (c : Component Span) : Type 0 where
     pub blob : BlobLies start c
     pub entry : EntryStands c
 
-  -- its attributes are at depth 4: 29 levels are left there
-  pub record ObjectAccepted (o : Object Span) : Type 0 where
-    pub name : WordStands (o .name)
-    pub rank : length (o .shape) ≤ 8
-    pub format : WordStands (o .format)
-    pub attributes : IfAny (AttributesStand 29) (o .attributes)
-    pub components : Each ComponentAccepted (o .components)
+  abbrev pub ComponentAccepted : Component Span → Type 0
+  ComponentAccepted = stands.ComponentStands InManifest AttributesStand PartAccepted file
 
--- the root's attributes are at depth 2: 31 levels are left there
+  -- its attributes are at depth 4: 29 levels are left there
+  abbrev pub ObjectAccepted : Object Span → Type 0
+  ObjectAccepted = stands.ObjectStands InManifest AttributesStand PartAccepted file
+
+  -- the root's attributes are at depth 2: 31 levels are left there
+  abbrev pub ModelAccepted : Model Span → Type 0
+  ModelAccepted = stands.ModelStands InManifest AttributesStand PartAccepted file
+
 pub record Accepted (L : Layout) (file : List ℕ) (r : Reading) : Type 0 where
   pub header : 8 ≤ r .start
   -- a manifest of a byte at least, its size and the footer
   pub footer : r .start + 1 + L .sizeBack ≤ length file
-  pub attributes : IfAny (AttributesStand L file (r .start) 31) (r .model .attributes)
-  pub objects : Each (ObjectAccepted L file (r .start)) (r .model .objects)
+  pub model : ModelAccepted L file (r .start) (r .model)

@@ -21,34 +21,32 @@ use Rattle.meaning.specs.Field.{nameOf, names}
 use Rattle.meaning.specs.Judge.{object}
 use Rattle.meaning.specs.Layouts.{layoutOf}
 use Rattle.meaning.specs.Rows.{objectRow, objectRows, rowsOf, componentRows, componentCount}
-use Rattle.readback.specs.Every.{Every}
+use Rattle.meaning.proofs.Checks.{pass-same}
+use Rattle.meaning.proofs.Lengths.{object-length, objects-length, components-length, count-snoc}
+use Rattle.meaning.specs.Every.{Every}
 use Rattle.walk.specs.Reading.{Ends, Reads}
-use Rattle.walk.specs.Places.{MapIs, EntryIs}
+use Rattle.walk.specs.Places.{MapIs, EntryIs, Modes}
 use Rattle.walk.specs.declared.Opening.{Opening}
 use Rattle.walk.specs.declared.Opening.the-variants.{NotOpen, Opened}
 use Rattle.walk.proofs.Opens as opens
 use Rattle.walk.specs.declared.Entry.{Entry}
 use Rattle.walk.specs.declared.Entry.the-variants.{End, Value}
-use Rattle.walk.proofs.Turns.{Modes}
 use Rattle.walk.proofs.Passed as walked
 use Rattle.walk.proofs.Passed.{Here}
 use Rattle.cbor.specs.Ending.{FAULT, code, itemEnd}
 use Rattle.endian.proofs.Which.{lt-or}
-use Rattle.components.proofs.Typed.{pass-same}
 use Rattle.naming.proofs.Noting.{map-snoc}
 use Rattle.object.specs.Verdict.{ObjectIs, judged}
 use Rattle.object.specs.declared.Judged.{Judged}
 use Rattle.object.specs.declared.Judged.the-variants.{No, Yes}
 use Rattle.objects.specs.Found.{judging}
-use Rattle.objects.proofs.Few.{few-in-judging, count-snoc}
+use Rattle.objects.proofs.Few.{few-in-judging}
 use Rattle.table.specs.Spans.{spanOf}
 use Rattle.table.specs.Object.{objectIn}
 use Rattle.table.specs.Rows.{rowsIn}
 use Rattle.table.specs.Objects.{objectsIn, componentsIn}
 use Rattle.table.proofs.Laying as laying
 use Rattle.table.proofs.Entering as entering
-use Rattle.table.proofs.Rowing.{rows-length}
-use Rattle.table.proofs.WholeObject.{object-length}
 use Rattle.table.proofs.Objecting.{count-mapped}
 use Rattle.table.proofs.ComponentRow.{named-pair}
 use Rattle.window.specs.Summed.{InWindow, Sum, spans}
@@ -115,16 +113,6 @@ components-snoc i (x ∷ os) o =
     let e : suc i + length os ≡ i + suc (length os) = omega arith in
     ap (λ (r : List ℕ). rowsOf i (x .components) ++ r) (components-snoc (suc i) os o ∙ ap (λ (k : ℕ). componentRows (suc i) os ++ rowsOf k (o .components)) e)
     ∙ sym (append-assoc (rowsOf i (x .components)) (componentRows (suc i) os) (rowsOf (i + suc (length os)) (o .components)))
-
-pub objects-length : (os : List (Object Span)) → length (objectRows os) ≡ objectWidth * length os
-unfolding objectRows
-objects-length [] = refl
-objects-length (o ∷ os) = length-append (objectRow o) (objectRows os) ∙ ap₂ (λ (a b : ℕ). a + b) (object-length o) (objects-length os) ∙ (omega arith)
-
-components-length : (i : ℕ) (os : List (Object Span)) → length (componentRows i os) ≡ componentWidth * componentCount os
-unfolding componentRows componentCount
-components-length i [] = refl
-components-length i (o ∷ os) = length-append (rowsOf i (o .components)) (componentRows (suc i) os) ∙ ap₂ (λ (a b : ℕ). a + b) (rows-length i (o .components)) (components-length (suc i) os) ∙ (omega arith)
 
 module _ (end from : ℕ) (before : List ℕ) (os : List (Object Ends)) (o : Object Ends) where
   -- rows of `os` in the table, and then those of o behind each of both parts

@@ -16,9 +16,9 @@ use Rattle.meaning.specs.Field.{nameOf, names}
 use Rattle.meaning.specs.Judge.{object}
 use Rattle.meaning.specs.Layouts.{layoutOf}
 use Rattle.meaning.specs.Rows.{componentCount}
-use Rattle.readback.specs.Every.{Every}
+use Rattle.meaning.specs.Every.{Every}
 use Rattle.walk.specs.Reading.{Ends, Reads}
-use Rattle.walk.proofs.Passed.{AllPassed}
+use Rattle.walk.specs.Places.{AllPassed}
 use Rattle.table.specs.Spans.{spanOf}
 use Rattle.table.specs.Entered.{Entered}
 use Rattle.objects.specs.Firsts.{plus}

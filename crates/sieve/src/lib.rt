@@ -10,10 +10,10 @@ ghost use lib.Seq.{sets};
 ghost use Prim.Native.Nat.{suc, _+_, _≤_};
 ghost use lib.ListN.{length};
 ghost use Rattle.meaning.specs.Limit.{manifestLimit, endLimit};
-ghost use Rattle.walk.proofs.Turns.{Modes};
 ghost use Rattle.cbor.specs.Ending.{code, itemEnd};
 ghost use Rattle.objects.specs.Firsts.{plus};
 ghost use Rattle.sieve.specs.Sieved as is;
+ghost use Rattle.walk.specs.Places.{Modes};
 
 // How many objects are kept and dropped, how many components are kept; where the last blob ends, or 2^40 + 1, and how many bytes the entries take, or the limit and 1.
 pub struct Sieve {

@@ -15,13 +15,14 @@ use Rattle.meaning.specs.Asked.{AskedObject, AskedComponent, Asked, eachRow, as
 use Rattle.meaning.specs.Sound.{objectSound, componentSound, rowsSound}
 use Rattle.meaning.specs.Described.{DescribedComponent, Described, describedComponent, describedObject, describedObjects, described}
 use Rattle.meaning.specs.Manifest.{mapBytes, componentBytes}
+use Rattle.meaning.proofs.Tests.{both-left, both-right}
+use Rattle.meaning.proofs.Lengths.{part-length, each-row-length}
 use Rattle.rows.specs.Placed.{objectsAt, componentsAt}
 use Rattle.rows.specs.Running.{begun, offsetAt, stepped, turnLimit, reached, entriesFrom, objectFrom, objectsFrom, blobSizes, counted}
-use Rattle.rows.proofs.Both.{both-left, both-right}
-use Rattle.rows.proofs.EachRow.{all-taken, all-dropped, how-many}
+use Rattle.rows.proofs.EachRow.{all-taken, all-dropped}
 use Rattle.rows.proofs.Running.{last-is-reached}
 use Rattle.rows.proofs.Whole.{sound-lies, sound-attributes, sound-objects, sound-components}
-use Rattle.rows.proofs.SoundRow.{as-long, component-name-inside, component-type-inside, component-blob-inside, component-digest-inside, attributes-inside, object-name-inside, object-rank-small, object-format-inside, object-attributes-sound}
+use Rattle.rows.proofs.SoundRow.{component-name-inside, component-type-inside, component-blob-inside, component-digest-inside, attributes-inside, object-name-inside, object-rank-small, object-format-inside, object-attributes-sound}
 use Rattle.rows.proofs.Describes.{blobs-as-long, rows-counted, blob-lengths}
 use Rattle.sizes.specs.Size.{capped, headSize, textSize, optionalCopy, fixedSize, componentSize, componentsSize, objectSize, objectsSize, objectsSizeIn, manifestSize}
 use Rattle.sizes.specs.Measured.{shaped, Fits, Measurable, lengthsOf, endOf, manifestLength}
@@ -44,7 +45,7 @@ module _ (plan buffer : List ℕ) where
         text-field buffer 7 (c .digest) (component-digest-inside buffer c e),
         number-length offset,
         number-length (length (bytesAt buffer (c .blob))),
-        ap headSize (as-long buffer (c .blob) (component-blob-inside buffer c e)),
+        ap headSize (part-length buffer (c .blob) (component-blob-inside buffer c e)),
       )
 
   components-length : (n : ℕ) (cs : List AskedComponent) → all (componentSound buffer) cs ≡ true
@@ -56,10 +57,10 @@ module _ (plan buffer : List ℕ) where
       let one = component-length (offsetAt plan n) c first in
       let others = components-length (stepped plan n (c .blob .size)) cs (both-right (componentSound buffer c) _ e) in
       let blob = ap (λ (k : ℕ). entriesSize (entriesFrom plan (stepped plan n k) (map (describedComponent buffer) cs)))
-      (as-long buffer (c .blob) (component-blob-inside buffer c first)) in
+      (part-length buffer (c .blob) (component-blob-inside buffer c first)) in
       omega (arith, one, others, blob)
 
-  entries-many : (n : ℕ) (ds : List DescribedComponent) → length (entriesFrom plan n ds) ≡ length ds
+  pub entries-many : (n : ℕ) (ds : List DescribedComponent) → length (entriesFrom plan n ds) ≡ length ds
   unfolding entriesFrom
   entries-many n [] = refl
   entries-many n (d ∷ ds) = ap suc (entries-many (stepped plan n (length (d .blob))) ds)
@@ -159,7 +160,7 @@ module _ (plan buffer rows : List ℕ) (objects components : ℕ) (attributes : 
         copied-field buffer 11 attributes (attributes-inside buffer 31 attributes (sound-attributes buffer rows objects components attributes sound)),
         map-length (objectsFrom plan (begun plan) (describedObjects buffer Os Cs)),
         ap headSize (objects-many plan buffer (begun plan) Os Cs),
-        objects-length plan buffer (begun plan) Os Cs (rows-counted buffer rows objects components attributes sound ∙ sym (how-many askedComponent componentWidth components (drop (objectWidth * objects) rows)))
+        objects-length plan buffer (begun plan) Os Cs (rows-counted buffer rows objects components attributes sound ∙ sym (each-row-length askedComponent componentWidth components (drop (objectWidth * objects) rows)))
             all-objects (short-rows plan buffer objects rows all-objects) (sound-components buffer rows objects components attributes sound),
       )
 
@@ -199,6 +200,6 @@ module _ (plan rows : List ℕ) (objects components : ℕ) (m : Measurable plan 
         e,
         f,
         g,
-        ap headSize (how-many askedObject objectWidth objects rows),
+        ap headSize (each-row-length askedObject objectWidth objects rows),
         ap (λ (k : ℕ). objectsSize plan (begun plan) (eachRow askedObject objectWidth objects rows) (componentsAt k (objectWidth * objects) rows)) (m .counts),
       )

@@ -1,5 +1,5 @@
 -- How long the manifest's pieces are: heads, texts, lists, maps and their fields; and each map by its fields.
-use Prim.Native.Nat.{ℕ, zero, suc, _+_, _%_, _^_, _≤_, _<_}
+use Prim.Native.Nat.{ℕ, zero, suc, _+_, _≤_, _<_}
 use native.Mathlib.Omega.{arith}
 use mathlib.Core.List.{List, [], _∷_, _++_, map}
 use mathlib.Core.Bool.{Bool, true, false, cond, _&&_}
@@ -13,25 +13,19 @@ use Rattle.meaning.specs.Read.{Span, joined, bytesAt}
 use Rattle.meaning.specs.Notes.{mapOption}
 use Rattle.meaning.specs.Layouts.{rootNames, objectNames, componentNames}
 use Rattle.meaning.specs.Types.{Storage, storages, storageOf}
-use Rattle.meaning.specs.Encoding.{big}
 use Rattle.meaning.specs.Asked.{presentAt}
 use Rattle.meaning.specs.Sound.{inside}
 use Rattle.meaning.specs.Described.{DescribedComponent, DescribedObject, Described}
 use Rattle.meaning.specs.Manifest.{headOf, shortestHead, numberBytes, textBytes, listBytes, Keyed, given, entryBytes, mapBytes, componentBytes}
+use Rattle.meaning.proofs.Tests.{both-left, both-right}
+use Rattle.meaning.proofs.Lengths.{big-length, part-length}
 use Rattle.rows.specs.Running.{begun, entriesFrom, objectFrom, objectsFrom}
-use Rattle.rows.proofs.Both.{both-left, both-right}
 use Rattle.rows.proofs.Running.{manifest-placed}
-use Rattle.rows.proofs.SoundRow.{as-long}
 use Rattle.sizes.specs.Size.{headSize, textSize, whenPresent, optionalText, optionalCopy, dimensionsSize}
 use Rattle.sizes.specs.Measured.{manifestLength}
 use Rattle.sizes.proofs.Heads.{head-one}
 
 -- ---- heads, texts, lists of numbers
-
-big-length : (w n : ℕ) → length (big w n) ≡ w
-unfolding big
-big-length zero n = refl
-big-length (suc w) n = ap suc (big-length w (n % 256 ^ w))
 
 pub head-length : (m n : ℕ) → length (shortestHead m n) ≡ headSize n
 unfolding shortestHead headSize
@@ -119,7 +113,7 @@ module _ (buffer : List ℕ) where
     where
       by : (b : Bool) → fieldSize key (mapOption textBytes (cond b none (some (bytesAt buffer s)))) ≡ cond b 0 (key + textSize (s .size))
       by true = refl
-      by false = ap (λ (k : ℕ). key + k) (text-length (bytesAt buffer s) ∙ ap textSize (as-long buffer s e))
+      by false = ap (λ (k : ℕ). key + k) (text-length (bytesAt buffer s) ∙ ap textSize (part-length buffer s e))
 
   pub copied-field : (key : ℕ) (s : Span) → inside buffer s ≡ true → fieldSize key (presentAt buffer s) ≡ optionalCopy key s
   unfolding presentAt optionalCopy whenPresent
@@ -127,10 +121,10 @@ module _ (buffer : List ℕ) where
     where
       by : (b : Bool) → fieldSize key (cond b none (some (bytesAt buffer s))) ≡ cond b 0 (key + s .size)
       by true = refl
-      by false = ap (λ (k : ℕ). key + k) (as-long buffer s e)
+      by false = ap (λ (k : ℕ). key + k) (part-length buffer s e)
 
   pub text-there : (s : Span) → inside buffer s ≡ true → textSize (length (bytesAt buffer s)) ≡ textSize (s .size)
-  text-there s e = ap textSize (as-long buffer s e)
+  text-there s e = ap textSize (part-length buffer s e)
 
 -- ---- each map by its fields
 

@@ -9,21 +9,17 @@ use Rattle.meaning.specs.Limit.{endLimit}
 use Rattle.meaning.specs.Layouts.{magic}
 use Rattle.meaning.specs.Placement.{aligned}
 use Rattle.meaning.specs.Asked.{AskedComponent, eachRow, askedComponent}
+use Rattle.meaning.proofs.Lengths.{aligned-above, each-row-length, none-left}
 use Rattle.rows.specs.Placed.{componentsAt}
 use Rattle.rows.specs.Running.{begun, offsetAt, stepped, turnLimit, reached, blobSizes}
-use Rattle.rows.proofs.EachRow.{how-many}
-use Rattle.rows.proofs.Running.{aligned-above, reached-above, reached-next, reached-counts}
+use Rattle.rows.proofs.Running.{reached-above, reached-next, reached-counts}
 use Rattle.sizes.specs.Size.{cappedEnd}
 
 -- ---- without a plan
 
 module _ (plan : List ℕ) (none : length plan ≡ 0) where
   is-empty : plan ≡ []
-  is-empty = by plan none
-    where
-      by : (p : List ℕ) → length p ≡ 0 → p ≡ []
-      by [] e = refl
-      by (o ∷ os) e = absurd (omega (arith, e))
+  is-empty = none-left plan none
 
   pub begins-at-8 : 8 ≡ begun plan
   unfolding begun magic
@@ -123,7 +119,7 @@ module _ (plan : List ℕ) (some : length plan ≡ 0 → ⊥) where
         arith,
         counts n (blobSizes (eachRow askedComponent componentWidth k rows)),
         length-map (eachRow askedComponent componentWidth k rows) (λ (c : AskedComponent). c .blob .size),
-        how-many askedComponent componentWidth k rows,
+        each-row-length askedComponent componentWidth k rows,
       )
 
   pub turns-fit : (n k : ℕ) (rows : List ℕ) → reached plan n (blobSizes (eachRow askedComponent componentWidth k rows)) ≤ turnLimit plan → n + k < 256 ^ 8

@@ -16,7 +16,7 @@ use Rattle.engines.specs.Runs.{numberOf}
 use Rattle.states.specs.Places.{standsBy, stands, standing}
 use Rattle.states.specs.declared.Place.{Place}
 use Rattle.states.specs.declared.Place.the-variants.{Nowhere, Idle, Loaded}
-use Rattle.engines.proofs.Kept.{OkEngine, Ok, and-left, and-right, eqb-same}
+use Rattle.engines.proofs.Kept.{OkEngine, Ok, eqb-same}
 use Rattle.engines.proofs.Opens.{Opened, opened-closed}
 use Rattle.engines.proofs.EachCall.{leaves-refused, leaves-is, answered-is, stranger-changes-nothing, stranger-is-refused, busy}
 

@@ -26,8 +26,8 @@ use Rattle.sizes.specs.Size.{capped, headSize}
 use Rattle.sizes.proofs.Lengths.{fieldSize}
 use Rattle.shown.specs.Accepted.{Framing}
 use Rattle.roundtrip.specs.Again.{plainFile}
-use Rattle.merging.specs.Merge.{orElse, merged, refused, about, merge}
-use Rattle.merging.proofs.MergeAnswers.{refusals, roomed, merge-of-both}
+use Rattle.merging.specs.Merge.{orElse, merged, refused, about, merge, roomed}
+use Rattle.merging.proofs.MergeAnswers.{refusals, merge-of-both}
 use Rattle.window.specs.Sums.{allBlobs}
 use Rattle.window.specs.Summed.{Sum}
 use Rattle.summed.proofs.OfFile as of-file

@@ -18,13 +18,14 @@ use Rattle.meaning.specs.Layouts.{Layout}
 use Rattle.meaning.specs.Frame.{Reading, reading}
 use Rattle.meaning.specs.Rows.{wordSpan}
 use Rattle.meaning.specs.Described.{DescribedObject, readObject, describedBy}
+use Rattle.meaning.proofs.Checks.{refused-is-not}
+use Rattle.meaning.proofs.Lengths.{map-both}
+use Rattle.meaning.specs.Every.{Every}
 use Rattle.names.specs.Names.{listed}
 use Rattle.table.proofs.Laying as laying
 use Rattle.matching.specs.Named.{nameAt, named}
-use Rattle.readback.specs.Every.{Every}
 use Rattle.readback.specs.Judged.{judgedNames}
 use Rattle.readback.specs.Spelled.{SpelledObject}
-use Rattle.readback.proofs.ReadBack.{refused-is-not}
 use Rattle.shown.specs.Accepted.{Framing}
 use Rattle.roundtrip.proofs.If.{passed-so}
 use Rattle.roundtrip.proofs.AcceptedSpelled.{accepted-spelled}
@@ -82,10 +83,6 @@ names-of : (file : List ℕ) (os : List (Object Span)) → map (λ o. o .name) (
 unfolding readObject
 names-of file [] = refl
 names-of file (o ∷ os) = ap (λ (r : List (List ℕ)). o .name .letters ∷ r) (names-of file os)
-
-map-both : {A B : Type 0} (f : A → B) (xs ys : List A) → map f (xs ++ ys) ≡ map f xs ++ map f ys
-map-both f [] ys = refl
-map-both {A} {B} f (x ∷ xs) ys = ap (λ (r : List B). f x ∷ r) (map-both f xs ys)
 
 module _ (L : Layout) (fl : Framing L) (first : List ℕ) (M : Layout) (fm : Framing M) (second : List ℕ) (r s : Reading) (ri : reading L first ≡ pass r) (si : reading M second ≡ pass s) where
   abbrev os : List (Object Span)

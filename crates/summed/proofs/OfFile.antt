@@ -14,7 +14,7 @@ use Rattle.meaning.specs.Rows.{attributesSpan}
 use Rattle.meaning.specs.Asked.{presentAt}
 use Rattle.meaning.specs.Sound.{inside}
 use Rattle.meaning.specs.Described.{Described, blobs, describedBy}
-use Rattle.readback.specs.Every.{Every}
+use Rattle.meaning.specs.Every.{Every}
 use Rattle.readback.specs.Lent.{Held}
 use Rattle.readback.specs.Spelled.{SpelledObject, Spelled}
 use Rattle.rows.specs.Running.{objectsFrom}

@@ -17,6 +17,7 @@ use Rattle.meaning.specs.Field.{nameOf, nameKind}
 use Rattle.meaning.specs.Judge.{inherited, component}
 use Rattle.meaning.specs.Rows.{componentRow}
 use Rattle.meaning.specs.Layouts.{layoutOf}
+use Rattle.meaning.proofs.Checks.{pass-same}
 use Rattle.types.specs.Known.{position, formatNames, roleNames}
 use Rattle.cbor.specs.Ending.{FAULT}
 use Rattle.walk.specs.Reading.{Ends}
@@ -26,7 +27,6 @@ use Rattle.component.specs.Verdict.{judged}
 use Rattle.component.specs.declared.Judged.{Judged}
 use Rattle.component.specs.declared.Judged.the-variants.{No, Yes}
 use Rattle.components.specs.Row.{RoleIs, storedAs}
-use Rattle.components.proofs.Typed.{pass-same}
 use Rattle.components.proofs.Storage.{withCode, stored-so}
 use Rattle.components.proofs.Lettered.{named-so, type-at, digest-at, entered-so}
 use Rattle.fields.proofs.Texts.{Here}

@@ -12,9 +12,9 @@ use Rattle.meaning.specs.Refusal.{TEXT, COUNT, TWICE}
 use Rattle.meaning.specs.Model.{Named}
 use Rattle.meaning.specs.Kind.{kind, table, aTable, asTable}
 use Rattle.meaning.specs.Field.{nameOf, names}
+use Rattle.meaning.proofs.Checks.{pass-same, passed-on, passed, each-length}
 use Rattle.walk.specs.Reading.{Ends}
-use Rattle.naming.proofs.Entries.{each-snoc, each-length}
-use Rattle.components.proofs.Typed.{passed, passed-on, pass-same}
+use Rattle.naming.proofs.Entries.{each-snoc}
 use Rattle.table.specs.Entered.{Entered}
 
 -- a check of each that passes, with one more at the end

@@ -15,11 +15,11 @@ use Rattle.meaning.specs.Model.{Object}
 use Rattle.meaning.specs.Kind.{aText}
 use Rattle.meaning.specs.Judge.{inherited, aDtype, componentsOf}
 use Rattle.meaning.specs.Layouts.{layoutOf}
+use Rattle.meaning.proofs.Checks.{pass-same}
 use Rattle.walk.specs.Reading.{Ends, Reads}
 use Rattle.fields.proofs.Texts.{Here}
 use Rattle.component.specs.Value.{given}
 use Rattle.components.specs.Firsts.{offered}
-use Rattle.components.proofs.Typed.{pass-same}
 use Rattle.object.specs.declared.place.Coded.{Coded}
 use Rattle.object.specs.declared.place.Coded.the-variants.{No, Yes}
 use Rattle.object.specs.Place.{coded, tensored, formatCode, TensorAt, FormatAt}

@@ -18,21 +18,18 @@ use Rattle.meaning.specs.Layouts.{Slots, slot, somes, Layout, dtypeAt}
 use Rattle.meaning.specs.Field.{objectFields, fields, field, count, isSome, keyOf}
 use Rattle.meaning.specs.Format.{formatRules}
 use Rattle.meaning.specs.Judge.{inherited, aDtype, object, shapeOf, attributesOf, componentsOf, part}
+use Rattle.meaning.proofs.Checks.{pass-same, required-some, passed-on, passed}
+use Rattle.meaning.proofs.KindIs.{attributes-stay}
 use Rattle.walk.specs.Reading.{Ends, Chain, leftAt, foldl}
 use Rattle.fields.specs.Slots.{marks, Holds}
 use Rattle.fields.proofs.Standing.{field-stands}
 use Rattle.components.specs.Typed.{lettered}
-use Rattle.components.proofs.Typed.{passed, passed-on, pass-same}
 use Rattle.components.proofs.Lettered.{word-note, text-word}
 use Rattle.table.specs.Spans.{SizeIs}
 use Rattle.table.specs.Object.{Described}
 use Rattle.table.specs.Late.{Gives}
 
 -- ---------------------------------------------------------------- its fields
-
-required-some : {A : Type 0} (o : Option A) (a : A) → required o ≡ pass a → o ≡ some a
-required-some none a e = absurd (let z : _≡_ {A = ℕ} 0 1 = cc in omega arith)
-required-some (some b) a e = ap some (pass-same e)
 
 -- a field that is needed where the layout has it
 record AskedFor {A : Type 0} (name : Option (List ℕ)) (o a : Option A) : Type 0 where
@@ -53,14 +50,6 @@ some-passed F none code e there n = there refl
 some-passed F (some a) code e there n =
     let x = passed (F a) (λ b. pass (some b)) code e in
     let y : some (x .value) ≡ none = pass-same (x .then) ∙ n in let w : _≡_ {A = ℕ} 0 1 = cc in omega arith
-
-attributes-same : (o a : Option (Node Ends)) → optional attributesOf o ≡ pass a → o ≡ a
-unfolding attributesOf
-attributes-same none a e = pass-same e
-attributes-same (some t) a e =
-    let x = passed (kinds.aTable t >> pass t) (λ b. pass (some b)) a e in
-    let y : t ≡ x .value = pass-same (passed-on (kinds.aTable t) (pass t) (x .value) (x .is)) in
-    ap some y ∙ pass-same (x .then)
 
 a-table : (t : Node Ends) (ps : List (Pair Ends)) → kind t ≡ kinds.table ps → kinds.aTable t ≡ pass ps
 unfolding kinds.aTable kinds.asTable
@@ -149,7 +138,7 @@ made-of L start w c o e =
       format = f .value;
       format-got = required-some (c .format) (f .value) (f .is);
       format-is = h .is ∙ ap (λ (o : Object Ends). pass (o .format)) x;
-      attributes-got = attributes-same (c .attributes) (i .value) (i .is) ∙ ap (λ (o : Object Ends). o .attributes) x;
+      attributes-got = sym (attributes-stay (c .attributes) (i .value) (i .is)) ∙ ap (λ (o : Object Ends). o .attributes) x;
       components = d .value;
       components-got = required-some (c .components) (d .value) (d .is);
       components-are =

@@ -14,12 +14,12 @@ use Rattle.meaning.specs.Limit.{rankLimit}
 use Rattle.meaning.specs.Notes.{mapOption, mapComponent}
 use Rattle.meaning.specs.Judge.{shapeOf}
 use Rattle.meaning.specs.Rows.{objectRow, dimensions, optionalSpan, attributesSpan}
+use Rattle.meaning.proofs.Checks.{pass-same}
 use Rattle.endian.proofs.Which.{eq-or}
 use Rattle.walk.specs.Reading.{Ends, Reads}
 use Rattle.shape.specs.Shape.{ShapeRead, ShapeIs}
 use Rattle.shape.specs.declared.Shaped.{Shaped}
 use Rattle.shape.specs.declared.Shaped.the-variants.{No, Yes}
-use Rattle.components.proofs.Typed.{pass-same}
 use Rattle.fields.specs.Slots.{Stands}
 use Rattle.fields.proofs.Texts.{Here}
 use Rattle.table.specs.declared.span.Span.{Span}

@@ -10,7 +10,7 @@ use lib.Seq.{sets, sets-eq}
 use borrow.Rule.Slice.PartAt.{part-to-end}
 use Rattle.meaning.specs.Columns.{objectWidth, componentWidth}
 use Rattle.meaning.specs.Tree.{Pair}
-use Rattle.meaning.specs.Check.{Check, pass, refuse, inObject}
+use Rattle.meaning.specs.Check.{pass, refuse}
 use Rattle.meaning.specs.Read.{Span}
 use Rattle.meaning.specs.Limit.{objectLimit}
 use Rattle.meaning.specs.Model.{Object}
@@ -19,15 +19,16 @@ use Rattle.meaning.specs.Field.{names}
 use Rattle.meaning.specs.Judge.{object, objectsOf}
 use Rattle.meaning.specs.Rows.{objectRow, objectRows, rowsOf, componentRows, componentCount, rows, roomFor}
 use Rattle.meaning.specs.Layouts.{layoutOf}
+use Rattle.meaning.proofs.Checks.{in-object}
+use Rattle.meaning.proofs.Lengths.{object-length, objects-length, components-length, count-snoc}
 use Rattle.cbor.specs.Ending.{FAULT, code, itemEnd}
 use Rattle.endian.proofs.Which.{lt-or}
 use Rattle.walk.specs.Reading.{Ends, Reads}
-use Rattle.walk.specs.Places.{MapIs, EntryIs}
+use Rattle.walk.specs.Places.{MapIs, EntryIs, Modes}
 use Rattle.walk.specs.declared.Opening.{Opening}
 use Rattle.walk.specs.declared.Opening.the-variants.{NotOpen, Opened}
 use Rattle.walk.specs.declared.Entry.{Entry}
 use Rattle.walk.specs.declared.Entry.the-variants.{End, Value}
-use Rattle.walk.proofs.Turns.{Modes}
 use Rattle.walk.proofs.Passed as walked
 use Rattle.walk.proofs.Passed.{Here}
 use Rattle.walk.proofs.Opens as opens
@@ -38,8 +39,6 @@ use Rattle.table.specs.Object.{objectIn}
 use Rattle.table.specs.Objects.{WholePut, entry, objectsIn, componentsIn, Laid, ObjectsLaid, AllLaid, Written}
 use Rattle.table.proofs.Laying as laying
 use Rattle.table.proofs.Entering as entering
-use Rattle.table.proofs.Rowing.{rows-length}
-use Rattle.table.proofs.WholeObject.{object-length}
 
 -- ---------------------------------------------------------------- rows
 
@@ -52,11 +51,6 @@ objects-one : (o : Object Span) → objectRows (o ∷ []) ≡ objectRow o
 unfolding objectRows
 objects-one o = append-nil (objectRow o)
 
-objects-length : (os : List (Object Span)) → length (objectRows os) ≡ objectWidth * length os
-unfolding objectRows
-objects-length [] = refl
-objects-length (o ∷ os) = length-append (objectRow o) (objectRows os) ∙ ap₂ (λ a b. a + b) (object-length o) (objects-length os) ∙ (omega arith)
-
 components-append : (i : ℕ) (os ps : List (Object Span)) → componentRows i (os ++ ps) ≡ componentRows i os ++ componentRows (i + length os) ps
 unfolding componentRows
 components-append i [] ps = let z : i ≡ i + 0 = omega arith in ap (λ i. componentRows i ps) z
@@ -68,16 +62,6 @@ components-append i (o ∷ os) ps =
 components-one : (i : ℕ) (o : Object Span) → componentRows i (o ∷ []) ≡ rowsOf i (o .components)
 unfolding componentRows
 components-one i o = append-nil (rowsOf i (o .components))
-
-components-length : (i : ℕ) (os : List (Object Span)) → length (componentRows i os) ≡ componentWidth * componentCount os
-unfolding componentRows componentCount
-components-length i [] = refl
-components-length i (o ∷ os) = length-append (rowsOf i (o .components)) (componentRows (suc i) os) ∙ ap₂ (λ a b. a + b) (rows-length i (o .components)) (components-length (suc i) os) ∙ (omega arith)
-
-count-snoc : (os : List (Object Ends)) (o : Object Ends) → componentCount (os ++ o ∷ []) ≡ componentCount os + length (o .components)
-unfolding componentCount
-count-snoc [] o = omega arith
-count-snoc (x ∷ os) o = ap (λ n. length (x .components) + n) (count-snoc os o) ∙ (omega arith)
 
 module _ (end : ℕ) where
   abbrev at : Object Ends → Object Span
@@ -105,10 +89,6 @@ module _ (end : ℕ) where
       ∙ ap (λ r. componentsIn end os ++ r) (components-one (0 + length (map at os)) (at o) ∙ ap (λ i. rowsOf i (at o .components)) z)
 
 -- ---------------------------------------------------------------- one more object
-
-in-object : {A : Type 0} (j : ℕ) (c : Check A) (a : A) → inObject j c ≡ pass a → c ≡ pass a
-in-object j (pass b) a e = e
-in-object j (refuse n o c) a e = absurd (let z : _≡_ {A = ℕ} 0 1 = cc in omega arith)
 
 pub none-laid : (layout start end from : ℕ) (before : List ℕ) → ObjectsLaid layout start end from before 0 0 from before []
 unfolding objectRows componentRows componentCount

@@ -8,7 +8,7 @@ use lib.Seq.{sets}
 use borrow.Rule.Slice.PartAt.{part-to-end}
 use Rattle.meaning.specs.Columns.{componentWidth}
 use Rattle.meaning.specs.Tree.{Pair}
-use Rattle.meaning.specs.Check.{Check, pass, refuse, inComponent}
+use Rattle.meaning.specs.Check.{pass, refuse}
 use Rattle.meaning.specs.Read.{Span}
 use Rattle.meaning.specs.Model.{Component}
 use Rattle.meaning.specs.Notes.{mapComponent}
@@ -17,6 +17,8 @@ use Rattle.meaning.specs.Rows.{componentRow, rowsOf}
 use Rattle.meaning.specs.Field.{names}
 use Rattle.meaning.specs.Limit.{componentLimit}
 use Rattle.meaning.specs.Layouts.{layoutOf}
+use Rattle.meaning.proofs.Checks.{in-component}
+use Rattle.meaning.proofs.Lengths.{parts-length}
 use Rattle.cbor.specs.Ending.{code, itemEnd}
 use Rattle.walk.specs.Reading.{Ends, Reads}
 use Rattle.walk.specs.Places.{MapIs}
@@ -51,14 +53,9 @@ row-length : (owner : ℕ) (c : Component Span) → length (componentRow owner c
 unfolding componentRow
 row-length owner c = refl
 
-pub rows-length : (owner : ℕ) (cs : List (Component Span)) → length (rowsOf owner cs) ≡ componentWidth * length cs
-unfolding rowsOf
-rows-length owner [] = refl
-rows-length owner (c ∷ cs) = length-append (componentRow owner c) (rowsOf owner cs) ∙ ap₂ (λ a b. a + b) (row-length owner c) (rows-length owner cs) ∙ (omega arith)
-
 module _ (end owner : ℕ) (cs : List (Component Ends)) where
   pub rows-in-length : length (rowsIn end owner cs) ≡ componentWidth * length cs
-  rows-in-length = rows-length owner (map (mapComponent (spanOf end)) cs) ∙ ap (λ n. componentWidth * n) (map-length cs)
+  rows-in-length = parts-length owner (map (mapComponent (spanOf end)) cs) ∙ ap (λ n. componentWidth * n) (map-length cs)
     where
       map-length : (cs : List (Component Ends)) → length (map (mapComponent (spanOf end)) cs) ≡ length cs
       map-length [] = refl
@@ -70,10 +67,6 @@ module _ (end owner : ℕ) (cs : List (Component Ends)) where
       ∙ ap (λ r. rowsIn end owner cs ++ r) (rows-of-one owner (mapComponent (spanOf end) c))
 
 -- ---------------------------------------------------------------- one more entry
-
-in-component : {A : Type 0} (j : ℕ) (c : Check A) (a : A) → inComponent j c ≡ pass a → c ≡ pass a
-in-component j (pass b) a e = e
-in-component j (refuse n o c) a e = absurd (let z : _≡_ {A = ℕ} 0 1 = cc in omega arith)
 
 pub none-rowed : (g : Given) (start end owner from : ℕ) (before : List ℕ) → Rowed g start end owner from before 0 from before []
 unfolding rowsOf

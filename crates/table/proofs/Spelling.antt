@@ -18,6 +18,7 @@ use Rattle.meaning.specs.Kind.{kind}
 use Rattle.meaning.specs.Read as read
 use Rattle.meaning.specs.Read.{known, spanTo}
 use Rattle.meaning.specs.Rows.{wordSpan, optionalSpan, attributesSpan}
+use Rattle.meaning.proofs.Checks.{pass-same}
 use Rattle.cbor.specs.Ending.{headOf}
 use Rattle.cbor.specs.declared.Argued.{Argued}
 use Rattle.endian.proofs.Which.{lt-or}
@@ -26,7 +27,6 @@ use Rattle.walk.proofs.ReadSays.{Says, Stood, sized, loose, stood, nothing-read
 use Rattle.walk.proofs.Found.{major-is, text-other, Run, run-got}
 use Rattle.component.specs.Value.{leftWord}
 use Rattle.components.specs.Typed.{bare, lettered}
-use Rattle.components.proofs.Typed.{pass-same}
 use Rattle.fields.proofs.Places as places
 use Rattle.fields.proofs.Texts.{Here}
 use Rattle.table.specs.declared.span.Span.{Span}

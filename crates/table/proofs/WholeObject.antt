@@ -1,24 +1,23 @@
 -- A whole object, whose value c was lent whole to `walk::map`, which answered x: its entries passed over, then in layout 1.0 its components' rows put, then its own.
-use Prim.Native.Nat.{ℕ, suc, _+_, _≤_}
+use Prim.Native.Nat.{ℕ, _+_, _≤_}
 use native.Mathlib.Omega.{arith}
-use mathlib.Core.List.{List, _++_}
+use mathlib.Core.List.{List}
 use mathlib.Core.Logic.{⊎-elim}
 use mathlib.Core.Option.{Option, none}
 use mathlib.Core.Path.{_≡_, refl, ap, sym, _∙_, subst}
-use lib.ListN.{length, drop, replicate, length-append, length-replicate}
-use lib.Seq.{sets, length-take-le}
+use lib.ListN.{length, drop}
+use lib.Seq.{sets}
 use borrow.Author.Tests.{eq-eqb, ne-eqb}
 use borrow.Rule.Slice.PartAt.{part-to-end}
-use Rattle.meaning.specs.Columns.{objectWidth}
 use Rattle.meaning.specs.Tree.{Pair}
 use Rattle.meaning.specs.Check.{Check, pass, refuse, optional}
-use Rattle.meaning.specs.Read.{Span}
 use Rattle.meaning.specs.Model.{Word, Object}
 use Rattle.meaning.specs.Notes.{mapObject}
 use Rattle.meaning.specs.Layouts.{slot, layoutOf}
 use Rattle.meaning.specs.Field.{objectFields, fields, field}
 use Rattle.meaning.specs.Judge.{inherited, object}
-use Rattle.meaning.specs.Rows.{objectRow, dimensions}
+use Rattle.meaning.proofs.Checks.{pass-same}
+use Rattle.meaning.proofs.Lengths.{object-length}
 use Rattle.endian.proofs.Which.{eq-or}
 use Rattle.walk.specs.Reading.{Ends}
 use Rattle.walk.specs.Places.{MapIs}
@@ -27,7 +26,6 @@ use Rattle.walk.specs.declared.Opening.the-variants.{NotOpen, Opened}
 use Rattle.walk.proofs.Passed.{Here}
 use Rattle.walk.proofs.Opens as opens
 use Rattle.table.specs.Spans.{spanOf}
-use Rattle.components.proofs.Typed.{pass-same}
 use Rattle.object.proofs.Verdicts.{tensor-dtype, lacked}
 use Rattle.table.specs.Rows.{rowsIn, kept, Put}
 use Rattle.table.specs.Object.{objectIn, ObjectPut}
@@ -37,15 +35,6 @@ use Rattle.table.specs.Objects.{WholePut}
 use Rattle.table.proofs.Laying as laying
 use Rattle.table.proofs.ComponentRow.{named-pair}
 use Rattle.table.proofs.ObjectPasses.{Made, fieldsOf, made, described, gives}
-
-dimensions-length : (s : List ℕ) → length (dimensions s) ≡ 8
-unfolding dimensions
-dimensions-length s = length-take-le 8 (s ++ replicate 8 0) (let a = length-append s (replicate 8 0) in let b = length-replicate {A = ℕ} 8 0 in omega arith)
-
-pub object-length : (o : Object Span) → length (objectRow o) ≡ objectWidth
-unfolding objectRow
-object-length o =
-    ap (λ n. suc (suc (suc n))) (length-append (dimensions (o .shape)) _ ∙ ap (λ n. n + 5) (dimensions-length (o .shape)))
 
 -- ---------------------------------------------------------------- its components' rows
 

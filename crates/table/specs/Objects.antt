@@ -14,7 +14,7 @@ use Rattle.meaning.specs.Judge.{object, objectsOf}
 use Rattle.meaning.specs.Rows.{objectRows, componentRows, componentCount, rows, roomFor}
 use Rattle.meaning.specs.Layouts.{layoutOf}
 use Rattle.walk.specs.Reading.{Ends, Reads}
-use Rattle.walk.proofs.Passed.{AllPassed}
+use Rattle.walk.specs.Places.{AllPassed}
 use Rattle.table.specs.Spans.{spanOf}
 use Rattle.table.specs.Entered.{Entered}
 use Rattle.table.specs.Rows.{rowsIn}

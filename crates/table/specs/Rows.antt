@@ -14,7 +14,7 @@ use Rattle.meaning.specs.Judge.{componentsOf}
 use Rattle.meaning.specs.Rows.{rowsOf}
 use Rattle.meaning.specs.Layouts.{Layout, layoutOf}
 use Rattle.walk.specs.Reading.{Ends, Reads}
-use Rattle.walk.proofs.Passed.{AllPassed}
+use Rattle.walk.specs.Places.{AllPassed}
 use Rattle.components.specs.Firsts.{Given, Whichever, entry}
 use Rattle.table.specs.Spans.{spanOf}
 use Rattle.table.specs.Entered.{Entered}

@@ -17,8 +17,8 @@ use walk::Entry;
 use walk::Opening;
 ghost use mathlib.Core.Path.{_≡_};
 ghost use Rattle.cbor.specs.Ending.{code, itemEnd};
-ghost use Rattle.walk.proofs.Turns.{Modes};
 ghost use Rattle.table.specs.Objects.{WholePut, AllLaid, Written};
+ghost use Rattle.walk.specs.Places.{Modes};
 
 // Puts the rows of object number `owner`, whose key begins s and whose value begins c, at depth 3: its own from i on, its components' from `from` on.
 pub fn put_whole(

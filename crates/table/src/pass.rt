@@ -9,9 +9,9 @@ ghost use Prim.Native.Nat.{_≤_};
 ghost use lib.ListN.{replicate};
 ghost use Rattle.meaning.specs.Layouts.{layoutOf};
 ghost use Rattle.cbor.specs.Ending.{code, itemEnd, rest};
-ghost use Rattle.walk.proofs.Turns.{Modes};
 ghost use Rattle.fields.specs.Slots.{SlotIs};
 ghost use Rattle.table.specs.Pass.{ValuePut, Sized, Passed};
+ghost use Rattle.walk.specs.Places.{Modes};
 
 // What `Run` says of an object's components, and the size of its attributes.
 pub struct Walk {

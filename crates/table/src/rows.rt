@@ -5,9 +5,9 @@ use walk::Entry;
 use walk::Opening;
 ghost use mathlib.Core.Path.{_≡_};
 ghost use Rattle.cbor.specs.Ending.{code as ending, itemEnd, rest};
-ghost use Rattle.walk.proofs.Turns.{Modes};
 ghost use Rattle.components.specs.Firsts.{offered};
 ghost use Rattle.table.specs.Rows.{AllRowed, RowsPut};
+ghost use Rattle.walk.specs.Places.{Modes};
 
 // Where entries end, as `cbor::skip` answers it, how many there are, and where the row after theirs begins.
 pub struct Run {

@@ -10,7 +10,7 @@ use lib.Dec.{ltb}
 use borrow.Author.Tests.{ltb-true, ltb-false}
 use borrow.Rule.Slice.PartAt.{part-to-end}
 use Rattle.endian.specs.Word.{word}
-use Rattle.text.specs.Order.{first, lex, order}
+use Rattle.text.specs.Order.{first, lex, order, Agree}
 use Rattle.text.proofs.OrderIsTotal.{Which, less, more, equal, which, first-less, first-more, first-equal, order-refl}
 
 -- ---------------------------------------------------------------- words of a part
@@ -26,10 +26,6 @@ word-part k s i = let z : i + 0 ≡ i = omega arith in rw (part-to-end s i) (wor
 -- every element is a byte
 abbrev pub Bytes : List ℕ → Type 0
 Bytes s = (i : ℕ) → getD s i 0 < 256
-
--- the first i bytes are equal
-pub record Agree (s t : List ℕ) (i : ℕ) : Type 0 where
-  pub each : (j : ℕ) → j < i → getD s j 0 ≡ getD t j 0
 
 pub agree-none : (s t : List ℕ) → Agree s t 0
 agree-none s t = record { each = λ j l. absurd (omega arith) }

@@ -12,7 +12,7 @@ use Rattle.meaning.specs.Layouts.{Layout}
 use Rattle.meaning.specs.Judge.{judge}
 use Rattle.meaning.specs.Rows.{attributesSpan}
 use Rattle.meaning.proofs.Entries.{entriesOf, Along, EntryIs, EntriesAre, judged-entries}
-use Rattle.panel.specs.Stands.{Each}
+use Rattle.meaning.specs.Every.{Every}
 use Rattle.shown.specs.Placed.{Placed}
 use Rattle.shown.proofs.Judgement.{entries-so}
 use Rattle.tolerance.specs.Alike.{OneMap}
@@ -21,8 +21,7 @@ use Rattle.tolerance.proofs.EntriesMoved.{EntriesRelated}
 
 -- ---------------------------------------------------------------- lists, one beside the other
 
-along-each : {A B : Type 0} (R : A → B → Type 0) (Q : B → Type 0) (as′ : List A) (bs : List B) → Along R as′ bs → Each Q bs → Along (λ a b. R a b × Q b) as′ bs
-unfolding Each
+along-each : {A B : Type 0} (R : A → B → Type 0) (Q : B → Type 0) (as′ : List A) (bs : List B) → Along R as′ bs → Every Q bs → Along (λ a b. R a b × Q b) as′ bs
 along-each R Q [] [] h q = tt
 along-each R Q [] (b ∷ bs) h q = h
 along-each R Q (a ∷ as′) [] h q = h
@@ -51,7 +50,7 @@ module _ (L : Layout) (file : List ℕ) (start : ℕ) (header : 8 ≤ start) whe
   From c x = EntryIs c x × Placed L file start 28 x
 
   abbrev AllFrom : Object Span → List (Node Span) → Type 0
-  AllFrom o xs = EntriesAre o xs × Each (Placed L file start 28) xs
+  AllFrom o xs = EntriesAre o xs × Every (Placed L file start 28) xs
 
   entry-at : (c : Component Span) (x : Node Span) → From c x → OneMap file 28 (c .entry) (meaning x)
   unfolding attributesSpan
@@ -61,7 +60,7 @@ module _ (L : Layout) (file : List ℕ) (start : ℕ) (header : 8 ≤ start) whe
 
   all-from : (t : Node Span) (m : Model Span) → Placed L file start depthLimit t → judge L start t ≡ pass m → Along AllFrom (m .objects) (entriesOf L t)
   all-from t m placed passes =
-      along-each EntriesAre (Each (Placed L file start 28)) (m .objects) (entriesOf L t) (judged-entries L start t m passes) (entries-so L file start t placed)
+      along-each EntriesAre (Every (Placed L file start 28)) (m .objects) (entriesOf L t) (judged-entries L start t m passes) (entries-so L file start t placed)
 
   every-from : (o : Object Span) (xs : List (Node Span)) → AllFrom o xs → Along From (o .components) xs
   every-from o xs h = along-each EntryIs (Placed L file start 28) (o .components) xs (h .0) (h .1)

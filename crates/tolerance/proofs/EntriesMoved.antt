@@ -1,8 +1,7 @@
 -- The entries of manifests that are alike: component by component, in any layout, they are related as the manifests are.
 use Prim.Native.Nat.{ℕ, suc}
-use native.Mathlib.Omega.{arith}
 use mathlib.Core.List.{List, [], _∷_, map}
-use mathlib.Core.Option.{Option, none, some}
+use mathlib.Core.Option.{Option, some}
 use mathlib.Core.Path.{_≡_, refl, ap, ap₂, sym, subst, _∙_}
 use lib.ListN.{length}
 use lib.Dec.{leb}
@@ -28,7 +27,8 @@ use Rattle.meaning.proofs.JudgeNatural.{judge-map, map-map}
 use Rattle.meaning.proofs.AlikeVerdict.{judge-alike}
 use Rattle.meaning.proofs.DropAlike.{dropRoot-alike}
 use Rattle.meaning.proofs.Entries.{pairsOr, pairsIn, valuesIn, entriesIn, entriesOf, entriesOf-map, entriesOf-drop, Along}
-use Rattle.panel.specs.Stands.{Each}
+use Rattle.meaning.proofs.Checks.{refused-is-not, required-some, passed-on}
+use Rattle.meaning.specs.Every.{Every}
 use Rattle.tolerance.specs.Manifests.{SameEntry, AlikeEntry}
 
 -- ---------------------------------------------------------------- lists, one beside the other
@@ -60,25 +60,14 @@ module _ {A : Type 0} where
     pub given : A
     pub is : k ≡ pass given
 
-  never : {n o c : ℕ} {a : A} → refuse n o c ≡ pass a → ⊥
-  never e = let z : _≡_ {A = ℕ} 0 1 = cc in omega arith
-
   of-object : (i : ℕ) (k : Check A) → Passes (inObject i k) → Passes k
   of-object i (pass a) h = record { given = a; is = refl }
-  of-object i (refuse n o c) h = absurd (never (h .is))
-
-  required-given : (o : Option A) (a : A) → required o ≡ pass a → o ≡ some a
-  required-given none a e = cc
-  required-given (some b) a e = cc
+  of-object i (refuse n o c) h = absurd (refused-is-not (h .is))
 
 module _ {A B : Type 0} where
   step : (m : Check A) (k : A → Check B) {b : B} → (m >>= k) ≡ pass b → (a : A) × (m ≡ pass a) × (k a ≡ pass b)
   step (pass a) k e = (a, refl, e)
-  step (refuse n o c) k e = absurd (never e)
-
-  past : (m : Check A) (k : Check B) {b : B} → (m >> k) ≡ pass b → k ≡ pass b
-  past (pass a) k e = e
-  past (refuse n o c) k e = absurd (never e)
+  step (refuse n o c) k e = absurd (refused-is-not e)
 
   first : (m : Check A) (k : A → Check B) → Passes (m >>= k) → Passes m
   first m k h = let s = step m k (h .is) in record { given = s .0; is = s .1 }
@@ -88,12 +77,12 @@ module _ {A B : Type 0} where
 module _ {P : Type 0} where
   name-value : (v : Node P) (k : Kind P) (n : Named P) → nameKind v k ≡ pass n → n .value ≡ v
   unfolding nameKind
-  name-value v (number m) n e = absurd (never e)
+  name-value v (number m) n e = absurd (refused-is-not e)
   name-value v (words w) n e = let z : record { name = w; value = v } ≡ n = cc in sym (ap (λ (n : Named P). n .value) z)
-  name-value v (list l) n e = absurd (never e)
-  name-value v (table l) n e = absurd (never e)
-  name-value v null n e = absurd (never e)
-  name-value v another n e = absurd (never e)
+  name-value v (list l) n e = absurd (refused-is-not e)
+  name-value v (table l) n e = absurd (refused-is-not e)
+  name-value v null n e = absurd (refused-is-not e)
+  name-value v another n e = absurd (refused-is-not e)
 
   each-value : (i : ℕ) (ps : List (Pair P)) (ns : List (Named P)) → each (λ i. nameOf) i ps ≡ pass ns → map (λ n. n .value) ns ≡ map (λ p. p .value) ps
   unfolding nameOf
@@ -111,7 +100,7 @@ module _ {P : Type 0} where
       let s = step (aTable t) _ e in
       let u = step (each (λ i. nameOf) 0 (s .0)) _ (s .2) in
       let z : pass (u .0) ≡ pass ns =
-      past (TWICE unless distinct (map (λ n. n .name .letters) (u .0))) _ (past (COUNT unless leb (length (u .0)) limit) _ (past (TEXT unless all (λ n. utf8 (n .name .letters)) (u .0)) _ (u .2))) in
+      passed-on (TWICE unless distinct (map (λ n. n .name .letters) (u .0))) _ _ (passed-on (COUNT unless leb (length (u .0)) limit) _ _ (passed-on (TEXT unless all (λ n. utf8 (n .name .letters)) (u .0)) _ _ (u .2))) in
       let y : u .0 ≡ ns = cc in
       ap (map (λ (n : Named P). n .value)) (sym y) ∙ each-value 0 (s .0) (u .0) (u .1) ∙ ap (λ k. map (λ p. p .value) (pairsOr k)) (sym (s .1))
 
@@ -120,7 +109,7 @@ module _ {P : Type 0} where
   fields-pairs slots t ps e =
       let s = step (aTable t) _ e in
       let z : pass (s .0) ≡ pass ps =
-      past (TWICE unless all (λ n. leb (count n (s .0)) 1) (somes slots)) _ (past (KEY unless all (λ p. isSome (keyOf p)) (s .0)) _ (s .2)) in
+      passed-on (TWICE unless all (λ n. leb (count n (s .0)) 1) (somes slots)) _ _ (passed-on (KEY unless all (λ p. isSome (keyOf p)) (s .0)) _ _ (s .2)) in
       let y : s .0 ≡ ps = cc in
       sym y ∙ ap pairsOr (sym (s .1))
 
@@ -133,8 +122,7 @@ module _ {P : Type 0} where
     unfolding object objectFields
     object-fielded n h = first (fields (L .object) (n .value)) _ (first (objectFields (L .object) (n .value)) _ h)
 
-    each-fielded : (i : ℕ) (ns : List (Named P)) (os : List (Object P)) → each (λ i o. inObject i (object L start o)) i ns ≡ pass os → Each Fielded (map (λ n. n .value) ns)
-    unfolding Each
+    each-fielded : (i : ℕ) (ns : List (Named P)) (os : List (Object P)) → each (λ i o. inObject i (object L start o)) i ns ≡ pass os → Every Fielded (map (λ n. n .value) ns)
     each-fielded i [] os e = tt
     each-fielded i (n ∷ ns) os e =
         let s = step (inObject i (object L start n)) _ e in
@@ -143,7 +131,7 @@ module _ {P : Type 0} where
 
     record Looked (t : Node P) : Type 0 where
       root : Passes (fields (L .root) t)
-      objects : Each Fielded (valuesIn (field (slot objectsAt (L .root)) (pairsIn t)))
+      objects : Every Fielded (valuesIn (field (slot objectsAt (L .root)) (pairsIn t)))
 
     looked : (t : Node P) → Passes (judge L start t) → Looked t
     unfolding judge rootFields objectsOf
@@ -152,16 +140,16 @@ module _ {P : Type 0} where
         let f = step (fields (L .root) t) _ (r .1) in
         let z : record { version = field (slot 0 (L .root)) (f .0); attributes = field (slot 1 (L .root)) (f .0); objects = field (slot objectsAt (L .root)) (f .0) } ≡ r .0 = cc in
         let version = step (required (r .0 .version)) _ (r .2) in
-        let attributes = step (optional attributesOf (r .0 .attributes)) _ (past (aVersion (version .0)) _ (version .2)) in
+        let attributes = step (optional attributesOf (r .0 .attributes)) _ (passed-on (aVersion (version .0)) _ _ (version .2)) in
         let objects = step (required (r .0 .objects)) _ (attributes .2) in
         let there : field (slot objectsAt (L .root)) (pairsIn t) ≡ some (objects .0) =
-        ap (field (slot objectsAt (L .root))) (sym (fields-pairs (L .root) t (f .0) (f .1))) ∙ ap (λ x. x .objects) z ∙ required-given (r .0 .objects) (objects .0) (objects .1) in
+        ap (field (slot objectsAt (L .root))) (sym (fields-pairs (L .root) t (f .0) (f .1))) ∙ ap (λ x. x .objects) z ∙ required-some (r .0 .objects) (objects .0) (objects .1) in
         let all = step (objectsOf L start (objects .0)) _ (objects .2) in
         let ns = step (names objectLimit (objects .0)) _ (all .1) in
         record {
           root = record { given = f .0; is = f .1 };
-          objects = subst (λ o. Each Fielded (valuesIn o)) (sym there)
-              (subst (Each Fielded) (names-values objectLimit (objects .0) (ns .0) (ns .1)) (each-fielded 0 (ns .0) (all .0) (ns .2)));
+          objects = subst (λ o. Every Fielded (valuesIn o)) (sym there)
+              (subst (Every Fielded) (names-values objectLimit (objects .0) (ns .0) (ns .1)) (each-fielded 0 (ns .0) (all .0) (ns .2)));
         }
 
 -- ---------------------------------------------------------------- one kind of map
@@ -201,13 +189,13 @@ module _ {P : Type 0} (slots : Slots) (j : ℕ) (R : Node P → Node P → Type 
           → Along R (valuesIn (field (slot j slots) (pairsIn t))) (valuesIn (field (slot j slots) (pairsIn u)))
       by k₁ e₁ k₂ e₂ (passes {a = l} {b = m} a) =
           rw (← fields-pairs slots t l e₁, ← fields-pairs slots u m e₂) (option-along (field (slot j slots) l) (field (slot j slots) m) (a j))
-      by k₁ e₁ k₂ e₂ refuses = absurd (never (sym e₁ ∙ h .is))
+      by k₁ e₁ k₂ e₂ refuses = absurd (refused-is-not (sym e₁ ∙ h .is))
 
 -- ---------------------------------------------------------------- a whole manifest
 
 module _ {P : Type 0} (L : Layout) where
-  objects-along : (ts us : List (Node P)) → Along (ObjectMoved L) ts us → Each (λ t. Passes (fields (L .object) t)) ts → Along (Along ComponentMoved) (map (entriesIn L) ts) (map (entriesIn L) us)
-  unfolding Each entriesIn
+  objects-along : (ts us : List (Node P)) → Along (ObjectMoved L) ts us → Every (λ t. Passes (fields (L .object) t)) ts → Along (Along ComponentMoved) (map (entriesIn L) ts) (map (entriesIn L) us)
+  unfolding entriesIn
   objects-along [] [] h f = tt
   objects-along [] (u ∷ us) h f = h
   objects-along (t ∷ ts) [] h f = h
@@ -218,7 +206,8 @@ module _ {P : Type 0} (L : Layout) where
   unfolding entriesOf
   entries-moved start t u r h =
       let l = looked L start t h in
-      objects-along _ _ (values-moved (L .root) objectsAt (ObjectMoved L) (λ x. alike) t u r (l .root)) (l .objects)
+      objects-along (valuesIn (field (slot objectsAt (L .root)) (pairsIn t))) (valuesIn (field (slot objectsAt (L .root)) (pairsIn u)))
+      (values-moved (L .root) objectsAt (ObjectMoved L) (λ x. alike) t u r (l .root)) (l .objects)
 
 -- ---------------------------------------------------------------- two files' manifests
 

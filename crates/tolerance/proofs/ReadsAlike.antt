@@ -16,15 +16,15 @@ use Rattle.meaning.specs.Model.{Object, Model}
 use Rattle.meaning.specs.Notes.{mapCheck, mapComponent, mapObject, mapModel}
 use Rattle.meaning.specs.Judge.{judge}
 use Rattle.meaning.specs.Frame.{frame, checked, Reading, reading}
-use Rattle.meaning.specs.Rows.{attributesSpan, componentCount, roomFor, roomy, rows, answer, tableAfter, readInto, objectRows, componentRows}
+use Rattle.meaning.specs.Rows.{attributesSpan, componentCount, roomFor, roomy, rows, answer, tableAfter, readInto}
 use Rattle.meaning.specs.Layouts.{Layout}
 use Rattle.meaning.specs.Moved.{alike, ComponentMoved}
 use Rattle.meaning.specs.Parsed.{Parsed, parsed, SameManifest, SameFiles}
 use Rattle.meaning.proofs.MoveDrop.{root-drop}
 use Rattle.meaning.proofs.SameReading.{judged, reading-parsed, said, readings-same}
-use Rattle.view.proofs.Columns.{objects-width, components-width}
 use Rattle.meaning.specs.Limit.{depthLimit}
 use Rattle.meaning.proofs.Entries.{Along}
+use Rattle.meaning.proofs.Lengths.{rows-fill}
 use Rattle.shown.specs.Accepted.{Framing}
 use Rattle.shown.specs.Placed.{Placed}
 use Rattle.shown.proofs.Judged.{JudgedFrom, passes, bind, passed-so}
@@ -126,17 +126,12 @@ module _ (m₁ m₂ : Model Span) (same : mapModel nothing m₁ ≡ mapModel not
 -- ---------------------------------------------------------------- a table that begins with a model's rows
 
 module _ (m : Model Span) where
-  rows-width : length (rows m) ≡ roomFor m
-  unfolding roomFor rows
-  rows-width = length-append (objectRows (m .objects)) (componentRows 0 (m .objects))
-      ∙ (let a = objects-width (m .objects) in let b = components-width 0 (m .objects) in omega (arith, a, b))
-
   behind : (rest : List ℕ) → drop (roomFor m) (rows m ++ rest) ≡ rest
-  behind rest = drop-at (rows m) rest (roomFor m) rows-width
+  behind rest = drop-at (rows m) rest (roomFor m) (rows-fill m)
 
   whole : (table : List ℕ) → roomFor m ≤ length table → length (rows m ++ drop (roomFor m) table) ≡ length table
   whole table h =
-      let a = length-append (rows m) (drop (roomFor m) table) in let b = rows-width in let c = length-drop (roomFor m) table in
+      let a = length-append (rows m) (drop (roomFor m) table) in let b = rows-fill m in let c = length-drop (roomFor m) table in
       omega (arith, a, b, c, h)
 
 -- ---------------------------------------------------------------- the two readings
@@ -178,9 +173,9 @@ module _ (L : Layout) (framing : Framing L) (E : Node (Unit {0}) → Node (Unit 
           attributes₂ = attributesSpan (m₂ .attributes);
           first = ap answer e₁;
           second = ap answer e₂ ∙ ap₂ (λ (n c : ℕ). acceptance n c start (attributesSpan (m₂ .attributes))) (sym (objects-same m₁ m₂ same)) (sym (components-same m₁ m₂ same));
-          root = maps-alike L E file₁ file₂ start (a₁ .header) 31 (m₁ .attributes) (m₂ .attributes) (a₁ .attributes) (a₂ .attributes)
+          root = maps-alike L E file₁ file₂ start (a₁ .header) 31 (m₁ .attributes) (m₂ .attributes) (a₁ .model .attributes) (a₂ .model .attributes)
               (ap (λ (m : Model (Unit {0})). m .attributes) same);
-          rows = rw (e₁, e₂) (table-alike L E file₁ file₂ start (a₁ .header) m₁ m₂ (a₁ .objects) (a₂ .objects) same entries (drop (roomFor m₁) table₁) (drop (roomFor m₂) table₂));
+          rows = rw (e₁, e₂) (table-alike L E file₁ file₂ start (a₁ .header) m₁ m₂ (a₁ .model .objects) (a₂ .model .objects) same entries (drop (roomFor m₁) table₁) (drop (roomFor m₂) table₂));
           room = h;
           whole₁ = ap (λ (k : Check Reading). length (tableAfter table₁ k)) e₁ ∙ whole m₁ table₁ h;
           whole₂ = ap (λ (k : Check Reading). length (tableAfter table₂ k)) e₂ ∙ whole m₂ table₂ (let r = room-same m₁ m₂ same in omega (arith, h, r, tables));

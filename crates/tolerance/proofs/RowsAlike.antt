@@ -17,8 +17,8 @@ use Rattle.meaning.specs.Judge.{lettersOf}
 use Rattle.meaning.specs.Notes.{mapOption, mapWord, mapComponent, mapObject, mapModel}
 use Rattle.meaning.specs.Rows.{wordSpan, optionalSpan, attributesSpan, dimensions, objectRow, componentRow, objectRows, rowsOf, componentRows, rows, componentCount}
 use Rattle.meaning.proofs.Entries.{Along}
-use Rattle.panel.specs.Stands.{Each}
-use Rattle.shown.specs.Accepted.{IfAny, InManifest, WordStands, AttributesStand, ComponentAccepted, ObjectAccepted}
+use Rattle.meaning.specs.Every.{Every, IfAny}
+use Rattle.shown.specs.Accepted.{InManifest, WordStands, AttributesStand, ComponentAccepted, ObjectAccepted}
 use Rattle.view.proofs.Columns.{shape, ending, nine, objects-at}
 use Rattle.tolerance.specs.Alike.{Inside, TextAt, MapAt, TextsAlike, MapsAlike, EntriesAlike, FieldsAlike}
 use Rattle.tolerance.specs.Alike.{Field, number, textSpan, mapSpan, entrySpan, objectFields, componentFields, rowsThen, tableFields}
@@ -167,10 +167,10 @@ module _ (L : Layout) (E : Node (Unit {0}) → Node (Unit {0}) → Type 0) (file
           subst (λ (x : List ℕ). alike ((shape o₁ ++ ending o₁) ++ l) x) (sym (append-assoc (shape o₂) (ending o₂) k)) first,
         )
 
-    rows-alike : (i : ℕ) (cs₁ cs₂ : List (Component Span)) → Each (ComponentAccepted L file₁ start) cs₁ → Each (ComponentAccepted L file₂ start) cs₂
+    rows-alike : (i : ℕ) (cs₁ cs₂ : List (Component Span)) → Every (ComponentAccepted L file₁ start) cs₁ → Every (ComponentAccepted L file₂ start) cs₂
         → map (mapComponent nothing) cs₁ ≡ map (mapComponent nothing) cs₂ → Along Entry cs₁ cs₂
         → (fs : List Field) (l k : List ℕ) → Alike fs l k → Alike (rowsThen (length cs₁) componentFields fs) (rowsOf i cs₁ ++ l) (rowsOf i cs₂ ++ k)
-    unfolding rowsOf Each
+    unfolding rowsOf
     rows-alike i [] [] h₁ h₂ e es fs l k more = more
     rows-alike i [] (c₂ ∷ cs₂) h₁ h₂ e es fs l k more = absurd (let z : _≡_ {A = ℕ} 0 1 = cc in omega arith)
     rows-alike i (c₁ ∷ cs₁) [] h₁ h₂ e es fs l k more = absurd (let z : _≡_ {A = ℕ} 0 1 = cc in omega arith)
@@ -182,10 +182,10 @@ module _ (L : Layout) (E : Node (Unit {0}) → Node (Unit {0}) → Type 0) (file
         (rows-alike i cs₁ cs₂ (h₁ .1) (h₂ .1) others (es .1) fs l k more) in
         rw (append-assoc (componentRow i c₁) (rowsOf i cs₁) l, append-assoc (componentRow i c₂) (rowsOf i cs₂) k) done
 
-    objects-alike : (os₁ os₂ : List (Object Span)) → Each (ObjectAccepted L file₁ start) os₁ → Each (ObjectAccepted L file₂ start) os₂
+    objects-alike : (os₁ os₂ : List (Object Span)) → Every (ObjectAccepted L file₁ start) os₁ → Every (ObjectAccepted L file₂ start) os₂
         → map (mapObject nothing) os₁ ≡ map (mapObject nothing) os₂
         → (fs : List Field) (l k : List ℕ) → Alike fs l k → Alike (rowsThen (length os₁) objectFields fs) (objectRows os₁ ++ l) (objectRows os₂ ++ k)
-    unfolding objectRows Each
+    unfolding objectRows
     objects-alike [] [] h₁ h₂ e fs l k more = more
     objects-alike [] (o₂ ∷ os₂) h₁ h₂ e fs l k more = absurd (let z : _≡_ {A = ℕ} 0 1 = cc in omega arith)
     objects-alike (o₁ ∷ os₁) [] h₁ h₂ e fs l k more = absurd (let z : _≡_ {A = ℕ} 0 1 = cc in omega arith)
@@ -197,10 +197,10 @@ module _ (L : Layout) (E : Node (Unit {0}) → Node (Unit {0}) → Type 0) (file
         (objects-alike os₁ os₂ (h₁ .1) (h₂ .1) others fs l k more) in
         rw (append-assoc (objectRow o₁) (objectRows os₁) l, append-assoc (objectRow o₂) (objectRows os₂) k) done
 
-    components-alike : (i : ℕ) (os₁ os₂ : List (Object Span)) → Each (ObjectAccepted L file₁ start) os₁ → Each (ObjectAccepted L file₂ start) os₂
+    components-alike : (i : ℕ) (os₁ os₂ : List (Object Span)) → Every (ObjectAccepted L file₁ start) os₁ → Every (ObjectAccepted L file₂ start) os₂
         → map (mapObject nothing) os₁ ≡ map (mapObject nothing) os₂ → Along Entries os₁ os₂
         → (fs : List Field) (l k : List ℕ) → Alike fs l k → Alike (rowsThen (componentCount os₁) componentFields fs) (componentRows i os₁ ++ l) (componentRows i os₂ ++ k)
-    unfolding componentRows componentCount Each
+    unfolding componentRows componentCount
     components-alike i [] [] h₁ h₂ e es fs l k more = more
     components-alike i [] (o₂ ∷ os₂) h₁ h₂ e es fs l k more = absurd (let z : _≡_ {A = ℕ} 0 1 = cc in omega arith)
     components-alike i (o₁ ∷ os₁) [] h₁ h₂ e es fs l k more = absurd (let z : _≡_ {A = ℕ} 0 1 = cc in omega arith)
@@ -218,7 +218,7 @@ module _ (L : Layout) (E : Node (Unit {0}) → Node (Unit {0}) → Type 0) (file
         (rowsThen m componentFields fs) (more₁ ++ l) (more₂ ++ k) (components-alike (suc i) os₁ os₂ (h₁ .1) (h₂ .1) others (es .1) fs l k more) in
         rw (rows-more n m componentFields fs, append-assoc own₁ more₁ l, append-assoc own₂ more₂ k) done
 
-    pub table-alike : (m₁ m₂ : Model Span) → Each (ObjectAccepted L file₁ start) (m₁ .objects) → Each (ObjectAccepted L file₂ start) (m₂ .objects)
+    pub table-alike : (m₁ m₂ : Model Span) → Every (ObjectAccepted L file₁ start) (m₁ .objects) → Every (ObjectAccepted L file₂ start) (m₂ .objects)
         → mapModel nothing m₁ ≡ mapModel nothing m₂ → Along Entries (m₁ .objects) (m₂ .objects)
         → (l k : List ℕ) → Alike (tableFields (length (m₁ .objects)) (componentCount (m₁ .objects))) (rows m₁ ++ l) (rows m₂ ++ k)
     table-alike m₁ m₂ h₁ h₂ e es l k =

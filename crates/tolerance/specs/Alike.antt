@@ -86,8 +86,8 @@ mayDiffer (entrySpan ∷ fs) (suc zero) = true
 mayDiffer (entrySpan ∷ fs) (suc (suc j)) = mayDiffer fs j
 
 -- the place and the length that come next
-abbrev pub spanOf : List ℕ → Span
-spanOf l = record { place = getD l 0 0; size = getD l 1 0 }
+abbrev pub nextSpan : List ℕ → Span
+nextSpan l = record { place = getD l 0 0; size = getD l 1 0 }
 
 module _ (file₁ file₂ : List ℕ) where
   -- of one length, and the same text at both places; or absent in both
@@ -115,9 +115,9 @@ module _ (file₁ file₂ : List ℕ) where
   abbrev pub FieldsAlike : (Node (Unit {0}) → Node (Unit {0}) → Type 0) → List Field → List ℕ → List ℕ → Type 0
   FieldsAlike E [] l₁ l₂ = Unit {0}
   FieldsAlike E (number ∷ fs) l₁ l₂ = (getD l₁ 0 0 ≡ getD l₂ 0 0) × FieldsAlike E fs (drop 1 l₁) (drop 1 l₂)
-  FieldsAlike E (textSpan ∷ fs) l₁ l₂ = TextsAlike (spanOf l₁) (spanOf l₂) × FieldsAlike E fs (drop 2 l₁) (drop 2 l₂)
-  FieldsAlike E (mapSpan ∷ fs) l₁ l₂ = MapsAlike 29 (spanOf l₁) (spanOf l₂) × FieldsAlike E fs (drop 2 l₁) (drop 2 l₂)
-  FieldsAlike E (entrySpan ∷ fs) l₁ l₂ = EntriesAlike E 28 (spanOf l₁) (spanOf l₂) × FieldsAlike E fs (drop 2 l₁) (drop 2 l₂)
+  FieldsAlike E (textSpan ∷ fs) l₁ l₂ = TextsAlike (nextSpan l₁) (nextSpan l₂) × FieldsAlike E fs (drop 2 l₁) (drop 2 l₂)
+  FieldsAlike E (mapSpan ∷ fs) l₁ l₂ = MapsAlike 29 (nextSpan l₁) (nextSpan l₂) × FieldsAlike E fs (drop 2 l₁) (drop 2 l₂)
+  FieldsAlike E (entrySpan ∷ fs) l₁ l₂ = EntriesAlike E 28 (nextSpan l₁) (nextSpan l₂) × FieldsAlike E fs (drop 2 l₁) (drop 2 l₂)
 
 -- ---------------------------------------------------------------- two readings into tables
 

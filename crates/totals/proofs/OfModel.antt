@@ -1,24 +1,22 @@
 -- What the objects of a model that stands in its file add up to is what the writer's definitions say of the model's description.
-use Prim.Native.Nat.{ℕ, suc, _+_, _*_, _≤_}
+use Prim.Native.Nat.{ℕ, suc, _+_, _*_}
 use mathlib.Core.List.{List, [], _∷_, _++_, map}
 use mathlib.Core.Bool.{true}
 use mathlib.Core.Path.{_≡_, refl, sym, ap, _∙_}
 use lib.ListN.{length, drop, length-map}
 use lib.Seq.{take-at, drop-at}
 use Rattle.meaning.specs.Columns.{objectWidth, componentWidth}
-use Rattle.meaning.specs.Limit.{rankLimit}
 use Rattle.meaning.specs.Read.{Span}
 use Rattle.meaning.specs.Model.{Component, Object, Model}
 use Rattle.meaning.specs.Rows.{rows, componentCount, attributesSpan}
 use Rattle.meaning.specs.Asked.{AskedComponent, Asked, askedComponent, asked, presentAt}
 use Rattle.meaning.specs.Sound.{inside, rowsSound}
 use Rattle.meaning.specs.Described.{Described, blobs, described, readObject, describedBy}
-use Rattle.readback.specs.Every.{Every}
-use Rattle.readback.specs.Spelled.{SpelledObject, Spelled, askedOf, askedOfObject, askedOfAll, askedOfModel}
+use Rattle.meaning.proofs.Lengths.{map-both, each-row-length}
+use Rattle.readback.specs.Spelled.{Spelled, askedOf, askedOfObject, askedOfAll, askedOfModel}
 use Rattle.readback.proofs.RowsOfModel.{rows-asked}
 use Rattle.readback.proofs.RowsOfReading as rows-laws
 use Rattle.rows.specs.Running.{offsetAt, stepped, reached, objectsFrom, blobSizes}
-use Rattle.rows.proofs.EachRow.{how-many}
 use Rattle.rows.proofs.Whole.{sound-attributes, sound-objects, sound-components}
 use Rattle.rows.proofs.SoundRow.{attributes-inside}
 use Rattle.rows.proofs.Describes as describes
@@ -33,10 +31,6 @@ sizes-of : (i : ℕ) (cs : List (Component Span)) → blobSizes (map (askedOf i)
 unfolding askedOf
 sizes-of i [] = refl
 sizes-of i (c ∷ cs) = ap (λ (r : List ℕ). c .length ∷ r) (sizes-of i cs)
-
-map-both : {A B : Type 0} (f : A → B) (xs ys : List A) → map f (xs ++ ys) ≡ map f xs ++ map f ys
-map-both f [] ys = refl
-map-both {A} {B} f (x ∷ xs) ys = ap (λ (r : List B). f x ∷ r) (map-both f xs ys)
 
 all-sizes : (i : ℕ) (os : List (Object Span)) → blobSizes (askedOfAll i os) ≡ allBlobs os
 unfolding askedOfAll allBlobs
@@ -81,12 +75,8 @@ module _ (file : List ℕ) (m : Model Span) (spelled : Spelled file m) where
   sound : rowsSound file T n c A ≡ true
   sound = rows-laws.rows-sound file m [] spelled
 
-  ranks : (os : List (Object Span)) → Every (SpelledObject file) os → Every (λ o. length (o .shape) ≤ rankLimit) os
-  ranks [] h = tt
-  ranks (o ∷ os) (h, hs) = (h .rank, ranks os hs)
-
   asks : asked T n c A ≡ askedOfModel m
-  asks = rows-asked m [] (ranks (m .objects) (spelled .objects))
+  asks = rows-asked m [] (rows-laws.ranks file (m .objects) (spelled .objects))
 
   says : described file (asked T n c A) ≡ d
   says = rows-laws.rows-described file m [] spelled
@@ -103,7 +93,7 @@ module _ (file : List ℕ) (m : Model Span) (spelled : Spelled file m) where
       let os = sound-objects file T n c A sound in
       ap (λ (d : Described). entriesSize (objectsFrom [] p (d .objects))) (sym says)
       ∙ objects-length [] file p (asked T n c A .objects) (asked T n c A .components)
-      (describes.rows-counted file T n c A sound ∙ sym (how-many askedComponent componentWidth c (drop (objectWidth * n) T))) os (short-rows [] file n T os) (sound-components file T n c A sound)
+      (describes.rows-counted file T n c A sound ∙ sym (each-row-length askedComponent componentWidth c (drop (objectWidth * n) T))) os (short-rows [] file n T os) (sound-components file T n c A sound)
       ∙ ap (λ (a : Asked). objectsSize [] p (a .objects) (a .components)) asks ∙ all-entries p 0 (m .objects)
 
   pub objects-counted : length (d .objects) ≡ n

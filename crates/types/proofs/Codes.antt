@@ -14,9 +14,9 @@ use Rattle.meaning.specs.Text.{same, all}
 use Rattle.meaning.specs.Layouts.{Slots, somes, Layout, thirteen, rootNames, objectNames, componentNames, current, old, layoutOf}
 use Rattle.meaning.specs.Types.{Storage, storages, codeFrom, storageOf, widthOf, Logical, logicals, listed, fitsOver, ratioOf}
 use Rattle.meaning.proofs.WhichLayout.{is-old, is-current}
+use Rattle.meaning.proofs.Tests.{both-left, both-right}
+use Rattle.meaning.proofs.SameText.{same-eq}
 use Rattle.types.specs.Row.{digitOf}
-use Rattle.types.proofs.Tagged.{both-left, both-right}
-use Rattle.types.proofs.Tell.{same-true}
 use Rattle.types.specs.Known.{fieldAt, placeOfName, position, codeOr, unitNumber, dtypeCode, storageNames, logicalNames}
 
 pub position-most : (ns : List (List ℕ)) (k : List ℕ) → position ns k ≤ length ns
@@ -35,7 +35,7 @@ named-holds p [] k h l = absurd (omega arith)
 named-holds p (n ∷ ns) k h l = go (same n k) refl l (λ m. named-holds p ns k (both-right (p n) (all p ns) h) m)
   where
     go : (t : Bool) → same n k ≡ t → cond t 0 (suc (position ns k)) < suc (length ns) → (position ns k < length ns → p k ≡ true) → p k ≡ true
-    go true e l later = ap p (sym (same-true n k e)) ∙ both-left (p n) (all p ns) h
+    go true e l later = ap p (sym (same-eq n k e)) ∙ both-left (p n) (all p ns) h
     go false e l later = later (omega arith)
 
 -- the place of a field, from its index among the names that are there

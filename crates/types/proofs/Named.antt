@@ -10,10 +10,11 @@ use lib.Dec.{leb, eqb}
 use borrow.Author.Tests.{ne-eqb, leb-true}
 use borrow.Rule.Slice.PartAt.{part-to-end}
 use Rattle.meaning.specs.Text.{same, all}
+use Rattle.meaning.proofs.Tests.{both-left, both-right}
+use Rattle.meaning.proofs.SameText.{same-eq}
 use Rattle.types.specs.Row.{tagged, isRow, found, rowsOf, bytes, holds, Tells, Rows}
 use Rattle.types.specs.Known.{position}
-use Rattle.types.proofs.Tell.{same-true}
-use Rattle.types.proofs.Tagged.{both-left, both-right, bytes-take, bytes-drop, tagged-some, tagged-same}
+use Rattle.types.proofs.Tagged.{bytes-take, bytes-drop, tagged-some, tagged-same}
 
 -- ---------------------------------------------------------------- rows
 
@@ -107,5 +108,5 @@ pub tells-long : (k : List ℕ) → 21 < length k → Tells 0 0 0 k
 tells-long k l n h = go (same n k) refl
   where
     go : (t : Bool) → same n k ≡ t → (eqb (tagged (take 7 n)) 0 && (eqb (tagged (take 7 (drop 7 n))) 0 && eqb (tagged (drop 7 (drop 7 n))) 0)) ≡ t
-    go true e = let x = ap length (same-true n k e) in let y = leb-true (length n) 21 (both-right (bytes n) (leb (length n) 21) h) in absurd (omega arith)
+    go true e = let x = ap length (same-eq n k e) in let y = leb-true (length n) 21 (both-right (bytes n) (leb (length n) 21) h) in absurd (omega arith)
     go false e = let x = tagged-some (take 7 n) in rw (ne-eqb (tagged (take 7 n)) 0 (λ (e : tagged (take 7 n) ≡ 0). omega arith))

@@ -8,8 +8,8 @@ use lib.ListN.{length, getD, take, drop}
 use lib.Dec.{ltb, eqb}
 use borrow.Author.Tests.{eq-eqb, ne-eqb, eqb-true, eqb-false, ltb-true, lt-ltb}
 use Rattle.meaning.specs.Text.{same}
+use Rattle.meaning.proofs.Tests.{both-left, both-right}
 use Rattle.types.specs.Row.{tagged, fourAt, bytes}
-use Rattle.types.proofs.Tell.{not-both}
 
 -- ---------------------------------------------------------------- the number of a few bytes, and of four and the rest
 
@@ -56,14 +56,6 @@ tagged-late (a ∷ b ∷ c ∷ d ∷ x ∷ y ∷ z ∷ []) l m h v e = let s = h
 tagged-late (a ∷ b ∷ c ∷ d ∷ x ∷ y ∷ z ∷ o ∷ k) l m h v e = absurd (omega arith)
 
 -- ---------------------------------------------------------------- texts of bytes
-
-pub both-left : (a b : Bool) → (a && b) ≡ true → a ≡ true
-both-left true b e = refl
-both-left false b e = e
-
-pub both-right : (a b : Bool) → (a && b) ≡ true → b ≡ true
-both-right true b e = e
-both-right false b e = absurd (not-both e refl)
 
 pub bytes-of : (k : List ℕ) → ((i : ℕ) → getD k i 0 < 256) → bytes k ≡ true
 bytes-of [] h = refl

@@ -18,8 +18,8 @@ use Rattle.meaning.specs.Frame.{Frame, frame, little}
 use Rattle.meaning.proofs.WhichLayout.{by-layout, is-old}
 use Rattle.frame.proofs.Frames.{old-footed, size-back}
 use Rattle.explained.specs.Step.{Step, first, _at_unless_}
-use Rattle.explained.specs.Explain.{span, frameSteps, explain, explanation}
-use Rattle.explained.proofs.Stages.{alone, unframed}
+use Rattle.explained.specs.Explain.{span, frameSteps, explain, explanation, alone}
+use Rattle.explained.proofs.Stages.{unframed}
 
 module _ (layout : ℕ) (file : List ℕ) where
   abbrev L : Layout

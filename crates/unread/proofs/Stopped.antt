@@ -14,8 +14,7 @@ use Rattle.meaning.proofs.ReadPrefix.{item-hungry}
 use Rattle.cbor.specs.Ending.{FAULT, code, ending, itemEnd}
 use Rattle.fields.proofs.Texts.{Here}
 use Rattle.stop.specs.Stop.{Stops}
-use Rattle.explained.specs.Explain.{span, headSpan, explanation}
-use Rattle.explained.proofs.Stages.{alone}
+use Rattle.explained.specs.Explain.{span, headSpan, explanation, alone}
 use Rattle.unread.specs.Unread.{StopsAt}
 
 abbrev Item : Type 0

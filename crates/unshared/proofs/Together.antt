@@ -1,31 +1,12 @@
 -- Two lists of distinct texts, one after the other, are distinct exactly if none of the second is one of the first.
 use Prim.Native.Nat.{ℕ}
-use native.Mathlib.Omega.{arith}
 use mathlib.Core.List.{List, [], _∷_, _++_}
-use mathlib.Core.Bool.{Bool, true, false, cond, _&&_}
+use mathlib.Core.Bool.{Bool, true, false, cond}
 use mathlib.Core.Path.{_≡_, refl, sym, ap, ap₂, _∙_}
-use lib.Dec.{eqb}
-use borrow.Author.Tests.{eqb-true, eq-eqb}
 use Rattle.meaning.specs.Text.{same, oneOf, distinct}
+use Rattle.meaning.proofs.Tests.{false-not}
+use Rattle.meaning.proofs.SameText.{same-turned}
 use Rattle.unshared.specs.Unshared.{noneOf}
-
-false-not : false ≡ true → ⊥
-false-not e = let z : _≡_ {A = ℕ} 0 1 = cc in omega arith
-
-eqb-turned : (a b : ℕ) → eqb a b ≡ eqb b a
-eqb-turned a b = go (eqb a b) refl (eqb b a) refl
-  where
-    go : (x : Bool) → eqb a b ≡ x → (y : Bool) → eqb b a ≡ y → x ≡ y
-    go true e true f = refl
-    go false e false f = refl
-    go true e false f = let z : a ≡ b = eqb-true a b e in sym (sym f ∙ eq-eqb b a (sym z))
-    go false e true f = let z : b ≡ a = eqb-true b a f in sym e ∙ eq-eqb a b (sym z)
-
-same-turned : (x y : List ℕ) → same x y ≡ same y x
-same-turned [] [] = refl
-same-turned [] (b ∷ y) = refl
-same-turned (a ∷ x) [] = refl
-same-turned (a ∷ x) (b ∷ y) = ap₂ (λ p q. p && q) (eqb-turned a b) (same-turned x y)
 
 -- taken from the first's side
 none-of-more : (x : List ℕ) (xs ys : List (List ℕ)) → noneOf (x ∷ xs) ys ≡ cond (oneOf ys x) false (noneOf xs ys)

@@ -11,14 +11,11 @@ use lib.Dec.{ltb, leb, eqb}
 use borrow.Author.Tests.{eq-eqb, ne-eqb, lt-ltb, le-leb, lt-leb, leb-true, leb-false, eqb-true, eqb-false, ltb-true, ltb-false}
 use Rattle.meaning.specs.Text.{all, same, within}
 use Rattle.meaning.specs.Version.{push, runs, digit, plainRun, versionShape, firstIsOne, majorOne}
+use Rattle.meaning.proofs.Tests.{and-true, and-false}
 use Rattle.versions.specs.Room.{roomAfter, fits}
 use Rattle.text.proofs.WithinRange.{in-range, under, over}
 
 -- ---------------------------------------------------------------- tests joined
-
-and-false : (a : Bool) → (a && false) ≡ false
-and-false true = refl
-and-false false = refl
 
 -- a test that stands first or second
 second-first : (l d a : Bool) → (d && true && (l && a)) ≡ (l && (d && a))
@@ -26,10 +23,6 @@ second-first true true a = refl
 second-first true false a = refl
 second-first false true a = refl
 second-first false false a = refl
-
-and-true : (a : Bool) → (a && true) ≡ a
-and-true true = refl
-and-true false = refl
 
 leb-suc : (m k : ℕ) → leb (suc m) (suc k) ≡ leb m k
 leb-suc m k = go (leb m k) refl

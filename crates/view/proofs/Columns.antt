@@ -3,13 +3,14 @@ use Prim.Native.Nat.{ℕ, suc, _+_, _*_, _≤_}
 use native.Mathlib.Nat.{add-zero}
 use native.Mathlib.Omega.{arith}
 use mathlib.Core.List.{List, [], _∷_, _++_, append-assoc}
-use mathlib.Core.Path.{_≡_, refl, sym, ap, _∙_}
+use mathlib.Core.Path.{_≡_, sym, ap, _∙_}
 use lib.ListN.{length, drop, getD, replicate, length-append}
 use lib.Seq.{getD-drop, drop-drop, length-take-le, drop-at}
 use Rattle.meaning.specs.Columns.{objectWidth, componentWidth, dtypeColumn, typeColumn, typeLengthColumn, offsetColumn, lengthColumn, entryColumn, entryLengthColumn}
 use Rattle.meaning.specs.Read.{Span}
 use Rattle.meaning.specs.Model.{Component, Object, Model}
-use Rattle.meaning.specs.Rows.{wordSpan, optionalSpan, attributesSpan, dimensions, objectRow, componentRow, objectRows, rowsOf, componentRows, rows, componentCount}
+use Rattle.meaning.specs.Rows.{wordSpan, optionalSpan, attributesSpan, dimensions, componentRow, objectRows, rowsOf, componentRows, rows, componentCount}
+use Rattle.meaning.proofs.Lengths.{objects-length, parts-length, components-length}
 
 -- a table that goes on as R from the place p on
 module _ (T : List ℕ) (p : ℕ) (R : List ℕ) (e : drop p T ≡ R) where
@@ -35,10 +36,6 @@ module _ (o : Object Span) where
   nine =
       ap suc (length-take-le 8 (o .shape ++ replicate 8 0)
       (let z : length (o .shape ++ replicate 8 0) ≡ length (o .shape) + 8 = length-append (o .shape) (replicate 8 0) in omega (arith, z)))
-
-  pub object-width : length (objectRow o) ≡ objectWidth
-  unfolding objectRow shape ending
-  object-width = ap (λ (n : ℕ). suc (suc n)) (length-append shape ending ∙ ap (λ (n : ℕ). n + 5) nine)
 
 -- a component's row
 module _ (T : List ℕ) (q i : ℕ) (c : Component Span) (Y : List ℕ) (e : drop q T ≡ componentRow i c ++ Y) where
@@ -84,32 +81,9 @@ module _ (T : List ℕ) (q i : ℕ) (c : Component Span) (Y : List ℕ) (e : dro
 
 -- ---- how many numbers they take
 
-pub objects-width : (os : List (Object Span)) → length (objectRows os) ≡ objectWidth * length os
-unfolding objectRows
-objects-width [] = refl
-objects-width (o ∷ os) =
-    let a : length (objectRow o ++ objectRows os) ≡ length (objectRow o) + length (objectRows os) = length-append (objectRow o) (objectRows os) in
-    let b : length (objectRow o) ≡ objectWidth = object-width o in
-    let c : length (objectRows os) ≡ objectWidth * length os = objects-width os in
-    omega (arith, a, b, c)
-
-pub blobs-width : (i : ℕ) (cs : List (Component Span)) → length (rowsOf i cs) ≡ componentWidth * length cs
-unfolding rowsOf componentRow
-blobs-width i [] = refl
-blobs-width i (c ∷ cs) =
-    let a : length (componentRow i c ++ rowsOf i cs) ≡ componentWidth + length (rowsOf i cs) = length-append (componentRow i c) (rowsOf i cs) in
-    let b : length (rowsOf i cs) ≡ componentWidth * length cs = blobs-width i cs in
-    omega (arith, a, b)
-
-pub components-width : (i : ℕ) (os : List (Object Span)) → length (componentRows i os) ≡ componentWidth * componentCount os
-unfolding componentRows componentCount
-components-width i [] = refl
-components-width i (o ∷ os) =
-    let a : length (rowsOf i (o .components) ++ componentRows (suc i) os) ≡ length (rowsOf i (o .components)) + length (componentRows (suc i) os) =
-    length-append (rowsOf i (o .components)) (componentRows (suc i) os) in
-    let b : length (rowsOf i (o .components)) ≡ componentWidth * length (o .components) = blobs-width i (o .components) in
-    let c : length (componentRows (suc i) os) ≡ componentWidth * componentCount os = components-width (suc i) os in
-    omega (arith, a, b, c)
+-- where an object's components end
+pub components-past : (T : List ℕ) (i : ℕ) (cs : List (Component Span)) (q : ℕ) (Y : List ℕ) → drop q T ≡ rowsOf i cs ++ Y → drop (q + componentWidth * length cs) T ≡ Y
+components-past T i cs q Y e = onward T q (rowsOf i cs ++ Y) e (componentWidth * length cs) ∙ drop-at (rowsOf i cs) Y (componentWidth * length cs) (parts-length i cs)
 
 -- a table that begins with a model's rows
 module _ (m : Model Span) (rest : List ℕ) where
@@ -120,11 +94,11 @@ module _ (m : Model Span) (rest : List ℕ) where
   pub components-at : drop (objectWidth * length (m .objects)) (rows m ++ rest) ≡ componentRows 0 (m .objects) ++ rest
   components-at =
       ap (drop (objectWidth * length (m .objects))) objects-at
-      ∙ drop-at (objectRows (m .objects)) (componentRows 0 (m .objects) ++ rest) (objectWidth * length (m .objects)) (objects-width (m .objects))
+      ∙ drop-at (objectRows (m .objects)) (componentRows 0 (m .objects) ++ rest) (objectWidth * length (m .objects)) (objects-length (m .objects))
 
   pub rows-lie : objectWidth * length (m .objects) + componentWidth * componentCount (m .objects) ≤ length (rows m ++ rest)
   rows-lie =
       let a : length (rows m ++ rest) ≡ length (objectRows (m .objects)) + length (componentRows 0 (m .objects) ++ rest) =
       ap length objects-at ∙ length-append (objectRows (m .objects)) (componentRows 0 (m .objects) ++ rest) in
       let b : length (componentRows 0 (m .objects) ++ rest) ≡ length (componentRows 0 (m .objects)) + length rest = length-append (componentRows 0 (m .objects)) rest in
-      omega (arith, a, b, objects-width (m .objects), components-width 0 (m .objects))
+      omega (arith, a, b, objects-length (m .objects), components-length 0 (m .objects))

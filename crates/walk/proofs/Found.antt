@@ -16,16 +16,17 @@ use Rattle.meaning.specs.Model.{Word}
 use Rattle.meaning.specs.Kind as kinds
 use Rattle.meaning.specs.Kind.{Kind, kind}
 use Rattle.meaning.specs.Read as read
-use Rattle.meaning.specs.Read.{got, refused, known, indefinite, majorOf, run, Major, Argument, reserved}
+use Rattle.meaning.specs.Read.{got, refused, known, indefinite, majorOf, run, Major, Argument, reserved, item}
 use Rattle.meaning.specs.Read.{unsigned, negative, byteString, textString, arrayOf, mapOf, tagged, special}
-use Rattle.meaning.proofs.ReadPrefix.{never-got, alike}
+use Rattle.meaning.proofs.ReadPrefix.{never-got, alike, never-beyond}
 use Rattle.meaning.proofs.ExactEvery.{large-enough}
 use Rattle.cbor.specs.Ending.{headOf, argued}
 use Rattle.cbor.proofs.Majors.{majors-late}
 use Rattle.walk.specs.Reading.{Ends, ends, Reads}
 use Rattle.cbor.proofs.Heads as heads
 use Rattle.endian.proofs.Which.{eq-or, lt-or}
-use Rattle.walk.specs.Places.{Whatever, isNull, NullIs}
+use Rattle.walk.specs.declared.Numeral.{Numeral}
+use Rattle.walk.specs.Places.{Whatever, isNull, NullIs, NumberIs, numeral}
 use Rattle.walk.proofs.ReadSays.{Says, KindSays, kind-says, Stood, sized, loose, stood, nothing-read}
 
 -- the number of a major type
@@ -319,3 +320,13 @@ null-here s l y d t r e = ⊎-elim
     (λ h. null-one s l h d t r e ∙ sym (eq-eqb (getD s 0 0) 246 h))
     (λ h. null-other s l y h d t r e ∙ sym (ne-eqb (getD s 0 0) 246 h))
     (eq-or (getD s 0 0) 246)
+
+-- nothing is read where no level is left
+pub no-levels : (s : List ℕ) (t : Node Ends) (r : List ℕ) → Reads 0 s t r → ⊥
+unfolding item
+no-levels s t r e = never-beyond s t r e
+
+-- a number that was found is the one that is read, whatever levels are left
+pub number-read : (d : ℕ) (s : List ℕ) (v : Numeral) → NumberIs s v → (x : Node Ends) (r : List ℕ) → Reads d s x r → kinds.aNumber x ≡ numeral v
+number-read zero s v h x r e = absurd (no-levels s x r e)
+number-read (suc d) s v h x r e = h d x r e

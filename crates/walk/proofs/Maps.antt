@@ -113,8 +113,7 @@ pub map-counted : (s : List ℕ) → 1 ≤ length s → length s < FAULT → 160
 map-counted [] l r x y n f = absurd (omega arith)
 map-counted (b ∷ s) l r x y n f = record {
   within = f;
-  even = λ _. doubled-even (headOf (b ∷ s) .value);
-  loose = λ k. absurd (omega arith);
+  modes = record { even = λ _. doubled-even (headOf (b ∷ s) .value); loose = λ k. absurd (omega arith) };
   ending-is = λ d. first.map-holds (b ∷ s) l r x y n .inside f (holds-others b (omega arith) (omega arith)) d;
   trees = counted-map b s r x y n;
 }
@@ -126,8 +125,7 @@ pub map-broken : (s : List ℕ) → 1 ≤ length s → length s < FAULT → getD
 map-broken [] l r x f = absurd (omega arith)
 map-broken (b ∷ s) l r x f = record {
   within = f;
-  even = λ k. absurd (omega arith);
-  loose = λ _. (refl, ap (λ a. a .value) (loose-value b s (omega arith)));
+  modes = record { even = λ k. absurd (omega arith); loose = λ _. (refl, ap (λ a. a .value) (loose-value b s (omega arith))) };
   ending-is = λ d. first.open-map-holds (b ∷ s) l r x .inside f (holds-others b (omega arith) (omega arith)) d;
   trees = broken-map b s r (omega arith) (omega arith) x;
 }

@@ -7,10 +7,9 @@ use borrow.Rule.Slice.PartAt.{part-to-end}
 use Rattle.cbor.specs.Ending.{FAULT, code, itemEnd, rest}
 use Rattle.cbor.proofs.Rest.{rest-fine}
 use Rattle.cbor.proofs.Loops.{later-ends, later-fails}
-use Rattle.walk.specs.Places.{MapIs, OpenMap}
+use Rattle.walk.specs.Places.{MapIs, OpenMap, Modes}
 use Rattle.walk.specs.declared.Opening.{Opening}
 use Rattle.walk.specs.declared.Opening.the-variants.{Opened}
-use Rattle.walk.proofs.Turns.{Modes}
 use Rattle.walk.proofs.Passed.{Here}
 
 module _ (c : List ℕ) (x : Opening) (h : MapIs (Here c 0) x) where
@@ -25,7 +24,7 @@ module _ (c : List ℕ) (x : Opening) (h : MapIs (Here c 0) x) where
     size-inside = opened .within
 
     pub modes : Modes mode count
-    modes = record { even = opened .even; loose = opened .loose }
+    modes = opened .modes
 
     module _ (d : ℕ) (room : length c < FAULT) (e : ℕ) (passed : e ≡ code (rest mode count d (Here c size))) where
       passed-there : e ≡ code (rest mode count d (drop size c))

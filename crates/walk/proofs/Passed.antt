@@ -11,12 +11,12 @@ use Rattle.meaning.specs.Tree.{Node, Pair}
 use Rattle.meaning.specs.Read.{Outcome, got, refused, item}
 use Rattle.cbor.specs.Ending.{FAULT, code, took, fault, ending, itemEnd, rest}
 use Rattle.cbor.proofs.Agree.{annotations-change-no-ending, rest-follows}
-use Rattle.walk.specs.Reading.{Ends, ends, Reads, Due, foldl}
-use Rattle.walk.specs.Places.{EntryIs}
+use Rattle.walk.specs.Reading.{Ends, ends, Reads, foldl}
+use Rattle.walk.specs.Places.{EntryIs, Modes, AllPassed}
 use Rattle.walk.specs.declared.Entry.{Entry}
 use Rattle.walk.specs.declared.Entry.the-variants.{End, Value}
 use Rattle.walk.proofs.Turns as turns
-use Rattle.walk.proofs.Turns.{Walking, Modes}
+use Rattle.walk.proofs.Turns.{Walking}
 
 -- the part of s from `at` on, as it is lent
 abbrev pub Here : List ℕ → ℕ → List ℕ
@@ -55,10 +55,6 @@ pub record Passed (d mode count : ℕ) (s : List ℕ) (at n : ℕ) (P : List (Pa
   pub walking : Walking snoc d mode count s [] at n done
   pub few : length done ≤ at
   pub holds : P done
-
--- it holds of all pairs that are due
-abbrev pub AllPassed : ℕ → ℕ → ℕ → List ℕ → (List (Pair Ends) → Type 0) → Type 0
-AllPassed d mode count s P = (ps : List (Pair Ends)) (r : List ℕ) → Due d mode count s ps r → P ps
 
 module _ (d mode count : ℕ) (s : List ℕ) (modes : Modes mode count) where
   pub passed-starts : (P : List (Pair Ends) → Type 0) → P [] → Passed d mode count s 0 count P

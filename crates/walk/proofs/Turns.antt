@@ -12,7 +12,7 @@ use Rattle.meaning.specs.Read.{item, noNote}
 use Rattle.cbor.proofs.Rest as due
 use Rattle.cbor.proofs.Passing.{Faulty, fine-ending, shift-shift, shift-zero, is-took, is-fault}
 use Rattle.walk.specs.Reading.{Ends, Reads, Chain, Due, foldl}
-use Rattle.walk.specs.Places.{EntryIs}
+use Rattle.walk.specs.Places.{EntryIs, Modes}
 use Rattle.walk.specs.declared.Entry.the-variants.{End, Value}
 use Rattle.endian.proofs.Which.{eq-or}
 use Rattle.walk.proofs.Chains.{ate}
@@ -105,11 +105,6 @@ module _ {S : Type 0} (f : S → Pair Ends → S) (d mode count : ℕ) (s : List
           w .passed ∙ ap (shift at) (due.rest-goes-on d mode n (drop at s) k (h .0) (h .1) (h .2) (h .3))
           ∙ shift-shift at k (rest mode (n - 1) d (drop k (drop at s)))
           ∙ ap (λ x. shift (at + k) (rest mode (n - 1) d x)) (drop-drop k at s)
-
--- a map's own way of counting
-pub record Modes (mode count : ℕ) : Type 0 where
-  pub even : mode ≡ 0 → count % 2 ≡ 0
-  pub loose : 1 ≤ mode → (mode ≡ 2) × (count ≡ endless)
 
 module _ {S : Type 0} (f : S → Pair Ends → S) (d mode count : ℕ) (s : List ℕ) (z : S) (modes : Modes mode count) (room : length s < FAULT)
     (at n : ℕ) (st : S) (w : Walking f d mode count s z at n st) (k : ℕ) (h : EntryIs d mode n (drop at s) (Value k))

@@ -62,11 +62,14 @@ pub record Mapped (d mode count : ℕ) (s : List ℕ) (t : Node Ends) : Type 0 w
   pub last : List ℕ
   pub due : Due d mode count s pairs last
 
-pub record OpenMap (s : List ℕ) (mode count size : ℕ) : Type 0 where
-  pub within : size ≤ length s
-  -- two items for each pair, or no end but the break
+-- a map's own way of counting: two items for each pair, or no end but the break
+pub record Modes (mode count : ℕ) : Type 0 where
   pub even : mode ≡ 0 → count % 2 ≡ 0
   pub loose : 1 ≤ mode → (mode ≡ 2) × (count ≡ endless)
+
+pub record OpenMap (s : List ℕ) (mode count size : ℕ) : Type 0 where
+  pub within : size ≤ length s
+  pub modes : Modes mode count
   pub ending-is : (d : ℕ) → itemEnd (suc d) s ≡ shift size (rest mode count d (drop size s))
   pub trees : Whatever s λ d t r. Mapped d mode count (drop size s) t
 
@@ -78,6 +81,10 @@ MapIs s (Opened mode count size) = OpenMap s mode count size
 abbrev pub EntryIs : ℕ → ℕ → ℕ → List ℕ → Entry → Type 0
 EntryIs d mode due s (End e) = (e ≡ code (rest mode due d s)) × ((ps : List (Pair Ends)) (r : List ℕ) → Due d mode due s ps r → ps ≡ [])
 EntryIs d mode due s (Value k) = (0 < due) × (1 ≤ length s) × (getD s 0 0 ≡ 255 → ⊥) × (itemEnd d s ≡ took k) × (k ≤ length s)
+
+-- it holds of all pairs that are due
+abbrev pub AllPassed : ℕ → ℕ → ℕ → List ℕ → (List (Pair Ends) → Type 0) → Type 0
+AllPassed d mode count s P = (ps : List (Pair Ends)) (r : List ℕ) → Due d mode count s ps r → P ps
 
 -- an array that begins s: its items stand `size` bytes further on
 pub record Listed (d mode count : ℕ) (s : List ℕ) (t : Node Ends) : Type 0 where

@@ -12,7 +12,7 @@ use Rattle.meaning.specs.Model.{Object}
 use Rattle.meaning.specs.Notes.{mapObject, mapComponent, mapModel}
 use Rattle.meaning.specs.Frame.{frame, reading}
 use Rattle.meaning.specs.Layouts.{layoutOf}
-use Rattle.readback.specs.Every.{Every}
+use Rattle.meaning.specs.Every.{Every}
 use Rattle.cbor.specs.Ending.{FAULT}
 use Rattle.walk.specs.Reading.{Ends}
 use Rattle.walk.proofs.Passed.{Here}

@@ -10,7 +10,7 @@ use Rattle.meaning.specs.Read.{Span}
 use Rattle.meaning.specs.Model.{Model}
 use Rattle.meaning.specs.Frame.{Reading}
 use Rattle.meaning.specs.Rows.{attributesSpan, componentCount}
-use Rattle.readback.specs.Every.{Every}
+use Rattle.meaning.specs.Every.{Every}
 use Rattle.window.specs.Sums.{namePairs}
 use Rattle.window.specs.Summed.{InWindow, Sum}
 use Rattle.weigh.specs.declared.Weighed.{Weighed}

@@ -9,8 +9,8 @@ use Rattle.meaning.specs.Limit.{manifestLimit, endLimit}
 use Rattle.meaning.specs.Read.{Span}
 use Rattle.meaning.specs.Model.{Object}
 use Rattle.meaning.specs.Rows.{wordSpan}
+use Rattle.meaning.specs.Every.{Every}
 use Rattle.endian.proofs.Which.{lt-or}
-use Rattle.readback.specs.Every.{Every}
 use Rattle.rows.specs.Running.{reached}
 use Rattle.rows.proofs.Running.{reached-above, reached-joined}
 use Rattle.sizes.specs.Size.{cappedEnd}

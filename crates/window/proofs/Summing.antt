@@ -10,7 +10,7 @@ use lib.Seq.{sets, sets-eq}
 use borrow.Rule.Slice.PartAt.{part-to-end}
 use Rattle.meaning.specs.Columns.{objectWidth}
 use Rattle.meaning.specs.Tree.{Pair}
-use Rattle.meaning.specs.Check.{Check, pass, refuse, inObject}
+use Rattle.meaning.specs.Check.{pass, refuse}
 use Rattle.meaning.specs.Read.{Span}
 use Rattle.meaning.specs.Limit.{manifestLimit, endLimit, objectLimit}
 use Rattle.meaning.specs.Model.{Object}
@@ -18,16 +18,17 @@ use Rattle.meaning.specs.Notes.{mapObject, mapComponent}
 use Rattle.meaning.specs.Field.{names}
 use Rattle.meaning.specs.Judge.{object, objectsOf}
 use Rattle.meaning.specs.Layouts.{layoutOf}
+use Rattle.meaning.proofs.Checks.{in-object}
+use Rattle.meaning.proofs.Lengths.{object-length}
+use Rattle.meaning.specs.Every.{Every}
 use Rattle.cbor.specs.Ending.{FAULT, code, itemEnd}
 use Rattle.endian.proofs.Which.{lt-or}
-use Rattle.readback.specs.Every.{Every}
 use Rattle.walk.specs.Reading.{Ends, Reads}
-use Rattle.walk.specs.Places.{MapIs, EntryIs}
+use Rattle.walk.specs.Places.{MapIs, EntryIs, Modes}
 use Rattle.walk.specs.declared.Opening.{Opening}
 use Rattle.walk.specs.declared.Opening.the-variants.{NotOpen, Opened}
 use Rattle.walk.specs.declared.Entry.{Entry}
 use Rattle.walk.specs.declared.Entry.the-variants.{End, Value}
-use Rattle.walk.proofs.Turns.{Modes}
 use Rattle.walk.proofs.Passed as walked
 use Rattle.walk.proofs.Passed.{Here}
 use Rattle.walk.proofs.Opens as opens
@@ -39,15 +40,10 @@ use Rattle.table.specs.Objects.{WholePut, entry}
 use Rattle.table.proofs.Laying as laying
 use Rattle.table.proofs.Entering as entering
 use Rattle.table.proofs.Rowing.{rows-in-length}
-use Rattle.table.proofs.WholeObject.{object-length}
 use Rattle.window.specs.Sums.{namePairs}
 use Rattle.window.specs.Summed.{InWindow, Holds, Added, Sum, spans, SumOf, Summed, AllSummed, Measured}
 use Rattle.window.proofs.Window.{name-is}
 use Rattle.window.proofs.Snoc as snoc
-
-in-object : {A : Type 0} (j : ℕ) (c : Check A) (a : A) → inObject j c ≡ pass a → c ≡ pass a
-in-object j (pass b) a e = e
-in-object j (refuse n o c) a e = absurd (let z : _≡_ {A = ℕ} 0 1 = cc in omega arith)
 
 pub mapped-in-window : (end : ℕ) (o : Object Ends) → InWindow o → InWindow (mapObject (spanOf end) o)
 mapped-in-window end o w = record { rank = w .rank; count = let a = w .count in omega (arith, a, length-map (o .components) (mapComponent (spanOf end))) }

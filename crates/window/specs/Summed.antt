@@ -13,9 +13,9 @@ use Rattle.meaning.specs.Notes.{mapObject}
 use Rattle.meaning.specs.Judge.{objectsOf}
 use Rattle.meaning.specs.Rows.{objectRow, rowsOf}
 use Rattle.meaning.specs.Layouts.{layoutOf}
-use Rattle.readback.specs.Every.{Every}
+use Rattle.meaning.specs.Every.{Every}
 use Rattle.walk.specs.Reading.{Ends, Reads}
-use Rattle.walk.proofs.Passed.{AllPassed}
+use Rattle.walk.specs.Places.{AllPassed}
 use Rattle.rows.specs.Running.{reached}
 use Rattle.sizes.specs.Size.{capped, cappedEnd}
 use Rattle.table.specs.Spans.{spanOf}

@@ -13,8 +13,8 @@ use walk::Opening;
 ghost use Prim.Native.Nat.{suc, _≤_};
 ghost use lib.ListN.{length};
 ghost use Rattle.meaning.specs.Limit.{manifestLimit, endLimit};
-ghost use Rattle.walk.proofs.Turns.{Modes};
 ghost use Rattle.window.specs.Summed.{Added, AllSummed, Measured};
+ghost use Rattle.walk.specs.Places.{Modes};
 
 // Where the last blob ends, or 2^40 + 1; and how many bytes the objects' entries take, or the limit and 1.
 pub struct Sum {

@@ -24,8 +24,9 @@ use Rattle.meaning.specs.Plan.{planned}
 use Rattle.meaning.specs.Manifest.{manifestBytes}
 use Rattle.meaning.specs.WrittenFile.{fileOf}
 use Rattle.meaning.specs.Write.{writeAnswer, outputAfter, writtenAt, writtenPlain, writtenPlanned, written, writtenBy}
+use Rattle.meaning.proofs.Lengths.{each-row-length}
+use Rattle.meaning.proofs.Every.{every-by-index}
 use Rattle.rows.specs.Running.{begun, turnLimit, reached, blobSizes}
-use Rattle.rows.proofs.EachRow.{how-many}
 use Rattle.rows.proofs.Running.{last-is-reached, reached-counts, offsets-by-rule, offsets-as-planned}
 use Rattle.rows.proofs.Whole.{sound-lies}
 use Rattle.rows.proofs.Describes.{blob-lengths}
@@ -36,7 +37,6 @@ use Rattle.plan.specs.declared.Judged.{Judged}
 use Rattle.plan.specs.declared.Judged.the-variants as judged-as
 use Rattle.readback.specs.Judged.{judged}
 use Rattle.readback.specs.Lent.{Lent}
-use Rattle.readback.proofs.EveryPart.{every-by-index}
 use Rattle.readback.proofs.Planned.{Accepted, accepted, as-many, ends-in-time, placement-accepted}
 use Rattle.readback.proofs.Placed.{file-length}
 use Rattle.readback.proofs.ReadBack.{written-at-is}
@@ -248,7 +248,7 @@ module _ (plan : List ℕ) (ceiling : ℕ) (rows : List ℕ) (objects components
             sound-lies buffer rows objects components (record { place = place; size = size }) sound,
             ap length (sym same-lengths),
             length-map (eachRow askedComponent componentWidth components lent-rows) (λ (c : AskedComponent). c .blob .size),
-            how-many askedComponent componentWidth components lent-rows,
+            each-row-length askedComponent componentWidth components lent-rows,
           ))
 
       pub can-be-measured : Measurable plan rows objects components

@@ -1,6 +1,6 @@
 -- `emit::size_at` meets its contract: a law for each return. Assumes nothing.
 use native.Mathlib.Omega.{arith}
-use Rattle.emit.proofs.Numbers as numbers
+use Rattle.meaning.proofs.Lengths.{little-length}
 use Rattle.emit.proofs.Laying as laying
 use borrow.Author.Needs.{needs}
 use Rattle.emit.proofs.size_at.Statement.{statement}
@@ -14,7 +14,7 @@ size-at-spec =
     (λ c. search needs)
     (λ c. search needs)
     (λ c κs. let b2 = c .before .before in let a = b2 .args in
-    rw (laying.part-length (a .at) (a .out .now)) (omega (arith, (b2 .pre .fits), numbers.little-length 8 (a .n))))
+    rw (laying.part-length (a .at) (a .out .now)) (omega (arith, (b2 .pre .fits), little-length 8 (a .n))))
     (λ c. search needs)
     (λ c. search needs)
     (λ c. let b2 = c .before .before in

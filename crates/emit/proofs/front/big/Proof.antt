@@ -2,6 +2,7 @@
 use mathlib.Core.Path.{refl}
 use Prim.Native.Nat.{_-_, _<_, _≤_, _^_}
 use Rattle.meaning.specs.Encoding.{big}
+use Rattle.meaning.proofs.Lengths.{big-length}
 use Rattle.emit.proofs.Numbers as numbers
 use Rattle.emit.proofs.Laying as laying
 use borrow.Author.Needs.{needs}
@@ -20,7 +21,7 @@ big-spec =
     (tie.spec
     Inv-loop
     μ-loop
-    (λ c. ((c .pre .0), (c .pre .1), laying.begin _ _ _ (numbers.big-length _ _) (c .pre .2)))
+    (λ c. ((c .pre .0), (c .pre .1), laying.begin _ _ _ (big-length _ _) (c .pre .2)))
     (λ c. search needs)
     (λ c. search needs)
     (λ c. search needs)

@@ -2,6 +2,7 @@
 use mathlib.Core.Path.{refl}
 use Prim.Native.Nat.{_-_}
 use Rattle.meaning.specs.WrittenFile.{littleBytes}
+use Rattle.meaning.proofs.Lengths.{little-length}
 use Rattle.emit.proofs.Numbers as numbers
 use Rattle.emit.proofs.Laying as laying
 use borrow.Author.Needs.{needs}
@@ -20,7 +21,7 @@ little-spec =
     (tie.spec
     Inv-loop
     μ-loop
-    (λ c. laying.begin _ _ _ (numbers.little-length 8 _) (c .pre))
+    (λ c. laying.begin _ _ _ (little-length 8 _) (c .pre))
     (λ c. search needs)
     (λ c. search needs)
     (λ c. search needs)

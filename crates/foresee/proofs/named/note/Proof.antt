@@ -1,9 +1,9 @@
 -- `foresee::named::note` meets its contract: the invariant says which names were noted.
-use Rattle.rows.proofs.Both.{not-so}
 use Rattle.foresee.proofs.Noting as law
 use Rattle.foresee.specs.Names.{namesOf, Noted}
 use Rattle.walk.proofs.Puts.{length-put}
 use Rattle.meaning.specs.Text.{utf8}
+use Rattle.meaning.proofs.Tests.{false-not}
 use Prim.Native.Nat.{ℕ, _+_, _*_, _≤_, _-_}
 use lib.ListN.{length}
 use native.Mathlib.Omega.{arith}
@@ -41,7 +41,7 @@ note-spec =
     (λ c. (
       (c .before .before .before .before .before .before .loop .inv .2),
       record {
-        well = λ e. absurd (not-so e);
+        well = λ e. absurd (false-not e);
         odd = λ e. law.odd-name (c .before .before .before .before .before .before .before .before .before .before .before .args .buffer .now)
             (c .before .before .before .before .before .before .before .before .before .before .before .args .rows .now) (c .before .before .before .before .before .before .loop .left)
             (c .before .before .before .before .before .before .loop .size) (c .before .before .before .before .before .before .before .before .before .before .before .args .width)
@@ -87,6 +87,6 @@ note-spec =
         well = λ e. subst (λ (k : ℕ). Noted (c .before .before .before .before .before .before .args .buffer .now)
             (namesOf (c .before .before .before .before .before .before .args .buffer .now) (c .before .before .before .before .before .before .args .width) k (c .before .before .before .before .before .before .args .rows .now))
             (c .before .loop .left) (c .before .loop .size)) (omega arith) (c .before .loop .inv .3);
-        odd = λ e. absurd (not-so (sym e));
+        odd = λ e. absurd (false-not (sym e));
       },
     )))

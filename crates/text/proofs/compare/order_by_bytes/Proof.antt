@@ -5,12 +5,13 @@ use native.Mathlib.Omega.{arith}
 use lib.ListN.{length}
 use borrow.Author.Needs.{needs}
 use Rattle.endian.proofs.Laws as numbers
+use Rattle.text.specs.Order.{Agree}
 use Rattle.text.proofs.WordsDecide as words
 use Rattle.text.proofs.compare.order_by_bytes.Statement.{statement}
 use Rattle.text.proofs.compare.order_by_bytes.Tie as tie
 
 abbrev Inv-loop : tie.InvT-loop
-Inv-loop a b i₀ i = (i ≤ length a) × words.Agree a b i
+Inv-loop a b i₀ i = (i ≤ length a) × Agree a b i
 
 abbrev μ-loop : tie.MeasureT-loop
 μ-loop a b i₀ i = length a - i

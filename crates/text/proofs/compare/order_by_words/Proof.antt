@@ -4,12 +4,13 @@ use mathlib.Core.Path.{_∙_}
 use native.Mathlib.Omega.{arith}
 use lib.ListN.{length}
 use borrow.Author.Needs.{needs}
+use Rattle.text.specs.Order.{Agree}
 use Rattle.text.proofs.WordsDecide as words
 use Rattle.text.proofs.compare.order_by_words.Statement.{statement}
 use Rattle.text.proofs.compare.order_by_words.Tie as tie
 
 abbrev Inv-loop : tie.InvT-loop
-Inv-loop a b last i₀ i = (i ≤ length a) × words.Agree a b i
+Inv-loop a b last i₀ i = (i ≤ length a) × Agree a b i
 
 abbrev μ-loop : tie.MeasureT-loop
 μ-loop a b last i₀ i = length a - i
