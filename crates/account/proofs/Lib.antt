@@ -1,5 +1,5 @@
 -- Laws behind account's proofs, and that its parts add up.
-pub mod Gathering
-pub mod Clearing
+pub mod Ranges
+pub mod Zeros
 pub mod OfModel
-pub mod Answering
+pub mod AccountAnswer

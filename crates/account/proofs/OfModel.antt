@@ -19,9 +19,9 @@ use Rattle.meaning.specs.Every.{Every}
 use Rattle.view.specs.All.{allComponents}
 use Rattle.view.proofs.Columns.{offset-is, length-is, component-past, components-at, rows-lie, components-past}
 use Rattle.shown.specs.Accepted.{BlobLies}
-use Rattle.covering.specs.Covering.{count, times, covered, inside}
+use Rattle.covering.specs.Ranges.{count, times, covered, inside}
 use Rattle.covering.specs.Order.{Begin, End}
-use Rattle.covering.proofs.Counting.{count-split, count-same, count-none}
+use Rattle.covering.proofs.Counts.{count-split, count-same, count-none}
 use Rattle.account.specs.Ranges.{ranges, Rows}
 use Rattle.account.specs.Account as is
 use Rattle.account.specs.Placed.{Placed}

@@ -10,7 +10,7 @@ use Rattle.meaning.specs.Model.{Component}
 use Rattle.meaning.specs.Layouts.{Layout}
 use Rattle.meaning.specs.Frame.{Reading}
 use Rattle.view.specs.All.{allComponents}
-use Rattle.covering.specs.Covering.{count}
+use Rattle.covering.specs.Ranges.{count}
 use Rattle.account.specs.declared.Bytes.{Bytes}
 
 module _ {P : Type 0} where

@@ -7,7 +7,7 @@ ghost use lib.ListN.{length, replicate};
 ghost use Rattle.meaning.specs.Columns.{objectWidth};
 ghost use Rattle.meaning.specs.Layouts.{layoutOf};
 ghost use Rattle.meaning.specs.Rows.{readInto};
-ghost use Rattle.covering.specs.Covering as covering;
+ghost use Rattle.covering.specs.Ranges as covering;
 ghost use Rattle.account.specs.Account as is;
 ghost use Rattle.account.specs.Ranges.{ranges, Rows, Gathered};
 

@@ -1,2 +1,2 @@
 -- The definitions that the contracts of apart cite.
-pub mod Told
+pub mod Positions

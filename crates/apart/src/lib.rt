@@ -4,7 +4,7 @@ ghost use mathlib.Core.Bool.{not};
 ghost use Prim.Native.Nat.{_≤_};
 ghost use lib.Dec.{eqb};
 ghost use Rattle.changes.specs.Changes.{bit};
-ghost use Rattle.apart.specs.Told.{told, manyApart, block, Both, Passed, Run, Rest};
+ghost use Rattle.apart.specs.Positions.{told, manyApart, block, Both, Passed, Run, Rest};
 ghost use Rattle.text.specs.Order.{Agree};
 
 // 0 and 0 if they are equal.

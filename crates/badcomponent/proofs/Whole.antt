@@ -10,7 +10,7 @@ use lib.Dec.{eqb}
 use borrow.Author.Tests.{eq-eqb, ne-eqb, eqb-true, eqb-false}
 use borrow.Rule.Slice.PartAt.{part-to-end}
 use Rattle.meaning.specs.Tree.{Node, Pair, noteOf}
-use Rattle.meaning.specs.Kind.{kind, table, aTable}
+use Rattle.meaning.specs.Kind.{kind, mapping, aMapping}
 use Rattle.meaning.specs.Model.{Word, Named}
 use Rattle.meaning.specs.Check.{pass, fault}
 use Rattle.meaning.specs.Field.{field, isSome}
@@ -24,7 +24,7 @@ use Rattle.walk.proofs.ReadSays.{note-of}
 use Rattle.walk.proofs.Passed.{Here}
 use Rattle.walk.proofs.Opens as opens
 use Rattle.fields.specs.Slots.{marks, Holds}
-use Rattle.fields.proofs.Standing.{hold-none, Item, hold-some, field-stands}
+use Rattle.fields.proofs.Stands.{hold-none, Item, hold-some, field-stands}
 use Rattle.component.specs.Verdict.{lacksDtype, Fields, Found}
 use Rattle.component.proofs.Verdicts.{own-dtype, none-left}
 use Rattle.explained.specs.Fields as at
@@ -70,7 +70,7 @@ both-found v w a b e f g = rw (e, f) refl
 -- ---------------------------------------------------------------- a map of these pairs
 
 module _ (layout : ℕ) (above : Option ℕ) (start : ℕ) (s : List ℕ) (p : List ℕ) (t : Node Ends) (n : Word Ends) (whole : ℕ) (left : whole ≡ length (noteOf t .start))
-    (ps : List (Pair Ends)) (q : List ℕ) (chain : Chain 27 s ps q) (is : p ≡ foldl (marks (layoutOf layout .component)) (replicate 10 0) ps) (kt : kind t ≡ table ps) where
+    (ps : List (Pair Ends)) (q : List ℕ) (chain : Chain 27 s ps q) (is : p ≡ foldl (marks (layoutOf layout .component)) (replicate 10 0) ps) (kt : kind t ≡ mapping ps) where
   abbrev L : Layout
   L = layoutOf layout
 
@@ -206,7 +206,7 @@ module _ (layout : ℕ) (c : List ℕ) (x : Opening) (h : MapIs (Here c 0) x) wh
       pub last : List ℕ
       pub chain : Chain 27 (drop size c) pairs last
       pub slots : p ≡ foldl (marks (layoutOf layout .component)) (replicate 10 0) pairs
-      pub kind-is : kind t ≡ table pairs
+      pub kind-is : kind t ≡ mapping pairs
       pub first-is : k ≡ shown (first (entrySteps (layoutOf layout .component) pairs))
 
     met : (t : Node Ends) (q : List ℕ) → Reads 28 c t q → Met t

@@ -8,28 +8,28 @@ use native.Mathlib.Omega.{arith}
 use lib.ListN.{length}
 use Rattle.meaning.specs.Tree.{Node, Pair, noteOf}
 use Rattle.meaning.specs.Check.{Check, pass, refuse, fault}
-use Rattle.meaning.specs.Kind.{kind, table, aTable, asTable}
+use Rattle.meaning.specs.Kind.{kind, mapping, aMapping, asMapping}
 use Rattle.meaning.specs.Field.{isSome}
 use Rattle.meaning.specs.Layouts.{Slots}
 use Rattle.walk.specs.Reading.{Ends}
 use Rattle.explained.specs.Step as steps
 use Rattle.explained.specs.Step.{Step, first, given}
-use Rattle.explained.specs.Order.{tableSteps, fieldSteps, missing, missingIn}
+use Rattle.explained.specs.Order.{mappingSteps, fieldSteps, missing, missingIn}
 use Rattle.spot.specs.Shown.{spot, shown}
 use Rattle.badfields.specs.Fields.{entrySteps}
 
-pub table-is : {P : Type 0} (t : Node P) (ps : List (Pair P)) → kind t ≡ table ps → aTable t ≡ pass ps
-unfolding aTable asTable
+pub table-is : {P : Type 0} (t : Node P) (ps : List (Pair P)) → kind t ≡ mapping ps → aMapping t ≡ pass ps
+unfolding aMapping asMapping
 table-is t ps e = rw e refl
 
 module _ (ns : Slots) (t : Node Ends) where
-  pub no-map : aTable t ≡ fault 8 → (r : List (Step Ends)) → spot 8 (length (noteOf t .start)) ≡ shown (first (fieldSteps ns t ++ r))
-  unfolding fieldSteps tableSteps shown
+  pub no-map : aMapping t ≡ fault 8 → (r : List (Step Ends)) → spot 8 (length (noteOf t .start)) ≡ shown (first (fieldSteps ns t ++ r))
+  unfolding fieldSteps mappingSteps shown
   no-map e r = rw e refl
 
-  pub map-entries : (ps : List (Pair Ends)) → aTable t ≡ pass ps → (g : List (Pair Ends) → List (Step Ends))
-      → first (fieldSteps ns t ++ steps._>>=_ (given (aTable t)) g) ≡ first (entrySteps ns ps ++ g ps)
-  unfolding fieldSteps tableSteps
+  pub map-entries : (ps : List (Pair Ends)) → aMapping t ≡ pass ps → (g : List (Pair Ends) → List (Step Ends))
+      → first (fieldSteps ns t ++ steps._>>=_ (given (aMapping t)) g) ≡ first (entrySteps ns ps ++ g ps)
+  unfolding fieldSteps mappingSteps
   map-entries ps e g = rw e refl
 
 -- ---------------------------------------------------------------- fields that are missing

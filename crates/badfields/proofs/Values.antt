@@ -15,7 +15,7 @@ use Rattle.walk.specs.Reading.{Ends}
 use Rattle.fields.specs.Slots.{Holds}
 use Rattle.explained.specs.Step as steps
 use Rattle.explained.specs.Step.{Step, first, _at_unless_, given}
-use Rattle.explained.specs.Order.{numberSteps, wordSteps, tableSteps, textSteps, dtypeSteps, typeSteps, rawSteps, versionSteps}
+use Rattle.explained.specs.Order.{numberSteps, wordSteps, mappingSteps, textSteps, dtypeSteps, typeSteps, rawSteps, versionSteps}
 use Rattle.explained.proofs.Agree.{Agree, agree-optional}
 use Rattle.explained.proofs.Jump.{OnePlace, nothing, also, broken, one-place, first-here, first-past}
 use Rattle.spot.specs.Shown.{spot, shown}
@@ -44,8 +44,8 @@ module _ {P : Type 0} (t : Node P) where
   unfolding wordSteps
   one-word = one-at _ _
 
-  pub one-table : OnePlace (noteOf t) (tableSteps t)
-  unfolding tableSteps
+  pub one-table : OnePlace (noteOf t) (mappingSteps t)
+  unfolding mappingSteps
   one-table = one-at _ _
 
   pub one-text : OnePlace (noteOf t) (textSteps t)
@@ -88,7 +88,7 @@ present-left left (some t) h = go (kind t)
     go (kinds.number n) = h
     go (kinds.words w) = h
     go (kinds.list l) = h
-    go (kinds.table l) = h
+    go (kinds.mapping l) = h
     go kinds.null = tt
     go kinds.another = h
 

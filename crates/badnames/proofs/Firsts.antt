@@ -8,7 +8,7 @@ use mathlib.Core.Path.{_≡_, refl, ap, sym, _∙_, subst}
 use lib.ListN.{length}
 use Rattle.meaning.specs.Text.{all}
 use Rattle.walk.specs.Reading.{Ends}
-use Rattle.naming.proofs.Noting.{all-snoc}
+use Rattle.naming.proofs.NameNoted.{all-snoc}
 use Rattle.explained.specs.Step.{Step, first, every}
 use Rattle.explained.proofs.Why.{orElse}
 use Rattle.spot.specs.Shown.{spot, shown}

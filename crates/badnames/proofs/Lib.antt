@@ -1,5 +1,5 @@
 -- Laws behind the proofs of badnames.
 pub mod Firsts
-pub mod Naming
-pub mod Noting
+pub mod NameChecks
+pub mod KeysNoted
 pub mod Untested

@@ -14,9 +14,9 @@ use Rattle.walk.specs.Places.{TextIs}
 use Rattle.walk.specs.Put.{put}
 use Rattle.walk.proofs.Passed.{Here}
 use Rattle.walk.proofs.Puts.{length-put}
-use Rattle.naming.specs.Naming.{tally, Tallied, Noted}
+use Rattle.naming.specs.NotedNames.{tally, Tallied, Noted}
 use Rattle.naming.specs.declared.Tally.{Tally}
-use Rattle.naming.proofs.Noting.{noted-odd, noted-good, noted-bad}
+use Rattle.naming.proofs.NameNoted.{noted-odd, noted-good, noted-bad}
 use Rattle.badnames.specs.Keys.{spelt, Known, NotedIf}
 
 module _ {m : List ℕ} {done : List (Pair Ends)} {t : Tally} {left size : List ℕ} where

@@ -9,9 +9,9 @@ use lib.Dec.{eqb}
 use Rattle.meaning.specs.Tree.{Node, Pair, noteOf}
 use Rattle.meaning.specs.Text.{all, utf8}
 use Rattle.meaning.specs.Refusal.{KEY, TEXT}
-use Rattle.meaning.specs.Kind.{kind, table}
+use Rattle.meaning.specs.Kind.{kind, mapping}
 use Rattle.walk.specs.Reading.{Ends, Reads, Due}
-use Rattle.naming.specs.Naming.{tally, lettersOf, namedAnyway, Tallied}
+use Rattle.naming.specs.NotedNames.{tally, lettersOf, namedAnyway, Tallied}
 use Rattle.naming.specs.declared.Tally.{Tally}
 use Rattle.explained.specs.Step.{Step, first, every}
 use Rattle.explained.specs.Order.{keySteps, sameNameSteps, nameSteps}
@@ -68,13 +68,13 @@ Walked tested levels mode count s left size keys = (ps : List (Pair Ends)) (r : 
 abbrev pub Repeated : List ℕ → ℕ → ℕ → ℕ → List ℕ → List ℕ → Spot → Type 0
 Repeated s from levels n left size r =
     (ps : List (Pair Ends)) → listed (name (drop from s) left size) 0 n ≡ map lettersOf ps
-    → (t : Node Ends) (q : List ℕ) → Reads (suc levels) s t q → kind t ≡ table ps → r ≡ shown (first (sameNameSteps [] (map namedAnyway ps)))
+    → (t : Node Ends) (q : List ℕ) → Reads (suc levels) s t q → kind t ≡ mapping ps → r ≡ shown (first (sameNameSteps [] (map namedAnyway ps)))
 
 -- of the map that is read at s, if this is noted of its pairs
 abbrev pub Judged : List ℕ → ℕ → ℕ → ℕ → Keys → List ℕ → List ℕ → Spot → Type 0
 Judged s from levels n keys left size r =
     (ps : List (Pair Ends)) → Kept (eqb n TEXT) (drop from s) left size keys ps
-    → (t : Node Ends) (q : List ℕ) → Reads (suc levels) s t q → kind t ≡ table ps → Tells n (first (nameSteps (length left) t)) r
+    → (t : Node Ends) (q : List ℕ) → Reads (suc levels) s t q → kind t ≡ mapping ps → Tells n (first (nameSteps (length left) t)) r
 
 -- of whatever is read at s, as a map of `limit` names at most
 abbrev pub NamesAt : ℕ → List ℕ → ℕ → ℕ → Spot → Type 0

@@ -8,14 +8,14 @@ use native.Mathlib.Omega.{arith}
 use lib.ListN.{length}
 use Rattle.meaning.specs.Tree.{Node, Pair, noteOf}
 use Rattle.meaning.specs.Check.{fault}
-use Rattle.meaning.specs.Kind.{aTable}
+use Rattle.meaning.specs.Kind.{aMapping}
 use Rattle.meaning.specs.Model.{Word}
 use Rattle.meaning.specs.Field.{isSome, keyOf}
 use Rattle.meaning.specs.Layouts.{Slots, somes}
 use Rattle.walk.specs.Reading.{Ends}
 use Rattle.component.specs.Value as value
 use Rattle.explained.specs.Step.{Step, first}
-use Rattle.explained.specs.Order.{more, tableSteps, keySteps, repeatSteps, fieldSteps, missing, missingIn}
+use Rattle.explained.specs.Order.{more, mappingSteps, keySteps, repeatSteps, fieldSteps, missing, missingIn}
 use Rattle.spot.specs.Shown.{spot}
 use Rattle.badfields.specs.Fields.{entrySteps}
 use Rattle.badfields.proofs.Firsts.{Each, no-more, and-so, each-++}
@@ -39,8 +39,8 @@ alone-owned n left f a = same (a .this) (a .number) (a .place) (a .owner) ∙ ap
     same : (x : Step Ends) → x .number ≡ n → length (x .place .start) ≡ left → x .componentName ≡ none → owned (spot n left) 0 ≡ ownedBy x
     same x e g h = rw (← e, ← g) (ap (λ (w : Option (Word Ends)). owned (spot (x .number) (length (x .place .start))) (value.leftWord w)) (sym h))
 
-pub no-map : (ns : Slots) (t : Node Ends) → aTable t ≡ fault 8 → (r : List (Step Ends)) → first (fieldSteps ns t ++ r) ≡ some (stepAt 8 t)
-unfolding fieldSteps tableSteps
+pub no-map : (ns : Slots) (t : Node Ends) → aMapping t ≡ fault 8 → (r : List (Step Ends)) → first (fieldSteps ns t ++ r) ≡ some (stepAt 8 t)
+unfolding fieldSteps mappingSteps
 no-map ns t e r = rw e refl
 
 -- ---------------------------------------------------------------- entries

@@ -11,7 +11,7 @@ use borrow.Author.Tests.{eq-eqb, ne-eqb, eqb-true, eqb-false}
 use borrow.Rule.Slice.PartAt.{part-to-end}
 use Rattle.meaning.specs.Tree.{Node, Pair, noteOf}
 use Rattle.meaning.specs.Check.{refuse}
-use Rattle.meaning.specs.Kind.{kind, table, aTable}
+use Rattle.meaning.specs.Kind.{kind, mapping, aMapping}
 use Rattle.meaning.specs.Model.{Word, Named}
 use Rattle.meaning.specs.Field.{field, isSome}
 use Rattle.meaning.specs.Layouts.{Layout, slot, dtypeAt, layoutOf}
@@ -25,7 +25,7 @@ use Rattle.walk.proofs.ReadSays.{note-of}
 use Rattle.walk.proofs.Passed.{Here}
 use Rattle.walk.proofs.Opens as opens
 use Rattle.fields.specs.Slots.{marks, Holds}
-use Rattle.fields.proofs.Standing.{hold-none, Item, hold-some, field-stands}
+use Rattle.fields.proofs.Stands.{hold-none, Item, hold-some, field-stands}
 use Rattle.component.proofs.Verdicts.{none-left}
 use Rattle.object.specs.Verdict.{lacksDtype, Fields, Standing}
 use Rattle.object.proofs.Verdicts.{tensor-dtype, lacked}
@@ -90,7 +90,7 @@ all-found u v w a b c e f h g = rw (e, f, h) refl
 -- ---------------------------------------------------------------- a map of these pairs
 
 module _ (layout : ℕ) (start : ℕ) (s : List ℕ) (p : List ℕ) (t : Node Ends) (w : Word Ends)
-    (ps : List (Pair Ends)) (q : List ℕ) (chain : Chain 29 s ps q) (is : p ≡ foldl (marks (layoutOf layout .object)) (replicate 8 0) ps) (kt : kind t ≡ table ps) where
+    (ps : List (Pair Ends)) (q : List ℕ) (chain : Chain 29 s ps q) (is : p ≡ foldl (marks (layoutOf layout .object)) (replicate 8 0) ps) (kt : kind t ≡ mapping ps) where
   abbrev L : Layout
   L = layoutOf layout
 
@@ -216,7 +216,7 @@ module _ (layout : ℕ) (s : List ℕ) (start n c : ℕ) (v : Opening) (h : MapI
       pub last : List ℕ
       pub chain : Chain 29 (drop size s) pairs last
       pub slots : p ≡ foldl (marks (layoutOf layout .object)) (replicate 8 0) pairs
-      pub kind-is : kind t ≡ table pairs
+      pub kind-is : kind t ≡ mapping pairs
       pub first-is : k ≡ shown (first (entrySteps (layoutOf layout .object) pairs))
 
     met : (t : Node Ends) (q : List ℕ) → Reads 30 s t q → Met t

@@ -9,7 +9,7 @@ use lib.Dec.{eqb}
 use borrow.Author.Tests.{eq-eqb, eqb-true, eqb-false}
 use Rattle.meaning.specs.Tree.{Node, Pair}
 use Rattle.meaning.specs.Check.{optional}
-use Rattle.meaning.specs.Kind.{aTable, present}
+use Rattle.meaning.specs.Kind.{aMapping, present}
 use Rattle.meaning.specs.Model.{Named}
 use Rattle.meaning.specs.Layouts.{Layout, current, old, layoutOf}
 use Rattle.meaning.specs.Field.{field, isSome}
@@ -44,7 +44,7 @@ module _ (L : Layout) (start : ℕ) (typeless : at.typeOf L ≡ none) (a b : ℕ
 
   component-alike : (n : Named Ends) → componentSteps L start (some a) n ≡ componentSteps L start (some b) n
   unfolding componentSteps valueSteps extentSteps extraSteps blobSteps
-  component-alike n = ap (λ l. fieldSteps (L .component) (n .value) ++ l) (bind-alike (given (aTable (n .value))) _ _ λ ps.
+  component-alike n = ap (λ l. fieldSteps (L .component) (n .value) ++ l) (bind-alike (given (aMapping (n .value))) _ _ λ ps.
       ap (λ l. missingIn (at.dtypeOn L at.component) (n .value) (field (at.dtypeOn L at.component) ps) ++ (missing (n .value) (field (at.offsetOf L) ps) ++ (missing (n .value) (field (at.lengthOf L) ps) ++ l)))
       (bind-alike (field (at.offsetOf L) ps) _ _ λ offset. bind-alike (field (at.lengthOf L) ps) _ _ λ length.
       values-alike (n .value) (record {

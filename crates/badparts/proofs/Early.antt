@@ -7,7 +7,7 @@ use mathlib.Core.Path.{_≡_, refl}
 use native.Mathlib.Omega.{arith}
 use Rattle.meaning.specs.Tree.{Node, Pair, noteOf}
 use Rattle.meaning.specs.Check.{optional, each}
-use Rattle.meaning.specs.Kind.{aNumber, aWord, aText, aTable, present}
+use Rattle.meaning.specs.Kind.{aNumber, aWord, aText, aMapping, present}
 use Rattle.meaning.specs.Model.{Word, Named}
 use Rattle.meaning.specs.Layouts.{Layout, somes}
 use Rattle.meaning.specs.Field.{field, keyOf, nameOf}
@@ -16,7 +16,7 @@ use Rattle.walk.specs.Reading.{Ends}
 use Rattle.explained.specs.Fields as at
 use Rattle.explained.specs.Step as steps
 use Rattle.explained.specs.Step.{Step, given, eachOf}
-use Rattle.explained.specs.Order.{more, numberSteps, wordSteps, tableSteps, textSteps, dtypeSteps, typeSteps, rawSteps, keySteps, repeatSteps, fieldSteps, missing, missingIn, sameNameSteps, nameSteps, componentSteps}
+use Rattle.explained.specs.Order.{more, numberSteps, wordSteps, mappingSteps, textSteps, dtypeSteps, typeSteps, rawSteps, keySteps, repeatSteps, fieldSteps, missing, missingIn, sameNameSteps, nameSteps, componentSteps}
 use Rattle.badfields.proofs.Firsts.{Each, no-more, and-so, each-++, each-found, each-every, each-of}
 use Rattle.badvalues.proofs.Alone.{Plain}
 
@@ -35,8 +35,8 @@ module _ {P : Type 0} where
   unfolding wordSteps
   word-low t = and-so (low-at _ 8 refl (omega arith)) no-more
 
-  table-low : (t : Node P) → Each Low (tableSteps t)
-  unfolding tableSteps
+  table-low : (t : Node P) → Each Low (mappingSteps t)
+  unfolding mappingSteps
   table-low t = and-so (low-at _ 8 refl (omega arith)) no-more
 
   text-low : (t : Node P) → Each Low (textSteps t)
@@ -77,8 +77,8 @@ module _ {P : Type 0} where
   pub component-low : (L : Layout) (start : ℕ) (above : Option ℕ) (n : Named P) → Each Low (componentSteps L start above n)
   unfolding componentSteps fieldSteps
   component-low L start above n =
-      each-++ (each-++ (table-low (n .value)) (each-found (given (aTable (n .value))) _ λ ps. each-++ (keys-low ps) (repeats-low (somes (L .component)) [] ps)))
-      (each-found (given (aTable (n .value))) _ λ ps.
+      each-++ (each-++ (table-low (n .value)) (each-found (given (aMapping (n .value))) _ λ ps. each-++ (keys-low ps) (repeats-low (somes (L .component)) [] ps)))
+      (each-found (given (aMapping (n .value))) _ λ ps.
       each-++ (missing-in-low (at.dtypeOn L at.component) (n .value) (field (at.dtypeOn L at.component) ps))
       (each-++ (missing-low (n .value) (field (at.offsetOf L) ps))
       (each-++ (missing-low (n .value) (field (at.lengthOf L) ps))
@@ -116,10 +116,10 @@ same-names-plain before [] = no-more
 same-names-plain before (n ∷ ns) = and-so (plain 11 (omega arith)) (same-names-plain (n .name .letters ∷ before) ns)
 
 pub names-plain : (limit : ℕ) (t : Node Ends) → Each Plain (nameSteps limit t)
-unfolding nameSteps tableSteps keySteps
+unfolding nameSteps mappingSteps keySteps
 names-plain limit t =
     each-++ (and-so (plain 8 (omega arith)) no-more)
-    (each-found (given (aTable t)) _ λ ps.
+    (each-found (given (aMapping t)) _ λ ps.
     each-++ (each-every 9 (λ p. noteOf (p .key)) _ (λ p. and-so (plain 9 (omega arith)) no-more) ps)
     (each-found (given (each (λ i. nameOf) 0 ps)) _ λ ns.
     each-++ (each-every 10 (λ n. n .name .note) _ (λ n. and-so (plain 10 (omega arith)) no-more) ns)

@@ -8,7 +8,7 @@ use borrow.Rule.Slice.PartAt.{part-to-end}
 use Rattle.meaning.specs.Tree.{Node, noteOf}
 use Rattle.meaning.specs.Check.{pass}
 use Rattle.meaning.specs.Limit.{componentLimit}
-use Rattle.meaning.specs.Kind.{Kind, number, words, list, table, null, another, kind, aWord, asWord}
+use Rattle.meaning.specs.Kind.{Kind, number, words, list, mapping, null, another, kind, aWord, asWord}
 use Rattle.meaning.specs.Layouts.{layoutOf}
 use Rattle.meaning.specs.Model.{Word, Named}
 use Rattle.meaning.specs.Field.{names}
@@ -22,7 +22,7 @@ use Rattle.indexed.specs.Entry.{EntryAt}
 use Rattle.indexed.proofs.Named.{named-entry}
 use Rattle.spot.specs.Shown.{spot}
 use Rattle.spot.specs.declared.Spot.{Spot}
-use Rattle.badnames.proofs.Naming.{word-noted}
+use Rattle.badnames.proofs.NameChecks.{word-noted}
 use Rattle.badcomponent.specs.Steps as component
 use Rattle.badparts.specs.declared.Owned.{Owned}
 use Rattle.badparts.specs.Parts.{owned, keyOf, InsideIs, ValueIs, LengthIs}
@@ -35,7 +35,7 @@ spelt-noted t w e = go (kind t) refl e
     go (number n) h e = absurd (let z : _≡_ {A = ℕ} 0 1 = cc in omega arith)
     go (words v) h e = let z : v ≡ w = cc in word-noted t w (h ∙ ap words z)
     go (list l) h e = absurd (let z : _≡_ {A = ℕ} 0 1 = cc in omega arith)
-    go (table l) h e = absurd (let z : _≡_ {A = ℕ} 0 1 = cc in omega arith)
+    go (mapping l) h e = absurd (let z : _≡_ {A = ℕ} 0 1 = cc in omega arith)
     go null h e = absurd (let z : _≡_ {A = ℕ} 0 1 = cc in omega arith)
     go another h e = absurd (let z : _≡_ {A = ℕ} 0 1 = cc in omega arith)
 

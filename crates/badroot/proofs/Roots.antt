@@ -8,7 +8,7 @@ use borrow.Rule.Slice.PartAt.{part-to-end}
 use Rattle.meaning.specs.Tree.{Node, Pair, noteOf}
 use Rattle.meaning.specs.Check.{pass, fault}
 use Rattle.meaning.specs.Refusal.{KIND}
-use Rattle.meaning.specs.Kind.{kind, table, aTable, asTable}
+use Rattle.meaning.specs.Kind.{kind, mapping, aMapping, asMapping}
 use Rattle.meaning.specs.Layouts.{Layout, slot, layoutOf}
 use Rattle.meaning.specs.Field.{field}
 use Rattle.walk.specs.Reading.{Ends, Reads, foldl}
@@ -19,10 +19,10 @@ use Rattle.walk.proofs.Passed.{Here}
 use Rattle.walk.proofs.ReadSays.{note-of}
 use Rattle.walk.proofs.Opens as opens
 use Rattle.fields.specs.Slots.{marks, Holds}
-use Rattle.fields.proofs.Standing.{field-stands, holds-whole}
+use Rattle.fields.proofs.Stands.{field-stands, holds-whole}
 use Rattle.explained.specs.Fields.{objectsField}
 use Rattle.explained.specs.Step.{first}
-use Rattle.explained.specs.Order.{tableSteps, fieldSteps}
+use Rattle.explained.specs.Order.{mappingSteps, fieldSteps}
 use Rattle.keys.specs.Odd.{slotsAt}
 use Rattle.keys.proofs.Parts.{of-root}
 use Rattle.badfields.specs.Fields.{entrySteps, FirstIs}
@@ -33,8 +33,8 @@ use Rattle.spot.specs.declared.Spot.{Spot}
 use Rattle.badnames.specs.Keys.{Tells}
 use Rattle.badroot.specs.Opening.{valueSteps, openingSteps, Stood, ValuesIs, RootIs, ObjectsAt}
 
-opening-first : (L : Layout) (t : Node Ends) (ps : List (Pair Ends)) → kind t ≡ table ps → first (openingSteps L t) ≡ first (entrySteps (L .root) ps ++ valueSteps L t ps)
-unfolding openingSteps fieldSteps tableSteps aTable asTable
+opening-first : (L : Layout) (t : Node Ends) (ps : List (Pair Ends)) → kind t ≡ mapping ps → first (openingSteps L t) ≡ first (entrySteps (L .root) ps ++ valueSteps L t ps)
+unfolding openingSteps fieldSteps mappingSteps aMapping asMapping
 opening-first L t ps e = rw e refl
 
 pub six-places : (layout : ℕ) → replicate {A = ℕ} 6 0 ≡ replicate (length (slotsAt layout 0) + 3) 0
@@ -46,11 +46,11 @@ module _ (layout : ℕ) (s : List ℕ) (x : Opening) (h : MapIs (Here s 0) x) wh
 
   module _ (e : x ≡ NotOpen) where
     pub no-root : {n : ℕ} {r : Spot} → r ≡ spot KIND (length s) → RootIs L s n r
-    unfolding openingSteps fieldSteps tableSteps shown
+    unfolding openingSteps fieldSteps mappingSteps shown
     no-root is t q reads by = is ∙ sym ((rw (opens.opening s x h NotOpen e 31 t q reads) refl) ∙ ap (λ (y : Ends). spot KIND (length (y .start))) (note-of 32 s t q reads))
 
     pub nothing-stands : ObjectsAt L s 0
-    unfolding aTable asTable
+    unfolding aMapping asMapping
     nothing-stands t q reads ps is =
         let z : pass ps ≡ fault KIND = (rw is refl) ∙ opens.opening s x h NotOpen e 31 t q reads in
         absurd (let y : _≡_ {A = ℕ} 0 1 = cc in omega arith)
@@ -74,7 +74,7 @@ module _ (layout : ℕ) (s : List ℕ) (x : Opening) (h : MapIs (Here s 0) x) wh
     pub objects-stand : (left : ℕ) → left ≡ getD p 2 0 → ObjectsAt L s left
     objects-stand left e t q reads ps kt =
         let m = mapped t q reads in
-        let y : m .pairs ≡ ps = let z : table (m .pairs) ≡ table ps = sym (m .kind-is) ∙ kt in cc in
+        let y : m .pairs ≡ ps = let z : mapping (m .pairs) ≡ mapping ps = sym (m .kind-is) ∙ kt in cc in
         let f = subst (λ ps. Holds 31 (drop size s) (getD p 2 0) (field (objectsField L) ps)) y (stood t q reads 2 (omega arith)) in
         holds-whole 31 s size (opens.size-inside s x h mode count size is) left (field (objectsField L) ps) (subst (λ l. Holds 31 (drop size s) l (field (objectsField L) ps)) (sym e) f)
 

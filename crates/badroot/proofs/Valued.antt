@@ -24,11 +24,11 @@ use Rattle.walk.proofs.Passed.{Here}
 use Rattle.walk.proofs.ReadSays.{note-of}
 use Rattle.fields.specs.Slots.{Stands, Holds}
 use Rattle.fields.specs.Attributes.{AttributesAt}
-use Rattle.fields.proofs.Standing.{Item, hold-none, hold-some}
+use Rattle.fields.proofs.Stands.{Item, hold-none, hold-some}
 use Rattle.fields.proofs.Texts.{no-word, word, letters}
 use Rattle.explained.specs.Fields.{root, versionOf, attributesOn, objectsField}
 use Rattle.explained.specs.Step.{Step, _at_unless_, _>>=_, first, given}
-use Rattle.explained.specs.Order.{tableSteps, wordSteps, versionSteps, missing, nameSteps}
+use Rattle.explained.specs.Order.{mappingSteps, wordSteps, versionSteps, missing, nameSteps}
 use Rattle.explained.proofs.Parts.{agree-attributes, agree-version}
 use Rattle.badfields.specs.Fields.{spotOf}
 use Rattle.badfields.proofs.Firsts.{Each, no-more, and-so, each-++, each-found, Numbered, shown-here, shown-past}

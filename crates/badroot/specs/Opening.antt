@@ -8,7 +8,7 @@ use Rattle.meaning.specs.Tree.{Node, Pair, noteOf}
 use Rattle.meaning.specs.Check.{pass}
 use Rattle.meaning.specs.Limit.{objectLimit}
 use Rattle.meaning.specs.Model.{Named}
-use Rattle.meaning.specs.Kind.{kind, table, aTable}
+use Rattle.meaning.specs.Kind.{kind, mapping, aMapping}
 use Rattle.meaning.specs.Layouts.{Layout, slot}
 use Rattle.meaning.specs.Field.{field, names}
 use Rattle.walk.specs.Reading.{Ends, Reads}
@@ -16,7 +16,7 @@ use Rattle.walk.specs.Places.{Whatever}
 use Rattle.fields.specs.Slots.{Holds}
 use Rattle.explained.specs.Fields.{root, versionOf, attributesOn, objectsField}
 use Rattle.explained.specs.Step.{Step, _>>=_, _>>_, first, inObject, given, eachOf}
-use Rattle.explained.specs.Order.{tableSteps, versionSteps, fieldSteps, missing, nameSteps, objectSteps, manifestSteps}
+use Rattle.explained.specs.Order.{mappingSteps, versionSteps, fieldSteps, missing, nameSteps, objectSteps, manifestSteps}
 use Rattle.spot.specs.Shown.{shown}
 use Rattle.spot.specs.declared.Spot.{Spot}
 use Rattle.badnames.specs.Keys.{Tells}
@@ -25,7 +25,7 @@ module _ {P : Type 0} (L : Layout) where
   -- attributes, objects and their names, of a root t with these pairs
   unfoldable pub laterSteps : Node P → List (Pair P) → List (Step P)
   laterSteps t ps = do
-    field (attributesOn L root) ps >>= tableSteps
+    field (attributesOn L root) ps >>= mappingSteps
     missing t (field (objectsField L) ps)
     objects ← field (objectsField L) ps
     nameSteps objectLimit objects
@@ -41,7 +41,7 @@ module _ {P : Type 0} (L : Layout) where
   unfoldable pub openingSteps : Node P → List (Step P)
   openingSteps t = do
     fieldSteps (L .root) t
-    ps ← given (aTable t)
+    ps ← given (aMapping t)
     valueSteps t ps
 
   -- the checks of each object in turn
@@ -54,7 +54,7 @@ module _ {P : Type 0} (L : Layout) (start : ℕ) (t : Node P) where
     pub pairs : List (Pair P)
     pub objects : Node P
     pub named : List (Named P)
-    pub kind-is : kind t ≡ table pairs
+    pub kind-is : kind t ≡ mapping pairs
     pub found : field (objectsField L) pairs ≡ some objects
     pub names-are : names objectLimit objects ≡ pass named
     pub rest : first (manifestSteps L start t) ≡ first (eachObject L start named)
@@ -84,4 +84,4 @@ RootIs L s n r = (t : Node Ends) (q : List ℕ) → Reads 32 s t q → Tells n (
 
 -- the place of the objects of whatever map s is read as
 abbrev pub ObjectsAt : Layout → List ℕ → ℕ → Type 0
-ObjectsAt L s left = (t : Node Ends) (q : List ℕ) → Reads 32 s t q → (ps : List (Pair Ends)) → kind t ≡ table ps → Holds 31 s left (field (objectsField L) ps)
+ObjectsAt L s left = (t : Node Ends) (q : List ℕ) → Reads 32 s t q → (ps : List (Pair Ends)) → kind t ≡ mapping ps → Holds 31 s left (field (objectsField L) ps)

@@ -25,7 +25,7 @@ use Rattle.object.specs.declared.place.Coded.the-variants.{No as NoCode, Yes as
 use Rattle.object.specs.Verdict.{Fields, Standing}
 use Rattle.explained.specs.Step as steps
 use Rattle.explained.specs.Step.{Step, first, given}
-use Rattle.explained.specs.Order.{textSteps, tableSteps, dtypeSteps, shapeSteps}
+use Rattle.explained.specs.Order.{textSteps, mappingSteps, dtypeSteps, shapeSteps}
 use Rattle.explained.proofs.Parts.{agree-text, agree-attributes, agree-dtype, agree-shapeOf}
 use Rattle.spot.specs.Shown.{shown}
 use Rattle.spot.specs.declared.Spot.{Spot}
@@ -52,11 +52,11 @@ module _ (s : List ℕ) (a b code : ℕ) (r₁ : Coded) (h₁ : FormatAt (Here s
     attributes-are = subst (λ u. AttributesAt u b ok) (part-to-end s 0) h₂
 
     past-format : (x : Node Ends) (y : Option (Node Ends)) (hx : Stands 29 s a x) (next : Word Ends → List (Step Ends))
-        → (w : Word Ends) × (aText x ≡ pass w) × (m ≡ formatCode w) × (first (describedSteps x y next) ≡ first (steps._>>=_ y tableSteps ++ next w))
+        → (w : Word Ends) × (aText x ≡ pass w) × (m ≡ formatCode w) × (first (describedSteps x y next) ≡ first (steps._>>=_ y mappingSteps ++ next w))
     unfolding describedSteps
     past-format x y hx next =
         let k = passed-so formatCode (aText x) m (format-is (Code m) e₁ 28 x hx) in
-        (k .value, k .is, sym (k .shown), value-passes one-text agree-text _ x (k .value) (k .is) ∙ ap (λ c. first (steps._>>=_ (given c) (λ f. steps._>>=_ y tableSteps ++ next f))) (k .is))
+        (k .value, k .is, sym (k .shown), value-passes one-text agree-text _ x (k .value) (k .is) ∙ ap (λ c. first (steps._>>=_ (given c) (λ f. steps._>>=_ y mappingSteps ++ next f))) (k .is))
 
     pub no-attributes : ok ≡ false → DescribedIs s a b code (Odd 8 b)
     no-attributes e x y hx hy next =

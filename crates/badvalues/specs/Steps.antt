@@ -16,7 +16,7 @@ use Rattle.component.specs.Value as value
 use Rattle.object.specs.Place.{formatCode}
 use Rattle.object.specs.Verdict.{Fields, Standing}
 use Rattle.explained.specs.Step.{Step, first, _>>=_, _>>_, given}
-use Rattle.explained.specs.Order.{tableSteps, textSteps, dtypeSteps, shapeSteps}
+use Rattle.explained.specs.Order.{mappingSteps, textSteps, dtypeSteps, shapeSteps}
 use Rattle.badvalues.specs.declared.Valued.{Valued}
 use Rattle.badvalues.specs.declared.Valued.the-variants.{Odd, Sound}
 
@@ -25,7 +25,7 @@ unfoldable pub describedSteps : Node Ends → Option (Node Ends) → (Word Ends 
 describedSteps format attributes next = do
   textSteps format
   f ← given (aText format)
-  attributes >>= tableSteps
+  attributes >>= mappingSteps
   next f
 
 unfoldable pub valueSteps : Layout → Fields → (Option ℕ → List ℕ → Word Ends → List (Step Ends)) → List (Step Ends)

@@ -8,7 +8,7 @@ use Rattle.meaning.specs.Read.{Outcome, got, refused, item, noNote}
 use Rattle.meaning.proofs.ReadNatural.{mapOut, item-follows}
 use Rattle.meaning.proofs.ReadPrefix.{item-exact}
 use Rattle.cbor.specs.Ending.{took, ending, itemEnd}
-use Rattle.cbor.proofs.Passing.{Got, got-what}
+use Rattle.cbor.proofs.Ends.{Got, got-what}
 
 module _ {P : Type 0} (note : List ℕ → List ℕ → P) (d : ℕ) (s : List ℕ) where
   bare : item noNote d s ≡ mapOut (mapP nothing) (item note d s)

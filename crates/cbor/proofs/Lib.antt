@@ -1,5 +1,5 @@
 pub mod Heads
-pub mod Passing
+pub mod Ends
 pub mod Rest
 pub mod Majors
 pub mod FirstByte

@@ -13,7 +13,7 @@ use Rattle.meaning.proofs.ReadPrefix.{still, Exact, Hungry, item-exact, item-hu
 use Rattle.endian.proofs.Which.{lt-or}
 use Rattle.cbor.specs.declared.Holding.{Holding}
 use Rattle.cbor.specs.Ending.{Ending, took, fault, FAULT, code, ending, shift, itemEnd, rest, broken, endless, holds, HolderIs, PlainIs}
-use Rattle.cbor.proofs.Passing.{Fine, fine-ending, shift-shift, is-took, is-fault, got-what, break-goes-on, break-stops, break-here, break-missing}
+use Rattle.cbor.proofs.Ends.{Fine, fine-ending, shift-shift, is-took, is-fault, got-what, break-goes-on, break-stops, break-here, break-missing}
 use Rattle.cbor.proofs.Rest as due
 
 first-of : (s : List ℕ) (at : ℕ) → getD (drop at s) 0 0 ≡ getD s at 0

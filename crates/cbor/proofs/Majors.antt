@@ -17,7 +17,7 @@ use Rattle.meaning.proofs.ExactEvery.{not-reserved}
 use Rattle.endian.proofs.Which.{lt-or}
 use Rattle.cbor.specs.Ending.{Ending, took, fault, FAULT, code, ending, shift, itemEnd, headed, headOf, argued, endless, stringEnd, holds, rest, HolderIs, held, doubled}
 use Rattle.cbor.proofs.Heads.{OneMore, Look, sized, loose, wrong, look, Refuses}
-use Rattle.cbor.proofs.Passing.{ending-map, further}
+use Rattle.cbor.proofs.Ends.{ending-map, further}
 use Rattle.cbor.proofs.Rest.{one-due, never-met, pairs-are-items, items-exact, pairs-exact}
 
 -- the head, from what was looked at

@@ -14,7 +14,7 @@ use Rattle.meaning.specs.Read.{Outcome, got, refused, Reader, after, _>>=_, pur
 use Rattle.meaning.proofs.ReadPrefix.{still, Exact, bind-exact, pure-exact, times-exact, toBreak-exact, pair-exact, pair-hungry, item-exact, item-hungry}
 use Rattle.meaning.proofs.ReadTurns.{oneTurn}
 use Rattle.cbor.specs.Ending.{Ending, took, fault, ending, shift, itemEnd, rest, broken}
-use Rattle.cbor.proofs.Passing.{Fine, fine-ending, shift-shift, got-what, ending-map, bind-stops, bind-goes-on, turn-begins, break-goes-on, break-stops, break-here, break-missing}
+use Rattle.cbor.proofs.Ends.{Fine, fine-ending, shift-shift, got-what, ending-map, bind-stops, bind-goes-on, turn-begins, break-goes-on, break-stops, break-here, break-missing}
 
 -- what no level more or less changes: no item begins with the break byte, or where no byte is left
 pub never-break : (d : ℕ) (s : List ℕ) → 1 ≤ length s → getD s 0 0 ≡ 255 → itemEnd d s ≡ fault 6

@@ -19,7 +19,7 @@ use Rattle.changes.specs.Changes.{Entry, Found, numbers, flat, across, later, s
 use Rattle.pairs.specs.Objects.{objectAt, countAt}
 use Rattle.put.specs.Wrote.{most}
 use Rattle.models.specs.Tables.{Table, startOf, objectsFrom, changesOf, oldsFrom, newsFrom}
-use Rattle.comparing.specs.Told.{numbersOf}
+use Rattle.comparing.specs.Comparison.{numbersOf}
 
 pub eight-each : (l : List Entry) → length (flat l) ≡ 8 * length l
 eight-each [] = refl

@@ -1,4 +1,4 @@
 -- Laws behind comparing's proofs.
 pub mod Bound
 pub mod OfModel
-pub mod Answering
+pub mod ComparedFiles

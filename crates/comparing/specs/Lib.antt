@@ -1,2 +1,2 @@
 -- The definitions that the contracts of comparing cite.
-pub mod Told
+pub mod Comparison

@@ -6,7 +6,7 @@ ghost use lib.ListN.{length, take, drop, replicate};
 ghost use Rattle.meaning.specs.Layouts.{layoutOf};
 ghost use Rattle.meaning.specs.Frame.{reading};
 ghost use Rattle.models.specs.Tables.{Table};
-ghost use Rattle.comparing.specs.Told as is;
+ghost use Rattle.comparing.specs.Comparison as is;
 
 // The verdict, the file that is refused, or 0; and how many entries the list has. All but the first four are 0 on refusal, unless the list is too short.
 #[repr(C)]

@@ -13,7 +13,7 @@ use Rattle.walk.specs.declared.Entry.the-variants.{End, Value}
 use Rattle.walk.proofs.Turns as turns
 use Rattle.walk.proofs.Turns.{Walking}
 use Rattle.fields.specs.Slots.{marked, marks, SlotIs}
-use Rattle.fields.proofs.Marking.{marks-step, marked-length}
+use Rattle.fields.proofs.MarkedSlots.{marks-step, marked-length}
 use Rattle.fields.proofs.Texts.{Here}
 use Rattle.component.specs.Verdict.{Placed}
 

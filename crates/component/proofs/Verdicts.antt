@@ -15,7 +15,7 @@ use Rattle.meaning.specs.Text.{all}
 use Rattle.meaning.specs.Refusal.{ALIGN, BOUNDS}
 use Rattle.meaning.specs.Limit.{alignment}
 use Rattle.meaning.specs.Model.{Word, Component}
-use Rattle.meaning.specs.Kind.{kind, table, aNumber, aText, aTable, asTable, present}
+use Rattle.meaning.specs.Kind.{kind, mapping, aNumber, aText, aMapping, asMapping, present}
 use Rattle.meaning.specs.Field as field
 use Rattle.meaning.specs.Layouts.{slot, somes, Layout, dtypeAt, current, old, layoutOf}
 use Rattle.meaning.specs.Judge as judge
@@ -24,7 +24,7 @@ use Rattle.meaning.proofs.Tests.{not-both, both-left, both-right}
 use Rattle.lengths.specs.Place.{placed}
 use Rattle.walk.specs.Reading.{Ends, Chain, foldl}
 use Rattle.fields.specs.Slots.{marks, Holds}
-use Rattle.fields.proofs.Standing.{hold-none, Item, hold-some, keys-are-text, none-twice, field-stands}
+use Rattle.fields.proofs.Stands.{hold-none, Item, hold-some, keys-are-text, none-twice, field-stands}
 use Rattle.fields.proofs.Texts.{Here}
 use Rattle.component.specs.declared.Judged.{Judged}
 use Rattle.component.specs.declared.Judged.the-variants.{No}
@@ -141,7 +141,7 @@ module _ (mk : ℕ → Option (Word Ends) → ℕ → ℕ → Option (Word Ends)
 
 -- ---------------------------------------------------------------- the judgement of a map of these pairs
 
-module _ (L : Layout) (above : Option ℕ) (start : ℕ) (t : Node Ends) (ps : List (Pair Ends)) (kt : kind t ≡ table ps) (n : Word Ends) where
+module _ (L : Layout) (above : Option ℕ) (start : ℕ) (t : Node Ends) (ps : List (Pair Ends)) (kt : kind t ≡ mapping ps) (n : Word Ends) where
   abbrev the : Check (Component Ends)
   the = judge.component L start above (record { name = n; value = t })
 
@@ -150,27 +150,27 @@ module _ (L : Layout) (above : Option ℕ) (start : ℕ) (t : Node Ends) (ps : L
   at i = field.field (slot i (L .component)) ps
 
   judged-odd : all (λ q. field.isSome (field.keyOf q)) ps ≡ false → No 9 ≡ judged the
-  unfolding judge.component field.componentFields field.fields aTable asTable
+  unfolding judge.component field.componentFields field.fields aMapping asMapping
   judged-odd e = rw kt (rw e refl)
 
   module _ (a : all (λ q. field.isSome (field.keyOf q)) ps ≡ true) where
     judged-twice : all (λ m. leb (field.count m ps) 1) (somes (L .component)) ≡ false → No 11 ≡ judged the
-    unfolding judge.component field.componentFields field.fields aTable asTable
+    unfolding judge.component field.componentFields field.fields aMapping asMapping
     judged-twice e = rw kt (rw (a, e) refl)
 
     module _ (b : all (λ m. leb (field.count m ps) 1) (somes (L .component)) ≡ true) where
       judged-no-dtype : requiredIn (slot dtypeAt (L .component)) (at 0) ≡ refuse 12 0 0 → No 12 ≡ judged the
-      unfolding judge.component field.componentFields field.fields aTable asTable
+      unfolding judge.component field.componentFields field.fields aMapping asMapping
       judged-no-dtype e = rw kt (rw (a, b) (rw e refl))
 
       module _ (g₁ : requiredIn (slot dtypeAt (L .component)) (at 0) ≡ pass (at 0)) where
         judged-no-offset : at 2 ≡ none → No 12 ≡ judged the
-        unfolding judge.component field.componentFields field.fields aTable asTable
+        unfolding judge.component field.componentFields field.fields aMapping asMapping
         judged-no-offset e = rw kt (rw (a, b) (rw (g₁, e) refl))
 
         module _ (offset : Node Ends) (g₂ : at 2 ≡ some offset) where
           judged-no-length : at 3 ≡ none → No 12 ≡ judged the
-          unfolding judge.component field.componentFields field.fields aTable asTable
+          unfolding judge.component field.componentFields field.fields aMapping asMapping
           judged-no-length e = rw kt (rw (a, b) (rw (g₁, g₂, e) refl))
 
           module _ (size : Node Ends) (g₃ : at 3 ≡ some size) where
@@ -178,7 +178,7 @@ module _ (L : Layout) (above : Option ℕ) (start : ℕ) (t : Node Ends) (ps : L
             found = record { dtype = at 0; type = at 1; offset = offset; length = size; unpacked = at 4; encoding = at 5; digest = at 6 }
 
             judged-sound : the ≡ sound L above start n (noteOf t) found
-            unfolding judge.component field.componentFields field.fields aTable asTable sound storage codeOf extent extras placed
+            unfolding judge.component field.componentFields field.fields aMapping asMapping sound storage codeOf extent extras placed
             judged-sound = rw kt (rw (a, b) (rw (g₁, g₂, g₃)
                 (sym (bind-assoc (optional (judge.aDtype L) (at 0)) (λ own. required (judge.orElse own above)) _)
                 ∙ regroup (λ d u o l g. record { name = n; dtype = d; type = u; offset = o; length = l; digest = g; entry = noteOf t })
@@ -190,7 +190,7 @@ module _ (L : Layout) (above : Option ℕ) (start : ℕ) (t : Node Ends) (ps : L
 
 module _ (layout : ℕ) (above : Option ℕ) (s : List ℕ) (start : ℕ) (p : List ℕ) where
   module _ (d : ℕ) (ps : List (Pair Ends)) (q : List ℕ) (chain : Chain (suc d) s ps q) (is : p ≡ foldl (marks ((layoutOf layout) .component)) (replicate 10 0) ps)
-      (t : Node Ends) (kt : kind t ≡ table ps) (n : Word Ends) where
+      (t : Node Ends) (kt : kind t ≡ mapping ps) (n : Word Ends) where
     keys : eqb (getD p 8 0) 0 ≡ all (λ q. field.isSome (field.keyOf q)) ps
     keys = keys-are-text ((layoutOf layout) .component) 7 ((layoutOf layout) .componentPlaces) (suc d) s ps q chain p is
 

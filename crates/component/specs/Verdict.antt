@@ -11,7 +11,7 @@ use Rattle.meaning.specs.Check.{Check, pass, refuse, fault, _>>=_, _>>_, option
 use Rattle.meaning.specs.Notes.{mapCheck}
 use Rattle.meaning.specs.Refusal.{KEY, TWICE, MISSING}
 use Rattle.meaning.specs.Model.{Word, Component}
-use Rattle.meaning.specs.Kind.{kind, table, aNumber, aText, present}
+use Rattle.meaning.specs.Kind.{kind, mapping, aNumber, aText, present}
 use Rattle.meaning.specs.Layouts.{Layout}
 use Rattle.meaning.specs.Judge.{aType, raw, component}
 use Rattle.lengths.specs.Place.{placed}
@@ -146,7 +146,7 @@ SoundIs L above s start p r = (d : ℕ) (f : Fields) → Found d s p f → (n : 
 -- for every map of the pairs that are read from s on, where p holds their slots
 abbrev pub VerdictIs : Layout → Option ℕ → List ℕ → ℕ → List ℕ → Judged → Type 0
 VerdictIs L above s start p r = (d : ℕ) (ps : List (Pair Ends)) (q : List ℕ) → Chain (suc d) s ps q → p ≡ foldl (marks (L .component)) (replicate 10 0) ps
-    → (t : Node Ends) → kind t ≡ table ps → (n : Word Ends) → r ≡ judged (component L start above (record { name = n; value = t }))
+    → (t : Node Ends) → kind t ≡ mapping ps → (n : Word Ends) → r ≡ judged (component L start above (record { name = n; value = t }))
 
 abbrev pub ComponentIs : Layout → Option ℕ → List ℕ → ℕ → Judged → Type 0
 ComponentIs L above s start r = (t : Node Ends) (q : List ℕ) → Reads 28 s t q → (n : Word Ends) → r ≡ judged (component L start above (record { name = n; value = t }))

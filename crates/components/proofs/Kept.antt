@@ -23,7 +23,7 @@ use Rattle.types.specs.Known.{position, formatNames, roleNames}
 use Rattle.formats.specs.Parts.{flag, partRow}
 use Rattle.formats.proofs.Rows.{plain-bare, plain-typed}
 use Rattle.walk.specs.Reading.{Ends, Reads}
-use Rattle.naming.specs.Naming.{namedAnyway}
+use Rattle.naming.specs.NotedNames.{namedAnyway}
 use Rattle.component.specs.Value.{leftWord, given}
 use Rattle.component.specs.Verdict.{judged}
 use Rattle.component.specs.declared.Judged.{Judged}
@@ -33,7 +33,7 @@ use Rattle.components.specs.declared.First.the-variants.{Fine, Fault}
 use Rattle.components.specs.Firsts.{Given, offered, FirstIs, Keeps}
 use Rattle.components.specs.Typed.{WordAt, bare, lettered, UnitIs}
 use Rattle.components.specs.Row.{putRow, RoleIs, storedAs}
-use Rattle.components.proofs.Keeping.{fault-stays, first-fault, still-fine}
+use Rattle.components.proofs.FirstFault.{fault-stays, first-fault, still-fine}
 use Rattle.components.proofs.Lettered.{type-at, named-so}
 use Rattle.components.proofs.Storage.{withCode, stored-so}
 use Rattle.components.proofs.Rows.{row-length, row-after}

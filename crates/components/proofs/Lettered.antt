@@ -30,7 +30,7 @@ use Rattle.walk.proofs.Maps as maps
 use Rattle.walk.proofs.ReadSays.{nothing-read}
 use Rattle.walk.proofs.Chains.{ate}
 use Rattle.fields.specs.Slots.{Stands}
-use Rattle.fields.proofs.Standing.{field-found-stands}
+use Rattle.fields.proofs.Stands.{field-found-stands}
 use Rattle.components.specs.Typed.{WordAt, bare, lettered}
 use Rattle.components.proofs.Typed.{TextsFrom, texts-from}
 
@@ -42,15 +42,15 @@ pub record Chained (d : ℕ) (s : List ℕ) (ps : List (Pair Ends)) : Type 0 whe
   pub last : List ℕ
   pub chain : Chain d (drop at s) ps last
 
-module _ (d : ℕ) (s : List ℕ) (room : length s < FAULT) (t : Node Ends) (r : List ℕ) (e : Reads (suc d) s t r) (ps : List (Pair Ends)) (is : kind t ≡ kinds.table ps) where
-  a-map : kinds.aTable t ≡ pass ps
-  unfolding kinds.aTable kinds.asTable
+module _ (d : ℕ) (s : List ℕ) (room : length s < FAULT) (t : Node Ends) (r : List ℕ) (e : Reads (suc d) s t r) (ps : List (Pair Ends)) (is : kind t ≡ kinds.mapping ps) where
+  a-map : kinds.aMapping t ≡ pass ps
+  unfolding kinds.aMapping kinds.asMapping
   a-map = rw is refl
 
   opened : {mode count size : ℕ} → OpenMap s mode count size → Chained d s ps
   opened {mode} {count} {size} o =
       let m = o .trees d t r e in
-      let z : kinds.table (m .pairs) ≡ kinds.table ps = sym (m .kind-is) ∙ is in
+      let z : kinds.mapping (m .pairs) ≡ kinds.mapping ps = sym (m .kind-is) ∙ is in
       let y : m .pairs ≡ ps = cc in
       record { at = size; within = o .within; last = m .last; chain = subst (λ ps. Chain d (drop size s) ps (m .last)) y (m .due .chain) }
 
@@ -106,7 +106,7 @@ unfolding presentKind
 present-kind u (kinds.number n) t e = e
 present-kind u (kinds.words w) t e = e
 present-kind u (kinds.list l) t e = e
-present-kind u (kinds.table l) t e = e
+present-kind u (kinds.mapping l) t e = e
 present-kind u kinds.null t e = absurd (let z : _≡_ {A = ℕ} 0 1 = cc in omega arith)
 present-kind u kinds.another t e = e
 

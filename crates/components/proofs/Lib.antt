@@ -1,10 +1,10 @@
-pub mod Keeping
+pub mod FirstFault
 pub mod Typed
 pub mod Lettered
 pub mod Units
 pub mod Rows
 pub mod Storage
 pub mod Kept
-pub mod Looping
-pub mod Concluding
+pub mod EntryLoop
+pub mod MapEnd
 pub mod Walks

@@ -19,7 +19,7 @@ use Rattle.walk.specs.Reading.{Ends}
 use Rattle.walk.specs.Places.{TextIs}
 use Rattle.walk.specs.declared.Letters.{Letters}
 use Rattle.walk.specs.declared.Letters.the-variants.{NoText, Text}
-use Rattle.naming.specs.Naming.{wordOr}
+use Rattle.naming.specs.NotedNames.{wordOr}
 use Rattle.fields.proofs.Texts.{Here, no-word, word, letters}
 use Rattle.components.specs.Row.{putRow, RoleIs}
 
@@ -28,7 +28,7 @@ unfolding asWord
 no-letters e (kinds.number n) h = refl
 no-letters e (kinds.words w) h = absurd (let z : _≡_ {A = ℕ} 0 1 = cc in omega arith)
 no-letters e (kinds.list l) h = refl
-no-letters e (kinds.table l) h = refl
+no-letters e (kinds.mapping l) h = refl
 no-letters e kinds.null h = refl
 no-letters e kinds.another h = refl
 
@@ -37,7 +37,7 @@ unfolding asWord
 its-letters e (kinds.number n) w h = absurd (let z : _≡_ {A = ℕ} 0 1 = cc in omega arith)
 its-letters e (kinds.words v) w h = let z : w ≡ v = cc in ap (λ (u : Word Ends). u .letters) z
 its-letters e (kinds.list l) w h = absurd (let z : _≡_ {A = ℕ} 0 1 = cc in omega arith)
-its-letters e (kinds.table l) w h = absurd (let z : _≡_ {A = ℕ} 0 1 = cc in omega arith)
+its-letters e (kinds.mapping l) w h = absurd (let z : _≡_ {A = ℕ} 0 1 = cc in omega arith)
 its-letters e kinds.null w h = absurd (let z : _≡_ {A = ℕ} 0 1 = cc in omega arith)
 its-letters e kinds.another w h = absurd (let z : _≡_ {A = ℕ} 0 1 = cc in omega arith)
 

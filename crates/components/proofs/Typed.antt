@@ -20,10 +20,10 @@ use Rattle.meaning.proofs.Checks.{pass-same, passed-on, passed}
 use Rattle.meaning.proofs.KindIs.{table-kind}
 use Rattle.walk.specs.Reading.{Ends}
 
-fielded : (slots : Slots) (t : Node Ends) (ps : List (Pair Ends)) → fields slots t ≡ pass ps → kind t ≡ kinds.table ps
-unfolding fields kinds.aTable
+fielded : (slots : Slots) (t : Node Ends) (ps : List (Pair Ends)) → fields slots t ≡ pass ps → kind t ≡ kinds.mapping ps
+unfolding fields kinds.aMapping
 fielded slots t ps e =
-    let b = passed (kinds.asTable (kind t)) _ ps e in
+    let b = passed (kinds.asMapping (kind t)) _ ps e in
     let u = passed-on (KEY unless all (λ p. isSome (keyOf p)) (b .value)) _ ps (b .then) in
     let v : pass (b .value) ≡ pass ps = passed-on (TWICE unless all (λ n. leb (count n (b .value)) 1) (somes slots)) _ ps u in
     table-kind (kind t) ps (b .is ∙ v)
@@ -31,7 +31,7 @@ fielded slots t ps e =
 pub record TextsFrom (L : Layout) (n : Named Ends) (k : Component Ends) : Type 0 where
   pub named : n .name ≡ k .name
   pub pairs : List (Pair Ends)
-  pub kind-is : kind (n .value) ≡ kinds.table pairs
+  pub kind-is : kind (n .value) ≡ kinds.mapping pairs
   pub typed : optional (aType (k .dtype)) (present (field (slot 1 (L .component)) pairs)) ≡ pass (k .type)
   pub digested : optional kinds.aText (present (field (slot 6 (L .component)) pairs)) ≡ pass (k .digest)
   pub entered : noteOf (n .value) ≡ k .entry

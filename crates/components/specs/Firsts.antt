@@ -9,7 +9,7 @@ use Rattle.meaning.specs.Check.{Check, pass, refuse, inComponent, each}
 use Rattle.meaning.specs.Limit.{componentLimit}
 use Rattle.meaning.specs.Model.{Named, Component}
 use Rattle.meaning.specs.Judge.{inherited, component, componentsOf, part}
-use Rattle.meaning.specs.Kind.{kind, table}
+use Rattle.meaning.specs.Kind.{kind, mapping}
 use Rattle.meaning.specs.Layouts.{Layout, layoutOf}
 use Rattle.types.specs.Known.{position, formatNames}
 use Rattle.walk.specs.Reading.{Ends, Reads, Due}
@@ -17,7 +17,7 @@ use Rattle.component.specs.Value.{given}
 use Rattle.component.specs.Verdict.{ComponentIs}
 use Rattle.component.specs.declared.Judged.{Judged}
 use Rattle.formats.specs.Parts.{partRows}
-use Rattle.naming.specs.Naming.{namedAnyway, Tallied}
+use Rattle.naming.specs.NotedNames.{namedAnyway, Tallied}
 use Rattle.naming.specs.declared.Tally.{Tally}
 use Rattle.components.specs.declared.First.{First}
 use Rattle.components.specs.declared.First.the-variants.{Fine, Fault}
@@ -78,7 +78,7 @@ Walked g start mode count s names left size first rows = (ps : List (Pair Ends))
 -- for every map of these pairs
 abbrev pub Concluded : List ℕ → Tally → First → List ℕ → List ℕ → Found → Type 0
 Concluded m names first left size found =
-    (g : Given) (start : ℕ) (rows : List ℕ) (ps : List (Pair Ends)) → Kept g start m names left size first rows ps → (t : Node Ends) → kind t ≡ table ps
+    (g : Given) (start : ℕ) (rows : List ℕ) (ps : List (Pair Ends)) → Kept g start m names left size first rows ps → (t : Node Ends) → kind t ≡ mapping ps
     → Whichever g λ above. FoundIs (componentsOf (layoutOf (g .layout)) start above t) found rows
 
 -- of whatever is read at s, as components of an object that gives them this

@@ -8,7 +8,7 @@ use lib.Dec.{ltb, eqb}
 use Rattle.meaning.specs.Limit.{componentLimit}
 use Rattle.types.specs.Known.{position, roleNames}
 use Rattle.walk.specs.Places.{Whatever}
-use Rattle.naming.specs.Naming.{wordOr}
+use Rattle.naming.specs.NotedNames.{wordOr}
 use Rattle.meaning.specs.Tree.{noteOf}
 use Rattle.meaning.specs.Kind.{kind}
 

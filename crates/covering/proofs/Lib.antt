@@ -1,5 +1,5 @@
 -- Laws behind covering's proofs.
-pub mod Counting
-pub mod Sweeping
+pub mod Counts
+pub mod SweepTurns
 pub mod Ranges
-pub mod Parting
+pub mod Pivot

@@ -1,4 +1,4 @@
 -- The definitions that the contracts of covering cite.
-pub mod Covering
+pub mod Ranges
 pub mod Order
 pub mod Sweep

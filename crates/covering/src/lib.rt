@@ -5,7 +5,7 @@ pub mod order;
 ghost use mathlib.Core.Path.{_≡_};
 ghost use Prim.Native.Nat.{_+_, _%_, _^_, _≤_, _<_};
 ghost use lib.ListN.{length};
-ghost use Rattle.covering.specs.Covering as is;
+ghost use Rattle.covering.specs.Ranges as is;
 ghost use Rattle.covering.specs.Order.{Begin, End};
 ghost use Rattle.covering.specs.Sweep as sweep;
 

@@ -16,11 +16,11 @@ use Rattle.meaning.specs.Asked.{askedComponent, presentAt}
 use Rattle.meaning.specs.Described.{DescribedComponent, describedComponent}
 use Rattle.text.proofs.SameIsEqual.{ne-same, whole}
 use Rattle.changes.specs.Changes.{bit, otherDtype, otherType, otherBytes, countApart}
-use Rattle.apart.specs.Told as apart
+use Rattle.apart.specs.Positions as apart
 use Rattle.apart.specs.declared.Apart.{Apart}
-use Rattle.apart.proofs.Counting.{count-tells}
+use Rattle.apart.proofs.Counts.{count-tells}
 use Rattle.differing.specs.Rows.{partAt, shapeAt, formatAt}
-use Rattle.differing.specs.Told.{told, ownWhat}
+use Rattle.differing.specs.Bits.{told, ownWhat}
 
 module _ (file table : List ℕ) (row : ℕ) where
   pub dtype-at : partAt file table row .dtype ≡ getD table (row + dtypeColumn) 0

@@ -1,3 +1,3 @@
 -- The definitions that the contracts of differing cite.
 pub mod Rows
-pub mod Told
+pub mod Bits

@@ -18,7 +18,7 @@ ghost use Rattle.meaning.specs.Text as meant;
 ghost use Rattle.meaning.specs.Columns.{objectWidth, componentWidth};
 ghost use Rattle.changes.specs.Changes.{otherType, bit};
 ghost use Rattle.differing.specs.Rows.{partAt, shapeAt, formatAt, Ranked};
-ghost use Rattle.differing.specs.Told.{told, ownWhat};
+ghost use Rattle.differing.specs.Bits.{told, ownWhat};
 
 // 8, 16 and 32 where dtype, type and bytes differ, else 0; and where the bytes do, and at how many positions.
 pub struct Differences {

@@ -1,3 +1,3 @@
 -- Laws behind emit's proofs.
-pub mod Laying
+pub mod LaidPieces
 pub mod Numbers

@@ -1,3 +1,3 @@
 -- Laws behind the proofs of entry.
-pub mod Folding
-pub mod Choosing
+pub mod EntryLoop
+pub mod EntryByIndex

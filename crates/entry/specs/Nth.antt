@@ -8,7 +8,7 @@ use lib.ListN.{length}
 use lib.Dec.{eqb}
 use Rattle.meaning.specs.Tree.{Node, Pair, noteOf}
 use Rattle.meaning.specs.Check.{Check, pass, refuse}
-use Rattle.meaning.specs.Kind.{aTable}
+use Rattle.meaning.specs.Kind.{aMapping}
 use Rattle.walk.specs.Reading.{Ends, Reads, Due}
 use Rattle.entry.specs.declared.Places.{Places}
 
@@ -37,4 +37,4 @@ inTable index (refuse n o c) = places 0 0
 
 -- of the map that begins s; nothing where it is no map
 abbrev pub EntryIs : ℕ → List ℕ → ℕ → Places → Type 0
-EntryIs left s index r = (t : Node Ends) (q : List ℕ) → Reads (suc left) s t q → r ≡ inTable index (aTable t)
+EntryIs left s index r = (t : Node Ends) (q : List ℕ) → Reads (suc left) s t q → r ≡ inTable index (aMapping t)

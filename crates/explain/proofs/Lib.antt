@@ -1,2 +1,2 @@
 -- The laws of explain.
-pub mod Owning
+pub mod OwnCheck

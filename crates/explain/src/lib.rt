@@ -12,7 +12,7 @@ ghost use lib.ListN.{length};
 ghost use lib.Dec.{ltb};
 ghost use Rattle.meaning.specs.Check.{pass};
 ghost use Rattle.meaning.specs.Layouts.{layoutOf};
-ghost use Rattle.panel.specs.Told.{told, textAfter};
+ghost use Rattle.panel.specs.ListedText.{told, textAfter};
 ghost use Rattle.explained.specs.Sentence.{sentence};
 ghost use Rattle.explaining.specs.Judged as is;
 

@@ -10,7 +10,7 @@ use Rattle.meaning.specs.Check.{Check, pass, refuse, each}
 use Rattle.meaning.specs.Text.{utf8, same, ascii}
 use Rattle.meaning.specs.Model.{Word, Named, Component}
 use Rattle.meaning.specs.Notes.{mapCheck, mapOption, mapWord, mapPair, mapNamed, mapComponent}
-use Rattle.meaning.specs.Kind.{aNumber, aWord, aList, aTable, aText, present}
+use Rattle.meaning.specs.Kind.{aNumber, aWord, aList, aMapping, aText, present}
 use Rattle.meaning.specs.Layouts.{Layout, Slots}
 use Rattle.meaning.specs.Refusal.{KIND, KEY, TEXT}
 use Rattle.meaning.specs.Field.{isSome, keyOf, field, nameOf, names}
@@ -22,7 +22,7 @@ use Rattle.meaning.proofs.Lengths.{map-both}
 use Rattle.explained.specs.Fields.{lengthOf}
 use Rattle.explained.specs.Step
 use Rattle.explained.specs.Step.{Step, _at_unless_, given, passes, every, eachOf, first}
-use Rattle.explained.specs.Order.{numberSteps, wordSteps, tableSteps, textSteps, dtypeSteps, typeSteps, rawSteps, versionSteps, shapeSteps, keySteps, repeatSteps, fieldSteps, missing, missingIn, sameNameSteps, nameSteps, componentSteps, componentsSteps, noteOr, lengthIn, lengthNote, allOf, ofRole, roleSteps, plainSteps, lengthSteps, denseSteps, csrSteps, cooSteps, groupSteps, formatSteps, objectSteps, objectsSteps, manifestSteps}
+use Rattle.explained.specs.Order.{numberSteps, wordSteps, mappingSteps, textSteps, dtypeSteps, typeSteps, rawSteps, versionSteps, shapeSteps, keySteps, repeatSteps, fieldSteps, missing, missingIn, sameNameSteps, nameSteps, componentSteps, componentsSteps, noteOr, lengthIn, lengthNote, allOf, ofRole, roleSteps, plainSteps, lengthSteps, denseSteps, csrSteps, cooSteps, groupSteps, formatSteps, objectSteps, objectsSteps, manifestSteps}
 use Rattle.explained.specs.Notes.{mapStep}
 
 module _ {A B : Type 0} where
@@ -65,8 +65,8 @@ module _ {P Q : Type 0} (f : P → Q) where
   unfolding wordSteps
   word-map t = simp (aWord-map, note-map, Push)
 
-  table-map : (t : Node P) → tableSteps (mapP f t) ≡ map (mapStep f) (tableSteps t)
-  unfolding tableSteps
+  table-map : (t : Node P) → mappingSteps (mapP f t) ≡ map (mapStep f) (mappingSteps t)
+  unfolding mappingSteps
   table-map t = simp (aTable-map, note-map, Push)
 
   text-map : (t : Node P) → textSteps (mapP f t) ≡ map (mapStep f) (textSteps t)

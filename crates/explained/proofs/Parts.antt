@@ -14,13 +14,13 @@ use Rattle.meaning.specs.Refusal.{KIND, KEY, TEXT, TWICE, VERSION, MAJOR, COUNT
 use Rattle.meaning.specs.Limit.{rankLimit}
 use Rattle.meaning.specs.Model.{Word, Named}
 use Rattle.meaning.specs.Layouts.{Layout, Slots, somes}
-use Rattle.meaning.specs.Kind.{Kind, number, words, list, table, null, another, kind, asNumber, asWord, asList, asTable, aNumber, aWord, aList, aTable, aText}
+use Rattle.meaning.specs.Kind.{Kind, number, words, list, mapping, null, another, kind, asNumber, asWord, asList, asMapping, aNumber, aWord, aList, aMapping, aText}
 use Rattle.meaning.specs.Field.{isSome, keyKind, keyOf, count, fields, nameKind, nameOf, names}
 use Rattle.meaning.specs.Types.{codeFrom, logicals, listed, fitsOver}
 use Rattle.meaning.specs.Judge.{codeOr, aDtype, aType, raw, attributesOf, shapeOf, aVersion}
 use Rattle.explained.specs.Step
 use Rattle.explained.specs.Step.{Step, _at_unless_, told, given, passes, every}
-use Rattle.explained.specs.Order.{numberSteps, wordSteps, tableSteps, textSteps, dtypeSteps, typeSteps, rawSteps, versionSteps, shapeSteps, keySteps, fieldSteps, repeatSteps, sameNameSteps, nameSteps}
+use Rattle.explained.specs.Order.{numberSteps, wordSteps, mappingSteps, textSteps, dtypeSteps, typeSteps, rawSteps, versionSteps, shapeSteps, keySteps, fieldSteps, repeatSteps, sameNameSteps, nameSteps}
 use Rattle.explained.proofs.Agree.{Agree, agree-at, agree-then, agree-bind, agree-found, agree-given, agree-end, agree-every, agree-every-each}
 use Rattle.explained.proofs.Repeat.{agree-repeats, agree-same-names}
 
@@ -36,7 +36,7 @@ module _ {P : Type 0} where
   of-number w (number n) = record { same = refl }
   of-number w (words v) = record { same = refl }
   of-number w (list l) = record { same = refl }
-  of-number w (table l) = record { same = refl }
+  of-number w (mapping l) = record { same = refl }
   of-number w null = record { same = refl }
   of-number w another = record { same = refl }
 
@@ -45,7 +45,7 @@ module _ {P : Type 0} where
   of-word w (number n) = record { same = refl }
   of-word w (words v) = record { same = refl }
   of-word w (list l) = record { same = refl }
-  of-word w (table l) = record { same = refl }
+  of-word w (mapping l) = record { same = refl }
   of-word w null = record { same = refl }
   of-word w another = record { same = refl }
 
@@ -54,16 +54,16 @@ module _ {P : Type 0} where
   of-list w (number n) = record { same = refl }
   of-list w (words v) = record { same = refl }
   of-list w (list l) = record { same = refl }
-  of-list w (table l) = record { same = refl }
+  of-list w (mapping l) = record { same = refl }
   of-list w null = record { same = refl }
   of-list w another = record { same = refl }
 
-  of-table : (w : P) (k : Kind P) → Agree (KIND at w unless passes (asTable k)) (asTable k)
-  unfolding asTable
+  of-table : (w : P) (k : Kind P) → Agree (KIND at w unless passes (asMapping k)) (asMapping k)
+  unfolding asMapping
   of-table w (number n) = record { same = refl }
   of-table w (words v) = record { same = refl }
   of-table w (list l) = record { same = refl }
-  of-table w (table l) = record { same = refl }
+  of-table w (mapping l) = record { same = refl }
   of-table w null = record { same = refl }
   of-table w another = record { same = refl }
 
@@ -72,7 +72,7 @@ module _ {P : Type 0} where
   of-key w v (number n) = record { same = refl }
   of-key w v (words u) = record { same = refl }
   of-key w v (list l) = record { same = refl }
-  of-key w v (table l) = record { same = refl }
+  of-key w v (mapping l) = record { same = refl }
   of-key w v null = record { same = refl }
   of-key w v another = record { same = refl }
 
@@ -88,8 +88,8 @@ module _ {P : Type 0} where
   unfolding aList
   agree-list t = of-list (noteOf t) (kind t)
 
-  pub agree-table : (t : Node P) → Agree (tableSteps t) (aTable t)
-  unfolding tableSteps aTable
+  pub agree-table : (t : Node P) → Agree (mappingSteps t) (aMapping t)
+  unfolding mappingSteps aMapping
   agree-table t = of-table (noteOf t) (kind t)
 
   agree-name : (p : Pair P) → Agree (KEY at noteOf (p .key) unless isSome (keyOf p)) (nameOf p)
@@ -119,7 +119,7 @@ module _ {P : Type 0} where
   unfolding rawSteps raw
   agree-raw t = agree-given (agree-word t) λ w. agree-at ENCODING (noteOf t) (same (ascii "raw") (w .letters))
 
-  pub agree-attributes : (t : Node P) → Agree (tableSteps t) (attributesOf t)
+  pub agree-attributes : (t : Node P) → Agree (mappingSteps t) (attributesOf t)
   unfolding attributesOf
   agree-attributes t = agree-end t (agree-table t)
 
@@ -145,9 +145,9 @@ module _ {P : Type 0} where
   agree-fields known t = agree-given (agree-table t) λ ps. agree-then (agree-keys ps) (agree-end ps (agree-repeats (somes known) ps))
 
   -- the pairs of a map whose fields are sound
-  pub fields-pairs : (known : Slots) (t : Node P) (ps : List (Pair P)) → fields known t ≡ pass ps → given (aTable t) ≡ some ps
+  pub fields-pairs : (known : Slots) (t : Node P) (ps : List (Pair P)) → fields known t ≡ pass ps → given (aMapping t) ≡ some ps
   unfolding fields
-  fields-pairs known t ps = go (aTable t)
+  fields-pairs known t ps = go (aMapping t)
     where
       go₂ : (qs : List (Pair P)) (b c : Bool) → (KEY unless b >> (TWICE unless c >> pass qs)) ≡ pass ps → some qs ≡ some ps
       go₂ qs true true e = cc
@@ -160,7 +160,7 @@ module _ {P : Type 0} where
       go (refuse n o c) e = cc
 
   pub agree-in-fields : {A B : Type 0} (known : Slots) (t : Node P) (g : List (Pair P) → A) {r : List (Pair P) → List (Step P)} (k : A → Check B)
-      → ((ps : List (Pair P)) → Agree (r ps) (k (g ps))) → Agree (fieldSteps known t ++ Step._>>=_ (given (aTable t)) r) ((fields known t >>= λ ps. pass (g ps)) >>= k)
+      → ((ps : List (Pair P)) → Agree (r ps) (k (g ps))) → Agree (fieldSteps known t ++ Step._>>=_ (given (aMapping t)) r) ((fields known t >>= λ ps. pass (g ps)) >>= k)
   agree-in-fields known t g {r} k f =
       rw (shape-bind g k (fields known t)) (agree-bind (agree-fields known t) λ ps e. agree-found r (fields-pairs known t ps e) (f ps))
 

@@ -11,7 +11,7 @@ use Rattle.meaning.specs.Check.{Check, pass, refuse, _>>=_, _>>_, inComponent, 
 use Rattle.meaning.specs.Text.{ascii, same}
 use Rattle.meaning.specs.Limit.{componentLimit}
 use Rattle.meaning.specs.Model.{Named, Component, ComponentFields}
-use Rattle.meaning.specs.Kind.{aTable}
+use Rattle.meaning.specs.Kind.{aMapping}
 use Rattle.meaning.specs.Layouts.{Layout, slot}
 use Rattle.meaning.specs.Field.{field, fields, componentFields, names}
 use Rattle.meaning.specs.Format.{Part, Role, role}
@@ -89,7 +89,7 @@ module _ (L : Layout) {P : Type 0} where
       let o = passed (required (f .value .offset)) _ c (d .then) in
       let l = passed (required (f .value .length)) _ c (o .then) in
       let h : field (lengthOf L) (g .value) ≡ some (l .value) = ap (λ (x : ComponentFields P). x .length) (pass-same (g .then)) ∙ required-some (f .value .length) (l .value) (l .is) in
-      record { at = l .value; ofLength = record { pairs = g .value; isMap = given-pass (aTable (n .value)) (g .value) (fields-pairs (L .component) (n .value) (g .value) (g .is)); value = h } }
+      record { at = l .value; ofLength = record { pairs = g .value; isMap = given-pass (aMapping (n .value)) (g .value) (fields-pairs (L .component) (n .value) (g .value) (g .is)); value = h } }
     where
       taken : List (Pair P) → ComponentFields P
       taken ps = record {

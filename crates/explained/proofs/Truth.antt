@@ -14,7 +14,7 @@ use Rattle.meaning.specs.Version.{versionShape, majorOne}
 use Rattle.meaning.specs.Refusal.{KIND, KEY, TEXT, TWICE, MISSING, VERSION, MAJOR, COUNT, DTYPE, ENCODING, TYPE, ALIGN, BOUNDS}
 use Rattle.meaning.specs.Limit.{objectLimit, componentLimit, rankLimit, alignment}
 use Rattle.meaning.specs.Model.{Word, Named}
-use Rattle.meaning.specs.Kind.{Kind, number, words, list, table, null, another, kind, aNumber, aWord, aList, aTable, aText, presentKind, present}
+use Rattle.meaning.specs.Kind.{Kind, number, words, list, mapping, null, another, kind, aNumber, aWord, aList, aMapping, aText, presentKind, present}
 use Rattle.meaning.specs.Layouts.{Layout, Slots, slot, somes}
 use Rattle.meaning.specs.Field.{isSome, keyOf, field, nameOf, names}
 use Rattle.meaning.specs.Types.{codeFrom, logicals, listed, fitsOver}
@@ -22,7 +22,7 @@ use Rattle.meaning.specs.Judge.{codeOr, orElse, aDtype, shapeOf}
 use Rattle.meaning.proofs.SameText.{same-eq}
 use Rattle.meaning.proofs.Checks.{passed-on, passed}
 use Rattle.explained.specs.Step.{Step, passes, given, every}
-use Rattle.explained.specs.Order.{fresh, more, numberSteps, wordSteps, tableSteps, textSteps, dtypeSteps, typeSteps, rawSteps, versionSteps, shapeSteps, keySteps, repeatSteps, fieldSteps, missing, missingIn, sameNameSteps, nameSteps, componentSteps, componentsSteps}
+use Rattle.explained.specs.Order.{fresh, more, numberSteps, wordSteps, mappingSteps, textSteps, dtypeSteps, typeSteps, rawSteps, versionSteps, shapeSteps, keySteps, repeatSteps, fieldSteps, missing, missingIn, sameNameSteps, nameSteps, componentSteps, componentsSteps}
 use Rattle.explained.specs.Fields
 use Rattle.explained.specs.Fields.{Level, known, dtypeOn, attributesOn, versionOf, objectsField, shapeField, formatOf, componentsField, typeOf, offsetOf, lengthOf, unpackedOf, encodingOf, digestOf}
 use Rattle.explained.specs.Breaks
@@ -100,7 +100,7 @@ module _ {P : Type 0} where
   presentKind-some u v (number n) e = cc
   presentKind-some u v (words w) e = cc
   presentKind-some u v (list l) e = cc
-  presentKind-some u v (table l) e = cc
+  presentKind-some u v (mapping l) e = cc
   presentKind-some u v null e = absurd (let z : _≡_ {A = ℕ} 0 1 = cc in omega arith)
   presentKind-some u v another e = cc
 
@@ -143,9 +143,9 @@ module _ (L : Layout) {P : Type 0} (start : ℕ) (t : Node P) {i j : ℕ} {B : �
   unfolding wordSteps is
   truth-word {v} k = truly-at KIND (noteOf v) (passes (aWord v)) λ e. up KIND (noteOf v) (Breaks.kind k e)
 
-  pub truth-table : {v : Node P} → Known L t i j Breaks.table v → Truly B (tableSteps v)
-  unfolding tableSteps is
-  truth-table {v} k = truly-at KIND (noteOf v) (passes (aTable v)) λ e. up KIND (noteOf v) (Breaks.kind k e)
+  pub truth-table : {v : Node P} → Known L t i j Breaks.mapping v → Truly B (mappingSteps v)
+  unfolding mappingSteps is
+  truth-table {v} k = truly-at KIND (noteOf v) (passes (aMapping v)) λ e. up KIND (noteOf v) (Breaks.kind k e)
 
   pub truth-text : {v : Node P} → Known L t i j Breaks.word v → Text L t i j v → Truly B (textSteps v)
   unfolding textSteps
@@ -174,7 +174,7 @@ module _ (L : Layout) {P : Type 0} (start : ℕ) (t : Node P) {i j : ℕ} {B : �
 
   -- ---------------------------------------------------------------- maps
 
-  truth-repeats : {l : Level} {m : Node P} → Holder L t l i j m → (left : List (Pair P)) (before : List (List ℕ)) (ps : List (Pair P)) → aTable m ≡ pass (left ++ ps)
+  truth-repeats : {l : Level} {m : Node P} → Holder L t l i j m → (left : List (Pair P)) (before : List (List ℕ)) (ps : List (Pair P)) → aMapping m ≡ pass (left ++ ps)
       → ((k : List ℕ) → oneOf before k ≡ true → Seen left k) → before ≡ keysAfter [] left → all (λ s. s .right) (repeatSteps (somes (known L l)) [] left) ≡ true
       → Truly B (repeatSteps (somes (known L l)) before ps)
   unfolding repeatSteps fresh
@@ -195,18 +195,18 @@ module _ (L : Layout) {P : Type 0} (start : ℕ) (t : Node P) {i j : ℕ} {B : �
   unfolding fieldSteps keySteps repeatSteps keysAfter
   truth-fields {l} {m} h =
       truly-then (truth-table (Breaks.holder h))
-      (truly-given (aTable m) λ ps e.
+      (truly-given (aMapping m) λ ps e.
       truly-then (truly-every KEY (λ p. noteOf (p .key)) (λ p. isSome (keyOf p)) ps λ left rest p a b g. up KEY (noteOf (p .key)) (Breaks.key left rest p h (e ∙ ap pass a) b (no-some (keyOf p) g)))
       (truth-repeats h [] [] ps e (λ k z. absurd (let y : _≡_ {A = ℕ} 0 1 = cc in omega arith)) refl refl))
 
-  pub truth-missing : {l : Level} {m : Node P} {ps : List (Pair P)} (e : Breaks.Entry) → Among e (entries L l) → e .needed ≡ true → Holder L t l i j m → aTable m ≡ pass ps
+  pub truth-missing : {l : Level} {m : Node P} {ps : List (Pair P)} (e : Breaks.Entry) → Among e (entries L l) → e .needed ≡ true → Holder L t l i j m → aMapping m ≡ pass ps
       → Truly B (missing m (field (e .called) ps))
   unfolding missing
   truth-missing {l} {m} {ps} e a q h f =
       truly-at MISSING (noteOf m) (isSome (field (e .called) ps)) λ g. up MISSING (noteOf m) (Breaks.missing e a q h f (no-some (field (e .called) ps) g))
 
   -- where the layout has the field
-  pub truth-missingIn : {l : Level} {m : Node P} {ps : List (Pair P)} (e : Breaks.Entry) → Among e (entries L l) → e .needed ≡ isSome (e .called) → Holder L t l i j m → aTable m ≡ pass ps
+  pub truth-missingIn : {l : Level} {m : Node P} {ps : List (Pair P)} (e : Breaks.Entry) → Among e (entries L l) → e .needed ≡ isSome (e .called) → Holder L t l i j m → aMapping m ≡ pass ps
       → Truly B (missingIn (e .called) m (field (e .called) ps))
   unfolding missingIn missing isSome
   truth-missingIn {l} {m} {ps} e a q h f = go (e .called) refl
@@ -235,13 +235,13 @@ module _ {P : Type 0} where
       go false q r = let s = f k r in record { named = s .named; among = among-left (n ∷ []) (s .among); called = s .called }
 
 module _ {L : Layout} {P : Type 0} {t : Node P} where
-  names-known : {limit i : ℕ} {m : Node P} → Names L t limit i m → Known L t i 0 Breaks.table m
+  names-known : {limit i : ℕ} {m : Node P} → Names L t limit i m → Known L t i 0 Breaks.mapping m
   unfolding entries
-  names-known (Breaks.ofObjects f) = Breaks.inField (entry (objectsField L) Breaks.table true false) (there (there here)) refl Breaks.theRoot f
-  names-known (Breaks.ofComponents h f) = Breaks.inField (entry (componentsField L) Breaks.table true false) (there (there (there (there here)))) refl h f
+  names-known (Breaks.ofObjects f) = Breaks.inField (entry (objectsField L) Breaks.mapping true false) (there (there here)) refl Breaks.theRoot f
+  names-known (Breaks.ofComponents h f) = Breaks.inField (entry (componentsField L) Breaks.mapping true false) (there (there (there (there here)))) refl h f
 
 module _ (L : Layout) {P : Type 0} (start : ℕ) (t : Node P) {i : ℕ} {B : ℕ → ℕ → ℕ → Option (Word P) → Option (Word P) → P → Type 0} (up : (n : ℕ) (w : P) → Breaks L start t n i 0 w → B n 0 0 none none w) where
-  truth-same-names : {limit : ℕ} {m : Node P} {ps : List (Pair P)} → Names L t limit i m → aTable m ≡ pass ps → (left : List (Named P)) (before : List (List ℕ)) (ns : List (Named P))
+  truth-same-names : {limit : ℕ} {m : Node P} {ps : List (Pair P)} → Names L t limit i m → aMapping m ≡ pass ps → (left : List (Named P)) (before : List (List ℕ)) (ns : List (Named P))
       → each (λ k. nameOf) 0 ps ≡ pass (left ++ ns) → ((k : List ℕ) → oneOf before k ≡ true → Taken left k)
       → before ≡ namesAfter [] left → all (λ s. s .right) (sameNameSteps [] left) ≡ true → Truly B (sameNameSteps before ns)
   unfolding sameNameSteps
@@ -257,7 +257,7 @@ module _ (L : Layout) {P : Type 0} (start : ℕ) (t : Node P) {i : ℕ} {B : ℕ
   unfolding nameSteps keySteps sameNameSteps namesAfter
   truth-names {limit} {m} h =
       truly-then (truth-table L start t up (names-known h))
-      (truly-given (aTable m) λ ps a.
+      (truly-given (aMapping m) λ ps a.
       truly-then (truly-every KEY (λ p. noteOf (p .key)) (λ p. isSome (keyOf p)) ps λ left rest p q b g. up KEY (noteOf (p .key)) (Breaks.nameKey left rest p h (a ∙ ap pass q) b (no-some (keyOf p) g)))
       (truly-given (each (λ k. nameOf) 0 ps) λ ns e.
       truly-then (truly-every TEXT (λ n. n .name .note) (λ n. utf8 (n .name .letters)) ns λ left rest n q b g. up TEXT (n .name .note) (Breaks.nameText left rest n h a (e ∙ ap pass q) b g))
@@ -289,12 +289,12 @@ pub data Codes (L : Layout) : Option ℕ → Type 0 where
   ofObject : {d : ℕ} → dtypeOn L Fields.component ≡ none → typeOf L ≡ none → Codes L (some d)
 
 module _ {P : Type 0} where
-  pub found : {m v : Node P} {ps : List (Pair P)} (name : Option (List ℕ)) → aTable m ≡ pass ps → field name ps ≡ some v → Field m name v
+  pub found : {m v : Node P} {ps : List (Pair P)} (name : Option (List ℕ)) → aMapping m ≡ pass ps → field name ps ≡ some v → Field m name v
   found {m} {v} {ps} name a e = record { pairs = ps; isMap = a; value = e }
 
 module _ (L : Layout) {P : Type 0} (start : ℕ) (t : Node P) {i j : ℕ} {B : ℕ → ℕ → ℕ → Option (Word P) → Option (Word P) → P → Type 0}
     (up : (n : ℕ) (w : P) → Breaks L start t n i j w → B n 0 0 none none w) where
-  truth-code : {m : Node P} {ps : List (Pair P)} (own above : Option ℕ) → Codes L above → Holder L t Fields.component i j m → aTable m ≡ pass ps
+  truth-code : {m : Node P} {ps : List (Pair P)} (own above : Option ℕ) → Codes L above → Holder L t Fields.component i j m → aMapping m ≡ pass ps
       → optional (aDtype L) (field (dtypeOn L Fields.component) ps) ≡ pass own → Truly B (missing m (orElse own above))
   unfolding missing isSome orElse entries
   truth-code {m} {ps} none none (ofComponent w) h a e =
@@ -303,7 +303,7 @@ module _ (L : Layout) {P : Type 0} (start : ℕ) (t : Node P) {i j : ℕ} {B : �
   truth-code {m} none (some d) z h a e = truly-at MISSING (noteOf m) true λ g. absurd (let y : _≡_ {A = ℕ} 0 1 = cc in omega arith)
   truth-code {m} (some c) above z h a e = truly-at MISSING (noteOf m) true λ g. absurd (let y : _≡_ {A = ℕ} 0 1 = cc in omega arith)
 
-  truth-typed : {m v : Node P} {ps : List (Pair P)} {own above : Option ℕ} {d : ℕ} → Codes L above → Holder L t Fields.component i j m → aTable m ≡ pass ps
+  truth-typed : {m v : Node P} {ps : List (Pair P)} {own above : Option ℕ} {d : ℕ} → Codes L above → Holder L t Fields.component i j m → aMapping m ≡ pass ps
       → optional (aDtype L) (field (dtypeOn L Fields.component) ps) ≡ pass own → orElse own above ≡ some d → field (typeOf L) ps ≡ some v → present (some v) ≡ some v → Truly B (typeSteps d v)
   unfolding orElse field
   truth-typed {ps = ps} {own = none} {d = d} (ofComponent w) h a e c f p = absurd (let y : _≡_ {A = ℕ} 0 1 = cc in omega arith)
@@ -320,7 +320,7 @@ module _ (L : Layout) {P : Type 0} (start : ℕ) (t : Node P) {i j : ℕ} {B : �
   unfolding componentSteps entries
   truth-component above n z h =
       truly-then (truth-fields L start t up h)
-      (truly-given (aTable (n .value)) λ ps a.
+      (truly-given (aMapping (n .value)) λ ps a.
       truly-then (truth-missingIn L start t up (entry (dtypeOn L Fields.component) Breaks.word (isSome (dtypeOn L Fields.component)) false) here refl h a)
       (truly-then (truth-missing L start t up (entry (offsetOf L) Breaks.number true false) (there (there here)) refl h a)
       (truly-then (truth-missing L start t up (entry (lengthOf L) Breaks.number true false) (there (there (there here))) refl h a)

@@ -13,7 +13,7 @@ use Rattle.meaning.specs.Text.{ascii, same, all}
 use Rattle.meaning.specs.Refusal.{RANK, ROLE, LENGTH, COUNT}
 use Rattle.meaning.specs.Limit.{objectLimit, componentLimit, rankLimit}
 use Rattle.meaning.specs.Model.{Word, Named}
-use Rattle.meaning.specs.Kind.{aNumber, aWord, aList, aTable, aText}
+use Rattle.meaning.specs.Kind.{aNumber, aWord, aList, aMapping, aText}
 use Rattle.meaning.specs.Layouts.{Layout}
 use Rattle.meaning.specs.Field.{isSome, field, names}
 use Rattle.meaning.specs.Types.{product}
@@ -187,11 +187,11 @@ module _ (L : Layout) {P : Type 0} (start : ℕ) (t : Node P) {i : ℕ} {B : ℕ
   unfolding objectSteps entries
   truth-object z h =
       truly-then (truth-fields L start t up h)
-      (truly-given (aTable (n .value)) λ ps a.
+      (truly-given (aMapping (n .value)) λ ps a.
       truly-after (truth-missingIn L start t up (entry (dtypeOn L Fields.object) Breaks.word (isSome (dtypeOn L Fields.object)) false) here refl h a) λ there′.
       truly-then (truth-missing L start t up (entry (shapeField L) Breaks.list true false) (there here) refl h a)
       (truly-then (truth-missing L start t up (entry (formatOf L) Breaks.word true false) (there (there here)) refl h a)
-      (truly-then (truth-missing L start t up (entry (componentsField L) Breaks.table true false) (there (there (there (there here)))) refl h a)
+      (truly-then (truth-missing L start t up (entry (componentsField L) Breaks.mapping true false) (there (there (there (there here)))) refl h a)
       (truly-some (field (shapeField L) ps) λ shape hs.
       truly-some (field (formatOf L) ps) λ format hf.
       truly-some (field (componentsField L) ps) λ components hc.
@@ -203,7 +203,7 @@ module _ (L : Layout) {P : Type 0} (start : ℕ) (t : Node P) {i : ℕ} {B : ℕ
       (Breaks.ofFormat h (found (formatOf L) a hf)))
       (truly-given (aText format) λ f ef.
       truly-then (truly-some (field (attributesOn L Fields.object) ps) λ v e. truth-table L start t up
-      (Breaks.inField (entry (attributesOn L Fields.object) Breaks.table false false) (there (there (there here))) refl h (found (attributesOn L Fields.object) a e)))
+      (Breaks.inField (entry (attributesOn L Fields.object) Breaks.mapping false false) (there (there (there here))) refl h (found (attributesOn L Fields.object) a e)))
       (truly-then (truth-components L start t up components (λ x j c w. upon x j components c w (found (componentsField L) a hc)) (inherited (f .letters) d)
       (codes-of L z (n .value) ps d there′ ed (f .letters)) h (found (componentsField L) a hc))
       (truly-given (componentsOf L start (inherited (f .letters) d) components) λ cs ec.
@@ -238,13 +238,13 @@ module _ (L : Layout) {P : Type 0} (start : ℕ) (t : Node P) where
   unfolding manifestSteps objectsSteps entries
   truth-manifest z =
       truly-then (truth-fields L start t at-root Breaks.theRoot)
-      (truly-given (aTable t) λ ps a.
+      (truly-given (aMapping t) λ ps a.
       truly-then (truth-missing L start t at-root (entry (versionOf L) Breaks.word true false) here refl Breaks.theRoot a)
       (truly-some (field (versionOf L) ps) λ version hv.
       truly-then (truth-version L start t at-root (found (versionOf L) a hv))
       (truly-then (truly-some (field (attributesOn L Fields.root) ps) λ v e. truth-table L start t at-root
-      (Breaks.inField (entry (attributesOn L Fields.root) Breaks.table false false) (there here) refl Breaks.theRoot (found (attributesOn L Fields.root) a e)))
-      (truly-then (truth-missing L start t at-root (entry (objectsField L) Breaks.table true false) (there (there here)) refl Breaks.theRoot a)
+      (Breaks.inField (entry (attributesOn L Fields.root) Breaks.mapping false false) (there here) refl Breaks.theRoot (found (attributesOn L Fields.root) a e)))
+      (truly-then (truth-missing L start t at-root (entry (objectsField L) Breaks.mapping true false) (there (there here)) refl Breaks.theRoot a)
       (truly-some (field (objectsField L) ps) λ objects ho.
       truly-then (truth-names L start t at-root (Breaks.ofObjects (found (objectsField L) a ho)))
       (truly-given (names objectLimit objects) λ ns e.

@@ -23,7 +23,7 @@ use Rattle.meaning.specs.Frame.{little, frame, checked, Reading, reading}
 use Rattle.meaning.specs.Rows.{roomFor, roomy, readInto}
 use Rattle.explained.specs.Step
 use Rattle.explained.specs.Step.{Step, _at_unless_, told, given, passes, every, eachOf}
-use Rattle.explained.specs.Order.{numberSteps, tableSteps, textSteps, dtypeSteps, typeSteps, rawSteps, versionSteps, shapeSteps, fieldSteps, missing, missingIn, nameSteps, componentSteps, componentsSteps, lengthNote, ofRole, roleSteps, plainSteps, lengthSteps, denseSteps, csrSteps, cooSteps, groupSteps, formatSteps, allOf, objectSteps, objectsSteps, manifestSteps}
+use Rattle.explained.specs.Order.{numberSteps, mappingSteps, textSteps, dtypeSteps, typeSteps, rawSteps, versionSteps, shapeSteps, fieldSteps, missing, missingIn, nameSteps, componentSteps, componentsSteps, lengthNote, ofRole, roleSteps, plainSteps, lengthSteps, denseSteps, csrSteps, cooSteps, groupSteps, formatSteps, allOf, objectSteps, objectsSteps, manifestSteps}
 use Rattle.explained.specs.Fields
 use Rattle.explained.specs.Lengths.{elementsFit, wholeFits, indicesFit}
 use Rattle.explained.specs.Explain.{span, frameSteps, readSteps, root, fileSteps, roomSteps}

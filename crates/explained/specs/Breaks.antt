@@ -13,7 +13,7 @@ use Rattle.meaning.specs.Version.{versionShape, majorOne}
 use Rattle.meaning.specs.Refusal.{KIND, KEY, TEXT, TWICE, MISSING, VERSION, MAJOR, COUNT, DTYPE, ENCODING, TYPE, ALIGN, BOUNDS, RANK, ROLE, LENGTH}
 use Rattle.meaning.specs.Limit.{objectLimit, componentLimit, rankLimit, alignment}
 use Rattle.meaning.specs.Model.{Word, Named, Component}
-use Rattle.meaning.specs.Kind.{aNumber, aWord, aList, aTable, present}
+use Rattle.meaning.specs.Kind.{aNumber, aWord, aList, aMapping, present}
 use Rattle.meaning.specs.Layouts.{Layout, somes}
 use Rattle.meaning.specs.Field.{isSome, keyOf, count, field, nameOf, names}
 use Rattle.meaning.specs.Types.{codeFrom, logicals, listed, fitsOver, product}
@@ -27,7 +27,7 @@ use Rattle.explained.specs.Step.{passes}
 
 -- what a known value is asked to be; explicit null counts as absent where `null` says so
 pub data Asked : Type 0 where
-  number word list table : Asked
+  number word list mapping : Asked
 
 pub record Entry : Type 0 where
   pub called : Option (List ℕ)
@@ -40,10 +40,10 @@ entry n a r o = record { called = n; asked = a; needed = r; null = o }
 
 -- a dtype is needed where the layout has one
 unfoldable pub entries : Layout → Level → List Entry
-entries L root = entry (versionOf L) word true false ∷ entry (attributesOn L root) table false false ∷ entry (objectsField L) table true false ∷ []
+entries L root = entry (versionOf L) word true false ∷ entry (attributesOn L root) mapping false false ∷ entry (objectsField L) mapping true false ∷ []
 entries L object =
     entry (dtypeOn L object) word (isSome (dtypeOn L object)) false ∷ entry (shapeField L) list true false ∷ entry (formatOf L) word true false
-    ∷ entry (attributesOn L object) table false false ∷ entry (componentsField L) table true false ∷ []
+    ∷ entry (attributesOn L object) mapping false false ∷ entry (componentsField L) mapping true false ∷ []
 entries L component =
     entry (dtypeOn L component) word (isSome (dtypeOn L component)) false ∷ entry (typeOf L) word false true ∷ entry (offsetOf L) number true false
     ∷ entry (lengthOf L) number true false ∷ entry (unpackedOf L) number false true ∷ entry (encodingOf L) word false false ∷ entry (digestOf L) word false true ∷ []
@@ -71,14 +71,14 @@ module _ {P : Type 0} where
   is number t = passes (aNumber t)
   is word t = passes (aWord t)
   is list t = passes (aList t)
-  is table t = passes (aTable t)
+  is mapping t = passes (aMapping t)
 
   -- ---------------------------------------------------------------- places of the tree
 
   -- a field of a map
   pub record Field (m : Node P) (name : Option (List ℕ)) (v : Node P) : Type 0 where
     pub pairs : List (Pair P)
-    pub isMap : aTable m ≡ pass pairs
+    pub isMap : aMapping m ≡ pass pairs
     pub value : field name pairs ≡ some v
 
   -- what stands under a name, the i-th
@@ -102,7 +102,7 @@ module _ (L : Layout) {P : Type 0} where
 
   -- an item in a known place, and what it is asked to be
   pub data Known (t : Node P) : ℕ → ℕ → Asked → Node P → Type 0 where
-    holder : {l : Level} {i j : ℕ} {m : Node P} → Holder t l i j m → Known t i j table m
+    holder : {l : Level} {i j : ℕ} {m : Node P} → Holder t l i j m → Known t i j mapping m
     inField : {l : Level} {i j : ℕ} {m v : Node P} (e : Entry) → Among e (entries L l) → e .null ≡ false → Holder t l i j m → Field m (e .called) v → Known t i j (e .asked) v
     nullable : {l : Level} {i j : ℕ} {m v : Node P} (e : Entry) → Among e (entries L l) → e .null ≡ true → Holder t l i j m → Field m (e .called) v → present (some v) ≡ some v
         → Known t i j (e .asked) v
@@ -128,7 +128,7 @@ module _ (L : Layout) {P : Type 0} where
     pub isShape : each (λ k. aNumber) 0 dims ≡ pass shape
     pub ofComponents : Field whole (componentsField L) cs
     pub fields : List (Pair P)
-    pub isMap : aTable whole ≡ pass fields
+    pub isMap : aMapping whole ≡ pass fields
     pub code : Option ℕ
     pub ofCode : optional (aDtype L) (field (dtypeOn L object) fields) ≡ pass code
     pub judged : List (Component P)
@@ -153,33 +153,33 @@ pub data Breaks (L : Layout) {P : Type 0} (start : ℕ) (t : Node P) : ℕ → �
   element : {i : ℕ} {m v : Node P} (left right : List (Node P)) (d : Node P) → Holder L t object i 0 m → Field m (shapeField L) v → aList v ≡ pass (left ++ d ∷ right)
       → all (λ e. passes (aNumber e)) left ≡ true → passes (aNumber d) ≡ false → Breaks L start t KIND i 0 (noteOf d)
   -- 9: a key, or a name, isn't whole text, and all left of it are
-  key : {l : Level} {i j : ℕ} {m : Node P} (left right : List (Pair P)) (p : Pair P) → Holder L t l i j m → aTable m ≡ pass (left ++ p ∷ right)
+  key : {l : Level} {i j : ℕ} {m : Node P} (left right : List (Pair P)) (p : Pair P) → Holder L t l i j m → aMapping m ≡ pass (left ++ p ∷ right)
       → all (λ q. isSome (keyOf q)) left ≡ true → keyOf p ≡ none → Breaks L start t KEY i j (noteOf (p .key))
-  nameKey : {limit i : ℕ} {m : Node P} (left right : List (Pair P)) (p : Pair P) → Names L t limit i m → aTable m ≡ pass (left ++ p ∷ right)
+  nameKey : {limit i : ℕ} {m : Node P} (left right : List (Pair P)) (p : Pair P) → Names L t limit i m → aMapping m ≡ pass (left ++ p ∷ right)
       → all (λ q. isSome (keyOf q)) left ≡ true → keyOf p ≡ none → Breaks L start t KEY i 0 (noteOf (p .key))
   -- 10: a name isn't UTF-8, and all left of it are; or a format, type or digest isn't
   nameText : {limit i : ℕ} {m : Node P} {ps : List (Pair P)} (left right : List (Named P)) (n : Named P)
-      → Names L t limit i m → aTable m ≡ pass ps → each (λ k. nameOf) 0 ps ≡ pass (left ++ n ∷ right)
+      → Names L t limit i m → aMapping m ≡ pass ps → each (λ k. nameOf) 0 ps ≡ pass (left ++ n ∷ right)
       → all (λ o. utf8 (o .name .letters)) left ≡ true → utf8 (n .name .letters) ≡ false → Breaks L start t TEXT i 0 (n .name .note)
   text : {i j : ℕ} {v : Node P} {w : Word P} → Text L t i j v → aWord v ≡ pass w → utf8 (w .letters) ≡ false → Breaks L start t TEXT i j (noteOf v)
   -- 11: a known field, or a name, stands also further left, where none stands twice
   twice : {l : Level} {i j : ℕ} {m : Node P} {q : Pair P} {k : List ℕ} (left right : List (Pair P)) (p : Pair P)
-      → Holder L t l i j m → aTable m ≡ pass (left ++ p ∷ right) → keyOf p ≡ some k → oneOf (somes (known L l)) k ≡ true → Among q left → keyOf q ≡ some k
+      → Holder L t l i j m → aMapping m ≡ pass (left ++ p ∷ right) → keyOf p ≡ some k → oneOf (somes (known L l)) k ≡ true → Among q left → keyOf q ≡ some k
       → all (λ n. leb (count n left) 1) (somes (known L l)) ≡ true
       → Breaks L start t TWICE i j (noteOf (p .key))
   nameTwice : {limit i : ℕ} {m : Node P} {ps : List (Pair P)} {o : Named P} (left right : List (Named P)) (n : Named P)
-      → Names L t limit i m → aTable m ≡ pass ps → each (λ k. nameOf) 0 ps ≡ pass (left ++ n ∷ right) → Among o left → o .name .letters ≡ n .name .letters
+      → Names L t limit i m → aMapping m ≡ pass ps → each (λ k. nameOf) 0 ps ≡ pass (left ++ n ∷ right) → Among o left → o .name .letters ≡ n .name .letters
       → distinct (map (λ x. x .name .letters) left) ≡ true
       → Breaks L start t TWICE i 0 (n .name .note)
   -- 12: a needed field is absent
   missing : {l : Level} {i j : ℕ} {m : Node P} {ps : List (Pair P)} (e : Entry) → Among e (entries L l) → e .needed ≡ true
-      → Holder L t l i j m → aTable m ≡ pass ps → field (e .called) ps ≡ none → Breaks L start t MISSING i j (noteOf m)
+      → Holder L t l i j m → aMapping m ≡ pass ps → field (e .called) ps ≡ none → Breaks L start t MISSING i j (noteOf m)
   -- 13, 14
   version : {v : Node P} {w : Word P} → Field t (versionOf L) v → aWord v ≡ pass w → versionShape (w .letters) ≡ false → Breaks L start t VERSION 0 0 (noteOf v)
   major : {v : Node P} {w : Word P} → Field t (versionOf L) v → aWord v ≡ pass w → majorOne (w .letters) ≡ false → Breaks L start t MAJOR 0 0 (noteOf v)
   -- 15: too many names, or too high a rank
   many : {limit i : ℕ} {m : Node P} {ps : List (Pair P)} {ns : List (Named P)}
-      → Names L t limit i m → aTable m ≡ pass ps → each (λ k. nameOf) 0 ps ≡ pass ns → leb (length ns) limit ≡ false → Breaks L start t COUNT i 0 (noteOf m)
+      → Names L t limit i m → aMapping m ≡ pass ps → each (λ k. nameOf) 0 ps ≡ pass ns → leb (length ns) limit ≡ false → Breaks L start t COUNT i 0 (noteOf m)
   rankCount : {i : ℕ} {m v : Node P} {ds : List (Node P)} {s : List ℕ}
       → Holder L t object i 0 m → Field m (shapeField L) v → aList v ≡ pass ds → each (λ k. aNumber) 0 ds ≡ pass s → leb (length s) rankLimit ≡ false
       → Breaks L start t COUNT i 0 (noteOf v)

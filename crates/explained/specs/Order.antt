@@ -13,7 +13,7 @@ use Rattle.meaning.specs.Version.{versionShape, majorOne}
 use Rattle.meaning.specs.Refusal.{KIND, KEY, TEXT, TWICE, MISSING, VERSION, MAJOR, COUNT, DTYPE, ENCODING, TYPE, ALIGN, BOUNDS, RANK, ROLE, LENGTH}
 use Rattle.meaning.specs.Limit.{objectLimit, componentLimit, rankLimit, alignment}
 use Rattle.meaning.specs.Model.{Word, Named}
-use Rattle.meaning.specs.Kind.{aNumber, aWord, aList, aTable, aText, present}
+use Rattle.meaning.specs.Kind.{aNumber, aWord, aList, aMapping, aText, present}
 use Rattle.meaning.specs.Layouts.{Layout, Slots, slot, somes, dtypeAt}
 use Rattle.meaning.specs.Field.{isSome, keyOf, field, nameOf, names}
 use Rattle.meaning.specs.Types.{widthOf, codeFrom, logicals, listed, fitsOver, product}
@@ -46,8 +46,8 @@ module _ {P : Type 0} where
   unfoldable pub wordSteps : Node P → List (Step P)
   wordSteps t = KIND at noteOf t unless passes (aWord t)
 
-  unfoldable pub tableSteps : Node P → List (Step P)
-  tableSteps t = KIND at noteOf t unless passes (aTable t)
+  unfoldable pub mappingSteps : Node P → List (Step P)
+  mappingSteps t = KIND at noteOf t unless passes (aMapping t)
 
   unfoldable pub textSteps : Node P → List (Step P)
   textSteps t = do
@@ -104,8 +104,8 @@ module _ {P : Type 0} where
   -- kind, keys, repeats
   unfoldable pub fieldSteps : Slots → Node P → List (Step P)
   fieldSteps known t = do
-    tableSteps t
-    ps ← given (aTable t)
+    mappingSteps t
+    ps ← given (aMapping t)
     keySteps ps
     repeatSteps (somes known) [] ps
 
@@ -126,8 +126,8 @@ module _ {P : Type 0} where
   -- kind, keys, UTF-8, count, repeats
   unfoldable pub nameSteps : ℕ → Node P → List (Step P)
   nameSteps limit t = do
-    tableSteps t
-    ps ← given (aTable t)
+    mappingSteps t
+    ps ← given (aMapping t)
     keySteps ps
     ns ← given (each (λ i. nameOf) 0 ps)
     every TEXT (λ n. n .name .note) (λ n. utf8 (n .name .letters)) ns
@@ -140,7 +140,7 @@ module _ {P : Type 0} where
   unfoldable pub componentSteps : Layout → ℕ → Option ℕ → Named P → List (Step P)
   componentSteps L start above n = do
     fieldSteps (L .component) (n .value)
-    ps ← given (aTable (n .value))
+    ps ← given (aMapping (n .value))
     missingIn (dtypeOn L component) (n .value) (field (dtypeOn L component) ps)
     missing (n .value) (field (offsetOf L) ps)
     missing (n .value) (field (lengthOf L) ps)
@@ -179,7 +179,7 @@ module _ {P : Type 0} where
 
   -- a component's length, where it stands
   unfoldable pub lengthNote : Layout → Named P → P
-  lengthNote L n = lengthIn L (noteOf (n .value)) (given (aTable (n .value)))
+  lengthNote L n = lengthIn L (noteOf (n .value)) (given (aMapping (n .value)))
 
   -- of an object: the annotations of its shape and of its components' map, its shape, the named components, and what the rules look at in them
   module _ (L : Layout) (shapeNote mapNote : P) (shape : List ℕ) (ns : List (Named P)) (cs : List Part) where
@@ -247,7 +247,7 @@ module _ {P : Type 0} where
   unfoldable pub objectSteps : Layout → ℕ → Named P → List (Step P)
   objectSteps L start n = do
     fieldSteps (L .object) (n .value)
-    ps ← given (aTable (n .value))
+    ps ← given (aMapping (n .value))
     missingIn (dtypeOn L object) (n .value) (field (dtypeOn L object) ps)
     missing (n .value) (field (shapeField L) ps)
     missing (n .value) (field (formatOf L) ps)
@@ -261,7 +261,7 @@ module _ {P : Type 0} where
     s ← given (shapeOf shape)
     textSteps format
     f ← given (aText format)
-    field (attributesOn L object) ps >>= tableSteps
+    field (attributesOn L object) ps >>= mappingSteps
     componentsSteps L start (inherited (f .letters) d) components
     cs ← given (componentsOf L start (inherited (f .letters) d) components)
     formatSteps L (noteOf shape) (noteOf components) s (allOf (names componentLimit components)) (map part cs) (f .letters)
@@ -275,11 +275,11 @@ module _ {P : Type 0} where
   unfoldable pub manifestSteps : Layout → ℕ → Node P → List (Step P)
   manifestSteps L start t = do
     fieldSteps (L .root) t
-    ps ← given (aTable t)
+    ps ← given (aMapping t)
     missing t (field (versionOf L) ps)
     version ← field (versionOf L) ps
     versionSteps version
-    field (attributesOn L root) ps >>= tableSteps
+    field (attributesOn L root) ps >>= mappingSteps
     missing t (field (objectsField L) ps)
     objects ← field (objectsField L) ps
     objectsSteps L start objects

@@ -14,7 +14,7 @@ use Rattle.meaning.specs.Layouts.{Layout, layoutOf}
 use Rattle.meaning.specs.Frame.{frame}
 use Rattle.meaning.specs.Rows.{optionalSpan}
 use Rattle.fields.proofs.Texts.{Here}
-use Rattle.frame.specs.Told as framing
+use Rattle.frame.specs.FrameAnswer as framing
 use Rattle.frame.specs.declared.Framed.{Framed}
 use Rattle.frame.specs.declared.Framed.the-variants.{No as NoFrame, At}
 use Rattle.table.specs.Spans.{spanOf}
@@ -36,8 +36,8 @@ use Rattle.shown.specs.Accepted.{Framing}
 use Rattle.explaining.specs.Judged as is
 use Rattle.explaining.proofs.Within as within
 use Rattle.explaining.proofs.Words as words
-use Rattle.explaining.proofs.Reading as reading
-use Rattle.explaining.proofs.Reading.{Cause, stops, fills}
+use Rattle.explaining.proofs.FromReading as reading
+use Rattle.explaining.proofs.FromReading.{Cause, stops, fills}
 
 module _ (L : Layout) (m : List ℕ) (start end n o c : ℕ) (r : Explanation) where
   pub of-object : Sided L → (objects from : ℕ) → from ≡ length m - objects → (e : Places) → EntryIs 30 (Here m from) o e → (v : ℕ) → v ≡ length m - e .value

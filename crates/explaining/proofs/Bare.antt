@@ -13,7 +13,7 @@ use Rattle.meaning.specs.Notes.{mapOption}
 use Rattle.meaning.specs.Layouts.{Layout, Slots}
 use Rattle.explained.specs.Step
 use Rattle.explained.specs.Step.{Step, first, every}
-use Rattle.explained.specs.Order.{wordSteps, tableSteps, versionSteps, keySteps, repeatSteps, fieldSteps, missing, sameNameSteps, nameSteps}
+use Rattle.explained.specs.Order.{wordSteps, mappingSteps, versionSteps, keySteps, repeatSteps, fieldSteps, missing, sameNameSteps, nameSteps}
 use Rattle.badroot.specs.Opening.{laterSteps, valueSteps, openingSteps}
 
 -- the same check, of no object, with a number that isn't 0
@@ -42,8 +42,8 @@ module _ {P : Type 0} where
   unfolding wordSteps
   bare-word t = refl
 
-  bare-table : (t : Node P) → map bare (tableSteps t) ≡ tableSteps t
-  unfolding tableSteps
+  bare-table : (t : Node P) → map bare (mappingSteps t) ≡ mappingSteps t
+  unfolding mappingSteps
   bare-table t = refl
 
   bare-missing : {A : Type 0} (t : Node P) (v : Option A) → map bare (missing t v) ≡ missing t v

@@ -27,8 +27,8 @@ use Rattle.met.proofs.Honest.{first-stands}
 use Rattle.unread.proofs.OfFrame as frames
 use Rattle.unread.proofs.OfFrame.{Fate, refuses, passes}
 use Rattle.explaining.specs.Judged as is
-use Rattle.explaining.proofs.Reading as reads
-use Rattle.explaining.proofs.Reading.{Cause, stops, fills}
+use Rattle.explaining.proofs.FromReading as reads
+use Rattle.explaining.proofs.FromReading.{Cause, stops, fills}
 
 -- up to n
 abbrev Below : ℕ → Span → Type 0

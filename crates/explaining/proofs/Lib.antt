@@ -2,7 +2,7 @@
 pub mod Bare
 pub mod Within
 pub mod Words
-pub mod Reading
+pub mod FromReading
 pub mod Answers
 pub mod Inside
-pub mod Saying
+pub mod Sentence

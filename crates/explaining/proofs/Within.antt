@@ -17,7 +17,7 @@ use Rattle.meaning.specs.Judge.{object, judge}
 use Rattle.walk.specs.Reading.{Ends, Reads}
 use Rattle.fields.specs.Slots.{Stands, Holds}
 use Rattle.fields.proofs.Texts.{Here}
-use Rattle.fields.proofs.Standing.{some-left}
+use Rattle.fields.proofs.Stands.{some-left}
 use Rattle.component.specs.Value.{leftWord}
 use Rattle.components.specs.Typed.{WordAt, bare, lettered}
 use Rattle.components.proofs.Lettered.{word-note}
@@ -38,7 +38,7 @@ use Rattle.met.proofs.Honest.{first-stands}
 use Rattle.indexed.specs.Entry.{EntryAt}
 use Rattle.indexed.proofs.Named.{named-entry}
 use Rattle.badroot.specs.Opening.{openingSteps, eachObject, ObjectsAt, Opened}
-use Rattle.badroot.proofs.Splitting.{opening-breaks, opening-passes}
+use Rattle.badroot.proofs.OpeningFirst.{opening-breaks, opening-passes}
 use Rattle.pointed.specs.Pointed.{Met}
 use Rattle.explaining.proofs.Bare.{opening-nameless, opening-unplaced, opening-numbered}
 

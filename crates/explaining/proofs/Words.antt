@@ -9,14 +9,14 @@ use Rattle.meaning.specs.Tree.{Node, noteOf}
 use Rattle.meaning.specs.Check.{pass, refuse}
 use Rattle.meaning.specs.Limit.{objectLimit, componentLimit}
 use Rattle.meaning.specs.Model.{Word, Named}
-use Rattle.meaning.specs.Kind.{aWord, aTable}
+use Rattle.meaning.specs.Kind.{aWord, aMapping}
 use Rattle.meaning.specs.Read.{got}
 use Rattle.meaning.specs.Layouts.{Layout}
 use Rattle.meaning.specs.Judge.{judge}
 use Rattle.meaning.proofs.ReadPrefix.{alike}
 use Rattle.walk.specs.Reading.{Ends, Reads}
 use Rattle.fields.specs.Slots.{Stands, Holds}
-use Rattle.fields.proofs.Standing.{some-left, stands-at, field-found-stands}
+use Rattle.fields.proofs.Stands.{some-left, stands-at, field-found-stands}
 use Rattle.components.specs.Typed.{WordAt, bare, lettered}
 use Rattle.components.proofs.Lettered.{word-note}
 use Rattle.explained.specs.Fields.{Sided, objectsField, componentsField}
@@ -50,13 +50,13 @@ module _ (d : ℕ) (m : List ℕ) (l : ℕ) (t : Node Ends) (x : Stands (suc d) 
       let c = chained d s t (x .rest) (x .reads) (f .pairs) (f .isMap) in
       stands-up d m (length m - l) (length (noteOf v .start)) v within (field-found-stands d s name (f .pairs) (c .at) (c .within) (c .rest) (c .chain) v (f .value))
 
-  entry-in : (j : ℕ) → EntryIs d s j (inTable j (aTable t))
-  entry-in j t′ q′ h = let z : got t (x .rest) ≡ got t′ q′ = sym (x .reads) ∙ h in ap (λ u. inTable j (aTable u)) (alike z .value)
+  entry-in : (j : ℕ) → EntryIs d s j (inTable j (aMapping t))
+  entry-in j t′ q′ h = let z : got t (x .rest) ≡ got t′ q′ = sym (x .reads) ∙ h in ap (λ u. inTable j (aMapping u)) (alike z .value)
 
-  entry-at : (limit j : ℕ) (n : Named Ends) → Under limit t j n → EntryAt d s n (inTable j (aTable t))
-  entry-at limit j n u = named-entry d s t (x .rest) (x .reads) limit (u .every) (u .sound) j n (u .this) (inTable j (aTable t)) (entry-in j)
+  entry-at : (limit j : ℕ) (n : Named Ends) → Under limit t j n → EntryAt d s n (inTable j (aMapping t))
+  entry-at limit j n u = named-entry d s t (x .rest) (x .reads) limit (u .every) (u .sound) j n (u .this) (inTable j (aMapping t)) (entry-in j)
 
-  value-in : (limit j : ℕ) (n : Named Ends) → Under limit t j n → Stands d m (inTable j (aTable t) .value) (n .value)
+  value-in : (limit j : ℕ) (n : Named Ends) → Under limit t j n → Stands d m (inTable j (aMapping t) .value) (n .value)
   value-in limit j n u = stands-up d m (length m - l) _ (n .value) within (entry-at limit j n u .value-stands)
 
 name-in : (d : ℕ) (m : List ℕ) (l : ℕ) (t : Node Ends) → Stands (suc (suc d)) m l t → (limit j : ℕ) (n : Named Ends) → Under limit t j n → WordAt m (some (n .name))

@@ -1,2 +1,2 @@
 -- The definitions that the contracts of exported cite.
-pub mod Told
+pub mod Structs

@@ -21,7 +21,7 @@ ghost use Rattle.formats.specs.Parts.{partRows};
 ghost use Rattle.reader.specs.Verdict.{verdict};
 ghost use Rattle.put.specs.Wrote.{Wrote};
 ghost use Rattle.decimal.specs.Text as decimals;
-ghost use Rattle.exported.specs.Told.{ruling, place};
+ghost use Rattle.exported.specs.Structs.{ruling, place};
 
 #[no_mangle]
 pub extern "C" fn leaf_skip(s: &[u8], left: u64) -> usize

@@ -7,7 +7,7 @@ use Prim.Native.Nat.{ℕ, _-_}
 use native.Mathlib.Omega.{arith}
 use lib.ListN.{length}
 use Rattle.meaning.specs.Check.{pass, fault}
-use Rattle.meaning.specs.Kind.{aTable, asTable}
+use Rattle.meaning.specs.Kind.{aMapping, asMapping}
 use Rattle.meaning.specs.Refusal.{KIND}
 use Rattle.meaning.specs.Judge.{attributesOf}
 use Rattle.walk.specs.Places.{Whatever, MapIs}
@@ -24,7 +24,7 @@ module _ (s : List ℕ) (left : ℕ) where
 
   module _ (at : ℕ) (is : at ≡ length s - left) (here : left ≡ 0 → ⊥) (x : Opening) (asked : MapIs (Here s at) x) where
     a-map : (mode count size : ℕ) → x ≡ Opened mode count size → Whatever (Here s at) λ d t q. attributesOf t ≡ pass t
-    unfolding attributesOf aTable asTable
+    unfolding attributesOf aMapping asMapping
     a-map mode count size e d t q r = let m : MapIs (Here s at) (Opened mode count size) = rw e at asked in rw (m .trees d t q r .kind-is) refl
 
     no-map : x ≡ NotOpen → Whatever (Here s at) λ d t q. attributesOf t ≡ fault KIND

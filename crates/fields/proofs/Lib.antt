@@ -1,8 +1,8 @@
-pub mod Marking
+pub mod MarkedSlots
 pub mod Marks
-pub mod Standing
+pub mod Stands
 pub mod Texts
 pub mod Places
 pub mod Snoc
 pub mod AttributesAt
-pub mod Keeping
+pub mod FieldLoop

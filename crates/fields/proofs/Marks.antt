@@ -22,7 +22,7 @@ use Rattle.types.proofs.Codes.{field-most}
 use Rattle.text.proofs.SameIsEqual.{eq-same, ne-same}
 use Rattle.walk.specs.Reading.{Ends, leftAt, foldl}
 use Rattle.fields.specs.Slots.{slotOf, marks}
-use Rattle.fields.proofs.Marking.{mark-late, mark-first, mark-again, marked-length}
+use Rattle.fields.proofs.MarkedSlots.{mark-late, mark-first, mark-again, marked-length}
 
 -- equal positions of a name that is there are equal names
 pub position-same : (ns : Slots) (n k : List ℕ) → fieldAt ns n < length ns → fieldAt ns n ≡ fieldAt ns k → n ≡ k

@@ -23,7 +23,7 @@ null-absent t = go (kind t)
     go (kinds.number n) e = absurd (let z : _≡_ {A = ℕ} 0 1 = cc in omega arith)
     go (kinds.words w) e = absurd (let z : _≡_ {A = ℕ} 0 1 = cc in omega arith)
     go (kinds.list l) e = absurd (let z : _≡_ {A = ℕ} 0 1 = cc in omega arith)
-    go (kinds.table l) e = absurd (let z : _≡_ {A = ℕ} 0 1 = cc in omega arith)
+    go (kinds.mapping l) e = absurd (let z : _≡_ {A = ℕ} 0 1 = cc in omega arith)
     go kinds.null e = refl
     go kinds.another e = absurd (let z : _≡_ {A = ℕ} 0 1 = cc in omega arith)
 
@@ -35,7 +35,7 @@ other-present t = go (kind t)
     go (kinds.number n) e = refl
     go (kinds.words w) e = refl
     go (kinds.list l) e = refl
-    go (kinds.table l) e = refl
+    go (kinds.mapping l) e = refl
     go kinds.null e = absurd (let z : _≡_ {A = ℕ} 0 1 = cc in omega arith)
     go kinds.another e = refl
 

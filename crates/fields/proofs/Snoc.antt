@@ -16,7 +16,7 @@ use Rattle.types.specs.Known.{fieldAt}
 use Rattle.walk.specs.Reading.{Ends, Chain, foldl}
 use Rattle.fields.specs.Slots.{slotOf, marks, Holds}
 use Rattle.fields.proofs.Marks.{position-slot}
-use Rattle.fields.proofs.Standing.{hold-none, hold-some, field-stands}
+use Rattle.fields.proofs.Stands.{hold-none, hold-some, field-stands}
 
 pub foldl-snoc : {A S : Type 0} (f : S → A → S) (z : S) (xs : List A) (x : A) → foldl f z (xs ++ x ∷ []) ≡ f (foldl f z xs) x
 foldl-snoc f z [] x = refl

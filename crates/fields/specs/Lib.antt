@@ -1,3 +1,3 @@
 pub mod Slots
 pub mod Attributes
-pub mod Keeping
+pub mod FieldWalk

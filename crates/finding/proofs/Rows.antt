@@ -14,7 +14,7 @@ use Rattle.meaning.specs.Read.{Span}
 use Rattle.meaning.specs.Types.{f32}
 use Rattle.meaning.specs.View.{viewed}
 use Rattle.meaning.proofs.Tests.{both-right}
-use Rattle.view.specs.Told as view
+use Rattle.view.specs.Extents as view
 use Rattle.view.specs.declared.Extent.{Extent}
 use Rattle.finding.specs.Finding.{finding, shown}
 use Rattle.finding.specs.Table.{due, undue, atRow, told, found}

@@ -14,7 +14,7 @@ use Rattle.formats.specs.Parts as rules
 use Rattle.rows.proofs.EachRow.{no-row, next-row-at}
 use Rattle.foresee.specs.declared.texts.Held.{Held}
 use Rattle.foresee.specs.declared.texts.Held.the-variants.{Right, Wrong}
-use Rattle.foresee.specs.Told.{told, eachComponent}
+use Rattle.foresee.specs.Foretold.{told, eachComponent}
 
 -- a check of each, with what passes forgotten
 module _ {A : Type 0} (f : ℕ → A → Check (Unit {0})) (i : ℕ) (a : A) (l : List A) where

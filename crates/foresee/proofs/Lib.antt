@@ -1,7 +1,7 @@
 -- Laws behind foresee's proofs.
 pub mod TextLaws
 pub mod DeepLaws
-pub mod Noting
+pub mod NamesNoted
 pub mod Components
 pub mod Parts
 pub mod Objects

@@ -20,7 +20,7 @@ use Rattle.formats.specs.declared.Ruled.{Ruled}
 use Rattle.formats.specs.declared.Ruled.the-variants.{Right as Fits, Wrong as Breaks}
 use Rattle.formats.specs.Parts as rules
 use Rattle.readback.specs.Judged.{judgedNames, judgedComponent, partOf, judgedObject, judgedObjects, deepOption, anyTooDeep, tooDeep, judged}
-use Rattle.rows.specs.Running.{counted}
+use Rattle.rows.specs.Turns.{counted}
 use Rattle.rows.proofs.EachRow.{first-so}
 use Rattle.rows.proofs.Describes.{described-none, described-next, counted-next, rows-counted}
 use Rattle.rows.proofs.SoundRow.{object-rank-small}
@@ -28,9 +28,9 @@ use Rattle.rows.proofs.Whole.{sound-lies, sound-objects}
 use Rattle.foresee.specs.declared.texts.Held.{Held}
 use Rattle.foresee.specs.declared.texts.Held.the-variants.{Right, Wrong}
 use Rattle.foresee.specs.declared.Foreseen.the-variants.{Fine, Fault}
-use Rattle.foresee.specs.Told.{told, foretold, eachComponent, eachObject, objectsOf, Counted}
+use Rattle.foresee.specs.Foretold.{told, foretold, eachComponent, eachObject, objectsOf, Counted}
 use Rattle.foresee.specs.Names.{namesOf}
-use Rattle.foresee.proofs.Noting.{few-names, component-names, object-names}
+use Rattle.foresee.proofs.NamesNoted.{few-names, component-names, object-names}
 use Rattle.foresee.proofs.Components.{goes-on, stops}
 
 -- ---- one object, with n components

@@ -16,7 +16,7 @@ use Rattle.types.specs.Known.{position, roleNames, unitNumber}
 use Rattle.formats.specs.Parts.{flag, unitCode, partRow, partRows}
 use Rattle.components.specs.Row.{putRow}
 use Rattle.components.proofs.Rows.{row-length, row-after}
-use Rattle.naming.proofs.Noting.{map-snoc}
+use Rattle.naming.proofs.NameNoted.{map-snoc}
 use Rattle.readback.specs.Judged.{partOf}
 use Rattle.rows.proofs.EachRow.{some-rows}
 use Rattle.foresee.specs.Parts.{putPart}

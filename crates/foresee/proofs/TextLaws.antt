@@ -14,7 +14,7 @@ use Rattle.meaning.specs.Described.{describedComponent}
 use Rattle.readback.specs.Judged.{judgedType, judgedText, judgedComponent}
 use Rattle.foresee.specs.declared.texts.Held.{Held}
 use Rattle.foresee.specs.declared.texts.Held.the-variants.{Right, Wrong}
-use Rattle.foresee.specs.Told.{told}
+use Rattle.foresee.specs.Foretold.{told}
 
 module _ (buffer : List ℕ) (place size : ℕ) where
   abbrev at : Span

@@ -1,4 +1,4 @@
 -- The definitions that the contracts of foresee cite.
-pub mod Told
+pub mod Foretold
 pub mod Names
 pub mod Parts

@@ -33,7 +33,7 @@ ghost use Rattle.meaning.specs.Described.{describedComponent, describedObject};
 ghost use Rattle.formats.specs.Parts as rules;
 ghost use Rattle.formats.specs.Parts.{partRows};
 ghost use Rattle.readback.specs.Judged.{judgedObject, partOf};
-ghost use Rattle.foresee.specs.Told.{eachComponent};
+ghost use Rattle.foresee.specs.Foretold.{eachComponent};
 ghost use Rattle.foresee.specs.Parts.{putPart};
 
 // The first component at fault, of n whose rows these numbers begin with.

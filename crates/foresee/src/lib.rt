@@ -12,7 +12,7 @@ ghost use Rattle.meaning.specs.Asked.{asked};
 ghost use Rattle.meaning.specs.Described.{described};
 ghost use Rattle.meaning.specs.Sound.{rowsSound};
 ghost use Rattle.readback.specs.Judged.{judged, judgedObjects};
-ghost use Rattle.foresee.specs.Told as is;
+ghost use Rattle.foresee.specs.Foretold as is;
 
 // No refusal, or its number, object and component.
 pub enum Foreseen {

@@ -5,7 +5,7 @@ ghost use mathlib.Core.Path.{_≡_};
 ghost use Prim.Native.Nat.{_-_, _*_, _≤_};
 ghost use lib.ListN.{length};
 ghost use Rattle.readback.specs.Judged.{judgedNames};
-ghost use Rattle.foresee.specs.Told.{told};
+ghost use Rattle.foresee.specs.Foretold.{told};
 ghost use Rattle.foresee.specs.Names.{namesOf, NotedOr};
 
 // Bytes left at a place of a buffer of n bytes.

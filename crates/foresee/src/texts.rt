@@ -13,7 +13,7 @@ ghost use Rattle.meaning.specs.Columns.{componentWidth};
 ghost use Rattle.meaning.specs.Asked.{askedComponent, presentAt};
 ghost use Rattle.meaning.specs.Described.{describedComponent};
 ghost use Rattle.readback.specs.Judged.{judgedType, judgedText, judgedComponent};
-ghost use Rattle.foresee.specs.Told.{told};
+ghost use Rattle.foresee.specs.Foretold.{told};
 
 pub enum Held {
     Right,

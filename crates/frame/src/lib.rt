@@ -5,7 +5,7 @@ ghost use lib.ListN.{length, drop};
 ghost use Rattle.meaning.specs.Text.{same};
 ghost use Rattle.meaning.specs.Layouts.{layoutOf};
 ghost use Rattle.meaning.specs.Frame as meant;
-ghost use Rattle.frame.specs.Told as spec;
+ghost use Rattle.frame.specs.FrameAnswer as spec;
 
 // The manifest's start and size, or the refusal.
 pub enum Framed {

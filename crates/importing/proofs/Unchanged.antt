@@ -24,7 +24,7 @@ use Rattle.roundtrip.proofs.WrittenAgain.{imported-table}
 use Rattle.changes.specs.Changes.{changes, changeNumbers}
 use Rattle.changes.proofs.AcceptedNamed.{accepted-named}
 use Rattle.changes.proofs.Itself as itself
-use Rattle.comparing.specs.Told.{refused, listed, comparedBy, compared, fitting, told}
+use Rattle.comparing.specs.Comparison.{refused, listed, comparedBy, compared, fitting, told}
 
 -- what was written reads back
 written-back : {d : Described} {c : Check (List ℕ)} {once : List ℕ} → WrittenOrSize d c → c ≡ pass once → ReadsBack once d

@@ -12,13 +12,13 @@ use Rattle.meaning.specs.Tree.{Node, Pair, noteOf, pairList-pairs}
 use Rattle.meaning.specs.Check.{Check, pass, fault}
 use Rattle.meaning.specs.Refusal.{KIND}
 use Rattle.meaning.specs.Kind as kinds
-use Rattle.meaning.specs.Kind.{Kind, kind, aTable, asTable}
+use Rattle.meaning.specs.Kind.{Kind, kind, aMapping, asMapping}
 use Rattle.meaning.specs.Read.{Argument, known, indefinite, Major, unsigned, negative, byteString, textString, arrayOf, mapOf, tagged, special, majorOf, times, toBreak, pair, item}
 use Rattle.walk.specs.Reading.{Ends, ends, Reads, Chain}
 use Rattle.walk.proofs.Chains.{ate, counted, until-broken, pairs-chained}
 use Rattle.walk.proofs.ReadSays.{Says, KindSays, kind-says, Stood, sized, loose, stood, nothing-read}
 use Rattle.fields.specs.Slots.{Stands}
-use Rattle.fields.proofs.Standing.{stands-at}
+use Rattle.fields.proofs.Stands.{stands-at}
 use Rattle.entry.specs.Nth.{nth}
 
 -- pairs from some place of s on
@@ -32,46 +32,46 @@ never-both : {ps : List (Pair Ends)} {c : Check (List (Pair Ends))} → c ≡ fa
 never-both e h = let z : _≡_ {A = ℕ} 0 1 = cc in omega arith
 
 -- only a map is a map
-no-table : (m : Major) (a : Argument) (k : Kind Ends) (ps : List (Pair Ends)) → KindSays m a k → asTable k ≡ pass ps → m ≡ mapOf
-unfolding asTable
-no-table unsigned (known w n) k ps h e = absurd (let z : asTable k ≡ fault KIND = ap asTable h in never-both z e)
+no-table : (m : Major) (a : Argument) (k : Kind Ends) (ps : List (Pair Ends)) → KindSays m a k → asMapping k ≡ pass ps → m ≡ mapOf
+unfolding asMapping
+no-table unsigned (known w n) k ps h e = absurd (let z : asMapping k ≡ fault KIND = ap asMapping h in never-both z e)
 no-table unsigned indefinite k ps h e = absurd h
-no-table negative (known w n) k ps h e = absurd (let z : asTable k ≡ fault KIND = ap asTable h in never-both z e)
+no-table negative (known w n) k ps h e = absurd (let z : asMapping k ≡ fault KIND = ap asMapping h in never-both z e)
 no-table negative indefinite k ps h e = absurd h
-no-table byteString a k ps h e = absurd (let z : asTable k ≡ fault KIND = ap asTable h in never-both z e)
-no-table textString (known w n) k ps h e = absurd (let z : asTable k ≡ fault KIND = ap asTable (h .2) in never-both z e)
-no-table textString indefinite k ps h e = absurd (let z : asTable k ≡ fault KIND = ap asTable h in never-both z e)
-no-table arrayOf a k ps h e = absurd (let z : asTable k ≡ fault KIND = ap asTable (h .1) in never-both z e)
+no-table byteString a k ps h e = absurd (let z : asMapping k ≡ fault KIND = ap asMapping h in never-both z e)
+no-table textString (known w n) k ps h e = absurd (let z : asMapping k ≡ fault KIND = ap asMapping (h .2) in never-both z e)
+no-table textString indefinite k ps h e = absurd (let z : asMapping k ≡ fault KIND = ap asMapping h in never-both z e)
+no-table arrayOf a k ps h e = absurd (let z : asMapping k ≡ fault KIND = ap asMapping (h .1) in never-both z e)
 no-table mapOf a k ps h e = refl
-no-table tagged (known w n) k ps h e = absurd (let z : asTable k ≡ fault KIND = ap asTable h in never-both z e)
+no-table tagged (known w n) k ps h e = absurd (let z : asMapping k ≡ fault KIND = ap asMapping h in never-both z e)
 no-table tagged indefinite k ps h e = absurd h
-no-table special (known w n) k ps h e = absurd (let z : asTable k ≡ fault KIND = ap asTable h ∙ two (leb w 1) (eqb n 22) in never-both z e)
+no-table special (known w n) k ps h e = absurd (let z : asMapping k ≡ fault KIND = ap asMapping h ∙ two (leb w 1) (eqb n 22) in never-both z e)
   where
-    two : (b c : Bool) → asTable {P = Ends} (cond b (cond c kinds.null kinds.another) kinds.another) ≡ fault KIND
+    two : (b c : Bool) → asMapping {P = Ends} (cond b (cond c kinds.null kinds.another) kinds.another) ≡ fault KIND
     two true true = refl
     two true false = refl
     two false c = refl
 no-table special indefinite k ps h e = absurd h
 
 module _ (d : ℕ) where
-  same-pairs : {k : Kind Ends} {ps qs : List (Pair Ends)} → k ≡ kinds.table qs → asTable k ≡ pass ps → qs ≡ ps
-  unfolding asTable
-  same-pairs {k} {ps} {qs} h e = let z : pass qs ≡ pass ps = sym (ap asTable h) ∙ e in cc
+  same-pairs : {k : Kind Ends} {ps qs : List (Pair Ends)} → k ≡ kinds.mapping qs → asMapping k ≡ pass ps → qs ≡ ps
+  unfolding asMapping
+  same-pairs {k} {ps} {qs} h e = let z : pass qs ≡ pass ps = sym (ap asMapping h) ∙ e in cc
 
   -- the map's content stands at q
-  content-chained : (start q : List ℕ) (t : Node Ends) (r : List ℕ) (a : Argument) → Says start d mapOf a q t r → (ps : List (Pair Ends)) → asTable (kind t) ≡ pass ps
+  content-chained : (start q : List ℕ) (t : Node Ends) (r : List ℕ) (a : Argument) → Says start d mapOf a q t r → (ps : List (Pair Ends)) → asMapping (kind t) ≡ pass ps
       → (rest : List ℕ) × Chain d q ps rest
   unfolding kind
   content-chained start q t r (known w n) h ps e =
-      let z : h .value ≡ ps = same-pairs (ap kind (h .node) ∙ ap kinds.table (pairList-pairs (h .value))) e in
+      let z : h .value ≡ ps = same-pairs (ap kind (h .node) ∙ ap kinds.mapping (pairList-pairs (h .value))) e in
       (r, subst (λ ps. Chain d q ps r) z (pairs-chained d (h .value) q r (counted (pair ends (item ends d)) n q (h .value) r (h .is) .row)))
   content-chained start q t r indefinite h ps e =
-      let z : h .value ≡ ps = same-pairs (ap kind (h .node) ∙ ap kinds.table (pairList-pairs (h .value))) e in
+      let z : h .value ≡ ps = same-pairs (ap kind (h .node) ∙ ap kinds.mapping (pairList-pairs (h .value))) e in
       let b = until-broken (pair ends (item ends d)) q (h .value) r (h .is) in
       (b .last, subst (λ ps. Chain d q ps (b .last)) z (pairs-chained d (h .value) q (b .last) (b .row)))
 
-  pub chained : (s : List ℕ) (t : Node Ends) (r : List ℕ) → Reads (suc d) s t r → (ps : List (Pair Ends)) → aTable t ≡ pass ps → Chained d s ps
-  unfolding aTable
+  pub chained : (s : List ℕ) (t : Node Ends) (r : List ℕ) → Reads (suc d) s t r → (ps : List (Pair Ends)) → aMapping t ≡ pass ps → Chained d s ps
+  unfolding aMapping
   chained [] t r e ps h = absurd (nothing-read d [] t r refl e)
   chained (b ∷ s) t r e ps h = go (stood d b s t r e)
     where

@@ -12,7 +12,7 @@ use Rattle.meaning.specs.Check.{Check, pass, refuse, _>>=_, _>>_, _unless_, eac
 use Rattle.meaning.specs.Text.{all, distinct, utf8}
 use Rattle.meaning.specs.Refusal.{TEXT, COUNT, TWICE}
 use Rattle.meaning.specs.Model.{Word, Named}
-use Rattle.meaning.specs.Kind.{Kind, kind, number, words, list, table, null, another, aWord, asWord, aTable}
+use Rattle.meaning.specs.Kind.{Kind, kind, number, words, list, mapping, null, another, aWord, asWord, aMapping}
 use Rattle.meaning.specs.Field.{nameKind, nameOf, names}
 use Rattle.walk.specs.Reading.{Ends, Reads}
 use Rattle.fields.specs.Slots.{Stands}
@@ -59,9 +59,9 @@ named-nth (p ∷ ps) ns b e k n h = go (nameOf p) refl (each (λ j. nameOf) (suc
     go (pass x) u (pass xs) v e k h ih = let z : x ∷ xs ≡ ns = cc in one x xs u v z k (subst (λ l. nth k l ≡ some n) (sym z) h) ih
 
 -- the pairs of a map of names
-named-table : (limit : ℕ) (t : Node Ends) (ns : List (Named Ends)) → names limit t ≡ pass ns → (ps : List (Pair Ends)) × (aTable t ≡ pass ps) × (each (λ i. nameOf) 0 ps ≡ pass ns)
+named-table : (limit : ℕ) (t : Node Ends) (ns : List (Named Ends)) → names limit t ≡ pass ns → (ps : List (Pair Ends)) × (aMapping t ≡ pass ps) × (each (λ i. nameOf) 0 ps ≡ pass ns)
 unfolding names
-named-table limit t ns e = go (aTable t) refl e
+named-table limit t ns e = go (aMapping t) refl e
   where
     last : (b c d : Bool) (xs : List (Named Ends)) → ((TEXT unless b) >> ((COUNT unless c) >> ((TWICE unless d) >> pass xs))) ≡ pass ns → xs ≡ ns
     last false c d xs e = absurd (impossible e)
@@ -69,15 +69,15 @@ named-table limit t ns e = go (aTable t) refl e
     last true true false xs e = absurd (impossible e)
     last true true true xs e = cc
 
-    go₂ : (ps : List (Pair Ends)) → aTable t ≡ pass ps → (r : Check (List (Named Ends))) → each (λ i. nameOf) 0 ps ≡ r
+    go₂ : (ps : List (Pair Ends)) → aMapping t ≡ pass ps → (r : Check (List (Named Ends))) → each (λ i. nameOf) 0 ps ≡ r
         → (r >>= λ ns. (TEXT unless all (λ n. utf8 (n .name .letters)) ns) >> ((COUNT unless leb (length ns) limit) >> ((TWICE unless distinct (map (λ n. n .name .letters) ns)) >> pass ns))) ≡ pass ns
-        → (ps : List (Pair Ends)) × (aTable t ≡ pass ps) × (each (λ i. nameOf) 0 ps ≡ pass ns)
+        → (ps : List (Pair Ends)) × (aMapping t ≡ pass ps) × (each (λ i. nameOf) 0 ps ≡ pass ns)
     go₂ ps h (refuse x y z) k e = absurd (impossible e)
     go₂ ps h (pass xs) k e = (ps, h, k ∙ ap pass (last (all (λ n. utf8 (n .name .letters)) xs) (leb (length xs) limit) (distinct (map (λ n. n .name .letters) xs)) xs e))
 
-    go : (m : Check (List (Pair Ends))) → aTable t ≡ m
+    go : (m : Check (List (Pair Ends))) → aMapping t ≡ m
         → (m >>= λ ps. each (λ i. nameOf) 0 ps >>= λ ns. (TEXT unless all (λ n. utf8 (n .name .letters)) ns) >> ((COUNT unless leb (length ns) limit) >> ((TWICE unless distinct (map (λ n. n .name .letters) ns)) >> pass ns))) ≡ pass ns
-        → (ps : List (Pair Ends)) × (aTable t ≡ pass ps) × (each (λ i. nameOf) 0 ps ≡ pass ns)
+        → (ps : List (Pair Ends)) × (aMapping t ≡ pass ps) × (each (λ i. nameOf) 0 ps ≡ pass ns)
     go (refuse x y z) h e = absurd (impossible e)
     go (pass ps) h e = go₂ ps h (each (λ i. nameOf) 0 ps) refl e
 
@@ -94,7 +94,7 @@ spelt p n e = go (kind (p .key)) refl e
     go (number x) h e = absurd (impossible e)
     go (words w) h e = let x : w ≡ n .name = cc in let y : p .value ≡ n .value = cc in record { key = ap asWord h ∙ ap {B = Check (Word Ends)} pass x; value = y }
     go (list x) h e = absurd (impossible e)
-    go (table x) h e = absurd (impossible e)
+    go (mapping x) h e = absurd (impossible e)
     go null h e = absurd (impossible e)
     go another h e = absurd (impossible e)
 

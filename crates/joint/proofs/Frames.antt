@@ -9,10 +9,10 @@ use Rattle.meaning.specs.Columns.{objectWidth}
 use Rattle.meaning.specs.Layouts.{magic}
 use Rattle.meaning.specs.WrittenFile.{littleBytes}
 use Rattle.emit.specs.Laid.{Room, Laid}
-use Rattle.emit.proofs.Laying.{part, back, as-bytes, room-as, room-first, room-next, then, lent, same-length, front-of, relaid}
+use Rattle.emit.proofs.LaidPieces.{part, back, as-bytes, room-as, room-first, room-next, then, lent, same-length, front-of, relaid}
 use Rattle.layout.specs.Pieces.{blobsOf, objectsOf, rootFront}
 use Rattle.layout.specs.Rows.{FrontRoom}
-use Rattle.layout.proofs.Walking.{blobs-grow}
+use Rattle.layout.proofs.RowLoop.{blobs-grow}
 use Rattle.joint.specs.Joint.{frontOf, manifestOf, wholeOf}
 
 module _ (attributes first rows second others : List ℕ) (place size n c k d turn : ℕ) {xs : List ℕ} (room : Room (wholeOf attributes place size first rows n c second others k d turn) 0 xs) where

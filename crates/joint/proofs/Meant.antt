@@ -17,8 +17,8 @@ use Rattle.meaning.specs.Manifest.{Keyed, under, given, entryBytes, mapBytes, s
 use Rattle.meaning.specs.Placement.{placement}
 use Rattle.meaning.specs.WrittenFile.{littleBytes, over, blobsOver, closing, fileOf}
 use Rattle.meaning.proofs.Lengths.{map-both, each-row-length, described-counted}
-use Rattle.rows.specs.Running.{begun, offsetAt, stepped, reached, offsetsFrom, blobLengths, objectFrom, objectsFrom, counted}
-use Rattle.rows.proofs.Running.{manifest-placed, offsets-by-rule, reached-joined}
+use Rattle.rows.specs.Turns.{begun, offsetAt, stepped, reached, offsetsFrom, blobLengths, objectFrom, objectsFrom, counted}
+use Rattle.rows.proofs.Turns.{manifest-placed, offsets-by-rule, reached-joined}
 use Rattle.rows.proofs.Whole.{sound-components}
 use Rattle.rows.proofs.Describes as describes
 use Rattle.layout.specs.Pieces.{presence, range, optional, blobsOf, objectsOf, rootFront}

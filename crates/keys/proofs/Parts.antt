@@ -19,12 +19,12 @@ use Rattle.walk.specs.Places.{Modes}
 use Rattle.walk.proofs.Found.{no-levels}
 use Rattle.fields.specs.Slots.{slotOf, marked, marks, SlotIs}
 use Rattle.fields.proofs.Marks.{AllSome}
-use Rattle.fields.proofs.Marking.{marks-step, marked-length}
-use Rattle.fields.proofs.Standing.{some-left}
+use Rattle.fields.proofs.MarkedSlots.{marks-step, marked-length}
+use Rattle.fields.proofs.Stands.{some-left}
 use Rattle.explained.specs.Step.{first}
 use Rattle.explained.specs.Order.{keySteps, repeatSteps}
 use Rattle.explained.proofs.Repeat.{keysAfter}
-use Rattle.entry.proofs.Folding.{starts}
+use Rattle.entry.proofs.EntryLoop.{starts}
 use Rattle.keys.specs.Odd.{slotsAt, odd, firstOr, afterKey, afterCopy, leftFirst, Noted}
 use Rattle.keys.proofs.Leftmost.{State, step, KeysSome, keyLeft, slots-are, key-is, copy-is}
 

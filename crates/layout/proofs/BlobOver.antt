@@ -14,8 +14,8 @@ use Rattle.meaning.proofs.Over.{over-length}
 use Rattle.emit.specs.Laid.{Room, Laid}
 use Rattle.layout.specs.Pieces.{range}
 use Rattle.layout.specs.Rows.{Within, BlobRoom}
-use Rattle.layout.proofs.Walking.{within-length}
-use Rattle.emit.proofs.Laying.{as-bytes, then, with-front, same-length}
+use Rattle.layout.proofs.RowLoop.{within-length}
+use Rattle.emit.proofs.LaidPieces.{as-bytes, then, with-front, same-length}
 
 module _ (xs b : List ℕ) (past start : ℕ) (front : past ≤ length xs) where
   long : length (take past xs) ≡ past

@@ -12,7 +12,7 @@ use Rattle.meaning.specs.Read.{Span}
 use Rattle.meaning.specs.Asked.{eachRow, askedObject, askedComponent, asked}
 use Rattle.meaning.specs.Sound.{inside, objectSound, componentSound, rowsSound}
 use Rattle.meaning.specs.Described.{blobs, described}
-use Rattle.rows.specs.Running.{begun, turnLimit, reached}
+use Rattle.rows.specs.Turns.{begun, turnLimit, reached}
 use Rattle.rows.proofs.EachRow.{first-so, others-so}
 use Rattle.rows.proofs.Whole.{sound-lies, sound-attributes, sound-objects, sound-components}
 use Rattle.rows.proofs.SoundRow as row-of

@@ -8,13 +8,13 @@ use native.Mathlib.Omega.{arith}
 use Rattle.meaning.specs.Columns.{objectWidth}
 use Rattle.meaning.specs.Layouts.{magic}
 use Rattle.meaning.specs.WrittenFile.{littleBytes}
-use Rattle.rows.specs.Running.{begun}
+use Rattle.rows.specs.Turns.{begun}
 use Rattle.rows.proofs.Lent.{lent-both}
 use Rattle.emit.specs.Laid.{Room, Laid}
-use Rattle.emit.proofs.Laying.{part, back, as-bytes, room-as, room-first, room-next, then, lent, same-length, front-of, relaid}
+use Rattle.emit.proofs.LaidPieces.{part, back, as-bytes, room-as, room-first, room-next, then, lent, same-length, front-of, relaid}
 use Rattle.layout.specs.Pieces.{blobsOf, manifestFrom, wholeOf}
 use Rattle.layout.specs.Rows.{FrontRoom, WholeRows}
-use Rattle.layout.proofs.Walking.{blobs-grow}
+use Rattle.layout.proofs.RowLoop.{blobs-grow}
 
 module _ {buffer plan rows xs : List ℕ} {objects components place size : ℕ} (rs : WholeRows buffer plan rows objects components place size)
     (room : Room (wholeOf buffer plan rows objects components place size) 0 xs) where

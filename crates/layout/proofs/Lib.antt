@@ -1,6 +1,6 @@
 -- Laws behind the proofs of layout.
 pub mod Present
-pub mod Walking
+pub mod RowLoop
 pub mod Turns
 pub mod Frames
 pub mod Meant

@@ -21,16 +21,16 @@ use Rattle.meaning.specs.Described.{DescribedComponent, DescribedObject, Descri
 use Rattle.meaning.specs.Manifest.{Keyed, under, given, entryBytes, mapBytes, shortestHead, numberBytes, textBytes, listBytes, componentBytes, manifestBytes}
 use Rattle.meaning.specs.WrittenFile.{littleBytes, over, blobsOver, closing, fileOf}
 use Rattle.meaning.proofs.Lengths.{each-row-length, described-counted}
-use Rattle.rows.specs.Running.{begun, offsetAt, stepped, reached, offsetsFrom, blobLengths, entriesFrom, objectFrom, objectsFrom, counted}
+use Rattle.rows.specs.Turns.{begun, offsetAt, stepped, reached, offsetsFrom, blobLengths, entriesFrom, objectFrom, objectsFrom, counted}
 use Rattle.rows.proofs.EachRow.{later-rows, all-dropped}
-use Rattle.rows.proofs.Running.{manifest-placed}
+use Rattle.rows.proofs.Turns.{manifest-placed}
 use Rattle.rows.proofs.Whole.{sound-components}
 use Rattle.rows.proofs.Steps.{next-object, own-sound}
 use Rattle.rows.proofs.Describes as describes
 use Rattle.rows.proofs.Describes.{counted-next, rows-counted}
 use Rattle.layout.specs.Pieces.{presence, range, optional, componentAt, objectFront, objectRest, blobsOf, componentsOf, reachedPast, objectsOf, rootFront, manifestFrom, wholeOf}
 use Rattle.layout.specs.Rows.{Within, ComponentRow, ComponentRows, ObjectRows, WholeRows}
-use Rattle.layout.proofs.Walking.{within-length, first-component, next-components, its-components, next-objects}
+use Rattle.layout.proofs.RowLoop.{within-length, first-component, next-components, its-components, next-objects}
 use Rattle.sizes.proofs.Exact.{entries-many}
 
 abbrev pub field : String → List ℕ → List ℕ

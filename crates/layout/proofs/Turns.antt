@@ -8,13 +8,13 @@ use borrow.Rule.Slice.PartAt.{part-to-end}
 use Rattle.meaning.specs.Columns.{objectWidth, componentWidth, countColumn, offsetColumn, lengthColumn}
 use Rattle.meaning.specs.WrittenFile.{over}
 use Rattle.meaning.proofs.Over.{over-length}
-use Rattle.rows.specs.Running.{offsetAt, stepped}
+use Rattle.rows.specs.Turns.{offsetAt, stepped}
 use Rattle.emit.specs.Laid.{Room, Laid}
-use Rattle.emit.proofs.Laying.{Going, going, go-on, room-one, as-bytes, same-length, stands, front-of, relaid}
-use Rattle.rows.proofs.Running.{reached-next}
+use Rattle.emit.proofs.LaidPieces.{Going, going, go-on, room-one, as-bytes, same-length, stands, front-of, relaid}
+use Rattle.rows.proofs.Turns.{reached-next}
 use Rattle.layout.specs.Pieces.{range, componentAt, objectFront, objectRest, blobsOf, componentsOf, reachedPast, objectsOf}
 use Rattle.layout.specs.Rows.{FrontRoom, BlobRoom, ComponentRows, ObjectRows}
-use Rattle.layout.proofs.Walking.{blobs-next, blobs-none, blobs-grow, within-length, components-next, objects-next, next-components, next-objects, first-blob}
+use Rattle.layout.proofs.RowLoop.{blobs-next, blobs-none, blobs-grow, within-length, components-next, objects-next, next-components, next-objects, first-blob}
 
 -- what is asked of a buffer that is lent whole
 module _ (buffer : List ℕ) where

@@ -6,7 +6,7 @@ use Rattle.meaning.specs.Asked.{asked}
 use Rattle.meaning.specs.Described.{Described, blobs, described}
 use Rattle.meaning.specs.WrittenFile.{fileOf}
 use Rattle.meaning.specs.Read.{Span}
-use Rattle.rows.specs.Running.{begun, reached, offsetsFrom}
+use Rattle.rows.specs.Turns.{begun, reached, offsetsFrom}
 
 abbrev pub rootAttributes : ℕ → ℕ → Span
 rootAttributes place size = record { place = place; size = size }

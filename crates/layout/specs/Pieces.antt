@@ -11,7 +11,7 @@ use Rattle.meaning.specs.Manifest.{shortestHead, numberBytes, textBytes, listBy
 use Rattle.meaning.specs.WrittenFile.{littleBytes, over}
 use Rattle.meaning.specs.Layouts.{magic}
 use Rattle.meaning.specs.Asked.{eachRow, askedComponent}
-use Rattle.rows.specs.Running.{begun, offsetAt, stepped, reached, blobSizes}
+use Rattle.rows.specs.Turns.{begun, offsetAt, stepped, reached, blobSizes}
 
 -- 0 where a range is absent, else 1
 unfoldable pub presence : ℕ → ℕ → ℕ

@@ -4,7 +4,7 @@ use mathlib.Core.List.{List}
 use lib.ListN.{length, drop, getD}
 use Rattle.meaning.specs.Columns.{objectWidth, componentWidth, rankColumn, formatColumn, formatLengthColumn, attributesColumn, attributesLengthColumn, dtypeColumn, typeColumn, typeLengthColumn, offsetColumn, lengthColumn, digestColumn, digestLengthColumn}
 use Rattle.meaning.specs.Asked.{eachRow, askedObject}
-use Rattle.rows.specs.Running.{begun, turnLimit, counted}
+use Rattle.rows.specs.Turns.{begun, turnLimit, counted}
 use Rattle.layout.specs.Pieces.{reachedPast}
 
 pub record Within (buffer : List ℕ) (place size : ℕ) : Type 0 where

@@ -9,7 +9,7 @@ use emit::size_at;
 use emit::text_at;
 use sizes::placing::first_turn;
 ghost use Prim.Native.Nat.{_*_};
-ghost use Rattle.rows.specs.Running.{begun};
+ghost use Rattle.rows.specs.Turns.{begun};
 ghost use Rattle.emit.specs.Laid.{Room, Laid};
 ghost use Rattle.layout.specs.Pieces as is;
 ghost use Rattle.layout.specs.Rows.{Within, ObjectRows, WholeRows};

@@ -10,7 +10,7 @@ ghost use mathlib.Core.Bool.{true};
 ghost use Prim.Native.Nat.{_≤_};
 ghost use lib.ListN.{length, drop};
 ghost use Rattle.meaning.specs.Sound.{rowsSound};
-ghost use Rattle.rows.specs.Running.{turnLimit};
+ghost use Rattle.rows.specs.Turns.{turnLimit};
 ghost use Rattle.layout.specs.AskedFile.{rootAttributes, askedFile, lastTurn};
 
 // Laid into an output that has room for it, by a plan or, where that is empty, by the rule; its length. What lies beyond stays.

@@ -1,7 +1,7 @@
 -- Laws of what the program prints.
-pub mod Printing
+pub mod PrintedText
 pub mod Weighed
 pub mod ModelWeighed
 pub mod Fits
 pub mod Texts
-pub mod Filling
+pub mod ReadInto

@@ -14,7 +14,7 @@ use Rattle.meaning.specs.Refusal.{KEY, TEXT, TWICE, COUNT, ALIGN, BOUNDS}
 use Rattle.meaning.specs.Limit.{objectLimit, componentLimit, alignment}
 use Rattle.meaning.specs.Read.{Span, spanTo, Outcome, got, refused, manifest}
 use Rattle.meaning.specs.Model.{Word, Named, Component, Object, Model, RootFields, ObjectFields}
-use Rattle.meaning.specs.Kind.{Kind, number, words, list, table, null, another, kind, asWord, asTable, aNumber, aWord, aTable, aText, present}
+use Rattle.meaning.specs.Kind.{Kind, number, words, list, mapping, null, another, kind, asWord, asMapping, aNumber, aWord, aMapping, aText, present}
 use Rattle.meaning.specs.Layouts.{Slots, slot, somes, current, dtypeAt}
 use Rattle.meaning.specs.Field.{isSome, isKey, keyOf, count, named, get, field, fields, rootFields, objectFields, componentFields, nameKind, nameOf, names}
 use Rattle.meaning.specs.Format.{formatRules}
@@ -91,7 +91,7 @@ module _ {P : Type 0} where
   kindWeight (number n) = 0
   kindWeight (words w) = length (w .letters)
   kindWeight (list l) = 0
-  kindWeight (table ps) = sumOf pairWeight ps
+  kindWeight (mapping ps) = sumOf pairWeight ps
   kindWeight null = 0
   kindWeight another = 0
 
@@ -128,19 +128,19 @@ module _ {P : Type 0} where
       by (number n) h = record { is = tt }
       by (words w) h = passes w h
       by (list l) h = record { is = tt }
-      by (table ps) h = record { is = tt }
+      by (mapping ps) h = record { is = tt }
       by null h = record { is = tt }
       by another h = record { is = tt }
 
-  table-weighs : (t : Node P) → If (Within (sumOf pairWeight) (weight t)) (aTable t)
-  unfolding aTable asTable
+  table-weighs : (t : Node P) → If (Within (sumOf pairWeight) (weight t)) (aMapping t)
+  unfolding aMapping asMapping
   table-weighs t = by (kind t) (kind-weighs t)
     where
-      by : (k : Kind P) → kindWeight k ≤ weight t → If (Within (sumOf pairWeight) (weight t)) (asTable k)
+      by : (k : Kind P) → kindWeight k ≤ weight t → If (Within (sumOf pairWeight) (weight t)) (asMapping k)
       by (number n) h = record { is = tt }
       by (words w) h = record { is = tt }
       by (list l) h = record { is = tt }
-      by (table ps) h = passes ps h
+      by (mapping ps) h = passes ps h
       by null h = record { is = tt }
       by another h = record { is = tt }
 
@@ -153,7 +153,7 @@ module _ {P : Type 0} where
   fields-weigh : (known : Slots) (t : Node P) → If (Within (sumOf pairWeight) (weight t)) (fields known t)
   unfolding fields
   fields-weigh known t =
-      bind (aTable t) _ (table-weighs t) λ ps q.
+      bind (aMapping t) _ (table-weighs t) λ ps q.
       tested KEY (all (λ p. isSome (keyOf p)) ps) _ λ e. tested TWICE (all (λ n. leb (count n ps) 1) (somes known)) _ λ f. passes ps q
 
   name-weighs : (p : Pair P) → If (Within namedWeight (pairWeight p)) (nameOf p)
@@ -164,14 +164,14 @@ module _ {P : Type 0} where
       by (number n) h = record { is = tt }
       by (words w) h = passes _ (omega (arith, h))
       by (list l) h = record { is = tt }
-      by (table ps) h = record { is = tt }
+      by (mapping ps) h = record { is = tt }
       by null h = record { is = tt }
       by another h = record { is = tt }
 
   names-weigh : (limit : ℕ) (t : Node P) → If (Within (sumOf namedWeight) (weight t)) (names limit t)
   unfolding names
   names-weigh limit t =
-      bind (aTable t) _ (table-weighs t) λ ps q.
+      bind (aMapping t) _ (table-weighs t) λ ps q.
       bind (each (λ i. nameOf) 0 ps) _ (each-weighs pairWeight namedWeight (λ i. nameOf) (λ i p. name-weighs p) 0 ps) λ ns r.
       tested TEXT (all (λ n. utf8 (n .name .letters)) ns) _ λ e.
       tested COUNT (leb (length ns) limit) _ λ f.

@@ -11,9 +11,9 @@ use Rattle.io.specs.Counts.{Counts}
 use Rattle.meaning.specs.Check.{pass}
 use Rattle.meaning.specs.Listing.{shownText, printed}
 use Rattle.put.specs.Wrote.{most, capped, Wrote}
-use Rattle.panel.specs.Told.{told, textAfter}
+use Rattle.panel.specs.ListedText.{told, textAfter}
 use Rattle.panel.specs.declared.Listed.{Listed}
-use Rattle.put.proofs.Writing as writing
+use Rattle.put.proofs.PiecesInTurn as writing
 use Rattle.panel.proofs.Answers.{length-counted}
 use Rattle.listing.specs.Output.{heading, lentPath, lentHeading, lentText, Holds}
 use Rattle.listing.proofs.Fits.{text-fits, printed-fits, heading-fits}

@@ -6,7 +6,7 @@ ghost use lib.ListN.{length};
 ghost use Rattle.io.specs.Counts.{Counts};
 ghost use Rattle.meaning.specs.Check.{pass};
 ghost use Rattle.meaning.specs.Listing as is;
-ghost use Rattle.panel.specs.Told.{told, textAfter};
+ghost use Rattle.panel.specs.ListedText.{told, textAfter};
 ghost use Rattle.listing.specs.Output as out;
 
 // The listing, the refusal or `too long`, into a lent text: 0 and its length; or ROOM and 0, and the text is as it was.

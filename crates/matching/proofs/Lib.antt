@@ -1,2 +1,2 @@
-pub mod Halving
-pub mod Rowing
+pub mod Halves
+pub mod RowInside

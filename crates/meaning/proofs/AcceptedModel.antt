@@ -15,7 +15,7 @@ use Rattle.meaning.specs.Text.{all, utf8, distinct, same}
 use Rattle.meaning.specs.Refusal.{TEXT, TYPE, ALIGN, BOUNDS, COUNT, TWICE}
 use Rattle.meaning.specs.Limit.{objectLimit, componentLimit, rankLimit, alignment}
 use Rattle.meaning.specs.Model.{Word, Named, Component, Object, Model}
-use Rattle.meaning.specs.Kind.{aNumber, aTable, aList, aWord, aText, present}
+use Rattle.meaning.specs.Kind.{aNumber, aMapping, aList, aWord, aText, present}
 use Rattle.meaning.specs.Layouts.{Layout, slot, dtypeAt}
 use Rattle.meaning.specs.Types.{storages, codeFrom, u64, logicals, listed, fitsOver}
 use Rattle.meaning.specs.Field.{rootFields, objectFields, componentFields, nameOf, names}
@@ -183,7 +183,7 @@ module _ {P : Type 0} where
   names-ensures : (limit : ℕ) (t : Node P) → Ensures (λ ns. NamesSound limit (map (λ n. n .name .letters) ns)) (names limit t)
   unfolding names
   names-ensures limit t =
-      after (aTable t) _ λ ps e. after (each (λ i. nameOf) 0 ps) _ λ ns f.
+      after (aMapping t) _ λ ps e. after (each (λ i. nameOf) 0 ps) _ λ ns f.
       tested TEXT (all (λ n. utf8 (n .name .letters)) ns) _ λ h₁. tested COUNT (leb (length ns) limit) _ λ h₂. tested TWICE (distinct (map (λ n. n .name .letters) ns)) _ λ h₃.
       passed (record {
         text = all-map (λ n. n .name .letters) utf8 ns ∙ h₁;

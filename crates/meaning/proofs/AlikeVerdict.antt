@@ -12,7 +12,7 @@ use Rattle.meaning.specs.Text.{all, utf8, distinct}
 use Rattle.meaning.specs.Refusal.{TEXT, COUNT, TWICE, VERSION, MAJOR}
 use Rattle.meaning.specs.Version.{versionShape, majorOne}
 use Rattle.meaning.specs.Model.{Word, Named, RootFields, ObjectFields}
-use Rattle.meaning.specs.Kind.{Kind, number, words, list, table, null, another, kind, aTable, asTable, aWord, asWord}
+use Rattle.meaning.specs.Kind.{Kind, number, words, list, mapping, null, another, kind, aMapping, asMapping, aWord, asWord}
 use Rattle.meaning.specs.Layouts.{slot, Layout}
 use Rattle.meaning.specs.Field.{field, fields, rootFields, objectFields, componentFields, nameKind, nameOf, names}
 use Rattle.meaning.specs.Judge.{component, componentsOf, object, aVersion, objectsOf, judge}
@@ -57,7 +57,7 @@ module _ {P : Type 0} (R : Node P → Node P → Type 0) where
   nameKind-alike v w (number n) r = refuses
   nameKind-alike v w (words x) r = passes (record { name = refl; value = r })
   nameKind-alike v w (list l) r = refuses
-  nameKind-alike v w (table l) r = refuses
+  nameKind-alike v w (mapping l) r = refuses
   nameKind-alike v w null r = refuses
   nameKind-alike v w another r = refuses
 
@@ -87,7 +87,7 @@ module _ {P : Type 0} (R : Node P → Node P → Type 0) where
   nameds-self self (a ∷ l) = one (record { name = refl; value = self (a .value) }) (nameds-self self l)
 
   names-alike : ((x : Node P) → R x x) → (limit : ℕ) {t u : Node P} → InMaps (Entries R) t u → Both Nameds (names limit t) (names limit u)
-  unfolding names aTable asTable kind
+  unfolding names aMapping asMapping kind
   names-alike self limit {t} alike = both-self (nameds-self self) (names limit t)
   names-alike self limit (maps r) =
       both-bind _ _ (entries-alike 0 r) λ l m h. rw (utf8-alike h, length-alike h, letters-alike h)

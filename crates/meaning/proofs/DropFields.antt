@@ -9,7 +9,7 @@ use Rattle.meaning.specs.Tree.{Node, uint, nint, bytes, text, chunkedByt
 use Rattle.meaning.specs.Check.{Check, pass, refuse}
 use Rattle.meaning.specs.Text.{filter, distinct}
 use Rattle.meaning.specs.Layouts.{Slots, slot, somes}
-use Rattle.meaning.specs.Kind.{Kind, null, another, kind, aTable, asTable}
+use Rattle.meaning.specs.Kind.{Kind, null, another, kind, aMapping, asMapping}
 use Rattle.meaning.specs.Field.{named, get, field}
 use Rattle.meaning.specs.Notes.{mapCheck, mapOption}
 use Rattle.meaning.specs.Drop.{known, holds, inMap, onField}
@@ -83,8 +83,8 @@ module _ {P : Type 0} where
 
   -- ---------------------------------------------------------------- of a map
 
-  pub aTable-inMap : (g : List (Pair P) → List (Pair P)) (t : Node P) → aTable (inMap g t) ≡ mapCheck g (aTable t)
-  unfolding aTable asTable kind inMap
+  pub aTable-inMap : (g : List (Pair P) → List (Pair P)) (t : Node P) → aMapping (inMap g t) ≡ mapCheck g (aMapping t)
+  unfolding aMapping asMapping kind inMap
   aTable-inMap g (uint p n) = refl
   aTable-inMap g (nint p n) = refl
   aTable-inMap g (bytes p bs) = refl
@@ -96,7 +96,7 @@ module _ {P : Type 0} where
   aTable-inMap g (tag p n t) = refl
   aTable-inMap g (simple p n) = go (eqb n 22)
     where
-      go : (b : Bool) → asTable (cond {A = Kind P} b null another) ≡ mapCheck g (asTable (cond {A = Kind P} b null another))
+      go : (b : Bool) → asMapping (cond {A = Kind P} b null another) ≡ mapCheck g (asMapping (cond {A = Kind P} b null another))
       go true = refl
       go false = refl
   aTable-inMap g (float p w b) = refl

@@ -14,7 +14,7 @@ use Rattle.meaning.specs.Text.{ascii, all, distinct, filter, utf8}
 use Rattle.meaning.specs.Refusal.{KEY, TEXT, TWICE, COUNT, ALIGN, BOUNDS}
 use Rattle.meaning.specs.Limit.{objectLimit, componentLimit, alignment}
 use Rattle.meaning.specs.Model.{Named, Component, Object, Model}
-use Rattle.meaning.specs.Kind.{Kind, number, words, list, table, null, another, kind, aNumber, aTable, aText, present}
+use Rattle.meaning.specs.Kind.{Kind, number, words, list, mapping, null, another, kind, aNumber, aMapping, aText, present}
 use Rattle.meaning.specs.Layouts.{Slots, slot, somes, Layout, versionAt, objectsAt, dtypeAt, componentsAt}
 use Rattle.meaning.specs.Field.{isSome, keyOf, count, field, fields, rootFields, objectFields, componentFields, nameKind, nameOf, names}
 use Rattle.meaning.specs.Judge.{orElse, inherited, aDtype, aType, raw, attributesOf, component, part, shapeOf, componentsOf, object, aVersion, objectsOf, judge}
@@ -34,7 +34,7 @@ module _ {P : Type 0} where
 
   -- the pairs of a map, and of anything else none
   unfoldable pub pairsIn : Node P → List (Pair P)
-  pairsIn t = pairsOr (aTable t)
+  pairsIn t = pairsOr (aMapping t)
 
   unfoldable pub valuesIn : Option (Node P) → List (Node P)
   valuesIn none = []
@@ -58,7 +58,7 @@ around {D} u h g v e (a ∷ l) = ap₂ {C = List D} (λ x y. x ∷ y) (e a) (aro
 module _ {P Q : Type 0} (f : P → Q) where
   pairsIn-map : (t : Node P) → pairsIn (mapP f t) ≡ map (mapPair f) (pairsIn t)
   unfolding pairsIn pairsOr
-  pairsIn-map t = ap pairsOr (aTable-map f t) ∙ by (aTable t)
+  pairsIn-map t = ap pairsOr (aTable-map f t) ∙ by (aMapping t)
     where
       by : (k : Check (List (Pair P))) → pairsOr (mapCheck (map (mapPair f)) k) ≡ map (mapPair f) (pairsOr k)
       by (pass ps) = refl
@@ -87,7 +87,7 @@ module _ {P Q : Type 0} (f : P → Q) where
 module _ {P : Type 0} where
   pairsIn-inMap : (g : List (Pair P) → List (Pair P)) → g [] ≡ [] → (t : Node P) → pairsIn (inMap g t) ≡ g (pairsIn t)
   unfolding pairsIn pairsOr
-  pairsIn-inMap g e t = ap pairsOr (aTable-inMap g t) ∙ by (aTable t)
+  pairsIn-inMap g e t = ap pairsOr (aTable-inMap g t) ∙ by (aMapping t)
     where
       by : (k : Check (List (Pair P))) → pairsOr (mapCheck g k) ≡ g (pairsOr k)
       by (pass ps) = refl
@@ -183,7 +183,7 @@ each-same {C} f h g s i (a ∷ l) =
 module _ {P : Type 0} where
   pub record IsMap (t : Node P) : Type 0 where
     pub pairs : List (Pair P)
-    pub is : aTable t ≡ pass pairs
+    pub is : aMapping t ≡ pass pairs
 
   -- c was read from the map x
   pub record EntryIs (c : Component P) (x : Node P) : Type 0 where
@@ -196,7 +196,7 @@ module _ {P : Type 0} where
   fields-give : (slots : Slots) (t : Node P) → Gives (λ ps. (ps ≡ pairsIn t) × IsMap t) (fields slots t)
   unfolding fields pairsIn pairsOr
   fields-give slots t =
-      bind (aTable t) _ λ ps e.
+      bind (aMapping t) _ λ ps e.
       then (KEY unless all (λ p. isSome (keyOf p)) ps) _ (then (TWICE unless all (λ n. leb (count n ps) 1) (somes slots)) _
       (passes ps (sym (ap pairsOr e), record { pairs = ps; is = e })))
 
@@ -205,14 +205,14 @@ module _ {P : Type 0} where
   name-gives v (number n) = record { is = tt }
   name-gives v (words w) = record { is = refl }
   name-gives v (list l) = record { is = tt }
-  name-gives v (table l) = record { is = tt }
+  name-gives v (mapping l) = record { is = tt }
   name-gives v null = record { is = tt }
   name-gives v another = record { is = tt }
 
   names-give : (limit : ℕ) (t : Node P) → Gives (λ ns. map (λ n. n .value) ns ≡ valuesIn (some t)) (names limit t)
   unfolding names nameOf valuesIn pairsIn pairsOr
   names-give limit t =
-      bind (aTable t) _ λ ps e. bind (each (λ i. nameOf) 0 ps) _ λ ns e′.
+      bind (aMapping t) _ λ ps e. bind (each (λ i. nameOf) 0 ps) _ λ ns e′.
       then (TEXT unless all (λ n. utf8 (n .name .letters)) ns) _ (then (COUNT unless leb (length ns) limit) _ (then (TWICE unless distinct (map (λ n. n .name .letters) ns)) _ (passes ns
       (given (each-same (λ i. nameOf) (λ p. p .value) (λ n. n .value) (λ i p. name-gives (p .value) (kind (p .key))) 0 ps) e′ ∙ ap (λ k. map (λ p. p .value) (pairsOr k)) (sym e)))))
 

@@ -10,7 +10,7 @@ use Rattle.meaning.specs.Tree.{Node, Pair, Pairs, dict, pairList}
 use Rattle.meaning.specs.Check.{Check, pass, refuse, _>>=_, _>>_, _unless_, required, requiredIn}
 use Rattle.meaning.specs.Text.{all, same, oneOf}
 use Rattle.meaning.specs.Refusal.{KEY, TWICE}
-use Rattle.meaning.specs.Kind.{kind, aTable, asTable}
+use Rattle.meaning.specs.Kind.{kind, aMapping, asMapping}
 use Rattle.meaning.specs.Layouts.{Slots, slot, somes, Layout}
 use Rattle.meaning.specs.Field.{isSome, isKey, keyOf, named, count, get, field, fields}
 use Rattle.meaning.specs.Drop.{isUnknown, known, holds}
@@ -207,7 +207,7 @@ module _ {P : Type 0} (slots : Slots) (W : Values P) (self : (i : ℕ) (x : Node
 
   -- kind, keys, repeats alike, and alike values at every place
   pub fields-alike : {t u : Node P} → InMaps (Rearranged slots W) t u → Both (FieldsAlike slots W) (fields slots t) (fields slots u)
-  unfolding fields aTable asTable kind
+  unfolding fields aMapping asMapping kind
   fields-alike {t} alike = both-self (fields slots t)
   fields-alike (maps {ps = ps} {qs = qs} r) =
       rw (keys-alike slots W r, repeats-alike slots W r (somes slots) (all-listed (somes slots)))

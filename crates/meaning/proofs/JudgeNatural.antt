@@ -10,7 +10,7 @@ use Rattle.meaning.specs.Tree.{Node, Nodes, Pairs, uint, nint, bytes, te
 use Rattle.meaning.specs.Check.{Check, pass, refuse, _>>=_, _>>_, inObject, inComponent, required, requiredIn, optional, each}
 use Rattle.meaning.specs.Text.{all}
 use Rattle.meaning.specs.Model.{Word, Named, Component}
-use Rattle.meaning.specs.Kind.{Kind, number, words, list, table, null, another, kind, asNumber, asWord, asList, asTable, presentKind, present, aNumber, aWord, aList, aTable, aText}
+use Rattle.meaning.specs.Kind.{Kind, number, words, list, mapping, null, another, kind, asNumber, asWord, asList, asMapping, presentKind, present, aNumber, aWord, aList, aMapping, aText}
 use Rattle.meaning.specs.Layouts.{Slots, somes, Layout}
 use Rattle.meaning.specs.Field.{isSome, keyKind, keyOf, named, count, get, field, fields, rootFields, objectFields, componentFields, nameKind, nameOf, names}
 use Rattle.meaning.specs.Judge.{aDtype, aType, raw, component, part, lettersOf, attributesOf, shapeOf, componentsOf, object, aVersion, objectsOf, judge}
@@ -95,7 +95,7 @@ module _ {P Q : Type 0} (f : P → Q) where
   kind-map (chunkedBytes p cs) = refl
   kind-map (chunkedText p cs) = refl
   kind-map (array p ns) = ap list (nodeList-map ns)
-  kind-map (dict p ps) = ap table (pairList-map ps)
+  kind-map (dict p ps) = ap mapping (pairList-map ps)
   kind-map (tag p n t) = refl
   kind-map (simple p n) = null-map (eqb n 22)
   kind-map (float p w b) = refl
@@ -105,7 +105,7 @@ module _ {P Q : Type 0} (f : P → Q) where
   asNumber-map (number n) = refl
   asNumber-map (words w) = refl
   asNumber-map (list l) = refl
-  asNumber-map (table l) = refl
+  asNumber-map (mapping l) = refl
   asNumber-map null = refl
   asNumber-map another = refl
 
@@ -114,7 +114,7 @@ module _ {P Q : Type 0} (f : P → Q) where
   asWord-map (number n) = refl
   asWord-map (words w) = refl
   asWord-map (list l) = refl
-  asWord-map (table l) = refl
+  asWord-map (mapping l) = refl
   asWord-map null = refl
   asWord-map another = refl
 
@@ -123,16 +123,16 @@ module _ {P Q : Type 0} (f : P → Q) where
   asList-map (number n) = refl
   asList-map (words w) = refl
   asList-map (list l) = refl
-  asList-map (table l) = refl
+  asList-map (mapping l) = refl
   asList-map null = refl
   asList-map another = refl
 
-  asTable-map : (k : Kind P) → asTable (mapKind f k) ≡ mapCheck (map (mapPair f)) (asTable k)
-  unfolding asTable
+  asTable-map : (k : Kind P) → asMapping (mapKind f k) ≡ mapCheck (map (mapPair f)) (asMapping k)
+  unfolding asMapping
   asTable-map (number n) = refl
   asTable-map (words w) = refl
   asTable-map (list l) = refl
-  asTable-map (table l) = refl
+  asTable-map (mapping l) = refl
   asTable-map null = refl
   asTable-map another = refl
 
@@ -141,7 +141,7 @@ module _ {P Q : Type 0} (f : P → Q) where
   presentKind-map t (number n) = refl
   presentKind-map t (words w) = refl
   presentKind-map t (list l) = refl
-  presentKind-map t (table l) = refl
+  presentKind-map t (mapping l) = refl
   presentKind-map t null = refl
   presentKind-map t another = refl
 
@@ -150,7 +150,7 @@ module _ {P Q : Type 0} (f : P → Q) where
   keyKind-map (number n) = refl
   keyKind-map (words w) = refl
   keyKind-map (list l) = refl
-  keyKind-map (table l) = refl
+  keyKind-map (mapping l) = refl
   keyKind-map null = refl
   keyKind-map another = refl
 
@@ -171,8 +171,8 @@ module _ {P Q : Type 0} (f : P → Q) where
   unfolding aList
   aList-map t = simp (kind-map, asList-map)
 
-  pub aTable-map : (t : Node P) → aTable (mapP f t) ≡ mapCheck (map (mapPair f)) (aTable t)
-  unfolding aTable
+  pub aTable-map : (t : Node P) → aMapping (mapP f t) ≡ mapCheck (map (mapPair f)) (aMapping t)
+  unfolding aMapping
   aTable-map t = simp (kind-map, asTable-map)
 
   pub aText-map : (t : Node P) → aText (mapP f t) ≡ mapCheck (mapWord f) (aText t)
@@ -230,7 +230,7 @@ module _ {P Q : Type 0} (f : P → Q) where
   nameKind-map v (number n) = refl
   nameKind-map v (words w) = refl
   nameKind-map v (list l) = refl
-  nameKind-map v (table l) = refl
+  nameKind-map v (mapping l) = refl
   nameKind-map v null = refl
   nameKind-map v another = refl
 

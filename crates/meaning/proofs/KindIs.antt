@@ -6,7 +6,7 @@ use Rattle.meaning.specs.Tree.{Node, Pair}
 use Rattle.meaning.specs.Check.{pass, fault, _>>_, optional}
 use Rattle.meaning.specs.Refusal.{KIND}
 use Rattle.meaning.specs.Model.{Word}
-use Rattle.meaning.specs.Kind.{Kind, number, words, list, table, null, another, asWord, asTable, aTable}
+use Rattle.meaning.specs.Kind.{Kind, number, words, list, mapping, null, another, asWord, asMapping, aMapping}
 use Rattle.meaning.specs.Field.{keyKind}
 use Rattle.meaning.specs.Judge.{attributesOf}
 use Rattle.meaning.proofs.Checks.{pass-same, refused-is-not, passed, passed-on}
@@ -18,7 +18,7 @@ module _ {P : Type 0} where
   key-of-word (number n) w e = absurd (refused-is-not e)
   key-of-word (words v) w e = ap (λ (u : Word P). some (u .letters)) (pass-same e)
   key-of-word (list l) w e = absurd (refused-is-not e)
-  key-of-word (table l) w e = absurd (refused-is-not e)
+  key-of-word (mapping l) w e = absurd (refused-is-not e)
   key-of-word null w e = absurd (refused-is-not e)
   key-of-word another w e = absurd (refused-is-not e)
 
@@ -28,16 +28,16 @@ module _ {P : Type 0} where
   key-of-none (number n) e = refl
   key-of-none (words v) e = absurd (refused-is-not (sym e))
   key-of-none (list l) e = refl
-  key-of-none (table l) e = refl
+  key-of-none (mapping l) e = refl
   key-of-none null e = refl
   key-of-none another e = refl
 
-  pub table-kind : (k : Kind P) (ps : List (Pair P)) → asTable k ≡ pass ps → k ≡ table ps
-  unfolding asTable
+  pub table-kind : (k : Kind P) (ps : List (Pair P)) → asMapping k ≡ pass ps → k ≡ mapping ps
+  unfolding asMapping
   table-kind (number n) ps e = absurd (refused-is-not e)
   table-kind (words w) ps e = absurd (refused-is-not e)
   table-kind (list l) ps e = absurd (refused-is-not e)
-  table-kind (table l) ps e = ap table (pass-same e)
+  table-kind (mapping l) ps e = ap mapping (pass-same e)
   table-kind null ps e = absurd (refused-is-not e)
   table-kind another ps e = absurd (refused-is-not e)
 
@@ -46,6 +46,6 @@ module _ {P : Type 0} where
   unfolding attributesOf
   attributes-stay none a e = sym (pass-same e)
   attributes-stay (some t) a e =
-      let b = passed (aTable t >> pass t) (λ b. pass (some b)) a e in
-      let c : t ≡ b .value = pass-same (passed-on (aTable t) (pass t) (b .value) (b .is)) in
+      let b = passed (aMapping t >> pass t) (λ b. pass (some b)) a e in
+      let c : t ≡ b .value = pass-same (passed-on (aMapping t) (pass t) (b .value) (b .is)) in
       sym (pass-same (b .then)) ∙ ap some (sym c)

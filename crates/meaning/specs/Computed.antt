@@ -25,7 +25,7 @@ use Rattle.meaning.specs.Write
 unfoldable pub computed : Unit {0}
 unfolding Read.here Read.byte Read.run Read.number Read.stop Read.times Read.untilBreak Read.toBreak Read.wide Read.longArguments Read.argument Read.majorOf Read.infoOf Read.definite Read.chunk Read.reserved Read.closed
     Read.beyond Read.close Read.pair Read.content Read.item Read.manifest Read.noNote Read.spanTo Text.within Text.tail Text.follow Text.following Text.utf8 Version.push Version.runs Version.digit Version.plainRun
-    Version.versionShape Version.firstIsOne Version.majorOne Kind.kind Kind.asNumber Kind.asWord Kind.asList Kind.asTable Kind.aNumber Kind.aWord Kind.aList Kind.aTable Kind.aText Kind.presentKind Kind.present Field.isSome
+    Version.versionShape Version.firstIsOne Version.majorOne Kind.kind Kind.asNumber Kind.asWord Kind.asList Kind.asMapping Kind.aNumber Kind.aWord Kind.aList Kind.aMapping Kind.aText Kind.presentKind Kind.present Field.isSome
     Field.isKey Field.keyKind Field.keyOf Field.named Field.count Field.get Field.field Field.fields Field.rootFields Field.objectFields Field.componentFields Field.nameKind Field.nameOf Field.names Types.storages
     Types.codeFrom Types.storageOf Types.widthOf Types.f64 Types.f32 Types.u64 Types.u8 Types.logicals Types.listed Types.fitsOver Types.ratioOf Types.typeRatio Types.product Format.elementBytes Format.unit Format.role
     Format.untyped Format.plain Format.indexRole Format.long Format.multiple Format.elements Format.wholeOf Format.whole Format.indexed Format.dense Format.sparseCsr Format.sparseCoo Format.quantizedGroup Format.formatRules

@@ -11,7 +11,7 @@ use Rattle.meaning.specs.Text.{ascii, same, all, distinct, utf8}
 use Rattle.meaning.specs.Refusal.{KEY, TEXT, TWICE, COUNT}
 use Rattle.meaning.specs.Model.{Named, RootFields, ObjectFields, ComponentFields}
 use Rattle.meaning.specs.Layouts.{Slots, slot, Layout, somes}
-use Rattle.meaning.specs.Kind.{Kind, number, words, list, table, null, another, kind, aTable}
+use Rattle.meaning.specs.Kind.{Kind, number, words, list, mapping, null, another, kind, aMapping}
 
 unfoldable pub isSome : {A : Type 0} → Option A → Bool
 isSome none = false
@@ -27,7 +27,7 @@ module _ {P : Type 0} where
   keyKind (number n) = none
   keyKind (words w) = some (w .letters)
   keyKind (list l) = none
-  keyKind (table l) = none
+  keyKind (mapping l) = none
   keyKind null = none
   keyKind another = none
 
@@ -53,7 +53,7 @@ module _ {P : Type 0} where
   -- kind, keys, repeats
   unfoldable pub fields : Slots → Node P → Check (List (Pair P))
   fields known t = do
-    ps ← aTable t
+    ps ← aMapping t
     KEY unless all (λ p. isSome (keyOf p)) ps
     TWICE unless all (λ n. leb (count n ps) 1) (somes known)
     pass ps
@@ -93,7 +93,7 @@ module _ {P : Type 0} where
   nameKind v (number n) = fault KEY
   nameKind v (words w) = pass (record { name = w; value = v })
   nameKind v (list l) = fault KEY
-  nameKind v (table l) = fault KEY
+  nameKind v (mapping l) = fault KEY
   nameKind v null = fault KEY
   nameKind v another = fault KEY
 
@@ -103,7 +103,7 @@ module _ {P : Type 0} where
   -- kind, keys, UTF-8, count, repeats
   unfoldable pub names : ℕ → Node P → Check (List (Named P))
   names limit t = do
-    ps ← aTable t
+    ps ← aMapping t
     ns ← each (λ i. nameOf) 0 ps
     TEXT unless all (λ n. utf8 (n .name .letters)) ns
     COUNT unless leb (length ns) limit

@@ -13,7 +13,7 @@ use Rattle.meaning.specs.Refusal.{VERSION, MAJOR, COUNT, DTYPE, ENCODING
 use Rattle.meaning.specs.Limit.{objectLimit, componentLimit, rankLimit, alignment}
 use Rattle.meaning.specs.Model.{Word, Named, Component, Object, Model}
 use Rattle.meaning.specs.Layouts.{Layout, slot, dtypeAt}
-use Rattle.meaning.specs.Kind.{aNumber, aWord, aList, aTable, aText, present}
+use Rattle.meaning.specs.Kind.{aNumber, aWord, aList, aMapping, aText, present}
 use Rattle.meaning.specs.Field.{rootFields, objectFields, componentFields, names}
 use Rattle.meaning.specs.Types.{u64, codeFrom, logicals, listed, fitsOver}
 use Rattle.meaning.specs.Format.{Part, formatRules}
@@ -58,7 +58,7 @@ module _ {P : Type 0} where
 
   unfoldable pub attributesOf : Node P → Check (Node P)
   attributesOf t = do
-    aTable t
+    aMapping t
     pass t
 
   -- a component of a file whose manifest begins at `start`, with the code that its object gives it

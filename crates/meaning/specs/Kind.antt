@@ -14,7 +14,7 @@ pub data Kind (P : Type 0) : Type 0 where
   number : ℕ → Kind P
   words : Word P → Kind P
   list : List (Node P) → Kind P
-  table : List (Pair P) → Kind P
+  mapping : List (Pair P) → Kind P
   null : Kind P
   another : Kind P
 
@@ -27,7 +27,7 @@ module _ {P : Type 0} where
   kind (chunkedBytes p bs) = another
   kind (chunkedText p bs) = another
   kind (array p ns) = list (nodeList ns)
-  kind (dict p ps) = table (pairList ps)
+  kind (dict p ps) = mapping (pairList ps)
   kind (tag p n t) = another
   kind (simple p n) = cond (eqb n 22) null another
   kind (float p w b) = another
@@ -36,7 +36,7 @@ module _ {P : Type 0} where
   asNumber (number n) = pass n
   asNumber (words w) = fault KIND
   asNumber (list l) = fault KIND
-  asNumber (table l) = fault KIND
+  asNumber (mapping l) = fault KIND
   asNumber null = fault KIND
   asNumber another = fault KIND
 
@@ -44,7 +44,7 @@ module _ {P : Type 0} where
   asWord (number n) = fault KIND
   asWord (words w) = pass w
   asWord (list l) = fault KIND
-  asWord (table l) = fault KIND
+  asWord (mapping l) = fault KIND
   asWord null = fault KIND
   asWord another = fault KIND
 
@@ -52,17 +52,17 @@ module _ {P : Type 0} where
   asList (number n) = fault KIND
   asList (words w) = fault KIND
   asList (list l) = pass l
-  asList (table l) = fault KIND
+  asList (mapping l) = fault KIND
   asList null = fault KIND
   asList another = fault KIND
 
-  unfoldable pub asTable : Kind P → Check (List (Pair P))
-  asTable (number n) = fault KIND
-  asTable (words w) = fault KIND
-  asTable (list l) = fault KIND
-  asTable (table l) = pass l
-  asTable null = fault KIND
-  asTable another = fault KIND
+  unfoldable pub asMapping : Kind P → Check (List (Pair P))
+  asMapping (number n) = fault KIND
+  asMapping (words w) = fault KIND
+  asMapping (list l) = fault KIND
+  asMapping (mapping l) = pass l
+  asMapping null = fault KIND
+  asMapping another = fault KIND
 
   unfoldable pub aNumber : Node P → Check ℕ
   aNumber t = asNumber (kind t)
@@ -73,8 +73,8 @@ module _ {P : Type 0} where
   unfoldable pub aList : Node P → Check (List (Node P))
   aList t = asList (kind t)
 
-  unfoldable pub aTable : Node P → Check (List (Pair P))
-  aTable t = asTable (kind t)
+  unfoldable pub aMapping : Node P → Check (List (Pair P))
+  aMapping t = asMapping (kind t)
 
   -- a text that must be UTF-8
   unfoldable pub aText : Node P → Check (Word P)
@@ -88,7 +88,7 @@ module _ {P : Type 0} where
   presentKind t (number n) = some t
   presentKind t (words w) = some t
   presentKind t (list l) = some t
-  presentKind t (table l) = some t
+  presentKind t (mapping l) = some t
   presentKind t null = none
   presentKind t another = some t
 

@@ -4,7 +4,7 @@ use mathlib.Core.Option.{Option, none, some}
 use Rattle.meaning.specs.Tree.{Pair, mapP, nothing}
 use Rattle.meaning.specs.Check.{Check, pass, refuse}
 use Rattle.meaning.specs.Model.{Word, Named, RootFields, ObjectFields, ComponentFields, Component, Object, Model}
-use Rattle.meaning.specs.Kind.{Kind, number, words, list, table, null, another}
+use Rattle.meaning.specs.Kind.{Kind, number, words, list, mapping, null, another}
 
 module _ {A B : Type 0} where
   abbrev pub mapCheck : (A → B) → Check A → Check B
@@ -29,7 +29,7 @@ module _ {P Q : Type 0} (f : P → Q) where
   mapKind (number n) = number n
   mapKind (words w) = words (mapWord w)
   mapKind (list l) = list (map (mapP f) l)
-  mapKind (table l) = table (map mapPair l)
+  mapKind (mapping l) = mapping (map mapPair l)
   mapKind null = null
   mapKind another = another
 

@@ -1,2 +1,2 @@
 -- Laws behind the checks.
-pub mod Checking
+pub mod BeforeRoom

@@ -14,7 +14,7 @@ use Rattle.meaning.specs.Rows.{attributesSpan, componentCount}
 use Rattle.meaning.specs.Described.{blobs, describedBy}
 use Rattle.meaning.specs.Placement.{placement, lastEnd}
 use Rattle.readback.specs.Lent.{Held}
-use Rattle.rows.specs.Running.{reached}
+use Rattle.rows.specs.Turns.{reached}
 use Rattle.sizes.specs.Size.{optionalCopy}
 use Rattle.roundtrip.specs.Again.{plainFile}
 use Rattle.merging.specs.Merge.{merged, refused, merge, roomed}

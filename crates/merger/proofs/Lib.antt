@@ -1,2 +1,2 @@
 -- Laws behind the merge.
-pub mod Laying
+pub mod MergedLaid

@@ -1,2 +1,2 @@
 -- The merge's answer as the code's.
-pub mod Told
+pub mod MergedFile

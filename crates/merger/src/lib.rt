@@ -9,7 +9,7 @@ ghost use Rattle.meaning.specs.Columns.{objectWidth, componentWidth};
 ghost use Rattle.meaning.specs.Layouts.{layoutOf};
 ghost use Rattle.merging.specs.Merge as is;
 ghost use Rattle.merge.specs.Checked.{Ready};
-ghost use Rattle.merger.specs.Told.{answered, Enough};
+ghost use Rattle.merger.specs.MergedFile.{answered, Enough};
 
 // A refusal's number, which file it is about (1 or 2, or 0 for the merged one), object and component; or 0, or ROOM, and the merged file's length.
 #[repr(C)]

@@ -2,8 +2,8 @@
 pub mod Algebra
 pub mod SaysFine
 pub mod MergedReadsBack
-pub mod Grouping
-pub mod Rewriting
+pub mod Groups
+pub mod Rewritten
 pub mod MergedJudged
 pub mod MergeAnswers
 pub mod Computed

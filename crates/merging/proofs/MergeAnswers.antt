@@ -19,7 +19,7 @@ use Rattle.readback.specs.Lent.{Held}
 use Rattle.readback.proofs.ReadBack.{written-plain-is}
 use Rattle.roundtrip.specs.Again.{plainFile}
 use Rattle.merging.specs.Merge.{merged, rowsRoom, done, short, about, mergeInto, merge, roomed}
-use Rattle.merging.specs.Merging.{Says}
+use Rattle.merging.specs.AcceptedMerge.{Says}
 use Rattle.merging.proofs.SaysFine.{says-fine, says-few, merged-fine}
 use Rattle.merging.proofs.MergedJudged.{merged-judged}
 

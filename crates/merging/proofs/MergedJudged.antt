@@ -18,7 +18,7 @@ use Rattle.meaning.proofs.Tests.{false-not}
 use Rattle.readback.specs.Judged.{judgedObject, deepOption, anyTooDeep, judged}
 use Rattle.roundtrip.proofs.AcceptedPassed.{Passed, passed-judged, accepted-passed}
 use Rattle.merging.specs.Merge.{orElse, merged}
-use Rattle.merging.specs.Merging.{Says}
+use Rattle.merging.specs.AcceptedMerge.{Says}
 use Rattle.merging.proofs.SaysFine.{every-append}
 
 -- ---- two in one

@@ -23,7 +23,7 @@ use Rattle.readback.proofs.ReadBack.{written-plain-reads-back}
 use Rattle.shown.specs.Accepted.{Framing}
 use Rattle.roundtrip.specs.Again.{plainFile}
 use Rattle.merging.specs.Merge.{merged, rowsRoom, done, refused, short, about, mergeInto, merge}
-use Rattle.merging.specs.Merging.{Says, Merging}
+use Rattle.merging.specs.AcceptedMerge.{Says, Merging}
 use Rattle.merging.proofs.SaysFine.{one-meaning, back-says, says-fine, says-few, merged-fine}
 
 -- ---- checks that pass

@@ -22,7 +22,7 @@ use Rattle.roundtrip.proofs.JudgedSized.{reading-sized}
 use Rattle.roundtrip.proofs.SpelledFine.{count-within}
 use Rattle.roundtrip.proofs.HeldFine.{accepted-fine}
 use Rattle.merging.specs.Merge.{orElse, merged}
-use Rattle.merging.specs.Merging.{Says}
+use Rattle.merging.specs.AcceptedMerge.{Says}
 
 -- a file says one thing
 pub one-meaning : {L : Layout} {file : List ℕ} {d e : Described} → Says L file d → Says L file e → d ≡ e

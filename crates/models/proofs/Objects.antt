@@ -14,12 +14,12 @@ use Rattle.meaning.specs.Asked.{askedObject}
 use Rattle.meaning.specs.Described.{DescribedObject, describedObject}
 use Rattle.text.proofs.SameIsEqual.{whole}
 use Rattle.put.specs.Wrote.{most, capped, Wrote}
-use Rattle.put.proofs.Writing.{Rest, rest-all, rest-less, rest-none, nothing, then, as-bytes}
+use Rattle.put.proofs.PiecesInTurn.{Rest, rest-all, rest-less, rest-none, nothing, then, as-bytes}
 use Rattle.matching.specs.Named.{nameAt, named, Rows}
 use Rattle.matching.specs.Matched.{First, Sorted}
 use Rattle.changes.specs.Changes.{Entry, Found, entry, numbers, flat, across, object, ofObject, ifAbsent, inBoth}
 use Rattle.changes.proofs.Lists.{seek-lacks}
-use Rattle.parts.proofs.Matching.{seek-first}
+use Rattle.parts.proofs.MatchedRows.{seek-first}
 use Rattle.parts.proofs.Turns.{across-next, flat-append}
 use Rattle.pairs.specs.Objects.{objectAt, countAt}
 use Rattle.models.specs.Tables.{startOf, Starts, Table, Known, objectOf, objectsFrom, oldsFrom, newsFrom, changesOf}

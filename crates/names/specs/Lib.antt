@@ -1,5 +1,5 @@
 -- The names that two arrays list, and what the search, the array and the table of digests say of them.
 pub mod Names
 pub mod Part
-pub mod Sorting
+pub mod RisingNames
 pub mod Table

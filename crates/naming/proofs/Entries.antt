@@ -9,7 +9,7 @@ use Rattle.meaning.specs.Check.{Check, pass, refuse, _>>=_, each}
 use Rattle.meaning.specs.Model.{Named}
 use Rattle.meaning.specs.Field.{names}
 use Rattle.walk.specs.Reading.{Ends}
-use Rattle.naming.specs.Naming.{namedAnyway, told}
+use Rattle.naming.specs.NotedNames.{namedAnyway, told}
 use Rattle.naming.specs.declared.Named.the-variants.{Yes}
 
 module _ {A B : Type 0} (f : ℕ → A → Check B) where

@@ -1,3 +1,3 @@
-pub mod Noting
-pub mod Judging
+pub mod NameNoted
+pub mod NamesJudged
 pub mod Entries

@@ -5,7 +5,7 @@ ghost use mathlib.Core.Path.{_≡_};
 ghost use Prim.Native.Nat.{_+_, _<_, _≤_};
 ghost use lib.ListN.{length};
 ghost use Rattle.walk.specs.Put.{put};
-ghost use Rattle.naming.specs.Naming as spec;
+ghost use Rattle.naming.specs.NotedNames as spec;
 
 // How many keys there were, and whether one of them was no whole text, or no UTF-8.
 pub struct Tally {

@@ -2,6 +2,6 @@ pub mod Places
 pub mod Pieces
 pub mod Sound
 pub mod Verdicts
-pub mod Looping
+pub mod EntryLoop
 pub mod Walks
 pub mod Tensors

@@ -13,7 +13,7 @@ use Rattle.meaning.specs.Tree.{Node, Pair}
 use Rattle.meaning.specs.Check.{Check, pass, refuse, _>>=_, _>>_, requiredIn, optional}
 use Rattle.meaning.specs.Text.{ascii, all}
 use Rattle.meaning.specs.Model.{Word, Object}
-use Rattle.meaning.specs.Kind.{kind, table, aText, aTable, asTable}
+use Rattle.meaning.specs.Kind.{kind, mapping, aText, aMapping, asMapping}
 use Rattle.meaning.specs.Field as field
 use Rattle.meaning.specs.Layouts.{slot, somes, Layout, dtypeAt, current, old, layoutOf}
 use Rattle.meaning.specs.Format.{formatRules}
@@ -22,7 +22,7 @@ use Rattle.meaning.proofs.Tests.{not-both, both-left, both-right}
 use Rattle.component.proofs.Verdicts.{asked-for, asked-in-vain, none-left}
 use Rattle.walk.specs.Reading.{Ends, Chain, foldl}
 use Rattle.fields.specs.Slots.{marks, Holds}
-use Rattle.fields.proofs.Standing.{hold-none, Item, hold-some, keys-are-text, none-twice, field-stands}
+use Rattle.fields.proofs.Stands.{hold-none, Item, hold-some, keys-are-text, none-twice, field-stands}
 use Rattle.fields.proofs.Texts.{Here}
 use Rattle.components.specs.declared.Found.{Found}
 use Rattle.object.specs.declared.Judged.{Judged}
@@ -106,7 +106,7 @@ module _ (next : List ℕ → Word Ends → Option (Node Ends) → Check (Object
 
 -- ---------------------------------------------------------------- the judgement of a map of these pairs
 
-module _ (L : Layout) (start : ℕ) (t : Node Ends) (ps : List (Pair Ends)) (kt : kind t ≡ table ps) (n : Word Ends) where
+module _ (L : Layout) (start : ℕ) (t : Node Ends) (ps : List (Pair Ends)) (kt : kind t ≡ mapping ps) (n : Word Ends) where
   abbrev the : Check (Object Ends)
   the = judge.object L start (record { name = n; value = t })
 
@@ -115,32 +115,32 @@ module _ (L : Layout) (start : ℕ) (t : Node Ends) (ps : List (Pair Ends)) (kt 
   at i = field.field (slot i (L .object)) ps
 
   judged-odd : all (λ q. field.isSome (field.keyOf q)) ps ≡ false → No 9 0 ≡ judged the
-  unfolding judge.object field.objectFields field.fields aTable asTable
+  unfolding judge.object field.objectFields field.fields aMapping asMapping
   judged-odd e = rw kt (rw e refl)
 
   module _ (a : all (λ q. field.isSome (field.keyOf q)) ps ≡ true) where
     judged-twice : all (λ m. leb (field.count m ps) 1) (somes (L .object)) ≡ false → No 11 0 ≡ judged the
-    unfolding judge.object field.objectFields field.fields aTable asTable
+    unfolding judge.object field.objectFields field.fields aMapping asMapping
     judged-twice e = rw kt (rw (a, e) refl)
 
     module _ (b : all (λ m. leb (field.count m ps) 1) (somes (L .object)) ≡ true) where
       judged-no-dtype : requiredIn (slot dtypeAt (L .object)) (at 0) ≡ refuse 12 0 0 → No 12 0 ≡ judged the
-      unfolding judge.object field.objectFields field.fields aTable asTable
+      unfolding judge.object field.objectFields field.fields aMapping asMapping
       judged-no-dtype e = rw kt (rw (a, b) (rw e refl))
 
       module _ (g₀ : requiredIn (slot dtypeAt (L .object)) (at 0) ≡ pass (at 0)) where
         judged-no-shape : at 1 ≡ none → No 12 0 ≡ judged the
-        unfolding judge.object field.objectFields field.fields aTable asTable
+        unfolding judge.object field.objectFields field.fields aMapping asMapping
         judged-no-shape e = rw kt (rw (a, b) (rw (g₀, e) refl))
 
         module _ (shape : Node Ends) (g₁ : at 1 ≡ some shape) where
           judged-no-format : at 2 ≡ none → No 12 0 ≡ judged the
-          unfolding judge.object field.objectFields field.fields aTable asTable
+          unfolding judge.object field.objectFields field.fields aMapping asMapping
           judged-no-format e = rw kt (rw (a, b) (rw (g₀, g₁, e) refl))
 
           module _ (format : Node Ends) (g₂ : at 2 ≡ some format) where
             judged-no-components : at 4 ≡ none → No 12 0 ≡ judged the
-            unfolding judge.object field.objectFields field.fields aTable asTable
+            unfolding judge.object field.objectFields field.fields aMapping asMapping
             judged-no-components e = rw kt (rw (a, b) (rw (g₀, g₁, g₂, e) refl))
 
             module _ (components : Node Ends) (g₃ : at 4 ≡ some components) where
@@ -148,7 +148,7 @@ module _ (L : Layout) (start : ℕ) (t : Node Ends) (ps : List (Pair Ends)) (kt 
               found = record { dtype = at 0; shape = shape; format = format; attributes = at 3; components = components }
 
               judged-sound : the ≡ sound L start n found
-              unfolding judge.object field.objectFields field.fields aTable asTable sound shaped described
+              unfolding judge.object field.objectFields field.fields aMapping asMapping sound shaped described
               judged-sound = rw kt (rw (a, b) (rw (g₀, g₁, g₂, g₃) (after (optional (judge.aDtype L) (at 0)))))
                 where
                   next : Option ℕ → List ℕ → Word Ends → Option (Node Ends) → Check (Object Ends)
@@ -166,7 +166,7 @@ module _ (L : Layout) (start : ℕ) (t : Node Ends) (ps : List (Pair Ends)) (kt 
 
 module _ (layout : ℕ) (s : List ℕ) (start : ℕ) (p : List ℕ) (found-there : Found) (rows : List ℕ) where
   module _ (ps : List (Pair Ends)) (q : List ℕ) (chain : Chain 29 s ps q) (is : p ≡ foldl (marks (layoutOf layout .object)) (replicate 8 0) ps)
-      (t : Node Ends) (kt : kind t ≡ table ps) (n : Word Ends) where
+      (t : Node Ends) (kt : kind t ≡ mapping ps) (n : Word Ends) where
     keys : eqb (getD p 6 0) 0 ≡ all (λ q. field.isSome (field.keyOf q)) ps
     keys = keys-are-text (layoutOf layout .object) 5 (layoutOf layout .objectPlaces) 29 s ps q chain p is
 

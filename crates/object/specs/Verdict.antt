@@ -12,14 +12,14 @@ use Rattle.meaning.specs.Notes.{mapCheck}
 use Rattle.meaning.specs.Refusal.{KEY, TWICE, MISSING}
 use Rattle.meaning.specs.Limit.{componentLimit}
 use Rattle.meaning.specs.Model.{Word, Object}
-use Rattle.meaning.specs.Kind.{kind, table, aText}
+use Rattle.meaning.specs.Kind.{kind, mapping, aText}
 use Rattle.meaning.specs.Layouts.{Layout, layoutOf}
 use Rattle.meaning.specs.Format.{Part, formatRules}
 use Rattle.meaning.specs.Judge.{inherited, aDtype, attributesOf, shapeOf, componentsOf, part, object}
 use Rattle.types.specs.Known.{position, formatNames}
 use Rattle.walk.specs.Reading.{Ends, Reads, Chain}
 use Rattle.fields.specs.Slots.{Stands, Holds}
-use Rattle.fields.specs.Keeping as keeping
+use Rattle.fields.specs.FieldWalk as keeping
 use Rattle.formats.specs.Parts.{partRows}
 use Rattle.components.specs.declared.Found.{Found}
 use Rattle.components.specs.Firsts.{FoundIs, offered, Whichever}
@@ -140,7 +140,7 @@ Noted layout start p found rows = keeping.Noted (layoutOf layout .object) 5 4 (S
 -- for every map of the pairs that are read from s on, where this is noted of them
 abbrev pub VerdictIs : ℕ → List ℕ → ℕ → List ℕ → Found → List ℕ → Judged → Type 0
 VerdictIs layout s start p found rows r =
-    (ps : List (Pair Ends)) (q : List ℕ) → Chain 29 s ps q → Noted layout start p found rows ps → (t : Node Ends) → kind t ≡ table ps → (n : Word Ends)
+    (ps : List (Pair Ends)) (q : List ℕ) → Chain 29 s ps q → Noted layout start p found rows ps → (t : Node Ends) → kind t ≡ mapping ps → (n : Word Ends)
     → r ≡ judged (object (layoutOf layout) start (record { name = n; value = t }))
 
 abbrev pub ObjectIs : Layout → List ℕ → ℕ → Judged → Type 0

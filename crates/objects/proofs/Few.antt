@@ -17,7 +17,7 @@ use Rattle.meaning.specs.Judge.{inherited, aDtype, attributesOf, shapeOf, compo
 use Rattle.meaning.specs.Layouts.{Layout, slot, dtypeAt}
 use Rattle.meaning.proofs.Checks.{pass-same, passed-on, passed, each-length}
 use Rattle.walk.specs.Reading.{Ends}
-use Rattle.naming.proofs.Judging.{few-names}
+use Rattle.naming.proofs.NamesJudged.{few-names}
 use Rattle.objects.specs.Found.{passedOver, judging}
 
 few-components : (L : Layout) (start : ℕ) (above : List ℕ → Option ℕ) (t : Node Ends) (cs : List (Component Ends)) → componentsOf L start above t ≡ pass cs → length cs ≤ componentLimit

@@ -1,6 +1,6 @@
 pub mod Few
 pub mod OneObject
-pub mod Keeping
-pub mod Looping
-pub mod Concluding
+pub mod FirstFault
+pub mod EntryLoop
+pub mod MapEnd
 pub mod Walks

@@ -9,11 +9,11 @@ use Rattle.meaning.specs.Tree.{Node, Pair}
 use Rattle.meaning.specs.Check.{Check, pass, refuse, inObject, each}
 use Rattle.meaning.specs.Limit.{objectLimit, componentLimit}
 use Rattle.meaning.specs.Model.{Word, Named, Object}
-use Rattle.meaning.specs.Kind.{kind, table}
+use Rattle.meaning.specs.Kind.{kind, mapping}
 use Rattle.meaning.specs.Rows.{componentCount}
 use Rattle.meaning.specs.Layouts.{Layout}
 use Rattle.walk.specs.Reading.{Ends, Reads, Due}
-use Rattle.naming.specs.Naming.{namedAnyway, Tallied}
+use Rattle.naming.specs.NotedNames.{namedAnyway, Tallied}
 use Rattle.naming.specs.declared.Tally.{Tally}
 use Rattle.object.specs.Verdict as objects
 use Rattle.object.specs.declared.Judged.{Judged}
@@ -66,4 +66,4 @@ Walked deep L start mode count s names left size first = (ps : List (Pair Ends))
 -- for every map of these pairs
 abbrev pub Concluded : List ℕ → Tally → First → List ℕ → List ℕ → Found → Type 0
 Concluded m names first left size found =
-    (deep : Bool) (L : Layout) (start : ℕ) (ps : List (Pair Ends)) → Kept deep L start m names left size first ps → (t : Node Ends) → kind t ≡ table ps → found ≡ judged (objectsBy deep L start t)
+    (deep : Bool) (L : Layout) (start : ℕ) (ps : List (Pair Ends)) → Kept deep L start m names left size first ps → (t : Node Ends) → kind t ≡ mapping ps → found ≡ judged (objectsBy deep L start t)

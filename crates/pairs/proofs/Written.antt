@@ -18,10 +18,10 @@ use Rattle.text.proofs.SameIsEqual.{whole}
 use Rattle.rows.specs.Placed.{componentsAt}
 use Rattle.rows.proofs.EachRow.{next-row-at}
 use Rattle.put.specs.Wrote.{most, capped, Wrote}
-use Rattle.put.proofs.Writing.{then, nothing, as-bytes, by-place, capped-low, capped-high, still-short}
+use Rattle.put.proofs.PiecesInTurn.{then, nothing, as-bytes, by-place, capped-low, capped-high, still-short}
 use Rattle.changes.specs.Changes.{Entry, Found, entry, numbers, flat, across, any, bit, absent, found, lone, shared, part, partWhat, objectWhat, unlessZero, ofPart, ifAbsent, inBoth, firsts, seconds, otherDtype, otherType, otherBytes}
 use Rattle.differing.specs.Rows.{partAt, shapeAt, formatAt}
-use Rattle.differing.specs.Told.{ownWhat}
+use Rattle.differing.specs.Bits.{ownWhat}
 use Rattle.parts.specs.declared.Seen.{Seen}
 use Rattle.parts.specs.declared.Lone.{Lone}
 use Rattle.matching.specs.Named.{named}

@@ -12,9 +12,9 @@ use Rattle.meaning.specs.Check.{Check, pass, refuse}
 use Rattle.put.specs.Wrote.{most, capped, Wrote}
 use Rattle.panel.specs.Lines.{plain, text, sound, listed}
 use Rattle.panel.specs.Summary.{summaryText, summarised}
-use Rattle.panel.specs.Told.{told, textAfter}
+use Rattle.panel.specs.ListedText.{told, textAfter}
 use Rattle.panel.specs.declared.Listed.{Listed}
-use Rattle.put.proofs.Writing.{by-place, capped-low, capped-high}
+use Rattle.put.proofs.PiecesInTurn.{by-place, capped-low, capped-high}
 
 module _ (file table : List ℕ) (objects components : ℕ) where
   pub not-listed : false ≡ sound file table objects components → listed file table objects components ≡ refuse 26 0 0

@@ -1,6 +1,6 @@
 -- Laws behind panel's proofs.
 pub mod Sound
-pub mod Following
+pub mod LinesInTurn
 pub mod LineEnds
 pub mod Answers
 pub mod Columns

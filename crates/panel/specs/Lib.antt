@@ -1,4 +1,4 @@
 -- The definitions that the contracts of panel cite.
 pub mod Lines
 pub mod Summary
-pub mod Told
+pub mod ListedText

@@ -13,7 +13,7 @@ ghost use Rattle.meaning.specs.Listing.{line, decimal};
 ghost use Rattle.put.specs.Wrote.{Wrote};
 ghost use Rattle.panel.specs.Lines as is;
 ghost use Rattle.panel.specs.Summary as summaries;
-ghost use Rattle.panel.specs.Told.{told, textAfter};
+ghost use Rattle.panel.specs.ListedText.{told, textAfter};
 
 // 0, and how many bytes the listing has; or INDEX or ROOM, and 0.
 #[repr(C)]

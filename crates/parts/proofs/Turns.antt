@@ -10,10 +10,10 @@ use lib.Dec.{eqb}
 use borrow.Author.Tests.{eq-eqb, ne-eqb, eqb-true}
 use Rattle.meaning.specs.Described.{DescribedComponent}
 use Rattle.put.specs.Wrote.{most, capped, Wrote}
-use Rattle.put.proofs.Writing.{Rest, rest-all, rest-less, rest-none, as-bytes, nothing}
+use Rattle.put.proofs.PiecesInTurn.{Rest, rest-all, rest-less, rest-none, as-bytes, nothing}
 use Rattle.changes.specs.Changes.{Entry, Found, entry, numbers, flat, across, any, bit, absent, found, lone, shared, part, partWhat, ofPart, ifAbsent, otherDtype, otherType, otherBytes, positionApart, countApart}
 use Rattle.differing.specs.declared.Differences.{Differences}
-use Rattle.differing.specs.Told as differing
+use Rattle.differing.specs.Bits as differing
 use Rattle.parts.specs.declared.Seen.{Seen}
 use Rattle.parts.specs.declared.Lone.{Lone}
 use Rattle.parts.specs.Seen.{firstsFrom, secondsFrom, PartSeen, PartsSeen, LoneSeen, LonesSeen}

@@ -21,7 +21,7 @@ use Rattle.meaning.specs.Placement.{endFrom, lastEnd}
 use Rattle.meaning.specs.Plan.{ranged, apart, allowed, plannedFrom, planned}
 use Rattle.meaning.proofs.Tests.{both-left}
 use Rattle.rows.specs.Placed.{componentsAt}
-use Rattle.rows.specs.Running.{blobSizes}
+use Rattle.rows.specs.Turns.{blobSizes}
 use Rattle.rows.proofs.EachRow.{no-row, next-row-at}
 use Rattle.readback.specs.Follows.{Before}
 use Rattle.readback.proofs.Planned.{before-more}

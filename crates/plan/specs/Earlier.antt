@@ -11,7 +11,7 @@ use Rattle.meaning.specs.Asked.{eachRow, askedComponent}
 use Rattle.meaning.specs.Read.{Span}
 use Rattle.meaning.specs.Placement.{lastEnd}
 use Rattle.meaning.specs.Plan.{ranged, planned}
-use Rattle.rows.specs.Running.{blobSizes}
+use Rattle.rows.specs.Turns.{blobSizes}
 use Rattle.readback.specs.Follows.{Before}
 use Rattle.plan.specs.declared.Judged.{Judged}
 use Rattle.plan.specs.declared.Judged.the-variants.{No, Yes}

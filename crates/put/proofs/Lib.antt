@@ -1,4 +1,4 @@
 -- Laws behind put's proofs, and of pieces one after the other.
-pub mod Writing
+pub mod PiecesInTurn
 pub mod Pieces
 pub mod Names

@@ -106,7 +106,7 @@ module _ (file pre M post : List ℕ) (split : file ≡ pre ++ (M ++ post)) wher
       ap (λ (t : Node Span). bytesAt file (noteOf t)) (copied-is-map (spanTo end) d bs x h k .is) ∙ suffix-bytes bs x s
 
   copied-passes : (d : ℕ) (bs x : List ℕ) → aMap (suc d) bs ≡ true → deepAt (suc d) bs ≡ false → attributesOf (copied d x bs) ≡ pass (copied d x bs)
-  unfolding attributesOf kinds.aTable kinds.asTable kinds.kind
+  unfolding attributesOf kinds.aMapping kinds.asMapping kinds.kind
   copied-passes d bs x h k = rw (copied-is-map (spanTo end) d bs x h k .is)
 
   abbrev pub Within : List ℕ → Option (List ℕ) → Type 0

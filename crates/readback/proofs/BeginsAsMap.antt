@@ -104,14 +104,14 @@ item-as d b s t r e = go (argument (b ∷ s) (infoOf b) s) e
     go (got a s′) e = content-as (item noNote d) (b ∷ s) s′ t r (getD majors (b / 32) special) a e ∙ major-as (b / 32)
     go (refused n q) e = absurd (never-got e)
 
-simple-not : {P : Type 0} (b : Bool) (l : List (Pair P)) → kinds.asTable (cond b kinds.null kinds.another) ≡ pass l → ⊥
-unfolding kinds.asTable
+simple-not : {P : Type 0} (b : Bool) (l : List (Pair P)) → kinds.asMapping (cond b kinds.null kinds.another) ≡ pass l → ⊥
+unfolding kinds.asMapping
 simple-not true l e = refused-is-not e
 simple-not false l e = refused-is-not e
 
 -- a node that is a table
-table-is : {P : Type 0} (t : Node P) (l : List (Pair P)) → kinds.aTable t ≡ pass l → isDict (meaning t) ≡ true
-unfolding isDict kinds.aTable kinds.asTable kinds.kind
+table-is : {P : Type 0} (t : Node P) (l : List (Pair P)) → kinds.aMapping t ≡ pass l → isDict (meaning t) ≡ true
+unfolding isDict kinds.aMapping kinds.asMapping kinds.kind
 table-is (uint p n) l e = absurd (refused-is-not e)
 table-is (nint p n) l e = absurd (refused-is-not e)
 table-is (bytes p b) l e = absurd (refused-is-not e)
@@ -128,7 +128,7 @@ nothing-read : (d : ℕ) (t : Bare) → item noNote (suc d) [] ≡ got t [] → 
 unfolding item here byte
 nothing-read d t e = never-got e
 
-pub map-is-well-formed : {P : Type 0} (d : ℕ) (bs : List ℕ) (t : Node P) (l : List (Pair P)) → item noNote (suc d) bs ≡ got (meaning t) [] → kinds.aTable t ≡ pass l → aMap (suc d) bs ≡ true
+pub map-is-well-formed : {P : Type 0} (d : ℕ) (bs : List ℕ) (t : Node P) (l : List (Pair P)) → item noNote (suc d) bs ≡ got (meaning t) [] → kinds.aMapping t ≡ pass l → aMap (suc d) bs ≡ true
 unfolding aMap beginsAsMap fillsOrDeep
 map-is-well-formed d [] t l e k = absurd (nothing-read d (meaning t) e)
 map-is-well-formed d (b ∷ s) t l e k = rw (sym (item-as d b s (meaning t) [] e) ∙ table-is t l k, e)

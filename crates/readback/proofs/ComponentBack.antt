@@ -30,7 +30,7 @@ use Rattle.readback.specs.Trees.{numberPiece, textPiece, several, entryP
 use Rattle.readback.specs.Judged.{judgedType, judgedText, judgedComponent}
 use Rattle.readback.specs.Agrees.{Agrees, passes, refuses}
 use Rattle.readback.specs.Back.{BlobAt, Tells}
-use Rattle.readback.proofs.Agreeing.{agrees-bind, agrees-map}
+use Rattle.readback.proofs.Agreement.{agrees-bind, agrees-map}
 
 -- ---- every code is found by its name
 
@@ -79,7 +79,7 @@ fieldNote n t = noteIn (field.get n (entries (kinds.kind t)))
     entries (kinds.number n) = []
     entries (kinds.words w) = []
     entries (kinds.list l) = []
-    entries (kinds.table l) = l
+    entries (kinds.mapping l) = l
     entries kinds.null = []
     entries kinds.another = []
 
@@ -106,7 +106,7 @@ module _ (note : List ℕ → List ℕ → Span) (offset : ℕ) (c : DescribedCo
   word n w = record { note = fieldNote n tree; letters = w }
 
   fields-found : Found offset c tree
-  unfolding componentPiece mapPiece several given entryPiece textPiece numberPiece lettersOf fieldNote noteIn current field.field field.componentFields field.fields field.keyOf field.keyKind field.isSome field.named field.isKey field.count field.get kinds.kind kinds.aTable kinds.asTable
+  unfolding componentPiece mapPiece several given entryPiece textPiece numberPiece lettersOf fieldNote noteIn current field.field field.componentFields field.fields field.keyOf field.keyKind field.isSome field.named field.isKey field.count field.get kinds.kind kinds.aMapping kinds.asMapping
   fields-found = go (c .type) (c .digest) refl refl
     where
       go : (t g : Option (List ℕ)) → c .type ≡ t → c .digest ≡ g → Found offset c tree

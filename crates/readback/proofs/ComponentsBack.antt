@@ -19,7 +19,7 @@ use Rattle.readback.specs.Judged.{judgedNames, judgedComponent, partOf}
 use Rattle.readback.specs.Fine.{FineComponent}
 use Rattle.readback.specs.Agrees.{Agrees, passes}
 use Rattle.readback.specs.Back.{Tells, Stand, AllTell, offsetsOf}
-use Rattle.readback.proofs.Agreeing.{agrees-bind, agrees-in-component, each-agrees}
+use Rattle.readback.proofs.Agreement.{agrees-bind, agrees-in-component, each-agrees}
 use Rattle.readback.proofs.NamesBack.{namedOf, names-agree}
 use Rattle.readback.proofs.ComponentBack.{component-agrees}
 

@@ -5,14 +5,14 @@ pub mod Pieces
 pub mod DeepStays
 pub mod PiecesAreRead
 pub mod PiecesWritten
-pub mod Agreeing
+pub mod Agreement
 pub mod ManifestRead
 pub mod ComponentBack
 pub mod NamesBack
 pub mod AttributesBack
 pub mod ComponentsBack
 pub mod ObjectBack
-pub mod Standing
+pub mod BlobsStand
 pub mod ManifestBack
 pub mod ReadBack
 pub mod SoundIsFine

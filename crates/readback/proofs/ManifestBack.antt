@@ -29,7 +29,7 @@ use Rattle.readback.specs.Judged.{judgedNames, judgedObject, judgedObjec
 use Rattle.readback.specs.Fine.{FineObject, Fine}
 use Rattle.readback.specs.Agrees.{Agrees, passes}
 use Rattle.readback.specs.Back.{StandAll, offsetsOf, offsetsIn, TellsObject, TellsObjects, TellsModel}
-use Rattle.readback.proofs.Agreeing.{agrees-bind, agrees-in-object, each-agrees, then-then}
+use Rattle.readback.proofs.Agreement.{agrees-bind, agrees-in-object, each-agrees, then-then}
 use Rattle.readback.proofs.NamesBack.{namedOf, names-agree}
 use Rattle.readback.proofs.ComponentBack.{fieldNote, noteIn}
 use Rattle.readback.proofs.AttributesBack.{Suffix, suffix-pieces, Within, copied, attributes-pass, attributes-back}
@@ -116,7 +116,7 @@ module _ (file pre M post : List ℕ) (split : file ≡ pre ++ (M ++ post)) (sta
       attributes = mapOption (copied file pre M post split 30 past) (d .attributes);
       objects = some (mapPiece span (objectPieces span offsets (d .objects)) .meant x);
     })
-    unfolding manifestPiece mapPiece several given entryPiece textPiece fieldNote noteIn current field.field field.rootFields field.fields field.keyOf field.keyKind field.isSome field.named field.isKey field.count field.get kinds.kind kinds.aTable kinds.asTable
+    unfolding manifestPiece mapPiece several given entryPiece textPiece fieldNote noteIn current field.field field.rootFields field.fields field.keyOf field.keyKind field.isSome field.named field.isKey field.count field.get kinds.kind kinds.aMapping kinds.asMapping
     fields-found = go (d .attributes) refl
       where
         go : (a : Option (List ℕ)) → d .attributes ≡ a → field.rootFields (current .root) tree ≡ pass (record {

@@ -54,7 +54,7 @@ module _ {P : Type 0} (note : List ℕ → List ℕ → P) where
 
   pub names-agree : (limit : ℕ) (es : List (Keyed (Piece (Node P)))) (x : List ℕ) (ns : List (List ℕ)) → keys es ≡ ns
       → Agrees (λ v. v ≡ namedOf es x) (names limit (mapPiece note es .meant x)) (judgedNames limit ns)
-  unfolding names mapPiece several kinds.aTable kinds.asTable kinds.kind judgedNames
+  unfolding names mapPiece several kinds.aMapping kinds.asMapping kinds.kind judgedNames
   names-agree limit es x ns e =
       rw (← e, pairList-pairs (allMeant (map (entryPiece note) es) x), each-named 0 es x, utf8-named es x, length-named es x, letters-named es x)
       (tests TEXT COUNT TWICE (all utf8 (keys es)) (leb (length (keys es)) limit) (distinct (keys es)) (namedOf es x))

@@ -28,7 +28,7 @@ use Rattle.readback.specs.Judged.{judgedNames, judgedComponent, partOf, 
 use Rattle.readback.specs.Fine.{FineObject}
 use Rattle.readback.specs.Agrees.{Agrees, passes, refuses}
 use Rattle.readback.specs.Back.{Stand, AllTell, TellsObject}
-use Rattle.readback.proofs.Agreeing.{agrees-bind, then-then}
+use Rattle.readback.proofs.Agreement.{agrees-bind, then-then}
 use Rattle.readback.proofs.ComponentBack.{fieldNote, noteIn}
 use Rattle.readback.proofs.ComponentsBack.{components-of-agree, parts-are, components-are, offsets-are}
 use Rattle.readback.proofs.AttributesBack.{Suffix, suffix-rest, suffix-pieces, Within, copied, attributes-pass, attributes-back}
@@ -66,7 +66,7 @@ module _ (note : List ℕ → List ℕ → Span) (offsets : List ℕ) (o : Descr
     attributes = mapOption (λ bs. copiedPiece note objectLevels bs .meant (past 3)) (o .attributes);
     components = some (mapPiece note (componentPieces note offsets (o .components)) .meant x);
   })
-  unfolding objectPiece mapPiece several given entryPiece textPiece fieldNote noteIn current field.field field.objectFields field.fields field.keyOf field.keyKind field.isSome field.named field.isKey field.count field.get kinds.kind kinds.aTable kinds.asTable
+  unfolding objectPiece mapPiece several given entryPiece textPiece fieldNote noteIn current field.field field.objectFields field.fields field.keyOf field.keyKind field.isSome field.named field.isKey field.count field.get kinds.kind kinds.aMapping kinds.asMapping
   fields-found = go (o .attributes) refl
     where
       go : (a : Option (List ℕ)) → o .attributes ≡ a → field.objectFields (current .object) tree ≡ pass (record {

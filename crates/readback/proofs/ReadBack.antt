@@ -30,10 +30,10 @@ use Rattle.readback.specs.Back.{AllAt, TellsModel, ReadsBack, ReadsBackA
 use Rattle.readback.proofs.Planned.{Accepted, accepted, as-many, ends-in-time, front-stays, all-stand, placement-accepted}
 use Rattle.readback.proofs.Placed.{body-length}
 use Rattle.readback.proofs.Framed.{frame-is, manifest-is, reading-by}
-use Rattle.readback.proofs.Agreeing.{agrees-map, passed-has, agrees-then}
+use Rattle.readback.proofs.Agreement.{agrees-map, passed-has, agrees-then}
 use Rattle.readback.proofs.PiecesWritten.{manifest-written}
 use Rattle.readback.proofs.ManifestRead.{manifest-read, manifest-some}
-use Rattle.readback.proofs.Standing.{offsets-fit, stand-all}
+use Rattle.readback.proofs.BlobsStand.{offsets-fit, stand-all}
 use Rattle.readback.proofs.AttributesBack.{Suffix}
 use Rattle.readback.proofs.ManifestBack.{manifest-agrees}
 

@@ -18,7 +18,7 @@ use Rattle.meaning.specs.Text.{all}
 use Rattle.meaning.specs.Refusal.{KEY, TWICE}
 use Rattle.meaning.specs.Model.{Model, RootFields}
 use Rattle.meaning.specs.Notes.{mapOption, mapModel, mapObject}
-use Rattle.meaning.specs.Kind.{kind, table, aTable, asTable}
+use Rattle.meaning.specs.Kind.{kind, mapping, aMapping, asMapping}
 use Rattle.meaning.specs.Field as field
 use Rattle.meaning.specs.Layouts.{Layout, slot, somes, objectsAt, layoutOf}
 use Rattle.meaning.specs.Field.{rootFields, isSome, keyOf, count}
@@ -33,13 +33,13 @@ use Rattle.walk.proofs.Passed.{Here}
 use Rattle.walk.proofs.Chains.{ate}
 use Rattle.walk.proofs.ReadSays.{note-of}
 use Rattle.fields.specs.Slots.{Holds}
-use Rattle.fields.proofs.Standing.{field-found-stands, holds-whole}
+use Rattle.fields.proofs.Stands.{field-found-stands, holds-whole}
 use Rattle.components.proofs.Lettered.{pairs-chained}
 use Rattle.table.specs.Spans.{spanOf, spanned, WholeIs}
 use Rattle.table.specs.Objects.{Written}
 use Rattle.table.specs.declared.span.Span.{Span}
-use Rattle.table.proofs.Objecting.{count-mapped}
-use Rattle.frame.specs.Told.{told as framed-told}
+use Rattle.table.proofs.ObjectLoop.{count-mapped}
+use Rattle.frame.specs.FrameAnswer.{told as framed-told}
 use Rattle.frame.specs.declared.Framed.{Framed}
 use Rattle.frame.specs.declared.Framed.the-variants.{No as NoFrame, At}
 use Rattle.reader.specs.declared.Told.{Told}
@@ -75,14 +75,14 @@ attributesAt = 1
 
 pub record Parts (L : Layout) (start : ℕ) (t : Node Ends) (m : Model Ends) : Type 0 where
   pub pairs : List (Pair Ends)
-  pub kind-is : kind t ≡ table pairs
+  pub kind-is : kind t ≡ mapping pairs
   pub objects : Node Ends
   pub objects-there : field.field (slot objectsAt (L .root)) pairs ≡ some objects
   pub objects-judged : objectsOf L start objects ≡ pass (m .objects)
   pub attributes-are : m .attributes ≡ field.field (slot attributesAt (L .root)) pairs
 
 parts-of : (L : Layout) (start : ℕ) (t : Node Ends) (m : Model Ends) → judge L start t ≡ pass m → Parts L start t m
-unfolding judge rootFields field.fields aTable
+unfolding judge rootFields field.fields aMapping
 parts-of L start t m e =
     let root = passed (rootFields (L .root) t) _ m e in
     let version = passed (required (root .value .version)) _ m (root .then) in
@@ -90,7 +90,7 @@ parts-of L start t m e =
     let objects = passed (required (root .value .objects)) _ m (attributes .then) in
     let found = passed (objectsOf L start (objects .value)) _ m (objects .then) in
     let listed = passed (field.fields (L .root) t) _ (root .value) (root .is) in
-    let mapped = passed (asTable (kind t)) _ (listed .value) (listed .is) in
+    let mapped = passed (asMapping (kind t)) _ (listed .value) (listed .is) in
     let keyed = passed-on (KEY unless all (λ p. isSome (keyOf p)) (mapped .value)) _ (listed .value) (mapped .then) in
     let pairs : mapped .value ≡ listed .value = pass-same (passed-on (TWICE unless all (λ n. leb (count n (mapped .value)) 1) (somes (L .root))) _ (listed .value) keyed) in
     let whole = pass-same (found .then) in
@@ -105,7 +105,7 @@ parts-of L start t m e =
     }
 
 -- a field stands in the bytes of its map
-field-holds : (m : List ℕ) → length m < FAULT → (t : Node Ends) (q : List ℕ) → Reads 32 m t q → (ps : List (Pair Ends)) → kind t ≡ table ps → (name : Option (List ℕ)) (o : Option (Node Ends)) → field.field name ps ≡ o → Holds 31 m (leftAt o) o
+field-holds : (m : List ℕ) → length m < FAULT → (t : Node Ends) (q : List ℕ) → Reads 32 m t q → (ps : List (Pair Ends)) → kind t ≡ mapping ps → (name : Option (List ℕ)) (o : Option (Node Ends)) → field.field name ps ≡ o → Holds 31 m (leftAt o) o
 field-holds m room t q e ps is name none g = refl
 field-holds m room t q e ps is name (some x) g =
     let h = pairs-chained 31 m room t q e ps is in

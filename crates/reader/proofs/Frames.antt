@@ -14,7 +14,7 @@ use Rattle.meaning.specs.Refusal.{SHORT, HEADER, FOOTER, BIG, FIT}
 use Rattle.meaning.specs.Limit.{manifestLimit}
 use Rattle.meaning.specs.Layouts.{Layout, magic, current, layoutOf}
 use Rattle.meaning.specs.Frame.{Frame, frame, little, reading}
-use Rattle.frame.specs.Told.{told}
+use Rattle.frame.specs.FrameAnswer.{told}
 use Rattle.frame.proofs.Frames.{size-back}
 use Rattle.frame.specs.declared.Framed.{Framed}
 use Rattle.frame.specs.declared.Framed.the-variants.{No, At}

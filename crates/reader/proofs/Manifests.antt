@@ -18,7 +18,7 @@ use Rattle.meaning.specs.Layouts.{Layout}
 use Rattle.meaning.proofs.ReadNatural.{mapOut, item-follows}
 use Rattle.meaning.proofs.JudgeNatural.{judge-map}
 use Rattle.cbor.specs.Ending.{took, FAULT, code, ending, itemEnd}
-use Rattle.cbor.proofs.Passing.{is-took, fine-ending}
+use Rattle.cbor.proofs.Ends.{is-took, fine-ending}
 use Rattle.cbor.proofs.Agree.{annotations-change-no-ending, rest-follows}
 use Rattle.walk.specs.Reading.{Ends, ends, Reads}
 use Rattle.fields.proofs.Texts.{Here}

@@ -1,2 +1,2 @@
 -- Laws behind the answer before ROOM.
-pub mod Checking
+pub mod BeforeRoom

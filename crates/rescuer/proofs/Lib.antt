@@ -1,2 +1,2 @@
 -- Laws behind the rescue.
-pub mod Laying
+pub mod RescuedLaid

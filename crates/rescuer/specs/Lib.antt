@@ -1,2 +1,2 @@
 -- The rescue's answer as the code's.
-pub mod Told
+pub mod RescuedFile

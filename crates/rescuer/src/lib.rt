@@ -9,7 +9,7 @@ ghost use Rattle.meaning.specs.Columns.{objectWidth, componentWidth};
 ghost use Rattle.meaning.specs.Layouts.{layoutOf};
 ghost use Rattle.rescuing.specs.Rescue as is;
 ghost use Rattle.rescue.specs.Checked.{Ready};
-ghost use Rattle.rescuer.specs.Told.{answer, answered, Enough};
+ghost use Rattle.rescuer.specs.RescuedFile.{answer, answered, Enough};
 
 // How many numbers an entry of the list takes: the object's index, its refusal's number and component.
 const ENTRY: u64 = 3;

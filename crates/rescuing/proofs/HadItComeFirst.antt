@@ -15,7 +15,7 @@ use Rattle.meaning.specs.Check.{Check, pass, refuse, _>>=_, _>>_, _unless_, inO
 use Rattle.meaning.specs.Notes.{mapCheck, mapOption}
 use Rattle.meaning.specs.Model.{RootFields, Named, Object}
 use Rattle.meaning.specs.Layouts.{Slots, slot, somes, Layout, objectsAt}
-use Rattle.meaning.specs.Kind.{aTable}
+use Rattle.meaning.specs.Kind.{aMapping}
 use Rattle.meaning.specs.Field.{isSome, keyOf, named, count, field, fields, rootFields, nameOf, names}
 use Rattle.meaning.specs.Judge.{attributesOf, aVersion, object, judge}
 use Rattle.meaning.specs.Drop.{inMap, onField}
@@ -26,7 +26,7 @@ use Rattle.meaning.specs.Every.{Every}
 use Rattle.roundtrip.proofs.If.{If}
 use Rattle.roundtrip.proofs.AcceptedJudged.{called, Beside, each-beside}
 use Rattle.rescuing.specs.Sift.{Dropped, Opened, opened, dropped, verdicts}
-use Rattle.rescuing.proofs.Opening.{judge-opened}
+use Rattle.rescuing.proofs.RootFirst.{judge-opened}
 
 -- ---- a list with its i-th put first, the others in order behind it
 
@@ -170,7 +170,7 @@ module _ {P : Type 0} where
 
   names-front : (limit i : ℕ) (t : Node P) (ns : List (Named P)) → names limit t ≡ pass ns → names limit (inMap (toFront i) t) ≡ pass (toFront i ns)
   unfolding names names-judged
-  names-front limit i t ns h = rw (aTable-inMap (toFront i) t) (by-table (aTable t) h)
+  names-front limit i t ns h = rw (aTable-inMap (toFront i) t) (by-table (aMapping t) h)
     where
       by-each : (ps : List (Pair P)) (k : Check (List (Named P))) → If (EachPasses nameOf ps) k → (k >>= names-judged limit) ≡ pass ns
           → (each (λ i. nameOf) 0 (toFront i ps) >>= names-judged limit) ≡ pass (toFront i ns)
@@ -204,7 +204,7 @@ module _ {P : Type 0} (known : Slots) (apart : distinct (somes known) ≡ true) 
 
   fields-changed : (t : Node P) → fields known (inMap (map changed) t) ≡ mapCheck (map changed) (fields known t)
   unfolding fields
-  fields-changed t = rw (aTable-inMap (map changed) t) (by (aTable t))
+  fields-changed t = rw (aTable-inMap (map changed) t) (by (aMapping t))
     where
       tests : (a b : Bool) (ps : List (Pair P)) → (KEY unless a >> (TWICE unless b >> pass (map changed ps))) ≡ mapCheck (map changed) (KEY unless a >> (TWICE unless b >> pass ps))
       tests true true ps = refl

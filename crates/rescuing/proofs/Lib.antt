@@ -1,5 +1,5 @@
-pub mod Opening
-pub mod Parting
+pub mod RootFirst
+pub mod Parted
 pub mod KeptStands
 pub mod RescueAnswers
 pub mod HadItComeFirst

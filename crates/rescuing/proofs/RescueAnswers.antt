@@ -29,7 +29,7 @@ use Rattle.shown.proofs.ReadingJudged.{current-framing}
 use Rattle.roundtrip.specs.Again.{placed, plainFile, rewritten, writtenAgain}
 use Rattle.rescuing.specs.Sift.{Dropped, Sifted, sifted}
 use Rattle.rescuing.specs.Rescue.{Rescue, done, refused, short, after, entryWidth, rescueInto, rescue, roomed}
-use Rattle.rescuing.proofs.Opening.{AsReader, sound, refuses, ReadBeside, earlier, opens, read-beside}
+use Rattle.rescuing.proofs.RootFirst.{AsReader, sound, refuses, ReadBeside, earlier, opens, read-beside}
 use Rattle.rescuing.proofs.KeptStands.{kept-spelled, kept-fine, kept-judged}
 
 module _ (file : List ℕ) (s : Sifted) where

@@ -14,14 +14,14 @@ use Rattle.meaning.specs.Check.{Check, pass, refuse, fault, optional}
 use Rattle.meaning.specs.Text.{all}
 use Rattle.meaning.specs.Refusal.{KIND}
 use Rattle.meaning.specs.Model.{Object}
-use Rattle.meaning.specs.Kind.{kind, table, aTable, asTable}
+use Rattle.meaning.specs.Kind.{kind, mapping, aMapping, asMapping}
 use Rattle.meaning.specs.Field as field
 use Rattle.meaning.specs.Layouts.{slot, somes, Layout}
 use Rattle.meaning.specs.Judge.{attributesOf, aVersion}
 use Rattle.walk.specs.Reading.{Ends, Chain, leftAt}
 use Rattle.fields.specs.Slots.{Holds}
 use Rattle.fields.specs.Attributes.{AttributesAt}
-use Rattle.fields.proofs.Standing.{hold-none, Item, hold-some, keys-are-text, none-twice, field-stands}
+use Rattle.fields.proofs.Stands.{hold-none, Item, hold-some, keys-are-text, none-twice, field-stands}
 use Rattle.fields.proofs.Texts.{Here}
 use Rattle.objects.specs.declared.Found.{Found}
 use Rattle.objects.specs.Found as objects
@@ -73,39 +73,39 @@ module _ (map : Bool) (left at : ℕ) (found : Found) where
 abbrev the : Layout → ℕ → List (Pair Ends) → Option (Node Ends)
 the L i ps = field.field (slot i (L .root)) ps
 
-module _ (deep : Bool) (L : Layout) (start : ℕ) (t : Node Ends) (ps : List (Pair Ends)) (kt : kind t ≡ table ps) where
+module _ (deep : Bool) (L : Layout) (start : ℕ) (t : Node Ends) (ps : List (Pair Ends)) (kt : kind t ≡ mapping ps) where
   judged-odd : all (λ q. field.isSome (field.keyOf q)) ps ≡ false → No 9 0 0 ≡ judged (judgeBy deep L start t)
-  unfolding judgeBy field.rootFields field.fields aTable asTable
+  unfolding judgeBy field.rootFields field.fields aMapping asMapping
   judged-odd e = rw kt (rw e refl)
 
   module _ (a : all (λ q. field.isSome (field.keyOf q)) ps ≡ true) where
     judged-twice : all (λ m. leb (field.count m ps) 1) (somes (L .root)) ≡ false → No 11 0 0 ≡ judged (judgeBy deep L start t)
-    unfolding judgeBy field.rootFields field.fields aTable asTable
+    unfolding judgeBy field.rootFields field.fields aMapping asMapping
     judged-twice e = rw kt (rw (a, e) refl)
 
     module _ (b : all (λ m. leb (field.count m ps) 1) (somes (L .root)) ≡ true) where
       judged-no-version : the L 0 ps ≡ none → No 12 0 0 ≡ judged (judgeBy deep L start t)
-      unfolding judgeBy field.rootFields field.fields aTable asTable
+      unfolding judgeBy field.rootFields field.fields aMapping asMapping
       judged-no-version e = rw kt (rw (a, b) (rw e refl))
 
       module _ (version : Node Ends) (g : the L 0 ps ≡ some version) where
         judged-version : (n : ℕ) → aVersion version ≡ fault n → No n 0 0 ≡ judged (judgeBy deep L start t)
-        unfolding judgeBy field.rootFields field.fields aTable asTable
+        unfolding judgeBy field.rootFields field.fields aMapping asMapping
         judged-version n e = rw kt (rw (a, b) (rw g (rw e refl)))
 
         module _ (v : aVersion version ≡ pass tt) where
           judged-attributes : optional attributesOf (the L 1 ps) ≡ fault KIND → No 8 0 0 ≡ judged (judgeBy deep L start t)
-          unfolding judgeBy field.rootFields field.fields aTable asTable
+          unfolding judgeBy field.rootFields field.fields aMapping asMapping
           judged-attributes e = rw kt (rw (a, b) (rw g (rw v (rw e refl))))
 
           module _ (w : optional attributesOf (the L 1 ps) ≡ pass (the L 1 ps)) where
             judged-no-objects : the L 2 ps ≡ none → No 12 0 0 ≡ judged (judgeBy deep L start t)
-            unfolding judgeBy field.rootFields field.fields aTable asTable
+            unfolding judgeBy field.rootFields field.fields aMapping asMapping
             judged-no-objects e = rw kt (rw (a, b) (rw g (rw v (rw w (rw e refl)))))
 
             module _ (o : Node Ends) (x : the L 2 ps ≡ some o) where
               judged-objects : (left : ℕ) → left ≡ leftAt (the L 1 ps) → (k : Check (List (Object Ends))) → objectsBy deep L start o ≡ k → counted left (objects.judged k) ≡ judged (judgeBy deep L start t)
-              unfolding judgeBy field.rootFields field.fields aTable asTable
+              unfolding judgeBy field.rootFields field.fields aMapping asMapping
               judged-objects left l (pass os) e = rw kt (rw (a, b) (rw g (rw v (rw w (rw x (rw e (rw l refl)))))))
               judged-objects left l (refuse n i j) e = rw kt (rw (a, b) (rw g (rw v (rw w (rw x (rw e refl))))))
 
@@ -118,7 +118,7 @@ left-of d s l (some t) h = h .1 .left-is
 
 module _ (s p : List ℕ) (found : Found) where
   module _ (deep : Bool) (L : Layout) (start d : ℕ) (ps : List (Pair Ends)) (q : List ℕ) (chain : Chain (suc d) s ps q) (noted : Noted deep L start p found ps)
-      (t : Node Ends) (kt : kind t ≡ table ps) where
+      (t : Node Ends) (kt : kind t ≡ mapping ps) where
     keys : eqb (getD p 4 0) 0 ≡ all (λ q. field.isSome (field.keyOf q)) ps
     keys = keys-are-text (L .root) 3 (L .rootPlaces) (suc d) s ps q chain p (noted .0)
 
@@ -178,7 +178,7 @@ module _ (s p : List ℕ) (found : Found) where
 
     module _ (e : f ≡ Good) (v : Fine) (versioned : VersionAt (Here s 0) (getD p 0 0) v) where
       module _ (deep : Bool) (L : Layout) (start d : ℕ) (ps : List (Pair Ends)) (q : List ℕ) (chain : Chain (suc d) s ps q) (noted : Noted deep L start p found ps)
-          (t : Node Ends) (kt : kind t ≡ table ps) where
+          (t : Node Ends) (kt : kind t ≡ mapping ps) where
         ready : Ready deep L start d ps q chain noted t kt
         ready = subst (Told deep L start d ps q chain noted t kt) (sym slots-say ∙ e) (slots-told deep L start d ps q chain noted t kt)
 

@@ -10,7 +10,7 @@ use borrow.Rule.Slice.PartAt.{part-to-end}
 use Rattle.meaning.specs.Tree.{Pair}
 use Rattle.meaning.specs.Check.{pass, fault}
 use Rattle.meaning.specs.Refusal.{KIND}
-use Rattle.meaning.specs.Kind.{table, aTable, asTable}
+use Rattle.meaning.specs.Kind.{mapping, aMapping, asMapping}
 use Rattle.meaning.specs.Layouts.{Layout, slot, objectsAt}
 use Rattle.meaning.specs.Field.{rootFields, fields, field}
 use Rattle.meaning.specs.Judge.{objectsOf, judge}
@@ -22,9 +22,9 @@ use Rattle.walk.specs.declared.Opening.{Opening}
 use Rattle.walk.specs.declared.Opening.the-variants.{NotOpen, Opened}
 use Rattle.walk.proofs.Opens as opens
 use Rattle.fields.specs.Slots.{marked, SlotIs, Holds}
-use Rattle.fields.proofs.Standing.{field-stands, holds-whole}
+use Rattle.fields.proofs.Stands.{field-stands, holds-whole}
 use Rattle.fields.proofs.Texts.{Here}
-use Rattle.fields.proofs.Keeping as keeping
+use Rattle.fields.proofs.FieldLoop as keeping
 use Rattle.objects.specs.declared.Found.{Found}
 use Rattle.objects.specs.Found.{judging, objectsBy, ObjectsIs}
 use Rattle.root.specs.declared.Judged.{Judged}
@@ -102,7 +102,7 @@ module _ (deep : Bool) (L : Layout) (c : List ℕ) (start : ℕ) (x : Opening) (
       subst (λ u. VerdictIs u p found v) (part-to-end c size) judged deep L start 30 (m .pairs) (m .last) (m .due .chain) w t (m .kind-is)
 
   pub no-objects : x ≡ NotOpen → ObjectsAt L c 0
-  unfolding aTable asTable
+  unfolding aMapping asMapping
   no-objects e t q r ps is =
       let z : pass ps ≡ fault KIND = (rw is refl) ∙ opens.opening c x h NotOpen e 31 t q r in
       absurd (let y : _≡_ {A = ℕ} 0 1 = cc in omega arith)
@@ -111,7 +111,7 @@ module _ (deep : Bool) (L : Layout) (c : List ℕ) (start : ℕ) (x : Opening) (
   objects-stand mode count size is p found walked left e t q r ps kt =
       let o = opens.opened c x h mode count size is in
       let m = o .trees 31 t q r in
-      let z : table (m .pairs) ≡ table ps = sym (m .kind-is) ∙ kt in
+      let z : mapping (m .pairs) ≡ mapping ps = sym (m .kind-is) ∙ kt in
       let y : m .pairs ≡ ps = cc in
       let w = subst (λ u. Walked deep L start mode count u p found) (part-to-end c size) walked (m .pairs) (m .last) (m .due) in
       let f = field-stands (L .root) 3 (L .rootPlaces) 31 (drop size c) (m .pairs) (m .last) (m .due .chain) p (w .0) (L .rootApart) objectsAt objects-known in

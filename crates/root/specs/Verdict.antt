@@ -10,7 +10,7 @@ use Rattle.meaning.specs.Check.{Check, pass, refuse, _>>=_, _>>_, fault, requir
 use Rattle.meaning.specs.Refusal.{KIND, KEY, TWICE, MISSING}
 use Rattle.meaning.specs.Model.{Model}
 use Rattle.meaning.specs.Field.{field, rootFields}
-use Rattle.meaning.specs.Kind.{kind, table}
+use Rattle.meaning.specs.Kind.{kind, mapping}
 use Rattle.meaning.specs.Judge.{attributesOf, aVersion, judge}
 use Rattle.meaning.specs.Rows.{componentCount}
 use Rattle.meaning.specs.Layouts.{Layout, slot, objectsAt}
@@ -69,7 +69,7 @@ judged (refuse n o c) = No n o c
 -- for every map of the pairs that are read from s on, where p holds their slots, and `found` what the objects say
 abbrev pub VerdictIs : List ℕ → List ℕ → Found → Judged → Type 0
 VerdictIs s p found r = (deep : Bool) (L : Layout) (start d : ℕ) (ps : List (Pair Ends)) (q : List ℕ) → Chain (suc d) s ps q → Noted deep L start p found ps
-    → (t : Node Ends) → kind t ≡ table ps → r ≡ judged (judgeBy deep L start t)
+    → (t : Node Ends) → kind t ≡ mapping ps → r ≡ judged (judgeBy deep L start t)
 
 abbrev pub WholeIs : Bool → Layout → List ℕ → ℕ → Judged → Type 0
 WholeIs deep L s start r = (t : Node Ends) (q : List ℕ) → Reads 32 s t q → r ≡ judged (judgeBy deep L start t)
@@ -80,4 +80,4 @@ RootIs L s start r = (t : Node Ends) (q : List ℕ) → Reads 32 s t q → r ≡
 
 -- the place of the objects of whatever map s is read as
 abbrev pub ObjectsAt : Layout → List ℕ → ℕ → Type 0
-ObjectsAt L s left = (t : Node Ends) (q : List ℕ) → Reads 32 s t q → (ps : List (Pair Ends)) → kind t ≡ table ps → Holds 31 s left (field (slot objectsAt (L .root)) ps)
+ObjectsAt L s left = (t : Node Ends) (q : List ℕ) → Reads 32 s t q → (ps : List (Pair Ends)) → kind t ≡ mapping ps → Holds 31 s left (field (slot objectsAt (L .root)) ps)

@@ -6,7 +6,7 @@ use mathlib.Core.Path.{_≡_}
 use Rattle.meaning.specs.Tree.{Node, Pair}
 use Rattle.meaning.specs.Layouts.{Layout, objectsAt}
 use Rattle.walk.specs.Reading.{Ends}
-use Rattle.fields.specs.Keeping as keeping
+use Rattle.fields.specs.FieldWalk as keeping
 use Rattle.objects.specs.declared.Found.{Found}
 use Rattle.objects.specs.Found.{objectsBy, judged}
 

@@ -15,7 +15,7 @@ use Rattle.meaning.specs.Limit.{objectLimit, componentLimit, alignment}
 use Rattle.meaning.specs.Read.{Span, spanTo, manifest}
 use Rattle.meaning.specs.Notes.{mapOption}
 use Rattle.meaning.specs.Model.{Word, Named, Component, Object, Model}
-use Rattle.meaning.specs.Kind.{aWord, aText, aNumber, aTable, present}
+use Rattle.meaning.specs.Kind.{aWord, aText, aNumber, aMapping, present}
 use Rattle.meaning.specs.Layouts.{slot, Layout, dtypeAt}
 use Rattle.meaning.specs.Field.{rootFields, objectFields, componentFields, nameOf, names}
 use Rattle.meaning.specs.Types.{logicals, listed, fitsOver}
@@ -78,7 +78,7 @@ module _ {P : Type 0} where
   pub names-held : (limit : ℕ) (t : Node P) → If (λ (ns : List (Named P)). judgedNames limit (map called ns) ≡ pass tt) (names limit t)
   unfolding names judgedNames
   names-held limit t =
-      bind (aTable t) _ (anyhow (aTable t)) λ ps u.
+      bind (aMapping t) _ (anyhow (aMapping t)) λ ps u.
       bind (each (λ i. nameOf) 0 ps) _ (anyhow (each (λ i. nameOf) 0 ps)) λ ns v.
       tested TEXT (all (λ n. utf8 (n .name .letters)) ns) _ λ e.
       tested COUNT (leb (length ns) limit) _ λ f.

@@ -14,7 +14,7 @@ use Rattle.meaning.specs.Refusal.{KEY, TEXT, TWICE, COUNT}
 use Rattle.meaning.specs.Limit.{objectLimit, componentLimit, rankLimit}
 use Rattle.meaning.specs.Read.{Span, spanTo, Outcome, got, refused, manifest}
 use Rattle.meaning.specs.Model.{Word, Named, Component, Object, Model, RootFields, ObjectFields}
-use Rattle.meaning.specs.Kind.{Kind, number, words, list, table, null, another, kind, asNumber, asList, asTable, aNumber, aList, aTable, aText}
+use Rattle.meaning.specs.Kind.{Kind, number, words, list, mapping, null, another, kind, asNumber, asList, asMapping, aNumber, aList, aMapping, aText}
 use Rattle.meaning.specs.Layouts.{Slots, slot, somes, Layout, dtypeAt}
 use Rattle.meaning.specs.Field.{isSome, keyOf, count, named, get, field, fields, rootFields, objectFields, nameKind, nameOf, names}
 use Rattle.meaning.specs.Format.{formatRules}
@@ -44,7 +44,7 @@ module _ {P : Type 0} where
   Kinds (number n) = Fits n
   Kinds (words w) = Unit {0}
   Kinds (list l) = Every Small l
-  Kinds (table ps) = Every SmallValue ps
+  Kinds (mapping ps) = Every SmallValue ps
   Kinds null = Unit {0}
   Kinds another = Unit {0}
 
@@ -79,7 +79,7 @@ module _ {P : Type 0} where
   asNumber-so (number n) h = passes n h
   asNumber-so (words w) h = record { is = tt }
   asNumber-so (list l) h = record { is = tt }
-  asNumber-so (table l) h = record { is = tt }
+  asNumber-so (mapping l) h = record { is = tt }
   asNumber-so null h = record { is = tt }
   asNumber-so another h = record { is = tt }
 
@@ -88,16 +88,16 @@ module _ {P : Type 0} where
   asList-so (number n) h = record { is = tt }
   asList-so (words w) h = record { is = tt }
   asList-so (list l) h = passes l h
-  asList-so (table l) h = record { is = tt }
+  asList-so (mapping l) h = record { is = tt }
   asList-so null h = record { is = tt }
   asList-so another h = record { is = tt }
 
-  asTable-so : (k : Kind P) → Kinds k → If (Every SmallValue) (asTable k)
-  unfolding asTable
+  asTable-so : (k : Kind P) → Kinds k → If (Every SmallValue) (asMapping k)
+  unfolding asMapping
   asTable-so (number n) h = record { is = tt }
   asTable-so (words w) h = record { is = tt }
   asTable-so (list l) h = record { is = tt }
-  asTable-so (table l) h = passes l h
+  asTable-so (mapping l) h = passes l h
   asTable-so null h = record { is = tt }
   asTable-so another h = record { is = tt }
 
@@ -106,12 +106,12 @@ module _ {P : Type 0} where
   nameKind-so v (number n) a = record { is = tt }
   nameKind-so v (words w) a = passes (record { name = w; value = v }) a
   nameKind-so v (list l) a = record { is = tt }
-  nameKind-so v (table l) a = record { is = tt }
+  nameKind-so v (mapping l) a = record { is = tt }
   nameKind-so v null a = record { is = tt }
   nameKind-so v another a = record { is = tt }
 
-  table-so : (t : Node P) → Small t → If (Every SmallValue) (aTable t)
-  unfolding aTable
+  table-so : (t : Node P) → Small t → If (Every SmallValue) (aMapping t)
+  unfolding aMapping
   table-so t h = asTable-so (kind t) (kind-so t h)
 
   get-so : (n : List ℕ) (ps : List (Pair P)) → Every SmallValue ps → IfAny Small (get n ps)
@@ -131,7 +131,7 @@ module _ {P : Type 0} where
   fields-so : (known : Slots) (t : Node P) → Small t → If (Every SmallValue) (fields known t)
   unfolding fields
   fields-so known t h =
-      bind (aTable t) _ (table-so t h) λ ps q.
+      bind (aMapping t) _ (table-so t h) λ ps q.
       tested KEY (all (λ p. isSome (keyOf p)) ps) _ λ e. tested TWICE (all (λ n. leb (count n ps) 1) (somes known)) _ λ f. passes ps q
 
   abbrev pub Names : ℕ → List (Named P) → Type 0
@@ -140,7 +140,7 @@ module _ {P : Type 0} where
   pub names-so : (limit : ℕ) (t : Node P) → Small t → If (Names limit) (names limit t)
   unfolding names nameOf
   names-so limit t h =
-      bind (aTable t) _ (table-so t h) λ ps q.
+      bind (aMapping t) _ (table-so t h) λ ps q.
       bind (each (λ i. nameOf) 0 ps) _ (each-so (λ i. nameOf) (λ i p a. nameKind-so (p .value) (kind (p .key)) a) 0 ps q) λ ns r.
       tested TEXT (all (λ n. utf8 (n .name .letters)) ns) _ λ e.
       tested COUNT (leb (length ns) limit) _ λ f.

@@ -17,7 +17,7 @@ use Rattle.meaning.proofs.SameText.{same-length}
 use Rattle.meaning.proofs.Lengths.{part-length, each-row-length}
 use Rattle.rows.specs.Placed.{objectsAt, componentsAt}
 use Rattle.rows.specs.Owner.{ownersIn}
-use Rattle.rows.specs.Running.{counted, blobSizes, blobLengths}
+use Rattle.rows.specs.Turns.{counted, blobSizes, blobLengths}
 use Rattle.rows.proofs.EachRow.{no-row, next-row-at, first-rows, later-rows, parts-mapped}
 use Rattle.rows.proofs.SoundRow.{component-blob-inside}
 use Rattle.rows.proofs.Whole.{sound-order, sound-components}

@@ -5,7 +5,7 @@ pub mod EachRow
 pub mod Judged
 pub mod Owners
 pub mod Whole
-pub mod Running
+pub mod Turns
 pub mod SoundRow
 pub mod Describes
 pub mod Steps

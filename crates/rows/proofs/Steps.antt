@@ -14,7 +14,7 @@ use Rattle.meaning.specs.Described.{describedComponent, describedObject, descri
 use Rattle.meaning.specs.Manifest.{Keyed, under, componentBytes}
 use Rattle.meaning.proofs.Lengths.{part-length}
 use Rattle.rows.specs.Placed.{objectsAt, componentsAt}
-use Rattle.rows.specs.Running.{offsetAt, stepped, reached, blobSizes, entriesFrom, objectFrom, objectsFrom}
+use Rattle.rows.specs.Turns.{offsetAt, stepped, reached, blobSizes, entriesFrom, objectFrom, objectsFrom}
 use Rattle.rows.proofs.EachRow.{no-row, next-row-at, all-taken, first-rows}
 use Rattle.rows.proofs.SoundRow.{component-blob-inside}
 use Rattle.rows.proofs.Describes.{described-none, described-next, blobs-as-long}

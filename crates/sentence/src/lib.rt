@@ -13,7 +13,7 @@ ghost use Rattle.meaning.specs.Check.{pass};
 ghost use Rattle.meaning.specs.Layouts.{layoutOf};
 ghost use Rattle.meaning.specs.Read.{bytesAt};
 ghost use Rattle.put.specs.Wrote.{Wrote};
-ghost use Rattle.panel.specs.Told.{told, textAfter};
+ghost use Rattle.panel.specs.ListedText.{told, textAfter};
 ghost use Rattle.explained.specs.Sentence.{reason, said};
 ghost use Rattle.sentence.specs.Given as is;
 

@@ -11,7 +11,7 @@ use Rattle.meaning.specs.Check.{Check, pass, refuse}
 use Rattle.engines.specs.Shared.{Who, first, second, Engine, flagOf, heldOf, nothing, Shared, own, closed, opened}
 use Rattle.engines.specs.Calls.{Call, drops, Said, gone, placeOf, told, given, after, answered, leaves}
 use Rattle.engines.specs.Runs.{numberOf}
-use Rattle.sharing.specs.Told.{number}
+use Rattle.sharing.specs.EngineAnswers.{number}
 use Rattle.states.specs.Places.{standing}
 use Rattle.states.specs.declared.Place.{Place}
 use Rattle.states.specs.declared.Place.the-variants.{Nowhere, Idle, Loaded}

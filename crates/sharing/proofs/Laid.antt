@@ -16,7 +16,7 @@ use Rattle.reader.specs.Answer as read
 use Rattle.reader.specs.Answer.{laidOver, placed, endAfter}
 use Rattle.reader.specs.declared.into.Answer.{Answer}
 use Rattle.engines.specs.Calls.{needed, layoutNumber}
-use Rattle.sharing.specs.Told.{rowsAt, laid, stateWith}
+use Rattle.sharing.specs.EngineAnswers.{rowsAt, laid, stateWith}
 use Rattle.engines.proofs.Kept.{rows-needed}
 use Rattle.sharing.proofs.Lent.{lent-is, front-is, end-is}
 use Rattle.sharing.proofs.Loads.{read-fits}

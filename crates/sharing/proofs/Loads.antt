@@ -21,8 +21,8 @@ use Rattle.shown.proofs.AfterReading.{read-zero}
 use Rattle.engines.specs.Shared.{Who, first, second, Engine, flagOf, heldOf, Shared, own, closed, opened}
 use Rattle.engines.specs.Calls.{Call, load, Said, took, readingAs, needed, layoutNumber, engineOf, loading, told, taken, after, answered, leaves}
 use Rattle.engines.specs.Runs.{numberOf}
-use Rattle.sharing.specs.Told as is
-use Rattle.sharing.specs.Told.{rowsAt, laid, stateWith}
+use Rattle.sharing.specs.EngineAnswers as is
+use Rattle.sharing.specs.EngineAnswers.{rowsAt, laid, stateWith}
 use Rattle.states.specs.Places.{standing}
 use Rattle.states.specs.declared.Place.{Place}
 use Rattle.states.specs.declared.Place.the-variants.{Nowhere, Idle, Loaded}

@@ -11,16 +11,16 @@ use Rattle.meaning.specs.Check.{Check, pass, refuse, _>>=_, _>>_, _unless_}
 use Rattle.meaning.specs.Refusal.{INDEX, ROOM}
 use Rattle.meaning.specs.Read.{Span}
 use Rattle.meaning.specs.View.{viewed}
-use Rattle.view.specs.Told as views
+use Rattle.view.specs.Extents as views
 use Rattle.view.specs.declared.Extent.{Extent}
 use Rattle.panel.specs.Lines as lines
-use Rattle.panel.specs.Told as panels
+use Rattle.panel.specs.ListedText as panels
 use Rattle.panel.specs.declared.Listed.{Listed}
 use Rattle.sharing.specs.declared.Held.{Held}
 use Rattle.engines.specs.Runs.{numberOf}
 use Rattle.engines.specs.Shared.{Who, first, second, partOf, Engine, flagOf, heldOf, objectsOf, componentsOf, Shared, own, opened}
 use Rattle.engines.specs.Calls.{Call, holds, view, list, Said, has, range, text, placeOf, holding, told, answered}
-use Rattle.sharing.specs.Told.{number, heldWith, held, extent, listing, listed, textAfter}
+use Rattle.sharing.specs.EngineAnswers.{number, heldWith, held, extent, listing, listed, textAfter}
 use Rattle.states.specs.Places.{standing}
 use Rattle.states.specs.declared.Place.{Place}
 use Rattle.states.specs.declared.Place.the-variants.{Nowhere, Idle, Loaded}

@@ -5,7 +5,7 @@ use mathlib.Core.List.{List, [], _∷_, _++_, append-nil}
 use mathlib.Core.Path.{_≡_, refl, sym, ap, ap₂, _∙_}
 use lib.ListN.{length, take, drop, set, replicate, length-set, length-replicate, drop-of-length-le}
 use lib.Seq.{take-all}
-use Rattle.emit.proofs.Laying.{Filling}
+use Rattle.emit.proofs.LaidPieces.{Filling}
 
 pub zeroed : (xs ys : List ℕ) (i : ℕ) → Filling (replicate (length xs) 0) (length xs) xs ys i → length xs ≤ i → ys ≡ replicate (length xs) 0
 zeroed xs ys i f h =

@@ -15,7 +15,7 @@ ghost use Rattle.meaning.specs.Layouts.{layoutOf};
 ghost use Rattle.meaning.specs.Rows.{readInto};
 ghost use Rattle.reader.specs.Answer as read;
 ghost use Rattle.engines.specs.Calls.{load, drops, holds, view, list, layoutNumber, answered, leaves};
-ghost use Rattle.sharing.specs.Told as is;
+ghost use Rattle.sharing.specs.EngineAnswers as is;
 
 // Where an engine's rows stand in the table, and what was answered when they were loaded; all 0 if nothing is loaded.
 #[repr(C)]

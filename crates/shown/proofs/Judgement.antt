@@ -15,7 +15,7 @@ use Rattle.meaning.specs.Refusal.{KIND, KEY, TEXT, TWICE, VERSION, MAJOR, COUNT
 use Rattle.meaning.specs.Limit.{objectLimit, componentLimit, alignment}
 use Rattle.meaning.specs.Read.{Span}
 use Rattle.meaning.specs.Model.{Word, Named, Component, RootFields, ObjectFields, ComponentFields}
-use Rattle.meaning.specs.Kind.{Kind, number, words, list, table, null, another, kind, asNumber, asWord, asList, asTable, aNumber, aWord, aList, aTable, aText, presentKind, present}
+use Rattle.meaning.specs.Kind.{Kind, number, words, list, mapping, null, another, kind, asNumber, asWord, asList, asMapping, aNumber, aWord, aList, aMapping, aText, presentKind, present}
 use Rattle.meaning.specs.Version.{versionShape, majorOne}
 use Rattle.meaning.specs.Layouts.{Slots, slot, somes, Layout, dtypeAt, componentsAt, objectsAt, thirteen}
 use Rattle.meaning.specs.Field.{isSome, keyOf, count, named, get, field, fields, rootFields, objectFields, componentFields, nameKind, nameOf, names}
@@ -103,7 +103,7 @@ module _ (L : Layout) (file : List ℕ) (start : ℕ) where
   Kinds d (number n) = Unit {0}
   Kinds d (words w) = Spelt w
   Kinds d (list l) = Unit {0}
-  Kinds d (table ps) = Every (Pairing (less d)) ps
+  Kinds d (mapping ps) = Every (Pairing (less d)) ps
   Kinds d null = Unit {0}
   Kinds d another = Unit {0}
 
@@ -134,7 +134,7 @@ module _ (L : Layout) (file : List ℕ) (start : ℕ) where
   asNumber-so (number n) = passes n tt
   asNumber-so (words w) = faults KIND tt
   asNumber-so (list l) = faults KIND tt
-  asNumber-so (table l) = faults KIND tt
+  asNumber-so (mapping l) = faults KIND tt
   asNumber-so null = faults KIND tt
   asNumber-so another = faults KIND tt
 
@@ -143,7 +143,7 @@ module _ (L : Layout) (file : List ℕ) (start : ℕ) where
   asWord-so d (number n) h = faults KIND tt
   asWord-so d (words w) h = passes w h
   asWord-so d (list l) h = faults KIND tt
-  asWord-so d (table l) h = faults KIND tt
+  asWord-so d (mapping l) h = faults KIND tt
   asWord-so d null h = faults KIND tt
   asWord-so d another h = faults KIND tt
 
@@ -152,16 +152,16 @@ module _ (L : Layout) (file : List ℕ) (start : ℕ) where
   asList-so (number n) = faults KIND tt
   asList-so (words w) = faults KIND tt
   asList-so (list l) = passes l tt
-  asList-so (table l) = faults KIND tt
+  asList-so (mapping l) = faults KIND tt
   asList-so null = faults KIND tt
   asList-so another = faults KIND tt
 
-  asTable-so : (d : ℕ) (k : Kind Span) → Kinds d k → Judged (Every (Pairing (less d))) (asTable k)
-  unfolding asTable
+  asTable-so : (d : ℕ) (k : Kind Span) → Kinds d k → Judged (Every (Pairing (less d))) (asMapping k)
+  unfolding asMapping
   asTable-so d (number n) h = faults KIND tt
   asTable-so d (words w) h = faults KIND tt
   asTable-so d (list l) h = faults KIND tt
-  asTable-so d (table l) h = passes l h
+  asTable-so d (mapping l) h = passes l h
   asTable-so d null h = faults KIND tt
   asTable-so d another h = faults KIND tt
 
@@ -170,7 +170,7 @@ module _ (L : Layout) (file : List ℕ) (start : ℕ) where
   presentKind-so d t (number n) h = h
   presentKind-so d t (words w) h = h
   presentKind-so d t (list l) h = h
-  presentKind-so d t (table l) h = h
+  presentKind-so d t (mapping l) h = h
   presentKind-so d t null h = tt
   presentKind-so d t another h = h
 
@@ -182,7 +182,7 @@ module _ (L : Layout) (file : List ℕ) (start : ℕ) where
   nameKind-so d v (number n) a h = faults KEY tt
   nameKind-so d v (words w) a h = passes (record { name = w; value = v }) (h, a)
   nameKind-so d v (list l) a h = faults KEY tt
-  nameKind-so d v (table l) a h = faults KEY tt
+  nameKind-so d v (mapping l) a h = faults KEY tt
   nameKind-so d v null a h = faults KEY tt
   nameKind-so d v another a h = faults KEY tt
 
@@ -194,8 +194,8 @@ module _ (L : Layout) (file : List ℕ) (start : ℕ) where
   unfolding aWord
   word-so d t h = asWord-so d (kind t) (kind-so d t h)
 
-  table-so : (d : ℕ) (t : Node Span) → At d t → Judged (Every (Pairing (less d))) (aTable t)
-  unfolding aTable
+  table-so : (d : ℕ) (t : Node Span) → At d t → Judged (Every (Pairing (less d))) (aMapping t)
+  unfolding aMapping
   table-so d t h = asTable-so d (kind t) (kind-so d t h)
 
   text-so : (d : ℕ) (t : Node Span) → At d t → Judged Spelt (aText t)
@@ -225,16 +225,16 @@ module _ (L : Layout) (file : List ℕ) (start : ℕ) where
   unfolding field
   no-field s ps e = ap (λ (s : Option (List ℕ)). field s ps) e
 
-  fields-so : (d : ℕ) (known : Slots) (t : Node Span) → At d t → Judged (λ ps. (aTable t ≡ pass ps) × Every (Pairing (less d)) ps) (fields known t)
+  fields-so : (d : ℕ) (known : Slots) (t : Node Span) → At d t → Judged (λ ps. (aMapping t ≡ pass ps) × Every (Pairing (less d)) ps) (fields known t)
   unfolding fields
   fields-so d known t h =
-      bind (aTable t) _ (with-verdict (aTable t) (table-so d t h)) λ ps q.
+      bind (aMapping t) _ (with-verdict (aMapping t) (table-so d t h)) λ ps q.
       tested KEY (all (λ p. isSome (keyOf p)) ps) _ tt λ e. tested TWICE (all (λ n. leb (count n ps) 1) (somes known)) _ tt λ f. passes ps q
 
   pub names-so : (d limit : ℕ) (t : Node Span) → At d t → Judged (Every (Naming (less d))) (names limit t)
   unfolding names nameOf
   names-so d limit t h =
-      bind (aTable t) _ (table-so d t h) λ ps q.
+      bind (aMapping t) _ (table-so d t h) λ ps q.
       bind (each (λ i. nameOf) 0 ps) _ (each-so (λ i. nameOf) (λ i p a. nameKind-so (less d) (p .value) (kind (p .key)) (a .1) (kind-so (less d) (p .key) (a .0))) 0 ps q) λ ns r.
       tested TEXT (all (λ n. utf8 (n .name .letters)) ns) _ tt λ e.
       tested COUNT (leb (length ns) limit) _ tt λ f.
@@ -370,9 +370,9 @@ module _ (L : Layout) (file : List ℕ) (start : ℕ) where
 
   pub attributes-so : (d : ℕ) (t : Node Span) → At d t → Judged (AttributesStand L file start d) (attributesOf t)
   unfolding attributesOf
-  attributes-so d t h = by (aTable t) refl (table-so d t h)
+  attributes-so d t h = by (aMapping t) refl (table-so d t h)
     where
-      by : (k : Check (List (Pair Span))) → aTable t ≡ k → Judged (Every (Pairing (less d))) k → Judged (AttributesStand L file start d) (k >> pass t)
+      by : (k : Check (List (Pair Span))) → aMapping t ≡ k → Judged (Every (Pairing (less d))) k → Judged (AttributesStand L file start d) (k >> pass t)
       by (pass ps) e j = passes t (record { stands = h .0; pairs = ps; map = e })
       by (refuse n o c) e j = record { is = j .is }
 
@@ -453,7 +453,7 @@ module _ (L : Layout) (file : List ℕ) (start : ℕ) where
 
   pairs-in-so : (d : ℕ) (t : Node Span) → At d t → Every (Pairing (less d)) (pairsIn t)
   unfolding pairsIn pairsOr
-  pairs-in-so d t h = by (aTable t) (table-so d t h)
+  pairs-in-so d t h = by (aMapping t) (table-so d t h)
     where
       by : (k : Check (List (Pair Span))) → Judged (Every (Pairing (less d))) k → Every (Pairing (less d)) (pairsOr k)
       by (pass ps) j = j .is

@@ -7,7 +7,7 @@ use lib.ListN.{length, take, drop}
 use Rattle.meaning.specs.Tree.{Node, Pair, noteOf, meaning}
 use Rattle.meaning.specs.Check.{pass}
 use Rattle.meaning.specs.Read.{Span, got, item, noNote}
-use Rattle.meaning.specs.Kind.{aTable}
+use Rattle.meaning.specs.Kind.{aMapping}
 use Rattle.meaning.specs.Model.{Word, Component, Object, Model}
 use Rattle.meaning.specs.Layouts.{slot, Layout, dtypeAt}
 use Rattle.meaning.specs.Judge.{component}
@@ -43,7 +43,7 @@ module _ (L : Layout) (file : List ℕ) (start : ℕ) where
   pub record AttributesStand (d : ℕ) (t : Node Span) : Type 0 where
     pub stands : NodeStands d t
     pub pairs : List (Pair Span)
-    pub map : aTable t ≡ pass pairs
+    pub map : aMapping t ≡ pass pairs
 
   -- the entry of a component's row is one whole map of the manifest, at depth 5: 28 levels are left there; under the component's name, with the code that its object gives it, that
   -- map is this component; an object that can have no dtype gives none

@@ -1,2 +1,2 @@
-pub mod Putting
-pub mod Sieving
+pub mod ObjectPut
+pub mod ObjectJudged

@@ -18,9 +18,9 @@ use Rattle.meaning.specs.Manifest.{mapBytes, componentBytes}
 use Rattle.meaning.proofs.Tests.{both-left, both-right}
 use Rattle.meaning.proofs.Lengths.{part-length, each-row-length}
 use Rattle.rows.specs.Placed.{objectsAt, componentsAt}
-use Rattle.rows.specs.Running.{begun, offsetAt, stepped, turnLimit, reached, entriesFrom, objectFrom, objectsFrom, blobSizes, counted}
+use Rattle.rows.specs.Turns.{begun, offsetAt, stepped, turnLimit, reached, entriesFrom, objectFrom, objectsFrom, blobSizes, counted}
 use Rattle.rows.proofs.EachRow.{all-taken, all-dropped}
-use Rattle.rows.proofs.Running.{last-is-reached}
+use Rattle.rows.proofs.Turns.{last-is-reached}
 use Rattle.rows.proofs.Whole.{sound-lies, sound-attributes, sound-objects, sound-components}
 use Rattle.rows.proofs.SoundRow.{component-name-inside, component-type-inside, component-blob-inside, component-digest-inside, attributes-inside, object-name-inside, object-rank-small, object-format-inside, object-attributes-sound}
 use Rattle.rows.proofs.Describes.{blobs-as-long, rows-counted, blob-lengths}

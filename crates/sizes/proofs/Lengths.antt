@@ -19,8 +19,8 @@ use Rattle.meaning.specs.Described.{DescribedComponent, DescribedObject, Descri
 use Rattle.meaning.specs.Manifest.{headOf, shortestHead, numberBytes, textBytes, listBytes, Keyed, given, entryBytes, mapBytes, componentBytes}
 use Rattle.meaning.proofs.Tests.{both-left, both-right}
 use Rattle.meaning.proofs.Lengths.{big-length, part-length}
-use Rattle.rows.specs.Running.{begun, entriesFrom, objectFrom, objectsFrom}
-use Rattle.rows.proofs.Running.{manifest-placed}
+use Rattle.rows.specs.Turns.{begun, entriesFrom, objectFrom, objectsFrom}
+use Rattle.rows.proofs.Turns.{manifest-placed}
 use Rattle.sizes.specs.Size.{headSize, textSize, whenPresent, optionalText, optionalCopy, dimensionsSize}
 use Rattle.sizes.specs.Measured.{manifestLength}
 use Rattle.sizes.proofs.Heads.{head-one}

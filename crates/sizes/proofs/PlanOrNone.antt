@@ -11,8 +11,8 @@ use Rattle.meaning.specs.Placement.{aligned}
 use Rattle.meaning.specs.Asked.{AskedComponent, eachRow, askedComponent}
 use Rattle.meaning.proofs.Lengths.{aligned-above, each-row-length, none-left}
 use Rattle.rows.specs.Placed.{componentsAt}
-use Rattle.rows.specs.Running.{begun, offsetAt, stepped, turnLimit, reached, blobSizes}
-use Rattle.rows.proofs.Running.{reached-above, reached-next, reached-counts}
+use Rattle.rows.specs.Turns.{begun, offsetAt, stepped, turnLimit, reached, blobSizes}
+use Rattle.rows.proofs.Turns.{reached-above, reached-next, reached-counts}
 use Rattle.sizes.specs.Size.{cappedEnd}
 
 -- ---- without a plan

@@ -15,9 +15,9 @@ use Rattle.meaning.specs.Types.{Storage, storages, storageOf}
 use Rattle.meaning.specs.Asked.{AskedObject, askedObject, askedComponent}
 use Rattle.meaning.specs.Placement.{aligned}
 use Rattle.rows.specs.Placed.{objectsAt, componentsAt}
-use Rattle.rows.specs.Running.{offsetAt, stepped, turnLimit, reached, blobSizes, counted}
+use Rattle.rows.specs.Turns.{offsetAt, stepped, turnLimit, reached, blobSizes, counted}
 use Rattle.rows.proofs.EachRow.{no-row, next-row-at, first-rows, later-rows, first-so, others-so}
-use Rattle.rows.proofs.Running.{reached-above, reached-split}
+use Rattle.rows.proofs.Turns.{reached-above, reached-split}
 use Rattle.rows.proofs.Describes.{counted-next}
 use Rattle.sizes.specs.Size.{capped, headSize, textSize, whenPresent, optionalText, optionalCopy, fixedSize, componentSize, componentsSize, dimensionsSize, objectSize, objectsSize}
 use Rattle.sizes.specs.Measured.{shaped, Fits}

@@ -9,8 +9,8 @@ use Rattle.meaning.specs.Columns.{objectWidth, componentWidth, rankColumn, coun
 use Rattle.meaning.specs.Limit.{manifestLimit}
 use Rattle.meaning.specs.Asked.{eachRow, askedObject, askedComponent}
 use Rattle.rows.specs.Placed.{objectsAt, componentsAt}
-use Rattle.rows.specs.Running.{begun, offsetAt, stepped, turnLimit, reached, blobSizes, counted}
-use Rattle.rows.proofs.Running.{reached-above, reached-next}
+use Rattle.rows.specs.Turns.{begun, offsetAt, stepped, turnLimit, reached, blobSizes, counted}
+use Rattle.rows.proofs.Turns.{reached-above, reached-next}
 use Rattle.sizes.specs.Size.{capped, headSize, componentSize, componentsSize, objectSize, objectsSize, objectsSizeIn}
 use Rattle.sizes.specs.Measured.{Fits}
 use Rattle.sizes.proofs.Sums.{from-nothing, one-more, one-object, components-none, components-next, objects-none, objects-next, rank-small, components-there, ends-in-time, fits-next}

@@ -15,7 +15,7 @@ use Rattle.meaning.specs.Placement.{placement, lastEnd}
 use Rattle.meaning.specs.Described.{Described, blobs, described}
 use Rattle.meaning.specs.Manifest.{manifestBytes}
 use Rattle.rows.specs.Placed.{objectsAt, componentsAt}
-use Rattle.rows.specs.Running.{begun, turnLimit, reached, offsetsFrom, blobSizes, counted}
+use Rattle.rows.specs.Turns.{begun, turnLimit, reached, offsetsFrom, blobSizes, counted}
 use Rattle.sizes.specs.Size.{capped, cappedEnd}
 
 unfoldable pub shaped : AskedObject → Bool

@@ -9,7 +9,7 @@ use Rattle.meaning.specs.Limit.{manifestLimit, endLimit}
 use Rattle.meaning.specs.Read.{Span}
 use Rattle.meaning.specs.Types.{storageOf}
 use Rattle.meaning.specs.Asked.{AskedObject, AskedComponent, Asked, eachRow, askedObject, askedComponent}
-use Rattle.rows.specs.Running.{begun, offsetAt, stepped, reached, blobSizes, counted}
+use Rattle.rows.specs.Turns.{begun, offsetAt, stepped, reached, blobSizes, counted}
 
 -- a size, or one more than the limit where it is over it; so too the last blob's end
 abbrev pub capped : ℕ → ℕ

@@ -26,7 +26,7 @@ ghost use Prim.Native.Nat.{_+_, _*_, _≤_, _<_};
 ghost use lib.ListN.{length, getD};
 ghost use Rattle.meaning.specs.Columns.{objectWidth, componentWidth, rankColumn};
 ghost use Rattle.meaning.specs.Asked.{eachRow, askedObject, askedComponent};
-ghost use Rattle.rows.specs.Running.{begun, turnLimit, reached, blobSizes};
+ghost use Rattle.rows.specs.Turns.{begun, turnLimit, reached, blobSizes};
 ghost use Rattle.sizes.specs.Size as is;
 ghost use Rattle.sizes.specs.Measured.{Fits};
 

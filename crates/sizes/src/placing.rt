@@ -8,8 +8,8 @@ ghost use Rattle.meaning.specs.Columns.{componentWidth};
 ghost use Rattle.meaning.specs.Limit.{endLimit};
 ghost use Rattle.meaning.specs.Placement as placement;
 ghost use Rattle.meaning.specs.Asked.{eachRow, askedComponent};
-ghost use Rattle.rows.specs.Running.{blobSizes};
-ghost use Rattle.rows.specs.Running as is;
+ghost use Rattle.rows.specs.Turns.{blobSizes};
+ghost use Rattle.rows.specs.Turns as is;
 ghost use Rattle.sizes.specs.Size.{cappedEnd};
 
 // The least multiple of 64 not below a place.

@@ -12,7 +12,7 @@ use Rattle.meaning.specs.Read as read
 use Rattle.meaning.specs.Read.{got, refused, Reader, item, noNote, chunk, toBreak}
 use Rattle.meaning.proofs.ReadPrefix.{still, Exact, Hungry, item-exact, item-hungry, chunk-hungry}
 use Rattle.cbor.specs.Ending.{FAULT, code, ending, took, fault, itemEnd, headOf, holds}
-use Rattle.cbor.proofs.Passing.{got-what, refused-what}
+use Rattle.cbor.proofs.Ends.{got-what, refused-what}
 use Rattle.cbor.proofs.Loops.{passes, fails, takes-a-byte}
 use Rattle.stop.specs.Stop.{LeftBy, OfString, headLeft, PlainStops}
 use Rattle.stop.proofs.Stuck.{differ, same-left, Stuck, here, next, ended, break-stuck, stuck-none, stuck-refused, stuck-got}

@@ -1,2 +1,2 @@
 -- Laws behind summary's proof.
-pub mod Showing
+pub mod PanelAnswer

@@ -2,7 +2,7 @@
 ghost use mathlib.Core.Path.{_≡_};
 ghost use lib.ListN.{length, replicate};
 ghost use Rattle.meaning.specs.Layouts.{layoutOf};
-ghost use Rattle.panel.specs.Told.{textAfter};
+ghost use Rattle.panel.specs.ListedText.{textAfter};
 ghost use Rattle.summary.specs.Panel as is;
 
 // The verdict, or ROOM for either room; and the length of the text. All but the first three are 0 on refusal.

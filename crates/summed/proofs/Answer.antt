@@ -20,8 +20,8 @@ use Rattle.meaning.specs.Placement.{placement, lastEnd}
 use Rattle.meaning.specs.Manifest.{manifestBytes}
 use Rattle.readback.specs.Lent.{Held}
 use Rattle.readback.proofs.Placed.{file-length}
-use Rattle.rows.specs.Running.{reached}
-use Rattle.rows.proofs.Running.{reached-above}
+use Rattle.rows.specs.Turns.{reached}
+use Rattle.rows.proofs.Turns.{reached-above}
 use Rattle.sizes.specs.Size.{capped, headSize}
 use Rattle.sizes.proofs.Lengths.{fieldSize}
 use Rattle.shown.specs.Accepted.{Framing}

@@ -22,7 +22,7 @@ use Rattle.meaning.proofs.Checks.{refused-is-not}
 use Rattle.meaning.proofs.Lengths.{map-both}
 use Rattle.meaning.specs.Every.{Every}
 use Rattle.names.specs.Names.{listed}
-use Rattle.table.proofs.Laying as laying
+use Rattle.table.proofs.Runs as laying
 use Rattle.matching.specs.Named.{nameAt, named}
 use Rattle.readback.specs.Judged.{judgedNames}
 use Rattle.readback.specs.Spelled.{SpelledObject}

@@ -12,8 +12,8 @@ use Rattle.meaning.specs.Described.{Described, blobs}
 use Rattle.meaning.specs.Placement.{placement, lastEnd}
 use Rattle.meaning.specs.Manifest.{Keyed, manifestBytes}
 use Rattle.endian.proofs.Which.{lt-or}
-use Rattle.rows.specs.Running.{reached, objectsFrom}
-use Rattle.rows.proofs.Running.{reached-above, reached-joined}
+use Rattle.rows.specs.Turns.{reached, objectsFrom}
+use Rattle.rows.proofs.Turns.{reached-above, reached-joined}
 use Rattle.sizes.specs.Size.{cappedEnd, headSize}
 use Rattle.sizes.proofs.Lengths.{entriesSize, fieldSize}
 use Rattle.joint.proofs.Meant.{objects-both, lengths-both}

@@ -17,7 +17,7 @@ use Rattle.meaning.specs.Described.{Described, blobs, describedBy}
 use Rattle.meaning.specs.Every.{Every}
 use Rattle.readback.specs.Lent.{Held}
 use Rattle.readback.specs.Spelled.{SpelledObject, Spelled}
-use Rattle.rows.specs.Running.{objectsFrom}
+use Rattle.rows.specs.Turns.{objectsFrom}
 use Rattle.sizes.proofs.Lengths.{entriesSize}
 use Rattle.shown.specs.Accepted.{Framing}
 use Rattle.roundtrip.specs.Sized.{SizedObject, Sized}

@@ -21,7 +21,7 @@ use Rattle.meaning.proofs.Checks.{pass-same}
 use Rattle.types.specs.Known.{position, formatNames, roleNames}
 use Rattle.cbor.specs.Ending.{FAULT}
 use Rattle.walk.specs.Reading.{Ends}
-use Rattle.naming.specs.Naming.{wordOr}
+use Rattle.naming.specs.NotedNames.{wordOr}
 use Rattle.component.specs.Value.{leftWord, given}
 use Rattle.component.specs.Verdict.{judged}
 use Rattle.component.specs.declared.Judged.{Judged}
@@ -33,7 +33,7 @@ use Rattle.fields.proofs.Texts.{Here}
 use Rattle.table.specs.declared.span.Span.{Span}
 use Rattle.table.specs.Spans.{spanOf, spanned, spanOfWord, spanOfOption, SpeltIs, SpeltAt, WholeFrom}
 use Rattle.table.specs.Row.{twelve, rowIn, RowPut}
-use Rattle.table.proofs.Laying as laying
+use Rattle.table.proofs.Runs as laying
 
 -- ---------------------------------------------------------------- a pair that has a name
 
@@ -56,7 +56,7 @@ named-pair p n e = go (kind (p .key)) refl e
           anyway = ap (wordOr (noteOf (p .key))) h ∙ ap (λ (n : Named Ends). n .name) z;
         }
     go (kinds.list l) h e = absurd (let z : _≡_ {A = ℕ} 0 1 = cc in omega arith)
-    go (kinds.table l) h e = absurd (let z : _≡_ {A = ℕ} 0 1 = cc in omega arith)
+    go (kinds.mapping l) h e = absurd (let z : _≡_ {A = ℕ} 0 1 = cc in omega arith)
     go kinds.null h e = absurd (let z : _≡_ {A = ℕ} 0 1 = cc in omega arith)
     go kinds.another h e = absurd (let z : _≡_ {A = ℕ} 0 1 = cc in omega arith)
 

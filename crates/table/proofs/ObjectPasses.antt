@@ -22,7 +22,7 @@ use Rattle.meaning.proofs.Checks.{pass-same, required-some, passed-on, passed}
 use Rattle.meaning.proofs.KindIs.{attributes-stay}
 use Rattle.walk.specs.Reading.{Ends, Chain, leftAt, foldl}
 use Rattle.fields.specs.Slots.{marks, Holds}
-use Rattle.fields.proofs.Standing.{field-stands}
+use Rattle.fields.proofs.Stands.{field-stands}
 use Rattle.components.specs.Typed.{lettered}
 use Rattle.components.proofs.Lettered.{word-note, text-word}
 use Rattle.table.specs.Spans.{SizeIs}
@@ -51,8 +51,8 @@ some-passed F (some a) code e there n =
     let x = passed (F a) (λ b. pass (some b)) code e in
     let y : some (x .value) ≡ none = pass-same (x .then) ∙ n in let w : _≡_ {A = ℕ} 0 1 = cc in omega arith
 
-a-table : (t : Node Ends) (ps : List (Pair Ends)) → kind t ≡ kinds.table ps → kinds.aTable t ≡ pass ps
-unfolding kinds.aTable kinds.asTable
+a-table : (t : Node Ends) (ps : List (Pair Ends)) → kind t ≡ kinds.mapping ps → kinds.aMapping t ≡ pass ps
+unfolding kinds.aMapping kinds.asMapping
 a-table t ps e = rw e refl
 
 -- the fields of these pairs
@@ -65,11 +65,11 @@ fieldsOf slots ps = record {
   components = field (slot 4 slots) ps;
 }
 
-module _ (slots : Slots) (t : Node Ends) (ps : List (Pair Ends)) (is : kind t ≡ kinds.table ps) where
+module _ (slots : Slots) (t : Node Ends) (ps : List (Pair Ends)) (is : kind t ≡ kinds.mapping ps) where
   fields-are : (qs : List (Pair Ends)) → fields slots t ≡ pass qs → ps ≡ qs
   unfolding fields
   fields-are qs e =
-      let a = passed (kinds.aTable t) (λ ps. (KEY unless all (λ p. isSome (keyOf p)) ps) >> ((TWICE unless all (λ n. leb (count n ps) 1) (somes slots)) >> pass ps)) qs e in
+      let a = passed (kinds.aMapping t) (λ ps. (KEY unless all (λ p. isSome (keyOf p)) ps) >> ((TWICE unless all (λ n. leb (count n ps) 1) (somes slots)) >> pass ps)) qs e in
       let b = passed-on (KEY unless all (λ p. isSome (keyOf p)) (a .value)) ((TWICE unless all (λ n. leb (count n (a .value)) 1) (somes slots)) >> pass (a .value)) qs (a .then) in
       let c = passed-on (TWICE unless all (λ n. leb (count n (a .value)) 1) (somes slots)) (pass (a .value)) qs b in
       pass-same (sym (a-table t ps is) ∙ a .is) ∙ pass-same c
@@ -145,7 +145,7 @@ made-of L start w c o e =
           ap (λ l. componentsOf L start (inherited l (y .value)) (d .value)) (sym letters) ∙ j .is ∙ ap (λ (o : Object Ends). pass (o .components)) x;
     }
 
-pub made : (L : Layout) (start : ℕ) (w : Word Ends) (t : Node Ends) (ps : List (Pair Ends)) → kind t ≡ kinds.table ps → (o : Object Ends) → object L start (record { name = w; value = t }) ≡ pass o
+pub made : (L : Layout) (start : ℕ) (w : Word Ends) (t : Node Ends) (ps : List (Pair Ends)) → kind t ≡ kinds.mapping ps → (o : Object Ends) → object L start (record { name = w; value = t }) ≡ pass o
     → Made L start w (fieldsOf (L .object) ps) o
 unfolding object
 made L start w t ps is o e =

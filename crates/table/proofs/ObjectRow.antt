@@ -25,7 +25,7 @@ use Rattle.fields.proofs.Texts.{Here}
 use Rattle.table.specs.declared.span.Span.{Span}
 use Rattle.table.specs.Spans.{spanOf, spanned, spanOfWord, SpeltIs, SpeltAt, WholeIs}
 use Rattle.table.specs.Object.{Cleared, eight, DimensionsAt, sixteen, objectIn, ObjectPut}
-use Rattle.table.proofs.Laying as laying
+use Rattle.table.proofs.Runs as laying
 use Rattle.table.proofs.ComponentRow as rows
 
 -- ---------------------------------------------------------------- unused dimensions

@@ -32,7 +32,7 @@ use Rattle.table.specs.Object.{objectIn, ObjectPut}
 use Rattle.table.specs.Pass.{SaysNow, Passed}
 use Rattle.table.specs.Late.{Gives, LatePut}
 use Rattle.table.specs.Objects.{WholePut}
-use Rattle.table.proofs.Laying as laying
+use Rattle.table.proofs.Runs as laying
 use Rattle.table.proofs.ComponentRow.{named-pair}
 use Rattle.table.proofs.ObjectPasses.{Made, fieldsOf, made, described, gives}
 

@@ -7,7 +7,7 @@ use mathlib.Core.Path.{_≡_}
 use Rattle.meaning.specs.Tree.{Node}
 use Rattle.meaning.specs.Layouts.{layoutOf}
 use Rattle.walk.specs.Reading.{Ends}
-use Rattle.fields.specs.Keeping as keeping
+use Rattle.fields.specs.FieldWalk as keeping
 use Rattle.table.specs.Spans.{SizeIs}
 use Rattle.components.specs.Firsts.{offered}
 use Rattle.object.specs.Verdict.{waiting}

@@ -12,7 +12,7 @@ use Rattle.meaning.specs.Refusal.{KEY, TEXT, TWICE, COUNT}
 use Rattle.meaning.specs.Limit.{objectLimit}
 use Rattle.meaning.specs.Read.{Span}
 use Rattle.meaning.specs.Model.{Named, Object, Model}
-use Rattle.meaning.specs.Kind.{Kind, number, words, list, table, null, another, kind, asTable, aTable}
+use Rattle.meaning.specs.Kind.{Kind, number, words, list, mapping, null, another, kind, asMapping, aMapping}
 use Rattle.meaning.specs.Layouts.{Slots, slot, somes, Layout, objectsAt, componentsAt}
 use Rattle.meaning.specs.Field.{isSome, keyOf, count, field, fields, rootFields, objectFields, nameKind, nameOf, names}
 use Rattle.meaning.specs.Judge.{attributesOf, object, aVersion, objectsOf, judge}
@@ -80,7 +80,7 @@ module _ {P : Type 0} where
   name-value v (number m) n e = absurd (refused-is-not e)
   name-value v (words w) n e = let z : record { name = w; value = v } ≡ n = cc in sym (ap (λ (n : Named P). n .value) z)
   name-value v (list l) n e = absurd (refused-is-not e)
-  name-value v (table l) n e = absurd (refused-is-not e)
+  name-value v (mapping l) n e = absurd (refused-is-not e)
   name-value v null n e = absurd (refused-is-not e)
   name-value v another n e = absurd (refused-is-not e)
 
@@ -97,7 +97,7 @@ module _ {P : Type 0} where
   names-values : (limit : ℕ) (t : Node P) (ns : List (Named P)) → names limit t ≡ pass ns → map (λ n. n .value) ns ≡ valuesIn (some t)
   unfolding names valuesIn pairsIn pairsOr
   names-values limit t ns e =
-      let s = step (aTable t) _ e in
+      let s = step (aMapping t) _ e in
       let u = step (each (λ i. nameOf) 0 (s .0)) _ (s .2) in
       let z : pass (u .0) ≡ pass ns =
       passed-on (TWICE unless distinct (map (λ n. n .name .letters) (u .0))) _ _ (passed-on (COUNT unless leb (length (u .0)) limit) _ _ (passed-on (TEXT unless all (λ n. utf8 (n .name .letters)) (u .0)) _ _ (u .2))) in
@@ -107,7 +107,7 @@ module _ {P : Type 0} where
   fields-pairs : (slots : Slots) (t : Node P) (ps : List (Pair P)) → fields slots t ≡ pass ps → ps ≡ pairsIn t
   unfolding fields pairsIn pairsOr
   fields-pairs slots t ps e =
-      let s = step (aTable t) _ e in
+      let s = step (aMapping t) _ e in
       let z : pass (s .0) ≡ pass ps =
       passed-on (TWICE unless all (λ n. leb (count n (s .0)) 1) (somes slots)) _ _ (passed-on (KEY unless all (λ p. isSome (keyOf p)) (s .0)) _ _ (s .2)) in
       let y : s .0 ≡ ps = cc in
@@ -171,7 +171,7 @@ module _ {P : Type 0} (slots : Slots) (j : ℕ) (R : Node P → Node P → Type 
   entries-along (moved.next k r es) = (r, entries-along es)
 
   values-along : (x y : Node P) → Values x y → Along R (valuesIn (some x)) (valuesIn (some y))
-  unfolding valuesIn pairsIn pairsOr aTable asTable kind
+  unfolding valuesIn pairsIn pairsOr aMapping asMapping kind
   values-along x y alike = along-self R self (valuesIn (some x))
   values-along x y (maps {ps = ps} {qs = qs} es) = entries-along es
 

@@ -6,7 +6,7 @@ use lib.ListN.{length}
 use Rattle.meaning.specs.Tree.{Node}
 use Rattle.meaning.specs.Check.{Check, pass, refuse, _>>=_}
 use Rattle.meaning.specs.Refusal.{MAJOR}
-use Rattle.meaning.specs.Kind.{kind, asTable, aTable, asWord, aWord}
+use Rattle.meaning.specs.Kind.{kind, asMapping, aMapping, asWord, aWord}
 use Rattle.meaning.specs.Field.{fields, rootFields}
 use Rattle.meaning.specs.Judge.{aVersion, judge}
 use Rattle.meaning.specs.Frame.{reading, Reading}
@@ -18,7 +18,7 @@ use Rattle.tolerance.specs.Major.{OtherMajor, OtherMajorIn}
 use Rattle.tolerance.specs.Alike.{answerOf, afterwards}
 
 major-judged : (L : Layout) {P : Type 0} (start : ℕ) (t : Node P) → OtherMajor L t → judge L start t ≡ refuse MAJOR 0 0
-unfolding judge rootFields fields aTable asTable aVersion aWord asWord kind
+unfolding judge rootFields fields aMapping asMapping aVersion aWord asWord kind
 major-judged L start t h = rw (h .is-map, h .whole-text, h .known-once, h .has-version, h .well-shaped, h .another) refl
 
 -- MAJOR, with 0 and 0

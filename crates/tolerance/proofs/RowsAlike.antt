@@ -10,7 +10,7 @@ use lib.ListN.{length, replicate, length-map}
 use Rattle.meaning.specs.Tree.{Node, uint, nint, bytes, text, chunkedBytes, chunkedText, array, dict, tag, simple, float, Pair, Pairs, mapPairs, meaning, nothing}
 use Rattle.meaning.specs.Check.{pass}
 use Rattle.meaning.specs.Read.{Span}
-use Rattle.meaning.specs.Kind.{Kind, null, another, kind, asTable, aTable}
+use Rattle.meaning.specs.Kind.{Kind, null, another, kind, asMapping, aMapping}
 use Rattle.meaning.specs.Model.{Word, Component, Object, Model}
 use Rattle.meaning.specs.Layouts.{Layout}
 use Rattle.meaning.specs.Judge.{lettersOf}
@@ -26,8 +26,8 @@ use Rattle.tolerance.specs.Alike.{Field, number, textSpan, mapSpan, entr
 -- ---------------------------------------------------------------- what stands at a span of an accepted file
 
 -- what is judged to be a map is one
-map-is : (t : Node Span) (ps : List (Pair Span)) → aTable t ≡ pass ps → (q : Pairs (Unit {0})) × (meaning t ≡ dict tt q)
-unfolding aTable asTable kind
+map-is : (t : Node Span) (ps : List (Pair Span)) → aMapping t ≡ pass ps → (q : Pairs (Unit {0})) × (meaning t ≡ dict tt q)
+unfolding aMapping asMapping kind
 map-is (uint p n) ps e = absurd (let z : _≡_ {A = ℕ} 0 1 = cc in omega arith)
 map-is (nint p n) ps e = absurd (let z : _≡_ {A = ℕ} 0 1 = cc in omega arith)
 map-is (bytes p bs) ps e = absurd (let z : _≡_ {A = ℕ} 0 1 = cc in omega arith)
@@ -39,7 +39,7 @@ map-is (dict p q) ps e = (mapPairs nothing q, refl)
 map-is (tag p n t) ps e = absurd (let z : _≡_ {A = ℕ} 0 1 = cc in omega arith)
 map-is (simple p n) ps e = by (eqb n 22) e
   where
-    by : (b : Bool) → asTable (cond {A = Kind Span} b null another) ≡ pass ps → (q : Pairs (Unit {0})) × (_≡_ {A = Node (Unit {0})} (simple tt n) (dict tt q))
+    by : (b : Bool) → asMapping (cond {A = Kind Span} b null another) ≡ pass ps → (q : Pairs (Unit {0})) × (_≡_ {A = Node (Unit {0})} (simple tt n) (dict tt q))
     by true e = absurd (let z : _≡_ {A = ℕ} 0 1 = cc in omega arith)
     by false e = absurd (let z : _≡_ {A = ℕ} 0 1 = cc in omega arith)
 map-is (float p w b) ps e = absurd (let z : _≡_ {A = ℕ} 0 1 = cc in omega arith)

@@ -16,7 +16,7 @@ use Rattle.meaning.proofs.Lengths.{map-both, each-row-length}
 use Rattle.readback.specs.Spelled.{Spelled, askedOf, askedOfObject, askedOfAll, askedOfModel}
 use Rattle.readback.proofs.RowsOfModel.{rows-asked}
 use Rattle.readback.proofs.RowsOfReading as rows-laws
-use Rattle.rows.specs.Running.{offsetAt, stepped, reached, objectsFrom, blobSizes}
+use Rattle.rows.specs.Turns.{offsetAt, stepped, reached, objectsFrom, blobSizes}
 use Rattle.rows.proofs.Whole.{sound-attributes, sound-objects, sound-components}
 use Rattle.rows.proofs.SoundRow.{attributes-inside}
 use Rattle.rows.proofs.Describes as describes

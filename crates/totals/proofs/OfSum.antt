@@ -15,8 +15,8 @@ use Rattle.meaning.specs.Described.{Described, blobs}
 use Rattle.meaning.specs.Placement.{lastEnd}
 use Rattle.meaning.specs.Manifest.{mapBytes, manifestBytes}
 use Rattle.readback.proofs.Placed.{file-length}
-use Rattle.rows.specs.Running.{begun, reached, objectsFrom}
-use Rattle.rows.proofs.Running.{last-is-reached, offsets-by-rule}
+use Rattle.rows.specs.Turns.{begun, reached, objectsFrom}
+use Rattle.rows.proofs.Turns.{last-is-reached, offsets-by-rule}
 use Rattle.sizes.specs.Size.{capped, headSize}
 use Rattle.sizes.proofs.Lengths.{entriesSize, fieldSize, map-length, manifest-bytes}
 use Rattle.layout.proofs.Meant as meant

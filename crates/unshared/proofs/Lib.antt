@@ -1,3 +1,3 @@
 -- Laws behind the search, and that two lists of distinct names are distinct together if they share none.
 pub mod Together
-pub mod Seeking
+pub mod Sought

@@ -12,7 +12,7 @@ use Rattle.meaning.specs.Columns.{objectWidth, componentWidth, offsetColumn, le
 use Rattle.meaning.specs.Check.{Check, pass, refuse, _>>=_, _>>_, _unless_}
 use Rattle.meaning.specs.Read.{Span}
 use Rattle.meaning.specs.View.{viewed, partAt, view}
-use Rattle.view.specs.Told.{told, found, within}
+use Rattle.view.specs.Extents.{told, found, within}
 use Rattle.view.specs.declared.Extent.{Extent}
 use Rattle.view.specs.declared.Row.{Row}
 use Rattle.view.specs.declared.Row.the-variants.{Nowhere, At}

@@ -1,3 +1,3 @@
 -- The definitions that the contracts of view cite.
-pub mod Told
+pub mod Extents
 pub mod All

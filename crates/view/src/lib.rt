@@ -3,7 +3,7 @@ ghost use mathlib.Core.Path.{_≡_};
 ghost use Prim.Native.Nat.{_+_, _*_};
 ghost use lib.ListN.{length, take, drop};
 ghost use Rattle.meaning.specs.View as meaning;
-ghost use Rattle.view.specs.Told.{told, found, within};
+ghost use Rattle.view.specs.Extents.{told, found, within};
 
 // 0, and where a component lies and how long it is; or INDEX, 0 and 0.
 #[repr(C)]

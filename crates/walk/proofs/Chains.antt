@@ -11,7 +11,7 @@ use Rattle.meaning.specs.Tree.{Node, Pair}
 use Rattle.meaning.specs.Read.{got, Reader, after, _>>=_, pure, stop, times, untilBreak, toBreak, pair, item, noNote}
 use Rattle.meaning.proofs.ReadPrefix.{never-got, alike, Alike, item-exact, item-hungry}
 use Rattle.cbor.specs.Ending.{took, ending, itemEnd}
-use Rattle.cbor.proofs.Passing.{Got, got-what}
+use Rattle.cbor.proofs.Ends.{Got, got-what}
 use Rattle.cbor.proofs.Agree.{annotations-change-no-ending, rest-follows}
 use Rattle.walk.specs.Reading.{Ends, ends, Reads, Row, Chain}
 use Rattle.walk.proofs.ReadSays.{bound}

@@ -76,7 +76,7 @@ NotNumber k = kinds.asNumber k ≡ fault KIND
 -- what holds of every kind that a major type and an argument may say
 pub by-kind : (P : Kind Ends → Type 0) (m : Major) (a : Argument) (k : Kind Ends) → KindSays m a k
     → (m ≡ unsigned → (n : ℕ) → P (kinds.number n)) → (m ≡ textString → (a ≡ indefinite → ⊥) → (w : Word Ends) → P (kinds.words w))
-    → (m ≡ arrayOf → (xs : List (Node Ends)) → P (kinds.list xs)) → (m ≡ mapOf → (ps : List (Pair Ends)) → P (kinds.table ps)) → (m ≡ special → P kinds.null) → P kinds.another → P k
+    → (m ≡ arrayOf → (xs : List (Node Ends)) → P (kinds.list xs)) → (m ≡ mapOf → (ps : List (Pair Ends)) → P (kinds.mapping ps)) → (m ≡ special → P kinds.null) → P kinds.another → P k
 by-kind P unsigned (known w n) k h number words list table null other = rw h (number refl n)
 by-kind P unsigned indefinite k h number words list table null other = absurd h
 by-kind P negative (known w n) k h number words list table null other = rw h other

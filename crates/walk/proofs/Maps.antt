@@ -26,24 +26,24 @@ use Rattle.walk.proofs.Found.{major-is, major-tells, by-kind}
 use Rattle.walk.proofs.Chains.{counted, until-broken, pairs-chained, chain-long}
 
 abbrev NotTable : Kind Ends → Type 0
-NotTable k = kinds.asTable k ≡ fault KIND
+NotTable k = kinds.asMapping k ≡ fault KIND
 
 not-table : (m : Major) (a : Argument) (k : Kind Ends) → KindSays m a k → (m ≡ mapOf → ⊥) → NotTable k
-unfolding kinds.asTable
+unfolding kinds.asMapping
 not-table m a k h x = by-kind NotTable m a k h (λ e n. refl) (λ e n w. refl) (λ e xs. refl) (λ e ps. absurd (x e)) (λ e. refl) refl
 
 map-byte : (b : ℕ) → majorOf b ≡ mapOf → b / 32 ≡ 5
 map-byte b e = ⊎-elim (λ h. h) (λ h. absurd (let y = h .1 in let z : _≡_ {A = ℕ} 0 1 = cc in omega arith)) (major-tells b mapOf e)
 
-pub no-map : (s : List ℕ) → (1 ≤ length s → 160 ≤ getD s 0 0 → getD s 0 0 < 192 → ⊥) → Whatever s λ d t r. kinds.aTable t ≡ fault KIND
-unfolding kinds.aTable
+pub no-map : (s : List ℕ) → (1 ≤ length s → 160 ≤ getD s 0 0 → getD s 0 0 < 192 → ⊥) → Whatever s λ d t r. kinds.aMapping t ≡ fault KIND
+unfolding kinds.aMapping
 no-map [] n d t r e = absurd (nothing-read d [] t r refl e)
 no-map (b ∷ s) n d t r e = go (stood d b s t r e)
   where
     other : majorOf b ≡ mapOf → ⊥
     other e = let z = map-byte b e in n (omega arith) (omega arith) (omega arith)
 
-    go : Stood d b s t r → kinds.asTable (kind t) ≡ fault KIND
+    go : Stood d b s t r → kinds.asMapping (kind t) ≡ fault KIND
     go (sized w n l h k y) = not-table (majorOf b) (known w n) (kind t) (kind-says (b ∷ s) d (drop w s) t r (majorOf b) (known w n) y) other
     go (loose k h y) = not-table (majorOf b) indefinite (kind t) (kind-says (b ∷ s) d s t r (majorOf b) indefinite y) other
 
@@ -86,7 +86,7 @@ module _ (b : ℕ) (s : List ℕ) (room : length (b ∷ s) < FAULT) (low : 160 �
           let x = c .count in
           rw h (rw (u, doubled-is v (omega (arith, length-drop w s))) (record {
             pairs = z .value;
-            kind-is = ap kind (z .node) ∙ ap kinds.table (pairList-pairs (z .value));
+            kind-is = ap kind (z .node) ∙ ap kinds.mapping (pairList-pairs (z .value));
             last = r;
             due = record { chain = p; counted = λ _. omega arith; closed = λ k. absurd (omega arith) };
           }))
@@ -103,7 +103,7 @@ module _ (b : ℕ) (s : List ℕ) (room : length (b ∷ s) < FAULT) (low : 160 �
           let c = until-broken (pair ends (item ends d)) s (z .value) r (z .is) in
           rw h (record {
             pairs = z .value;
-            kind-is = ap kind (z .node) ∙ ap kinds.table (pairList-pairs (z .value));
+            kind-is = ap kind (z .node) ∙ ap kinds.mapping (pairList-pairs (z .value));
             last = c .last;
             due = record { chain = pairs-chained d (z .value) s (c .last) (c .row); counted = λ k. absurd (omega arith); closed = λ k. ap (λ l. getD l 0 0) (c .breaks) };
           })

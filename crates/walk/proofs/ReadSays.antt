@@ -102,7 +102,7 @@ KindSays byteString a k = k ≡ kinds.another
 KindSays textString (known w n) k = (letters : List ℕ) × (note : Ends) × (k ≡ kinds.words (record { note = note; letters = letters }))
 KindSays textString indefinite k = k ≡ kinds.another
 KindSays arrayOf a k = (xs : List (Node Ends)) × (k ≡ kinds.list xs)
-KindSays mapOf a k = (ps : List (Pair Ends)) × (k ≡ kinds.table ps)
+KindSays mapOf a k = (ps : List (Pair Ends)) × (k ≡ kinds.mapping ps)
 KindSays tagged (known w n) k = k ≡ kinds.another
 KindSays tagged indefinite k = ⊥
 KindSays special (known w n) k = k ≡ cond (leb w 1) (cond (eqb n 22) kinds.null kinds.another) kinds.another
@@ -121,8 +121,8 @@ module _ (start : List ℕ) (d : ℕ) (q : List ℕ) (t : Node Ends) (r : List �
   kind-says textString indefinite h = ap kind (h .node)
   kind-says arrayOf (known w n) h = (h .value, ap kind (h .node) ∙ ap kinds.list (nodeList-nodes (h .value)))
   kind-says arrayOf indefinite h = (h .value, ap kind (h .node) ∙ ap kinds.list (nodeList-nodes (h .value)))
-  kind-says mapOf (known w n) h = (h .value, ap kind (h .node) ∙ ap kinds.table (pairList-pairs (h .value)))
-  kind-says mapOf indefinite h = (h .value, ap kind (h .node) ∙ ap kinds.table (pairList-pairs (h .value)))
+  kind-says mapOf (known w n) h = (h .value, ap kind (h .node) ∙ ap kinds.mapping (pairList-pairs (h .value)))
+  kind-says mapOf indefinite h = (h .value, ap kind (h .node) ∙ ap kinds.mapping (pairList-pairs (h .value)))
   kind-says tagged (known w n) h = ap kind (h .node)
   kind-says tagged indefinite h = h
   kind-says special (known w n) h = ap kind (h .0) ∙ two (leb w 1)

@@ -10,7 +10,7 @@ use Rattle.meaning.specs.Tree.{Node, Pair}
 use Rattle.cbor.specs.Ending.{took, fault, FAULT, code, shift, itemEnd, rest, broken, endless}
 use Rattle.meaning.specs.Read.{item, noNote}
 use Rattle.cbor.proofs.Rest as due
-use Rattle.cbor.proofs.Passing.{Faulty, fine-ending, shift-shift, shift-zero, is-took, is-fault}
+use Rattle.cbor.proofs.Ends.{Faulty, fine-ending, shift-shift, shift-zero, is-took, is-fault}
 use Rattle.walk.specs.Reading.{Ends, Reads, Chain, Due, foldl}
 use Rattle.walk.specs.Places.{EntryIs, Modes}
 use Rattle.walk.specs.declared.Entry.the-variants.{End, Value}

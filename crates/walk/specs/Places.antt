@@ -48,7 +48,7 @@ abbrev pub isNull : Kind Ends → Bool
 isNull (kinds.number n) = false
 isNull (kinds.words w) = false
 isNull (kinds.list l) = false
-isNull (kinds.table l) = false
+isNull (kinds.mapping l) = false
 isNull kinds.null = true
 isNull kinds.another = false
 
@@ -58,7 +58,7 @@ NullIs s b = Whatever s λ d t r. isNull (kind t) ≡ b
 -- a map that begins s: its pairs stand `size` bytes further on
 pub record Mapped (d mode count : ℕ) (s : List ℕ) (t : Node Ends) : Type 0 where
   pub pairs : List (Pair Ends)
-  pub kind-is : kind t ≡ kinds.table pairs
+  pub kind-is : kind t ≡ kinds.mapping pairs
   pub last : List ℕ
   pub due : Due d mode count s pairs last
 
@@ -74,7 +74,7 @@ pub record OpenMap (s : List ℕ) (mode count size : ℕ) : Type 0 where
   pub trees : Whatever s λ d t r. Mapped d mode count (drop size s) t
 
 abbrev pub MapIs : List ℕ → Opening → Type 0
-MapIs s NotOpen = Whatever s λ d t r. kinds.aTable t ≡ fault KIND
+MapIs s NotOpen = Whatever s λ d t r. kinds.aMapping t ≡ fault KIND
 MapIs s (Opened mode count size) = OpenMap s mode count size
 
 -- one turn of a loop over a map's entries, of which `due` items are left: the end, or where the value stands

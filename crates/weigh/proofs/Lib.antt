@@ -1,2 +1,2 @@
 -- Laws behind the answer: from the manifest, and from the frame.
-pub mod Weighing
+pub mod WeighedFile

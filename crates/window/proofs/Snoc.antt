@@ -11,8 +11,8 @@ use Rattle.meaning.specs.Model.{Object}
 use Rattle.meaning.specs.Rows.{wordSpan}
 use Rattle.meaning.specs.Every.{Every}
 use Rattle.endian.proofs.Which.{lt-or}
-use Rattle.rows.specs.Running.{reached}
-use Rattle.rows.proofs.Running.{reached-above, reached-joined}
+use Rattle.rows.specs.Turns.{reached}
+use Rattle.rows.proofs.Turns.{reached-above, reached-joined}
 use Rattle.sizes.specs.Size.{cappedEnd}
 use Rattle.window.specs.Sums.{blobsIn, allBlobs, entrySize, entrySizes, namePairs}
 use Rattle.window.specs.Summed.{AddedOne, Sum}

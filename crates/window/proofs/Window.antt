@@ -14,8 +14,8 @@ use Rattle.meaning.specs.Rows.{wordSpan, attributesSpan, objectRows, componentR
 use Rattle.meaning.specs.Asked.{AskedObject, AskedComponent, Asked, askedObject, askedComponent, eachRow, asked}
 use Rattle.readback.specs.Spelled.{askedOf, askedOfObject, askedOfAll, askedOfModel}
 use Rattle.readback.proofs.RowsOfModel.{rows-asked}
-use Rattle.rows.specs.Running.{turnLimit, reached, blobSizes}
-use Rattle.rows.proofs.Running.{reached-above}
+use Rattle.rows.specs.Turns.{turnLimit, reached, blobSizes}
+use Rattle.rows.proofs.Turns.{reached-above}
 use Rattle.walk.proofs.Passed.{Here}
 use Rattle.sizes.specs.Size.{capped, cappedEnd, headSize, componentsSize, objectSize}
 use Rattle.window.specs.Sums.{blobsIn, entrySize}

@@ -16,7 +16,7 @@ use Rattle.meaning.specs.Layouts.{layoutOf}
 use Rattle.meaning.specs.Every.{Every}
 use Rattle.walk.specs.Reading.{Ends, Reads}
 use Rattle.walk.specs.Places.{AllPassed}
-use Rattle.rows.specs.Running.{reached}
+use Rattle.rows.specs.Turns.{reached}
 use Rattle.sizes.specs.Size.{capped, cappedEnd}
 use Rattle.table.specs.Spans.{spanOf}
 use Rattle.table.specs.Entered.{Entered}

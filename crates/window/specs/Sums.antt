@@ -6,7 +6,7 @@ use Rattle.meaning.specs.Read.{Span}
 use Rattle.meaning.specs.Model.{Object}
 use Rattle.meaning.specs.Rows.{wordSpan}
 use Rattle.readback.specs.Spelled.{askedOf, askedOfObject}
-use Rattle.rows.specs.Running.{reached}
+use Rattle.rows.specs.Turns.{reached}
 use Rattle.sizes.specs.Size.{headSize, componentsSize, objectSize}
 
 -- the lengths of an object's blobs, and of all objects'

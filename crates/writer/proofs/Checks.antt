@@ -26,8 +26,8 @@ use Rattle.meaning.specs.WrittenFile.{fileOf}
 use Rattle.meaning.specs.Write.{writeAnswer, outputAfter, writtenAt, writtenPlain, writtenPlanned, written, writtenBy}
 use Rattle.meaning.proofs.Lengths.{each-row-length}
 use Rattle.meaning.proofs.Every.{every-by-index}
-use Rattle.rows.specs.Running.{begun, turnLimit, reached, blobSizes}
-use Rattle.rows.proofs.Running.{last-is-reached, reached-counts, offsets-by-rule, offsets-as-planned}
+use Rattle.rows.specs.Turns.{begun, turnLimit, reached, blobSizes}
+use Rattle.rows.proofs.Turns.{last-is-reached, reached-counts, offsets-by-rule, offsets-as-planned}
 use Rattle.rows.proofs.Whole.{sound-lies}
 use Rattle.rows.proofs.Describes.{blob-lengths}
 use Rattle.sizes.specs.Measured.{Measurable}
@@ -44,7 +44,7 @@ use Rattle.readback.proofs.SoundIsFine.{sound-is-fine}
 use Rattle.writer.specs.declared.Written.{Written}
 use Rattle.writer.specs.declared.Sized.{Sized}
 use Rattle.writer.specs.declared.Sized.the-variants.{No, Yes}
-use Rattle.writer.specs.Told.{refused, told, Answered, Numbers}
+use Rattle.writer.specs.WriterAnswer.{refused, told, Answered, Numbers}
 use Rattle.writer.specs.Sized.{ofRows, lengthsOf, offsetsOf, fileAt, Fit, Measures}
 
 -- ---- numbers below 2^64

@@ -1,3 +1,3 @@
 -- Laws behind the writer's proofs.
 pub mod Checks
-pub mod Filling
+pub mod RowsThatFit

@@ -1,3 +1,3 @@
 -- The definitions that the contracts of writer cite.
-pub mod Told
+pub mod WriterAnswer
 pub mod Sized

@@ -14,7 +14,7 @@ use Rattle.meaning.specs.Described.{Described, blobs, described}
 use Rattle.meaning.specs.Sound.{rowsSound}
 use Rattle.meaning.specs.WrittenFile.{fileOf}
 use Rattle.meaning.specs.Write.{writtenAt}
-use Rattle.rows.specs.Running.{begun, turnLimit, reached, offsetsFrom}
+use Rattle.rows.specs.Turns.{begun, turnLimit, reached, offsetsFrom}
 use Rattle.readback.specs.Judged.{judged}
 use Rattle.writer.specs.declared.Sized.{Sized}
 use Rattle.writer.specs.declared.Sized.the-variants.{No, Yes}

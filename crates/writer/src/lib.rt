@@ -8,7 +8,7 @@ ghost use mathlib.Core.List.{[]};
 ghost use Prim.Native.Nat.{_<_, _^_};
 ghost use lib.ListN.{length};
 ghost use Rattle.readback.specs.Lent.{Lent};
-ghost use Rattle.writer.specs.Told as is;
+ghost use Rattle.writer.specs.WriterAnswer as is;
 ghost use Rattle.meaning.specs.Write.{written, writtenBy};
 ghost use Rattle.writer.specs.Sized.{fileAt, Fit, Measures};
 

@@ -1,6 +1,6 @@
 -- `account::clear` meets its contract: the invariant says how many are 0. Assumes nothing.
-use Rattle.account.proofs.Clearing as clearing
-use Rattle.account.proofs.Clearing.{Clearing}
+use Rattle.account.proofs.Zeros as clearing
+use Rattle.account.proofs.Zeros.{Clearing}
 use native.Mathlib.Omega.{arith}
 use lib.ListN.{length}
 use Prim.Native.Nat.{_-_}

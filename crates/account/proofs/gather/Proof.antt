@@ -1,6 +1,6 @@
 -- `account::gather` meets its contract: the invariant says which ranges stand at the front, and that the rows to come are as they were. Assumes nothing.
-use Rattle.account.proofs.Gathering as gathering
-use Rattle.account.proofs.Gathering.{Gathering}
+use Rattle.account.proofs.Ranges as gathering
+use Rattle.account.proofs.Ranges.{Gathering}
 use native.Mathlib.Omega.{arith}
 use Prim.Native.Nat.{_-_}
 use borrow.Author.Needs.{needs}

@@ -1,5 +1,5 @@
 -- `account::inside` meets its contract: the ranges that were gathered are lent. Assumes nothing.
-use Rattle.account.proofs.Answering as answering
+use Rattle.account.proofs.AccountAnswer as answering
 use borrow.Author.Needs.{needs}
 use Rattle.account.proofs.inside.Statement.{statement}
 use Rattle.account.proofs.inside.Tie as tie

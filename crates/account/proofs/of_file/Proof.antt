@@ -1,7 +1,7 @@
 -- `account::of_file` meets its contract: a law for each branch.
 use native.Mathlib.Omega.{arith}
-use Rattle.account.proofs.Answering as answering
-use Rattle.account.proofs.Clearing as clearing
+use Rattle.account.proofs.AccountAnswer as answering
+use Rattle.account.proofs.Zeros as clearing
 use Rattle.frame.proofs.Frames.{size-back}
 use Rattle.meaning.specs.Layouts.{layoutOf}
 use borrow.Author.Needs.{needs}

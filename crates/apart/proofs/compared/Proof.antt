@@ -2,7 +2,7 @@
 use borrow.Author.Needs.{needs}
 use mathlib.Core.Logic.{⊎-elim}
 use native.Mathlib.Omega.{arith}
-use Rattle.apart.proofs.Counting as counting
+use Rattle.apart.proofs.Counts as counting
 use Rattle.apart.proofs.compared.Statement.{statement}
 use Rattle.apart.proofs.compared.Tie as tie
 use Rattle.text.proofs.SameIsEqual.{whole}

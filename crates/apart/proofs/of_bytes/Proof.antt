@@ -1,7 +1,7 @@
 -- `apart::of_bytes` meets its contract, whichever is the shorter one.
 use borrow.Author.Needs.{needs}
 use native.Mathlib.Omega.{arith}
-use Rattle.apart.proofs.Counting as counting
+use Rattle.apart.proofs.Counts as counting
 use Rattle.apart.proofs.of_bytes.Statement.{statement}
 use Rattle.apart.proofs.of_bytes.Tie as tie
 use Rattle.text.proofs.SameIsEqual.{whole}

@@ -2,10 +2,10 @@
 use Prim.Native.Nat.{_-_}
 use borrow.Author.Needs.{needs}
 use native.Mathlib.Omega.{arith}
-use Rattle.apart.proofs.Counting as counting
+use Rattle.apart.proofs.Counts as counting
 use Rattle.apart.proofs.run.Statement.{statement}
 use Rattle.apart.proofs.run.Tie as tie
-use Rattle.apart.specs.Told.{Passed}
+use Rattle.apart.specs.Positions.{Passed}
 use Rattle.text.proofs.SameIsEqual.{whole}
 
 abbrev Inv-loop : tie.InvT-loop

@@ -2,8 +2,8 @@
 use Prim.Native.Nat.{_-_}
 use borrow.Author.Needs.{needs}
 use native.Mathlib.Omega.{arith}
-use Rattle.apart.specs.Told.{block, Passed}
-use Rattle.apart.proofs.Counting as counting
+use Rattle.apart.specs.Positions.{block, Passed}
+use Rattle.apart.proofs.Counts as counting
 use Rattle.apart.proofs.run_of_blocks.Statement.{statement}
 use Rattle.apart.proofs.run_of_blocks.Tie as tie
 use Rattle.text.proofs.WordsDecide.{agree-none}

@@ -1,4 +1,4 @@
-use Rattle.badnames.proofs.Noting as noting
+use Rattle.badnames.proofs.KeysNoted as noting
 use Rattle.walk.proofs.Passed as walked
 use mathlib.Core.Path.{refl}
 use lib.ListN.{length}

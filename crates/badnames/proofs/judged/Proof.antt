@@ -1,5 +1,5 @@
 use native.Mathlib.Omega.{arith}
-use Rattle.badnames.proofs.Noting as noting
+use Rattle.badnames.proofs.KeysNoted as noting
 use borrow.Author.Needs.{needs}
 use Rattle.badnames.proofs.judged.Statement.{statement}
 use Rattle.badnames.proofs.judged.Tie as tie

@@ -1,6 +1,6 @@
 use borrow.Rule.Slice.PartAt.{part-to-end}
 use lib.ListN.{length}
-use Rattle.badnames.proofs.Noting as noting
+use Rattle.badnames.proofs.KeysNoted as noting
 use Rattle.walk.proofs.Opens as opens
 use mathlib.Core.Path.{refl, ap}
 use native.Mathlib.Omega.{arith}

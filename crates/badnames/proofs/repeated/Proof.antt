@@ -1,4 +1,4 @@
-use Rattle.badnames.proofs.Noting as noting
+use Rattle.badnames.proofs.KeysNoted as noting
 use borrow.Author.Needs.{needs}
 use Rattle.badnames.proofs.repeated.Statement.{statement}
 use Rattle.badnames.proofs.repeated.Tie as tie

@@ -1,5 +1,5 @@
 -- `badnames::unread` meets its contract: a law for each branch.
-use Rattle.naming.proofs.Noting.{inside}
+use Rattle.naming.proofs.NameNoted.{inside}
 use Rattle.badnames.proofs.Untested as untested
 use native.Mathlib.Omega.{arith}
 use borrow.Author.Needs.{needs}

@@ -1,5 +1,5 @@
 use Rattle.cbor.proofs.Loops as loops
-use Rattle.cbor.proofs.Passing.{shift-zero}
+use Rattle.cbor.proofs.Ends.{shift-zero}
 use Rattle.cbor.specs.Ending.{code, HolderIs, PlainIs}
 use borrow.Rule.Slice.PartAt.{part-to-end}
 use lib.ListN.{getD}

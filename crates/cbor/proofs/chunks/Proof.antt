@@ -1,5 +1,5 @@
 use Rattle.cbor.proofs.Loops as loops
-use Rattle.cbor.proofs.Passing.{shift-zero}
+use Rattle.cbor.proofs.Ends.{shift-zero}
 use Rattle.cbor.proofs.Majors.{chunks-exact}
 use Rattle.meaning.proofs.ReadPrefix.{chunk-exact, chunk-hungry}
 use Rattle.cbor.specs.Ending.{code}

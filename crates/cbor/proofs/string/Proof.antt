@@ -1,4 +1,4 @@
-use Rattle.cbor.proofs.Passing.{fine-ending}
+use Rattle.cbor.proofs.Ends.{fine-ending}
 use Rattle.cbor.proofs.Loops as loops
 use Rattle.cbor.proofs.Rest as rest
 use Rattle.cbor.proofs.FirstByte as first

@@ -1,5 +1,5 @@
 use Rattle.cbor.proofs.Answers as answers
-use Rattle.cbor.proofs.Passing as passing
+use Rattle.cbor.proofs.Ends as passing
 use Rattle.cbor.proofs.Rest as rest
 use Rattle.cbor.specs.Ending.{code}
 use mathlib.Core.Path.{ap, sym, _∙_}

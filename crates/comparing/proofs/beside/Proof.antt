@@ -1,5 +1,5 @@
 -- `comparing::beside` meets its contract: parts of the room are its first and its last numbers.
-use Rattle.comparing.proofs.Answering as answering
+use Rattle.comparing.proofs.ComparedFiles as answering
 use borrow.Author.Needs.{needs}
 use Rattle.comparing.proofs.beside.Statement.{statement}
 use Rattle.comparing.proofs.beside.Tie as tie

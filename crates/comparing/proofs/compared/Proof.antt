@@ -1,6 +1,6 @@
 -- `comparing::compared` meets its contract: the count of a list within the tables' limits is exact; a law for each way out.
 use Rattle.comparing.proofs.Bound as bound
-use Rattle.comparing.proofs.Answering as answering
+use Rattle.comparing.proofs.ComparedFiles as answering
 use borrow.Author.Needs.{needs}
 use native.Mathlib.Omega.{arith}
 use Rattle.comparing.proofs.compared.Statement.{statement}

@@ -2,7 +2,7 @@
 use native.Mathlib.Omega.{arith}
 use Rattle.frame.proofs.Frames.{size-back}
 use Rattle.meaning.specs.Layouts.{layoutOf}
-use Rattle.comparing.proofs.Answering as answering
+use Rattle.comparing.proofs.ComparedFiles as answering
 use borrow.Author.Needs.{needs}
 use Rattle.comparing.proofs.of_files.Statement.{statement}
 use Rattle.comparing.proofs.of_files.Tie as tie

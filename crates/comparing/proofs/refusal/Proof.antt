@@ -7,7 +7,7 @@ use Rattle.meaning.specs.Frame.{reading}
 use Rattle.text.proofs.SameIsEqual.{whole}
 use Rattle.frame.proofs.Frames.{size-back}
 use Rattle.meaning.specs.Layouts.{layoutOf}
-use Rattle.comparing.proofs.Answering as answering
+use Rattle.comparing.proofs.ComparedFiles as answering
 use borrow.Author.Needs.{needs}
 use Rattle.comparing.proofs.refusal.Statement.{statement}
 use Rattle.comparing.proofs.refusal.Tie as tie

@@ -5,7 +5,7 @@ use lib.ListN.{length}
 use mathlib.Core.Path.{_≡_, _∙_, sym}
 use native.Mathlib.Omega.{arith}
 use Rattle.components.specs.Firsts.{Kept, offered}
-use Rattle.components.proofs.Looping as looping
+use Rattle.components.proofs.EntryLoop as looping
 use Rattle.walk.proofs.Passed as walked
 use borrow.Author.Needs.{needs}
 use Rattle.components.proofs.entries.Statement.{statement}

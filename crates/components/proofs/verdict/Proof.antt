@@ -1,6 +1,6 @@
 -- `components::verdict` meets its contract: a law for each branch.
 use mathlib.Core.Path.{refl}
-use Rattle.components.proofs.Concluding as ends
+use Rattle.components.proofs.MapEnd as ends
 use borrow.Author.Needs.{needs}
 use Rattle.components.proofs.verdict.Statement.{statement}
 use Rattle.components.proofs.verdict.Tie as tie

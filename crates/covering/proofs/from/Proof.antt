@@ -1,5 +1,5 @@
 -- `covering::from` meets its contract: a law for each branch. Assumes nothing.
-use Rattle.covering.proofs.Sweeping as sweeping
+use Rattle.covering.proofs.SweepTurns as sweeping
 use borrow.Author.Needs.{needs}
 use Rattle.covering.proofs.from.Statement.{statement}
 use Rattle.covering.proofs.from.Tie as tie

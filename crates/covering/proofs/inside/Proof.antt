@@ -1,5 +1,5 @@
 -- `covering::inside` meets its contract: ranges in order, swept. Assumes nothing.
-use Rattle.covering.proofs.Parting as parting
+use Rattle.covering.proofs.Pivot as parting
 use mathlib.Core.Path.{_∙_}
 use native.Mathlib.Omega.{arith}
 use borrow.Author.Needs.{needs}

@@ -1,6 +1,6 @@
 -- `covering::sweep` meets its contract: the invariant says what the ranges from i on add. Assumes nothing.
-use Rattle.covering.proofs.Sweeping as sweeping
-use Rattle.covering.proofs.Sweeping.{Sweeping}
+use Rattle.covering.proofs.SweepTurns as sweeping
+use Rattle.covering.proofs.SweepTurns.{Sweeping}
 use native.Mathlib.Omega.{arith}
 use lib.ListN.{length}
 use Prim.Native.Nat.{_-_}

@@ -1,5 +1,5 @@
 -- `emit::bytes_at` meets its contract: a law for each return. Assumes nothing.
-use Rattle.emit.proofs.Laying as laying
+use Rattle.emit.proofs.LaidPieces as laying
 use borrow.Author.Needs.{needs}
 use Rattle.emit.proofs.bytes_at.Statement.{statement}
 use Rattle.emit.proofs.bytes_at.Tie as tie

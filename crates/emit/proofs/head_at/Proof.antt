@@ -2,7 +2,7 @@
 use native.Mathlib.Omega.{arith}
 use mathlib.Core.Path.{sym}
 use Rattle.emit.proofs.Numbers as numbers
-use Rattle.emit.proofs.Laying as laying
+use Rattle.emit.proofs.LaidPieces as laying
 use borrow.Author.Needs.{needs}
 use Rattle.emit.proofs.head_at.Statement.{statement}
 use Rattle.emit.proofs.head_at.Tie as tie

@@ -4,7 +4,7 @@ use lib.ListN.{length-set}
 use mathlib.Core.Path.{sym}
 use Rattle.meaning.proofs.Lengths.{big-length}
 use Rattle.emit.proofs.Numbers as numbers
-use Rattle.emit.proofs.Laying as laying
+use Rattle.emit.proofs.LaidPieces as laying
 use borrow.Author.Needs.{needs}
 use Rattle.emit.proofs.headed.Statement.{statement}
 use Rattle.emit.proofs.headed.Tie as tie

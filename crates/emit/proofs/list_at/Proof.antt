@@ -1,7 +1,7 @@
 -- `emit::list_at` meets its contract: a law for each return. Assumes nothing.
 use native.Mathlib.Omega.{arith}
 use Rattle.meaning.specs.Manifest.{listBytes}
-use Rattle.emit.proofs.Laying as laying
+use Rattle.emit.proofs.LaidPieces as laying
 use borrow.Author.Needs.{needs}
 use Rattle.emit.proofs.list_at.Statement.{statement}
 use Rattle.emit.proofs.list_at.Tie as tie

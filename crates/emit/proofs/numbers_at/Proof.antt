@@ -4,7 +4,7 @@ use lib.ListN.{length, drop}
 use mathlib.Core.List.{map}
 use Rattle.meaning.specs.Manifest.{numberBytes}
 use Rattle.meaning.specs.Read.{joined}
-use Rattle.emit.proofs.Laying as laying
+use Rattle.emit.proofs.LaidPieces as laying
 use borrow.Author.Needs.{needs}
 use Rattle.emit.proofs.numbers_at.Statement.{statement}
 use Rattle.emit.proofs.numbers_at.Tie as tie

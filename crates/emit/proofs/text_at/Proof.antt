@@ -1,7 +1,7 @@
 -- `emit::text_at` meets its contract: a law for each return. Assumes nothing.
 use native.Mathlib.Omega.{arith}
 use Rattle.meaning.specs.Manifest.{textBytes}
-use Rattle.emit.proofs.Laying as laying
+use Rattle.emit.proofs.LaidPieces as laying
 use borrow.Author.Needs.{needs}
 use Rattle.emit.proofs.text_at.Statement.{statement}
 use Rattle.emit.proofs.text_at.Tie as tie

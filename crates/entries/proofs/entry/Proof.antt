@@ -2,7 +2,7 @@
 use borrow.Author.Needs.{needs}
 use Rattle.entries.proofs.entry.Statement.{statement}
 use Rattle.entries.proofs.entry.Tie as tie
-use Rattle.put.proofs.Writing.{then}
+use Rattle.put.proofs.PiecesInTurn.{then}
 
 pub entry-spec : {M : Type 1} → statement M
 entry-spec =

@@ -2,7 +2,7 @@
 use borrow.Author.Needs.{needs}
 use Rattle.entries.proofs.number.Statement.{statement}
 use Rattle.entries.proofs.number.Tie as tie
-use Rattle.put.proofs.Writing as writing
+use Rattle.put.proofs.PiecesInTurn as writing
 
 pub number-spec : {M : Type 1} → statement M
 number-spec =

@@ -1,4 +1,4 @@
-use Rattle.entry.proofs.Choosing as choosing
+use Rattle.entry.proofs.EntryByIndex as choosing
 use borrow.Author.Needs.{needs}
 use Rattle.entry.proofs.chosen.Statement.{statement}
 use Rattle.entry.proofs.chosen.Tie as tie

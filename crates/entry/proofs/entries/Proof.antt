@@ -3,8 +3,8 @@ use Prim.Native.Nat.{_+_, _-_}
 use lib.ListN.{length}
 use native.Mathlib.Omega.{arith}
 use Rattle.entry.specs.Nth.{places}
-use Rattle.entry.proofs.Folding as folding
-use Rattle.entry.proofs.Choosing as choosing
+use Rattle.entry.proofs.EntryLoop as folding
+use Rattle.entry.proofs.EntryByIndex as choosing
 use borrow.Author.Needs.{needs}
 use Rattle.entry.proofs.entries.Statement.{statement}
 use Rattle.entry.proofs.entries.Tie as tie

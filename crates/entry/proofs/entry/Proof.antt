@@ -1,4 +1,4 @@
-use Rattle.entry.proofs.Choosing as choosing
+use Rattle.entry.proofs.EntryByIndex as choosing
 use Rattle.walk.proofs.Opens as opens
 use mathlib.Core.Path.{sym, subst}
 use Rattle.entry.specs.Nth as is

@@ -1,5 +1,5 @@
 -- `explain::inside` meets its contract.
-use Rattle.explain.proofs.Owning.{owned-so}
+use Rattle.explain.proofs.OwnCheck.{owned-so}
 use Rattle.explained.proofs.Promise.{sided}
 use Rattle.explaining.proofs.Answers as answers
 use Rattle.meaning.specs.Layouts.{layoutOf}

@@ -3,8 +3,8 @@ use mathlib.Core.Path.{_∙_, ap}
 use native.Mathlib.Omega.{arith}
 use lib.ListN.{length}
 use Rattle.meaning.specs.Check.{pass}
-use Rattle.panel.specs.Told.{told, textAfter}
-use Rattle.explaining.proofs.Saying as saying
+use Rattle.panel.specs.ListedText.{told, textAfter}
+use Rattle.explaining.proofs.Sentence as saying
 use borrow.Author.Needs.{needs}
 use Rattle.explain.proofs.say.Statement.{statement}
 use Rattle.explain.proofs.say.Tie as tie

@@ -1,7 +1,7 @@
 -- `exported::leaf_frame` meets its contract: the answer of `frame::frame`, as numbers. Assumes nothing.
 use mathlib.Core.Path.{ap, sym, _∙_}
-use Rattle.frame.specs.Told.{told}
-use Rattle.exported.specs.Told.{place}
+use Rattle.frame.specs.FrameAnswer.{told}
+use Rattle.exported.specs.Structs.{place}
 use borrow.Author.Needs.{needs}
 use Rattle.exported.proofs.leaf_frame.Statement.{statement}
 use Rattle.exported.proofs.leaf_frame.Tie as tie

@@ -1,7 +1,7 @@
 -- `exported::leaf_judge` meets its contract: the answer of `formats::judge`, as numbers. Assumes nothing.
 use mathlib.Core.Path.{ap, sym, _∙_}
 use Rattle.formats.specs.Parts.{told}
-use Rattle.exported.specs.Told.{ruling}
+use Rattle.exported.specs.Structs.{ruling}
 use borrow.Author.Needs.{needs}
 use Rattle.exported.proofs.leaf_judge.Statement.{statement}
 use Rattle.exported.proofs.leaf_judge.Tie as tie

@@ -1,5 +1,5 @@
 -- `fields::mark` meets its contract: a law for each branch.
-use Rattle.fields.proofs.Marking as marking
+use Rattle.fields.proofs.MarkedSlots as marking
 use borrow.Author.Needs.{needs}
 use Rattle.fields.proofs.mark.Statement.{statement}
 use Rattle.fields.proofs.mark.Tie as tie

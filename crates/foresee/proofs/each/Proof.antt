@@ -2,9 +2,9 @@
 use lib.ListN.{length, drop, getD}
 use Rattle.meaning.specs.Columns.{objectWidth, componentWidth, countColumn}
 use Rattle.foresee.proofs.Objects as law
-use Rattle.foresee.specs.Told.{eachObject, objectsOf}
+use Rattle.foresee.specs.Foretold.{eachObject, objectsOf}
 use Rattle.rows.proofs.EachRow.{others-so}
-use Rattle.rows.specs.Running.{counted}
+use Rattle.rows.specs.Turns.{counted}
 use Rattle.meaning.specs.Sound.{objectSound}
 use Rattle.meaning.specs.Asked.{eachRow, askedObject}
 use Rattle.meaning.specs.Text.{all}

@@ -1,7 +1,7 @@
 -- `foresee::verdict` meets its contract: a law for each branch, and what sound rows count.
 use Rattle.meaning.specs.Columns.{objectWidth, componentWidth}
 use Rattle.foresee.proofs.Objects as law
-use Rattle.foresee.specs.Told.{Counted, objectsOf}
+use Rattle.foresee.specs.Foretold.{Counted, objectsOf}
 use Rattle.rows.proofs.Whole.{sound-lies}
 use Rattle.readback.specs.Judged.{judgedObjects}
 use Rattle.meaning.specs.Asked.{eachRow, askedComponent}

@@ -1,7 +1,7 @@
 -- `joint::both` meets its contract: a law for each need.
 use native.Mathlib.Omega.{arith}
 use Rattle.joint.proofs.Frames as frames
-use Rattle.emit.proofs.Laying as laying
+use Rattle.emit.proofs.LaidPieces as laying
 use borrow.Author.Needs.{needs}
 use Rattle.joint.proofs.both.Statement.{statement}
 use Rattle.joint.proofs.both.Tie as tie

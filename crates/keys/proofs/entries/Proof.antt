@@ -3,9 +3,9 @@ use Prim.Native.Nat.{_+_, _-_}
 use lib.ListN.{length}
 use native.Mathlib.Omega.{arith}
 use borrow.Rule.Slice.PartAt.{part-to-end}
-use Rattle.fields.proofs.Marking.{marked-length}
+use Rattle.fields.proofs.MarkedSlots.{marked-length}
 use Rattle.fields.specs.Slots.{SlotIs}
-use Rattle.entry.proofs.Folding as folding
+use Rattle.entry.proofs.EntryLoop as folding
 use Rattle.keys.specs.Odd.{slotsAt}
 use Rattle.keys.proofs.Leftmost.{step}
 use Rattle.keys.proofs.Parts as parts

@@ -1,12 +1,12 @@
 -- `layout::file` meets its contract: a law for each need.
-use Rattle.layout.proofs.Walking as walking
+use Rattle.layout.proofs.RowLoop as walking
 use Rattle.layout.proofs.Frames as frames
 use Rattle.layout.proofs.Meant as meant
 use Rattle.layout.proofs.Fit as fit
 use Rattle.layout.specs.Pieces.{wholeOf}
 use Rattle.layout.specs.AskedFile.{rootAttributes}
 use Rattle.layout.specs.Rows.{WholeRows}
-use Rattle.emit.proofs.Laying as laying
+use Rattle.emit.proofs.LaidPieces as laying
 use Rattle.rows.proofs.Lent as rows
 use mathlib.Core.Path.{sym, _∙_}
 use borrow.Author.Needs.{needs}

@@ -4,7 +4,7 @@ use native.Mathlib.Omega.{arith}
 use mathlib.Core.Path.{_≡_, _∙_}
 use lib.ListN.{length}
 use borrow.Author.Needs.{needs}
-use Rattle.listing.proofs.Filling as filling
+use Rattle.listing.proofs.ReadInto as filling
 use Rattle.listing.proofs.fill.Statement.{statement}
 use Rattle.listing.proofs.fill.Tie as tie
 use Rattle.listing.proofs.fill.Reads as reads

@@ -1,5 +1,5 @@
 -- `listing::list` is safe: what is shown of the space is what was read into it. Assumes nothing.
-use Rattle.listing.proofs.Filling as filling
+use Rattle.listing.proofs.ReadInto as filling
 use borrow.Author.Needs.{needs}
 use Rattle.listing.proofs.list.Statement.{statement}
 use Rattle.listing.proofs.list.Tie as tie

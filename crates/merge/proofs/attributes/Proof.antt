@@ -1,5 +1,5 @@
 -- `merge::attributes` meets its contract: a law for each need.
-use Rattle.merge.proofs.Checking as checking
+use Rattle.merge.proofs.BeforeRoom as checking
 use borrow.Author.Tests.{not-true, not-false}
 use mathlib.Core.Path.{sym, _∙_}
 use borrow.Author.Needs.{needs}

@@ -1,5 +1,5 @@
 -- `merge::checked` meets its contract: a law for each need.
-use Rattle.merge.proofs.Checking as checking
+use Rattle.merge.proofs.BeforeRoom as checking
 use borrow.Author.Tests.{not-true, not-false}
 use mathlib.Core.Path.{_≡_, refl, sym, _∙_}
 use native.Mathlib.Omega.{arith}

@@ -1,5 +1,5 @@
 -- `merger::fits` meets its contract: a law for each need.
-use Rattle.merger.proofs.Laying as laying
+use Rattle.merger.proofs.MergedLaid as laying
 use borrow.Author.Needs.{needs}
 use Rattle.merger.proofs.fits.Statement.{statement}
 use Rattle.merger.proofs.fits.Tie as tie

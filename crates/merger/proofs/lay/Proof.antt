@@ -1,7 +1,7 @@
 -- `merger::lay` meets its contract: a law for each need.
 use native.Mathlib.Omega.{arith}
 use mathlib.Core.Path.{refl, sym, _∙_}
-use Rattle.merger.proofs.Laying as laying
+use Rattle.merger.proofs.MergedLaid as laying
 use borrow.Author.Needs.{needs}
 use Rattle.merger.proofs.lay.Statement.{statement}
 use Rattle.merger.proofs.lay.Tie as tie

@@ -2,7 +2,7 @@
 use borrow.Author.Tests.{not-true, not-false}
 use native.Mathlib.Omega.{arith}
 use mathlib.Core.Path.{refl}
-use Rattle.merger.proofs.Laying as laying
+use Rattle.merger.proofs.MergedLaid as laying
 use borrow.Author.Needs.{needs}
 use Rattle.merger.proofs.merge.Statement.{statement}
 use Rattle.merger.proofs.merge.Tie as tie

@@ -7,7 +7,7 @@ use Rattle.models.proofs.Objects as objects
 use Rattle.models.proofs.of_first.Statement.{statement}
 use Rattle.models.proofs.of_first.Tie as tie
 use Rattle.models.specs.Tables.{objectsFrom}
-use Rattle.put.proofs.Writing as writing
+use Rattle.put.proofs.PiecesInTurn as writing
 use Rattle.text.proofs.SameIsEqual.{whole}
 
 abbrev Inv-loop : tie.InvT-loop

@@ -5,7 +5,7 @@ use native.Mathlib.Omega.{arith}
 use Rattle.models.proofs.Objects as objects
 use Rattle.models.proofs.of_tables.Statement.{statement}
 use Rattle.models.proofs.of_tables.Tie as tie
-use Rattle.put.proofs.Writing as writing
+use Rattle.put.proofs.PiecesInTurn as writing
 use Rattle.text.proofs.SameIsEqual.{whole}
 
 pub of-tables-spec : {M : Type 1} → statement M

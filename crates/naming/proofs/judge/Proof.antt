@@ -1,5 +1,5 @@
-use Rattle.naming.specs.Naming.{told}
-use Rattle.naming.proofs.Judging as judging
+use Rattle.naming.specs.NotedNames.{told}
+use Rattle.naming.proofs.NamesJudged as judging
 use Rattle.naming.specs.declared.Named.the-variants.{No, Yes}
 use Rattle.names.proofs.NamedParts.{from-wholes}
 use Rattle.names.specs.Names.{listed}

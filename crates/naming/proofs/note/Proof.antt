@@ -1,4 +1,4 @@
-use Rattle.naming.proofs.Noting as noting
+use Rattle.naming.proofs.NameNoted as noting
 use mathlib.Core.Path.{sym, _∙_}
 use native.Mathlib.Omega.{arith}
 use borrow.Author.Needs.{needs}

@@ -1,6 +1,6 @@
 -- `objects::entries` meets its contract: a law for each branch.
 use Rattle.meaning.specs.Layouts.{layoutOf}
-use Rattle.objects.proofs.Looping as looping
+use Rattle.objects.proofs.EntryLoop as looping
 use Rattle.objects.specs.Firsts.{Kept}
 use Rattle.walk.proofs.Passed as walked
 use Rattle.cbor.specs.Ending.{FAULT}

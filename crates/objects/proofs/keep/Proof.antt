@@ -1,5 +1,5 @@
 -- `objects::keep` meets its contract: a law for each branch.
-use Rattle.objects.proofs.Keeping as keeping
+use Rattle.objects.proofs.FirstFault as keeping
 use mathlib.Core.Path.{refl}
 use borrow.Author.Needs.{needs}
 use Rattle.objects.proofs.keep.Statement.{statement}

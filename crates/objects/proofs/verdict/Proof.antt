@@ -1,5 +1,5 @@
 -- `objects::verdict` meets its contract: a law for each branch.
-use Rattle.objects.proofs.Concluding as ends
+use Rattle.objects.proofs.MapEnd as ends
 use mathlib.Core.Path.{refl}
 use borrow.Author.Needs.{needs}
 use Rattle.objects.proofs.verdict.Statement.{statement}

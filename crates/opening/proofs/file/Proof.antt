@@ -1,5 +1,5 @@
 -- `opening::file` meets its contract: a law for each need.
-use Rattle.opening.proofs.Finding as finding
+use Rattle.opening.proofs.FoundRoot as finding
 use Rattle.reader.proofs.Frames as frames
 use native.Mathlib.Omega.{arith}
 use borrow.Author.Needs.{needs}

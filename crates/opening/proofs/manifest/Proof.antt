@@ -1,5 +1,5 @@
 -- `opening::manifest` meets its contract: a law for each need.
-use Rattle.opening.proofs.Finding as finding
+use Rattle.opening.proofs.FoundRoot as finding
 use borrow.Author.Needs.{needs}
 use Rattle.opening.proofs.manifest.Statement.{statement}
 use Rattle.opening.proofs.manifest.Tie as tie

@@ -1,5 +1,5 @@
 -- `opening::names` meets its contract: a law for each need.
-use Rattle.opening.proofs.Finding as finding
+use Rattle.opening.proofs.FoundRoot as finding
 use Rattle.meaning.specs.Layouts.{layoutOf}
 use Prim.Native.Nat.{ℕ}
 use native.Mathlib.Omega.{arith}

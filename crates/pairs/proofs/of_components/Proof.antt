@@ -4,7 +4,7 @@ use Rattle.pairs.proofs.Written as written
 use Rattle.pairs.proofs.of_components.Statement.{statement}
 use Rattle.pairs.proofs.of_components.Tie as tie
 use Rattle.parts.specs.Parts.{partsAt}
-use Rattle.put.proofs.Writing as writing
+use Rattle.put.proofs.PiecesInTurn as writing
 use Rattle.text.proofs.SameIsEqual.{whole}
 
 pub of-components-spec : {M : Type 1} → statement M

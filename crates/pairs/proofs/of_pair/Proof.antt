@@ -6,7 +6,7 @@ use Rattle.pairs.proofs.Written as written
 use Rattle.pairs.proofs.of_pair.Statement.{statement}
 use Rattle.pairs.proofs.of_pair.Tie as tie
 use Rattle.pairs.specs.Objects.{objectAt}
-use Rattle.put.proofs.Writing as writing
+use Rattle.put.proofs.PiecesInTurn as writing
 use Rattle.text.proofs.SameIsEqual.{whole}
 
 pub of-pair-spec : {M : Type 1} → statement M

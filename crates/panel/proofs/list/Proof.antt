@@ -1,7 +1,7 @@
 -- `panel::list` meets its contract: a law for each branch. Assumes nothing.
 use Rattle.panel.proofs.Answers as answers
 use Rattle.panel.proofs.Sound as rows
-use Rattle.put.proofs.Writing as writing
+use Rattle.put.proofs.PiecesInTurn as writing
 use mathlib.Core.Bool.{false}
 use Rattle.panel.specs.Lines.{text, sound}
 use Rattle.panel.specs.Summary.{more}

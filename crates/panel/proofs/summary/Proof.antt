@@ -1,7 +1,7 @@
 -- `panel::summary` meets its contract: a law for each branch. Assumes nothing.
 use Rattle.panel.proofs.Answers as answers
 use Rattle.panel.proofs.Sound as rows
-use Rattle.put.proofs.Writing as writing
+use Rattle.put.proofs.PiecesInTurn as writing
 use Rattle.panel.specs.Lines.{sound}
 use Rattle.panel.specs.Summary.{summaryText, bytesLine}
 use mathlib.Core.Path.{sym, _∙_}

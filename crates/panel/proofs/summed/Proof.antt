@@ -2,7 +2,7 @@
 use Rattle.panel.proofs.Sound as rows
 use Rattle.panel.specs.Summary.{more, summaryText}
 use Rattle.panel.specs.Lines.{sound, text}
-use Rattle.put.proofs.Writing as writing
+use Rattle.put.proofs.PiecesInTurn as writing
 use mathlib.Core.Path.{_∙_}
 use mathlib.Core.Bool.{true}
 use borrow.Author.Needs.{needs}

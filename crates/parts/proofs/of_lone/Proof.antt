@@ -2,7 +2,7 @@
 use borrow.Author.Needs.{needs}
 use native.Mathlib.Omega.{arith}
 use Rattle.differing.specs.Rows.{partAt}
-use Rattle.parts.proofs.Matching as match
+use Rattle.parts.proofs.MatchedRows as match
 use Rattle.parts.proofs.Turns as turns
 use Rattle.parts.proofs.of_lone.Statement.{statement}
 use Rattle.parts.proofs.of_lone.Tie as tie

@@ -1,5 +1,5 @@
 -- `put::number` meets its contract: a law for each branch. Assumes nothing.
-use Rattle.put.proofs.Writing as writing
+use Rattle.put.proofs.PiecesInTurn as writing
 use Rattle.put.proofs.Pieces as pieces
 use borrow.Author.Needs.{needs}
 use Prim.Native.Nat.{ℕ, _<_}

@@ -4,7 +4,7 @@ use borrow.Rule.Slice.PartAt.{part-to-end}
 use Prim.Native.Nat.{ℕ}
 use mathlib.Core.List.{List, _∷_}
 use mathlib.Core.Path.{ap}
-use Rattle.put.proofs.Writing as writing
+use Rattle.put.proofs.PiecesInTurn as writing
 use borrow.Author.Needs.{needs}
 use Rattle.put.proofs.blank_text.Statement.{statement}
 use Rattle.put.proofs.blank_text.Tie as tie

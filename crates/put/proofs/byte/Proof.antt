@@ -1,5 +1,5 @@
 -- `put::byte` meets its contract: a law for each branch. Assumes nothing.
-use Rattle.put.proofs.Writing as writing
+use Rattle.put.proofs.PiecesInTurn as writing
 use borrow.Author.Needs.{needs}
 use Rattle.put.proofs.byte.Statement.{statement}
 use Rattle.put.proofs.byte.Tie as tie

@@ -1,6 +1,6 @@
 -- `put::placed` meets its contract: a law for each branch. Assumes nothing.
 use mathlib.Core.Path.{sym}
-use Rattle.put.proofs.Writing as writing
+use Rattle.put.proofs.PiecesInTurn as writing
 use Rattle.put.proofs.placed.Statement.{statement}
 use Rattle.put.proofs.placed.Tie as tie
 

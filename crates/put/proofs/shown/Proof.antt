@@ -1,6 +1,6 @@
 -- `put::shown` meets its contract: a law for each branch. Assumes nothing.
 use Rattle.put.proofs.Pieces as pieces
-use Rattle.put.proofs.Writing as writing
+use Rattle.put.proofs.PiecesInTurn as writing
 use mathlib.Core.Path.{sym, _∙_}
 use borrow.Author.Needs.{needs}
 use Rattle.put.proofs.shown.Statement.{statement}

@@ -1,6 +1,6 @@
 -- `put::storage` meets its contract: a law for each branch. Assumes nothing.
 use Rattle.put.proofs.Names as names
-use Rattle.put.proofs.Writing as writing
+use Rattle.put.proofs.PiecesInTurn as writing
 use mathlib.Core.Path.{sym}
 use native.Mathlib.Omega.{arith}
 use borrow.Author.Needs.{needs}

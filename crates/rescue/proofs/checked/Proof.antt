@@ -1,5 +1,5 @@
 -- `rescue::checked` meets its contract: a law for each need.
-use Rattle.rescue.proofs.Checking as checking
+use Rattle.rescue.proofs.BeforeRoom as checking
 use Rattle.sizes.proofs.Heads.{head-small}
 use native.Mathlib.Omega.{arith}
 use borrow.Author.Needs.{needs}

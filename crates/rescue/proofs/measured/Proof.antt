@@ -1,5 +1,5 @@
 -- `rescue::measured` meets its contract: a law for each need.
-use Rattle.rescue.proofs.Checking as checking
+use Rattle.rescue.proofs.BeforeRoom as checking
 use borrow.Author.Needs.{needs}
 use Rattle.rescue.proofs.measured.Statement.{statement}
 use Rattle.rescue.proofs.measured.Tie as tie

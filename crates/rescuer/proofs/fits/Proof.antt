@@ -1,5 +1,5 @@
 -- `rescuer::fits` meets its contract: a law for each need.
-use Rattle.rescuer.proofs.Laying as laying
+use Rattle.rescuer.proofs.RescuedLaid as laying
 use Rattle.rescuing.specs.Rescue.{entryWidth}
 use Rattle.meaning.specs.Columns.{objectWidth, componentWidth}
 use borrow.Author.Tests.{not-true, not-false}

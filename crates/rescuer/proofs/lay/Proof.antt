@@ -1,5 +1,5 @@
 -- `rescuer::lay` meets its contract: a law for each need.
-use Rattle.rescuer.proofs.Laying as laying
+use Rattle.rescuer.proofs.RescuedLaid as laying
 use mathlib.Core.Path.{refl}
 use borrow.Author.Needs.{needs}
 use Rattle.rescuer.proofs.lay.Statement.{statement}

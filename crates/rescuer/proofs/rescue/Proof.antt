@@ -1,5 +1,5 @@
 -- `rescuer::rescue` meets its contract: a law for each need.
-use Rattle.rescuer.proofs.Laying as laying
+use Rattle.rescuer.proofs.RescuedLaid as laying
 use borrow.Author.Tests.{not-true, not-false}
 use mathlib.Core.Path.{refl, _∙_}
 use borrow.Author.Needs.{needs}

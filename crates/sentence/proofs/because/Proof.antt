@@ -1,5 +1,5 @@
 use native.Mathlib.Omega.{arith}
-use Rattle.put.proofs.Writing as writing
+use Rattle.put.proofs.PiecesInTurn as writing
 use Rattle.sentence.proofs.Reasons as reasons
 use borrow.Author.Needs.{needs}
 use Rattle.sentence.proofs.because.Statement.{statement}

@@ -1,5 +1,5 @@
 use borrow.Rule.Slice.PartAt.{part-to-end}
-use Rattle.put.proofs.Writing as writing
+use Rattle.put.proofs.PiecesInTurn as writing
 use Rattle.sentence.proofs.Lines as lines
 use borrow.Author.Needs.{needs}
 use Rattle.sentence.proofs.refused.Statement.{statement}

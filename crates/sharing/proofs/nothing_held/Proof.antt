@@ -1,5 +1,5 @@
 -- `sharing::nothing_held` meets its contract. Assumes nothing.
-use Rattle.sharing.specs.Told.{heldWith}
+use Rattle.sharing.specs.EngineAnswers.{heldWith}
 use borrow.Author.Needs.{needs}
 use Rattle.sharing.proofs.nothing_held.Statement.{statement}
 use Rattle.sharing.proofs.nothing_held.Tie as tie

@@ -3,7 +3,7 @@ use native.Mathlib.Omega.{arith}
 use Prim.Native.Nat.{_-_, _<_}
 use mathlib.Core.Path.{sym}
 use lib.ListN.{length, replicate, length-replicate, getD-replicate}
-use Rattle.emit.proofs.Laying as laying
+use Rattle.emit.proofs.LaidPieces as laying
 use Rattle.sharing.proofs.Zeroed as zeroed
 use borrow.Author.Needs.{needs}
 use Rattle.sharing.proofs.zero.Statement.{statement}

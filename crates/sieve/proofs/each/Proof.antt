@@ -6,8 +6,8 @@ use native.Mathlib.Omega.{arith}
 use Rattle.cbor.specs.Ending.{FAULT}
 use Rattle.walk.proofs.Passed as walked
 use Rattle.sieve.specs.Sieved.{Sieved, Bounded}
-use Rattle.sieve.proofs.Putting as putting
-use Rattle.sieve.proofs.Sieving as sieving
+use Rattle.sieve.proofs.ObjectPut as putting
+use Rattle.sieve.proofs.ObjectJudged as sieving
 use borrow.Author.Needs.{needs}
 use Rattle.sieve.proofs.each.Statement.{statement}
 use Rattle.sieve.proofs.each.Tie as tie

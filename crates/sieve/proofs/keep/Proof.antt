@@ -1,6 +1,6 @@
 -- `sieve::keep` meets its contract: a law for each need.
 use native.Mathlib.Omega.{arith}
-use Rattle.sieve.proofs.Putting as putting
+use Rattle.sieve.proofs.ObjectPut as putting
 use borrow.Author.Needs.{needs}
 use Rattle.sieve.proofs.keep.Statement.{statement}
 use Rattle.sieve.proofs.keep.Tie as tie

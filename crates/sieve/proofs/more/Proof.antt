@@ -1,5 +1,5 @@
 -- `sieve::more` meets its contract: a law for each need.
-use Rattle.sieve.proofs.Putting as putting
+use Rattle.sieve.proofs.ObjectPut as putting
 use borrow.Author.Needs.{needs}
 use Rattle.sieve.proofs.more.Statement.{statement}
 use Rattle.sieve.proofs.more.Tie as tie

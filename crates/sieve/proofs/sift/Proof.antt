@@ -1,8 +1,8 @@
 -- `sieve::sift` meets its contract: a law for each need.
 use borrow.Author.Needs.{needs}
 use Rattle.walk.proofs.Opens as opens
-use Rattle.sieve.proofs.Putting as putting
-use Rattle.sieve.proofs.Sieving as sieving
+use Rattle.sieve.proofs.ObjectPut as putting
+use Rattle.sieve.proofs.ObjectJudged as sieving
 use Rattle.sieve.proofs.sift.Statement.{statement}
 use Rattle.sieve.proofs.sift.Tie as tie
 

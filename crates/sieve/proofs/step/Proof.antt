@@ -2,7 +2,7 @@
 use mathlib.Core.Path.{ap, _∙_}
 use borrow.Rule.Slice.PartAt.{part-to-end}
 use Rattle.cbor.specs.Ending.{code, itemEnd}
-use Rattle.sieve.proofs.Sieving as sieving
+use Rattle.sieve.proofs.ObjectJudged as sieving
 use borrow.Author.Needs.{needs}
 use Rattle.sieve.proofs.step.Statement.{statement}
 use Rattle.sieve.proofs.step.Tie as tie

@@ -2,8 +2,8 @@
 use mathlib.Core.Path.{sym}
 use mathlib.Core.List.{[], _∷_}
 use native.Mathlib.Omega.{arith}
-use Rattle.table.proofs.Laying as laying
-use Rattle.sieve.proofs.Putting as putting
+use Rattle.table.proofs.Runs as laying
+use Rattle.sieve.proofs.ObjectPut as putting
 use borrow.Author.Needs.{needs}
 use Rattle.sieve.proofs.three.Statement.{statement}
 use Rattle.sieve.proofs.three.Tie as tie

@@ -1,5 +1,5 @@
 -- `sieve::weigh` meets its contract: a law for each need.
-use Rattle.sieve.proofs.Putting as putting
+use Rattle.sieve.proofs.ObjectPut as putting
 use borrow.Author.Needs.{needs}
 use Rattle.sieve.proofs.weigh.Statement.{statement}
 use Rattle.sieve.proofs.weigh.Tie as tie

@@ -5,7 +5,7 @@ use mathlib.Core.List.{List, []}
 use Prim.Native.Nat.{ℕ, _*_}
 use Rattle.meaning.specs.Columns.{objectWidth, componentWidth}
 use Rattle.meaning.specs.Asked.{eachRow, askedComponent}
-use Rattle.rows.specs.Running.{reached, blobSizes}
+use Rattle.rows.specs.Turns.{reached, blobSizes}
 use Rattle.sizes.specs.Size.{cappedEnd}
 use Rattle.sizes.proofs.Exact as law
 use borrow.Author.Needs.{needs}

@@ -3,7 +3,7 @@ use Rattle.sizes.proofs.Exact as law
 use Rattle.sizes.proofs.Heads as heads
 use Rattle.sizes.specs.Size.{capped, objectsSizeIn}
 use Rattle.sizes.specs.Measured.{Fits}
-use Rattle.rows.specs.Running.{begun}
+use Rattle.rows.specs.Turns.{begun}
 use Rattle.rows.proofs.Lent.{lent-both}
 use Rattle.meaning.specs.Columns.{objectWidth}
 use Prim.Native.Nat.{_*_}

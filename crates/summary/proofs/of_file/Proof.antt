@@ -1,7 +1,7 @@
 -- `summary::of_file` meets its contract: a law for each branch.
 use lib.ListN.{length}
-use Rattle.summary.proofs.Showing as showing
-use Rattle.account.proofs.Clearing as clearing
+use Rattle.summary.proofs.PanelAnswer as showing
+use Rattle.account.proofs.Zeros as clearing
 use Rattle.frame.proofs.Frames.{size-back}
 use Rattle.meaning.specs.Layouts.{layoutOf}
 use borrow.Author.Needs.{needs}

@@ -6,7 +6,7 @@ use mathlib.Core.Path.{_≡_, refl, _∙_}
 use native.Mathlib.Omega.{arith}
 use Rattle.walk.proofs.Passed as walked
 use Rattle.table.specs.Objects.{ObjectsLaid}
-use Rattle.table.proofs.Objecting as objecting
+use Rattle.table.proofs.ObjectLoop as objecting
 use borrow.Author.Needs.{needs}
 use Rattle.table.proofs.pass_objects.Statement.{statement}
 use Rattle.table.proofs.pass_objects.Tie as tie

@@ -1,5 +1,5 @@
 -- `table::write` meets its contract: a law for each branch.
-use Rattle.table.proofs.Objecting as objecting
+use Rattle.table.proofs.ObjectLoop as objecting
 use Rattle.walk.proofs.Opens as opens
 use borrow.Author.Needs.{needs}
 use Rattle.table.proofs.write.Statement.{statement}

@@ -1,5 +1,5 @@
 -- `unshared::unshared` meets its contract: a law for each need.
-use Rattle.unshared.proofs.Seeking as seeking
+use Rattle.unshared.proofs.Sought as seeking
 use Rattle.meaning.specs.Text.{oneOf}
 use Rattle.matching.specs.Named.{named}
 use Rattle.names.specs.Names.{listed}

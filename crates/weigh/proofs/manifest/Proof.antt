@@ -1,5 +1,5 @@
 -- `weigh::manifest` meets its contract: a law for each need.
-use Rattle.weigh.proofs.Weighing as law
+use Rattle.weigh.proofs.WeighedFile as law
 use native.Mathlib.Omega.{arith}
 use borrow.Author.Needs.{needs}
 use Rattle.weigh.proofs.manifest.Statement.{statement}

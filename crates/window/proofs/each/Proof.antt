@@ -1,5 +1,5 @@
 -- `window::each` meets its contract: a law for each need.
-use Rattle.window.proofs.Summing as summing
+use Rattle.window.proofs.Sums as summing
 use Rattle.window.specs.Summed.{Summed}
 use Rattle.walk.proofs.Passed as walked
 use native.Mathlib.Omega.{arith}

@@ -1,5 +1,5 @@
 -- `window::measure` meets its contract: a law for each need.
-use Rattle.window.proofs.Summing as summing
+use Rattle.window.proofs.Sums as summing
 use Rattle.walk.proofs.Opens as opens
 use borrow.Author.Needs.{needs}
 use Rattle.window.proofs.measure.Statement.{statement}

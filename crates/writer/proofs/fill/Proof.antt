@@ -1,5 +1,5 @@
 -- `writer::fill` meets its contract: a law for each branch. Assumes nothing.
-use Rattle.writer.proofs.Filling as filling
+use Rattle.writer.proofs.RowsThatFit as filling
 use native.Mathlib.Omega.{arith}
 use borrow.Author.Needs.{needs}
 use Rattle.writer.proofs.fill.Statement.{statement}

@@ -5,7 +5,7 @@ use mathlib.Core.Path.{sym, _∙_, subst}
 use mathlib.Core.List.{List, []}
 use borrow.Author.Tests.{not-true, not-false}
 use Rattle.writer.proofs.Checks as checks
-use Rattle.rows.specs.Running.{begun, turnLimit, reached}
+use Rattle.rows.specs.Turns.{begun, turnLimit, reached}
 use Rattle.rows.proofs.Describes.{blob-lengths}
 use Rattle.rows.proofs.Whole as rows-laws
 use Rattle.sizes.proofs.Exact as exact

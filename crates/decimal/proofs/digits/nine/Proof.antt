@@ -1,6 +1,6 @@
 -- `decimal::digits::nine` meets its contract: the invariant says what was cut off. Assumes nothing.
-use Rattle.decimal.proofs.Cutting.{Cut}
-use Rattle.decimal.proofs.Cutting as cut
+use Rattle.decimal.proofs.DigitsCut.{Cut}
+use Rattle.decimal.proofs.DigitsCut as cut
 use Rattle.decimal.specs.Limbs.{value}
 use mathlib.Core.Path.{_≡_, refl, sym, _∙_}
 use Prim.Native.Nat.{_*_, _^_}

@@ -1,6 +1,6 @@
 -- `decimal::text::low_digits` meets its contract: it calls itself on one digit fewer. Assumes nothing.
 use native.Mathlib.Omega.{arith}
-use Rattle.put.proofs.Writing as writing
+use Rattle.put.proofs.PiecesInTurn as writing
 use Rattle.decimal.proofs.Letters as letters
 use borrow.Author.Needs.{needs}
 use Prim.Native.Nat.{ℕ, _<_}

@@ -1,6 +1,6 @@
 -- `decimal::text::written` meets its contract: one piece after the other. Assumes nothing.
 use Rattle.decimal.proofs.Letters as letters
-use Rattle.put.proofs.Writing as writing
+use Rattle.put.proofs.PiecesInTurn as writing
 use borrow.Author.Needs.{needs}
 use Rattle.decimal.proofs.text.written.Statement.{statement}
 use Rattle.decimal.proofs.text.written.Tie as tie

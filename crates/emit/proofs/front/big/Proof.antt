@@ -4,7 +4,7 @@ use Prim.Native.Nat.{_-_, _<_, _≤_, _^_}
 use Rattle.meaning.specs.Encoding.{big}
 use Rattle.meaning.proofs.Lengths.{big-length}
 use Rattle.emit.proofs.Numbers as numbers
-use Rattle.emit.proofs.Laying as laying
+use Rattle.emit.proofs.LaidPieces as laying
 use borrow.Author.Needs.{needs}
 use Rattle.emit.proofs.front.big.Statement.{statement}
 use Rattle.emit.proofs.front.big.Tie as tie

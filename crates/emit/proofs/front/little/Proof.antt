@@ -4,7 +4,7 @@ use Prim.Native.Nat.{_-_}
 use Rattle.meaning.specs.WrittenFile.{littleBytes}
 use Rattle.meaning.proofs.Lengths.{little-length}
 use Rattle.emit.proofs.Numbers as numbers
-use Rattle.emit.proofs.Laying as laying
+use Rattle.emit.proofs.LaidPieces as laying
 use borrow.Author.Needs.{needs}
 use Rattle.emit.proofs.front.little.Statement.{statement}
 use Rattle.emit.proofs.front.little.Tie as tie

@@ -2,7 +2,7 @@
 use mathlib.Core.Path.{refl, sym}
 use Prim.Native.Nat.{_-_}
 use lib.ListN.{replicate, length-replicate, getD-replicate}
-use Rattle.emit.proofs.Laying as laying
+use Rattle.emit.proofs.LaidPieces as laying
 use borrow.Author.Needs.{needs}
 use Rattle.emit.proofs.front.zeros.Statement.{statement}
 use Rattle.emit.proofs.front.zeros.Tie as tie

@@ -1,7 +1,7 @@
 -- `foresee::judged::components` meets its contract: the invariant says what the rows that are left give.
 use Rattle.meaning.specs.Columns.{componentWidth}
 use Rattle.foresee.proofs.Components as law
-use Rattle.foresee.specs.Told.{eachComponent}
+use Rattle.foresee.specs.Foretold.{eachComponent}
 use Rattle.readback.specs.Judged.{judgedComponent}
 use Rattle.meaning.specs.Described.{describedComponent}
 use Rattle.meaning.specs.Asked.{eachRow, askedComponent}

@@ -1,5 +1,5 @@
 -- `foresee::named::names` meets its contract: a law for each branch.
-use Rattle.foresee.proofs.Noting as law
+use Rattle.foresee.proofs.NamesNoted as law
 use Rattle.foresee.specs.Names.{namesOf}
 use lib.ListN.{length}
 use borrow.Author.Tests.{not-true, not-false}

@@ -1,5 +1,5 @@
 -- `foresee::named::note` meets its contract: the invariant says which names were noted.
-use Rattle.foresee.proofs.Noting as law
+use Rattle.foresee.proofs.NamesNoted as law
 use Rattle.foresee.specs.Names.{namesOf, Noted}
 use Rattle.walk.proofs.Puts.{length-put}
 use Rattle.meaning.specs.Text.{utf8}

@@ -1,5 +1,5 @@
 -- `layout::components::blob_at` meets its contract: a law for each need.
-use Rattle.emit.proofs.Laying as laying
+use Rattle.emit.proofs.LaidPieces as laying
 use Rattle.layout.proofs.BlobOver as law
 use native.Mathlib.Omega.{arith}
 use borrow.Author.Needs.{needs}

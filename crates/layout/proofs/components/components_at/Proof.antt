@@ -1,11 +1,11 @@
 -- `layout::components::components_at` meets its contract: the invariant says what is done and what is still to be.
 use Rattle.layout.proofs.Turns as turns
-use Rattle.layout.proofs.Walking as walking
+use Rattle.layout.proofs.RowLoop as walking
 use Rattle.layout.specs.Rows.{ComponentRow}
 use Rattle.layout.specs.Pieces.{componentAt, componentsOf, reachedPast}
-use Rattle.rows.proofs.Running as running
+use Rattle.rows.proofs.Turns as running
 use Rattle.rows.proofs.Lent as rows
-use Rattle.emit.proofs.Laying as laying
+use Rattle.emit.proofs.LaidPieces as laying
 use lib.ListN.{drop}
 use mathlib.Core.Path.{refl, sym, ap, _∙_}
 use native.Mathlib.Omega.{arith}

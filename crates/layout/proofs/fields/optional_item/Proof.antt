@@ -2,7 +2,7 @@
 use mathlib.Core.Path.{sym}
 use native.Mathlib.Omega.{arith}
 use Rattle.layout.proofs.Present as laws
-use Rattle.emit.proofs.Laying as laying
+use Rattle.emit.proofs.LaidPieces as laying
 use Rattle.layout.proofs.fields.optional_item.Statement.{statement}
 use Rattle.layout.proofs.fields.optional_item.Tie as tie
 

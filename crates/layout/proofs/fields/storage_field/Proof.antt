@@ -4,7 +4,7 @@ use Rattle.meaning.specs.Manifest.{textBytes}
 use Rattle.put.proofs.Names as names
 use mathlib.Core.Path.{sym, ap}
 use native.Mathlib.Omega.{arith}
-use Rattle.emit.proofs.Laying as laying
+use Rattle.emit.proofs.LaidPieces as laying
 use borrow.Author.Needs.{needs}
 use Rattle.layout.proofs.fields.storage_field.Statement.{statement}
 use Rattle.layout.proofs.fields.storage_field.Tie as tie

@@ -1,11 +1,11 @@
 -- `layout::framing::manifest` meets its contract: a law for each need.
 use Rattle.layout.proofs.Turns as turns
-use Rattle.layout.proofs.Walking as walking
+use Rattle.layout.proofs.RowLoop as walking
 use Rattle.layout.specs.Pieces.{manifestFrom, rootFront, objectsOf}
 use Rattle.layout.specs.Rows.{Within, ObjectRows}
-use Rattle.emit.proofs.Laying as laying
+use Rattle.emit.proofs.LaidPieces as laying
 use Rattle.rows.proofs.Lent as rows
-use Rattle.rows.specs.Running.{begun}
+use Rattle.rows.specs.Turns.{begun}
 use mathlib.Core.Path.{sym}
 use borrow.Author.Needs.{needs}
 use Rattle.layout.proofs.framing.manifest.Statement.{statement}

@@ -3,7 +3,7 @@ use Rattle.layout.proofs.Present as laws
 use Rattle.layout.specs.Pieces.{rootFront}
 use mathlib.Core.Path.{sym}
 use native.Mathlib.Omega.{arith}
-use Rattle.emit.proofs.Laying as laying
+use Rattle.emit.proofs.LaidPieces as laying
 use borrow.Author.Needs.{needs}
 use Rattle.layout.proofs.framing.root.Statement.{statement}
 use Rattle.layout.proofs.framing.root.Tie as tie

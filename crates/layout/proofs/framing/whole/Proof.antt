@@ -1,12 +1,12 @@
 -- `layout::framing::whole` meets its contract: a law for each need.
 use Rattle.layout.proofs.Turns as turns
-use Rattle.layout.proofs.Walking as walking
+use Rattle.layout.proofs.RowLoop as walking
 use Rattle.layout.proofs.Frames as frames
 use Rattle.layout.specs.Pieces.{manifestFrom}
 use Rattle.layout.specs.Rows.{Within, ObjectRows, ComponentRows}
-use Rattle.emit.proofs.Laying as laying
+use Rattle.emit.proofs.LaidPieces as laying
 use Rattle.rows.proofs.Lent as rows
-use Rattle.rows.specs.Running.{begun}
+use Rattle.rows.specs.Turns.{begun}
 use Rattle.meaning.specs.Columns.{objectWidth}
 use lib.ListN.{take}
 use mathlib.Core.Path.{sym}

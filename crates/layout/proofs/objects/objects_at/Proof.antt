@@ -1,9 +1,9 @@
 -- `layout::objects::objects_at` meets its contract: the invariant says what is done and what is still to be.
 use Rattle.layout.proofs.Turns as turns
-use Rattle.layout.proofs.Walking as walking
+use Rattle.layout.proofs.RowLoop as walking
 use Rattle.layout.specs.Pieces.{objectsOf, componentsOf, objectFront, objectRest, reachedPast}
 use Rattle.layout.specs.Rows.{ObjectRow, ComponentRows}
-use Rattle.emit.proofs.Laying as laying
+use Rattle.emit.proofs.LaidPieces as laying
 use Rattle.rows.proofs.Lent as rows
 use Rattle.meaning.specs.Columns.{countColumn}
 use lib.ListN.{getD}

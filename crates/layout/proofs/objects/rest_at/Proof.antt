@@ -2,7 +2,7 @@
 use Rattle.layout.specs.Pieces.{objectRest}
 use mathlib.Core.Path.{refl}
 use native.Mathlib.Omega.{arith}
-use Rattle.emit.proofs.Laying as laying
+use Rattle.emit.proofs.LaidPieces as laying
 use Rattle.layout.proofs.objects.rest_at.Statement.{statement}
 use Rattle.layout.proofs.objects.rest_at.Tie as tie
 

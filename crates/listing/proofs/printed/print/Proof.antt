@@ -1,6 +1,6 @@
 -- `listing::printed::print` meets its contract: a law for each branch. Assumes nothing.
 use mathlib.Core.Path.{refl}
-use Rattle.listing.proofs.Printing as printing
+use Rattle.listing.proofs.PrintedText as printing
 use borrow.Author.Needs.{needs}
 use Rattle.listing.proofs.printed.print.Statement.{statement}
 use Rattle.listing.proofs.printed.print.Tie as tie

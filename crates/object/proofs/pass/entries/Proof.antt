@@ -1,7 +1,7 @@
 -- `object::pass::entries` meets its contract: a law for each branch. The loop's invariant is `Looping`: what was passed, what is due, the slots of the pairs passed and what was found in their components.
 use mathlib.Core.Path.{ap, sym, _∙_}
 use native.Mathlib.Omega.{arith}
-use Rattle.object.proofs.Looping as looping
+use Rattle.object.proofs.EntryLoop as looping
 use lib.ListN.{length}
 use Prim.Native.Nat.{_-_}
 use borrow.Author.Needs.{needs}

@@ -2,7 +2,7 @@
 use mathlib.Core.Path.{ap, _∙_}
 use borrow.Rule.Slice.PartAt.{part-to-end}
 use Rattle.cbor.specs.Ending.{code, itemEnd}
-use Rattle.object.proofs.Looping as looping
+use Rattle.object.proofs.EntryLoop as looping
 use borrow.Author.Needs.{needs}
 use Rattle.object.proofs.pass.value.Statement.{statement}
 use Rattle.object.proofs.pass.value.Tie as tie

@@ -1,6 +1,6 @@
 -- `panel::ends::blank_float` meets its contract: one piece after the other. Assumes nothing.
 use Rattle.panel.specs.Summary.{blankFloat}
-use Rattle.put.proofs.Writing as writing
+use Rattle.put.proofs.PiecesInTurn as writing
 use borrow.Author.Needs.{needs}
 use Rattle.panel.proofs.ends.blank_float.Statement.{statement}
 use Rattle.panel.proofs.ends.blank_float.Tie as tie

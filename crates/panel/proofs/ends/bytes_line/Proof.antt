@@ -1,6 +1,6 @@
 -- `panel::ends::bytes_line` meets its contract: one piece after the other. Assumes nothing.
 use Rattle.panel.specs.Summary.{bytesLine}
-use Rattle.put.proofs.Writing as writing
+use Rattle.put.proofs.PiecesInTurn as writing
 use Rattle.meaning.specs.Listing.{line, blanked}
 use borrow.Author.Needs.{needs}
 use Rattle.panel.proofs.ends.bytes_line.Statement.{statement}

@@ -1,6 +1,6 @@
 -- `panel::ends::only_nan` meets its contract: one piece after the other. Assumes nothing.
 use Rattle.panel.specs.Summary.{nanWords}
-use Rattle.put.proofs.Writing as writing
+use Rattle.put.proofs.PiecesInTurn as writing
 use Rattle.meaning.specs.Listing.{blanked}
 use borrow.Author.Needs.{needs}
 use Rattle.panel.proofs.ends.only_nan.Statement.{statement}

@@ -1,6 +1,6 @@
 -- `panel::ends::span` meets its contract: one piece after the other. Assumes nothing.
 use Rattle.panel.specs.Summary.{blankFloat, spanWords}
-use Rattle.put.proofs.Writing as writing
+use Rattle.put.proofs.PiecesInTurn as writing
 use Rattle.meaning.specs.Listing.{blanked}
 use borrow.Author.Needs.{needs}
 use Rattle.panel.proofs.ends.span.Statement.{statement}

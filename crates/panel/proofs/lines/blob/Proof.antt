@@ -1,7 +1,7 @@
 -- `panel::lines::blob` meets its contract: the words, and what follows them. Assumes nothing.
-use Rattle.put.proofs.Writing as writing
+use Rattle.put.proofs.PiecesInTurn as writing
 use Rattle.panel.proofs.Sound as rows
-use Rattle.panel.proofs.Following as following
+use Rattle.panel.proofs.LinesInTurn as following
 use Rattle.panel.specs.Summary.{more}
 use Rattle.meaning.specs.Listing.{blanked}
 use borrow.Author.Needs.{needs}

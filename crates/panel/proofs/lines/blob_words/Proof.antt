@@ -1,5 +1,5 @@
 -- `panel::lines::blob_words` meets its contract: one piece after the other. Assumes nothing.
-use Rattle.put.proofs.Writing as writing
+use Rattle.put.proofs.PiecesInTurn as writing
 use Rattle.panel.specs.Lines.{blobWords}
 use Rattle.meaning.specs.Listing.{shownText, decimal}
 use Rattle.meaning.specs.Types.{storageOf}

@@ -3,8 +3,8 @@ use Prim.Native.Nat.{_+_, _*_, _≤_}
 use lib.ListN.{length}
 use Rattle.meaning.specs.Columns.{componentWidth}
 use Rattle.panel.specs.Lines.{blobLine, blobLines}
-use Rattle.put.proofs.Writing as writing
-use Rattle.panel.proofs.Following as following
+use Rattle.put.proofs.PiecesInTurn as writing
+use Rattle.panel.proofs.LinesInTurn as following
 use Rattle.panel.proofs.Sound as rows
 use Rattle.panel.specs.Summary.{more}
 use borrow.Author.Needs.{needs}

@@ -1,6 +1,6 @@
 -- `panel::lines::heading` meets its contract: a law for each branch. Assumes nothing.
 use Rattle.meaning.specs.Listing.{line, blanked}
-use Rattle.put.proofs.Writing as writing
+use Rattle.put.proofs.PiecesInTurn as writing
 use borrow.Author.Needs.{needs}
 use Rattle.panel.proofs.lines.heading.Statement.{statement}
 use Rattle.panel.proofs.lines.heading.Tie as tie

@@ -1,6 +1,6 @@
 -- `panel::lines::object` meets its contract: a law for each branch. Assumes nothing.
-use Rattle.panel.proofs.Following as following
-use Rattle.put.proofs.Writing as writing
+use Rattle.panel.proofs.LinesInTurn as following
+use Rattle.put.proofs.PiecesInTurn as writing
 use borrow.Author.Needs.{needs}
 use Rattle.panel.proofs.lines.object.Statement.{statement}
 use Rattle.panel.proofs.lines.object.Tie as tie

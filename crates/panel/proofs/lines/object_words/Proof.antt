@@ -1,7 +1,7 @@
 -- `panel::lines::object_words` meets its contract: a law for each branch. Assumes nothing.
 use lib.ListN.{length, take, drop}
 use Rattle.meaning.specs.Listing.{line, blanked, shownText}
-use Rattle.put.proofs.Writing as writing
+use Rattle.put.proofs.PiecesInTurn as writing
 use Rattle.meaning.specs.Text.{ascii}
 use borrow.Rule.Slice.PartAt.{part-to-end}
 use Prim.Native.Nat.{ℕ, _-_}

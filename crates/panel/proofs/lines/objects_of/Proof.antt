@@ -4,8 +4,8 @@ use native.Mathlib.Omega.{arith}
 use lib.ListN.{length}
 use Rattle.meaning.specs.Columns.{objectWidth, componentWidth}
 use Rattle.panel.specs.Lines.{countAt, counted, blobLines, objectLine, objectLines}
-use Rattle.put.proofs.Writing as writing
-use Rattle.panel.proofs.Following as following
+use Rattle.put.proofs.PiecesInTurn as writing
+use Rattle.panel.proofs.LinesInTurn as following
 use Rattle.panel.proofs.Sound as rows
 use Rattle.panel.specs.Summary.{more}
 use borrow.Author.Needs.{needs}

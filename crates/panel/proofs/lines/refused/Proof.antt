@@ -1,5 +1,5 @@
 -- `panel::refused` meets its contract: a law for each branch. Assumes nothing.
-use Rattle.put.proofs.Writing as writing
+use Rattle.put.proofs.PiecesInTurn as writing
 use Rattle.meaning.specs.Listing.{line, blanked}
 use borrow.Author.Needs.{needs}
 use Rattle.panel.proofs.lines.refused.Statement.{statement}

@@ -1,7 +1,7 @@
 -- `panel::lines::whole` meets its contract: a law for each branch. Assumes nothing.
 use Rattle.meaning.specs.Columns.{objectWidth}
 use Rattle.panel.proofs.Sound as rows
-use Rattle.put.proofs.Writing as writing
+use Rattle.put.proofs.PiecesInTurn as writing
 use Rattle.panel.specs.Lines.{text, objectLines}
 use Prim.Native.Nat.{_*_}
 use native.Mathlib.Omega.{arith}

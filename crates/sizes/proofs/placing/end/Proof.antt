@@ -8,8 +8,8 @@ use Rattle.meaning.specs.Columns.{componentWidth, lengthColumn}
 use Rattle.meaning.specs.Placement as placement
 use Rattle.meaning.specs.Limit.{endLimit}
 use Rattle.meaning.specs.Asked.{eachRow, askedComponent}
-use Rattle.rows.specs.Running.{reached, blobSizes}
-use Rattle.rows.proofs.Running as running
+use Rattle.rows.specs.Turns.{reached, blobSizes}
+use Rattle.rows.proofs.Turns as running
 use Rattle.sizes.proofs.Sums as law
 use Rattle.sizes.proofs.PlanOrNone as rule
 use borrow.Author.Needs.{needs}

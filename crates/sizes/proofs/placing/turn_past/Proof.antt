@@ -3,7 +3,7 @@ use native.Mathlib.Omega.{arith}
 use Rattle.sizes.proofs.PlanOrNone as law
 use Rattle.meaning.specs.Columns.{componentWidth}
 use Rattle.meaning.specs.Asked.{eachRow, askedComponent}
-use Rattle.rows.specs.Running.{blobSizes}
+use Rattle.rows.specs.Turns.{blobSizes}
 use borrow.Author.Needs.{needs}
 use Rattle.sizes.proofs.placing.turn_past.Statement.{statement}
 use Rattle.sizes.proofs.placing.turn_past.Tie as tie

@@ -1,6 +1,6 @@
 -- `table::object_row::put_sixteen` meets its contract: a law for each branch.
 use Rattle.table.proofs.ObjectRow as rows
-use Rattle.table.proofs.Laying as laying
+use Rattle.table.proofs.Runs as laying
 use Rattle.table.specs.Object.{eight, sixteen}
 use Rattle.table.specs.Spans.{spanned}
 use native.Mathlib.Omega.{arith}

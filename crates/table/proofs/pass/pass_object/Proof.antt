@@ -6,7 +6,7 @@ use Rattle.cbor.specs.Ending.{FAULT}
 use lib.ListN.{length}
 use mathlib.Core.Path.{_≡_, _∙_}
 use native.Mathlib.Omega.{arith}
-use Rattle.table.proofs.Passing as passing
+use Rattle.table.proofs.ObjectFields as passing
 use borrow.Author.Needs.{needs}
 use Rattle.table.proofs.pass.pass_object.Statement.{statement}
 use Rattle.table.proofs.pass.pass_object.Tie as tie

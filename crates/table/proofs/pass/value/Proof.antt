@@ -2,7 +2,7 @@
 use Rattle.cbor.specs.Ending.{code, itemEnd}
 use borrow.Rule.Slice.PartAt.{part-to-end}
 use mathlib.Core.Path.{ap, _∙_}
-use Rattle.table.proofs.Passing as passing
+use Rattle.table.proofs.ObjectFields as passing
 use borrow.Author.Needs.{needs}
 use Rattle.table.proofs.pass.value.Statement.{statement}
 use Rattle.table.proofs.pass.value.Tie as tie

@@ -1,6 +1,6 @@
 -- `table::row::put_twelve` meets its contract: a law for each branch. Assumes nothing.
 use Rattle.table.proofs.ComponentRow as rows
-use Rattle.table.proofs.Laying as laying
+use Rattle.table.proofs.Runs as laying
 use Rattle.table.specs.Row.{twelve}
 use Rattle.table.specs.Spans.{spanned}
 use native.Mathlib.Omega.{arith}

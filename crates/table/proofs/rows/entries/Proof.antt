@@ -7,7 +7,7 @@ use native.Mathlib.Omega.{arith}
 use Rattle.walk.proofs.Passed as walked
 use Rattle.components.specs.Firsts.{offered}
 use Rattle.table.specs.Rows.{Rowed}
-use Rattle.table.proofs.Rowing as rowing
+use Rattle.table.proofs.RowLoop as rowing
 use borrow.Author.Needs.{needs}
 use Rattle.table.proofs.rows.entries.Statement.{statement}
 use Rattle.table.proofs.rows.entries.Tie as tie

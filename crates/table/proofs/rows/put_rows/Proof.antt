@@ -1,6 +1,6 @@
 -- `table::rows::put_rows` meets its contract: a law for each branch.
 use Rattle.components.specs.Firsts.{offered}
-use Rattle.table.proofs.Rowing as rowing
+use Rattle.table.proofs.RowLoop as rowing
 use Rattle.walk.proofs.Opens as opens
 use native.Mathlib.Omega.{arith}
 use borrow.Rule.Slice.PartAt.{part-to-end}

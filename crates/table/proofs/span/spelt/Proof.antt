@@ -1,5 +1,5 @@
 -- `table::span::spelt` meets its contract: a law for each branch.
-use Rattle.table.proofs.Spelling as spelling
+use Rattle.table.proofs.TextSpan as spelling
 use mathlib.Core.Path.{_≡_, _∙_}
 use native.Mathlib.Omega.{arith}
 use borrow.Author.Needs.{needs}

@@ -1,5 +1,5 @@
 -- `table::span::spelt_at` meets its contract: a law for each branch.
-use Rattle.table.proofs.Spelling as spelling
+use Rattle.table.proofs.TextSpan as spelling
 use borrow.Author.Needs.{needs}
 use Rattle.table.proofs.span.spelt_at.Statement.{statement}
 use Rattle.table.proofs.span.spelt_at.Tie as tie

@@ -1,5 +1,5 @@
 -- `table::span::whole` meets its contract: a law for each branch.
-use Rattle.table.proofs.Spelling as spelling
+use Rattle.table.proofs.TextSpan as spelling
 use borrow.Author.Needs.{needs}
 use Rattle.table.proofs.span.whole.Statement.{statement}
 use Rattle.table.proofs.span.whole.Tie as tie

@@ -1,0 +1,99 @@
+-- The entry of an index, kept while the entries are passed over.
+use mathlib.Core.Path.{_≡_, refl, ap, sym, _∙_, subst}
+use mathlib.Core.List.{List, [], _∷_}
+use mathlib.Core.Bool.{Bool, true, false, cond}
+use mathlib.Core.Option.{none, some}
+use Prim.Native.Nat.{ℕ, zero, suc, _+_, _-_, _≤_, _<_}
+use native.Mathlib.Omega.{arith}
+use lib.ListN.{length, drop, length-drop}
+use lib.Dec.{eqb}
+use borrow.Author.Tests.{eq-eqb, ne-eqb, eqb-true, eqb-false}
+use borrow.Rule.Slice.PartAt.{part-to-end}
+use Rattle.meaning.specs.Tree.{Node, Pair, noteOf}
+use Rattle.meaning.specs.Kind.{kind, mapping, aMapping, asMapping}
+use Rattle.meaning.specs.Check.{pass}
+use Rattle.walk.specs.Reading.{Ends, Reads, Due, foldl}
+use Rattle.walk.specs.Places.{MapIs, Modes}
+use Rattle.walk.specs.declared.Opening.{Opening}
+use Rattle.walk.specs.declared.Opening.the-variants.{NotOpen, Opened}
+use Rattle.walk.proofs.Passed.{Here}
+use Rattle.walk.proofs.ReadSays.{note-of}
+use Rattle.walk.proofs.Opens as opens
+use Rattle.walk.proofs.Turns.{Walking}
+use Rattle.entry.proofs.EntryLoop.{starts}
+use Rattle.entry.specs.Nth.{places, chosen, nth, leftBoth, Held, inTable, EntryIs}
+use Rattle.entry.specs.declared.Places.{Places}
+
+pub record State : Type 0 where
+  pub count : ℕ
+  pub held : Places
+
+abbrev pub seen : ℕ → State → Pair Ends → State
+seen index st p = record { count = st .count + 1; held = chosen index (st .count) (length (noteOf (p .key) .start)) (length (noteOf (p .value) .start)) (st .held) }
+
+abbrev pub none-seen : State
+none-seen = record { count = 0; held = places 0 0 }
+
+abbrev after : Pair Ends → ℕ → Places → Bool → State
+after p i h b = record { count = i + 1; held = cond b (places (length (noteOf (p .key) .start)) (length (noteOf (p .value) .start))) h }
+
+past : (index i : ℕ) (h : Places) (ps : List (Pair Ends)) → index < i → foldl (seen index) (record { count = i; held = h }) ps .held ≡ h
+unfolding chosen
+past index i h [] l = refl
+past index i h (p ∷ ps) l =
+    ap (λ (b : Bool). foldl (seen index) (after p i h b) ps .held) (ne-eqb i index (λ z. omega (arith, z, l))) ∙ past index (i + 1) h ps (omega (arith, l))
+
+found : (index i j : ℕ) (ps : List (Pair Ends)) → index ≡ i + j → foldl (seen index) (record { count = i; held = places 0 0 }) ps .held ≡ leftBoth (nth j ps)
+unfolding nth leftBoth chosen
+found index i zero [] e = refl
+found index i (suc j) [] e = refl
+found index i zero (p ∷ ps) e = ap (λ (b : Bool). foldl (seen index) (after p i (places 0 0) b) ps .held) (eq-eqb i index (omega (arith, e))) ∙ past index (i + 1) _ ps (omega (arith, e))
+found index i (suc j) (p ∷ ps) e =
+    ap (λ (b : Bool). foldl (seen index) (after p i (places 0 0) b) ps .held) (ne-eqb i index (λ y. omega (arith, e, y))) ∙ found index (i + 1) j ps (omega (arith, e))
+
+-- up to `at`, with `due` items due: the entries passed are n, and what is held of them
+pub record Inv (left mode count : ℕ) (s : List ℕ) (index at due n : ℕ) (h : Places) : Type 0 where
+  pub walking : Walking (seen index) left mode count s none-seen at due (record { count = n; held = h })
+  pub few : n ≤ at
+
+module _ (left mode count : ℕ) (s : List ℕ) (index : ℕ) (h : Places) where
+  pub is-held : {n : ℕ} → ((ps : List (Pair Ends)) (r : List ℕ) → Due left mode count s ps r → _≡_ {A = State} (record { count = n; held = h }) (foldl (seen index) none-seen ps)) → Held left mode count s index h
+  is-held f ps r d = ap (λ (x : State). x .held) (f ps r d) ∙ found index 0 index ps (omega arith)
+
+pub begins : (left mode count : ℕ) (s : List ℕ) (index : ℕ) → Modes mode count → {h : Places} → h ≡ places 0 0 → Inv left mode count s index 0 count 0 h
+begins left mode count s index m {h} e = record {
+  walking = subst (λ (x : Places). Walking (seen index) left mode count s none-seen 0 count (record { count = 0; held = x })) (sym e) (starts (seen index) left mode count s none-seen m);
+  few = omega arith;
+}
+
+-- one entry more
+pub one-more : (left index : ℕ) (s : List ℕ) (at v n : ℕ) (h q : Places) → q ≡ chosen index n (length s - at) (length s - v) h
+    → (p : Pair Ends) (r₁ r₂ : List ℕ) → Reads left (drop at s) (p .key) r₁ → Reads left (drop v s) (p .value) r₂
+    → _≡_ {A = State} (record { count = n + 1; held = q }) (seen index (record { count = n; held = h }) p)
+one-more left index s at v n h q is p r₁ r₂ key value =
+    let a : length (noteOf (p .key) .start) ≡ length s - at = ap (λ x. length (x .start)) (note-of left (drop at s) (p .key) r₁ key) ∙ length-drop at s in
+    let b : length (noteOf (p .value) .start) ≡ length s - v = ap (λ x. length (x .start)) (note-of left (drop v s) (p .value) r₂ value) ∙ length-drop v s in
+    rw (a, b) (ap (λ (x : Places). record { count = n + 1; held = x }) is)
+
+-- ---------------------------------------------------------------- the whole
+
+module _ (s : List ℕ) (x : Opening) (h : MapIs (Here s 0) x) (left index : ℕ) where
+  pub no-entry : x ≡ NotOpen → EntryIs left s index (places 0 0)
+  unfolding inTable
+  no-entry e t q r = rw (opens.opening s x h NotOpen e left t q r) refl
+
+  pub of-map : (mode count size : ℕ) → x ≡ Opened mode count size → (r : Places) → Held left mode count (Here s size) index r → EntryIs left s index r
+  unfolding inTable aMapping asMapping
+  of-map mode count size is r held t q reads =
+      let m = opens.opened s x h mode count size is .trees left t q reads in
+      let k = subst (λ u. Held left mode count u index r) (part-to-end s size) held in
+      rw (m .kind-is) (k (m .pairs) (m .last) (m .due))
+
+module _ (index n key value : ℕ) (h : Places) where
+  pub is-chosen : {q : Places} → n ≡ index → q ≡ places key value → q ≡ chosen index n key value h
+  unfolding chosen
+  is-chosen e f = f ∙ ap (λ (b : Bool). cond b (places key value) h) (sym (eq-eqb n index e))
+
+  pub not-chosen : (n ≡ index → ⊥) → h ≡ chosen index n key value h
+  unfolding chosen
+  not-chosen e = ap (λ (b : Bool). cond b (places key value) h) (sym (ne-eqb n index e))
