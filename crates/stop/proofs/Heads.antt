@@ -3,19 +3,19 @@ use Prim.Native.Nat.{ℕ, zero, suc, _+_, _-_, _*_, _/_, _%_, _≤_, _<_}
 use native.Mathlib.Omega.{arith}
 use mathlib.Core.List.{List, [], _∷_}
 use mathlib.Core.Bool.{Bool, true, false, cond, _&&_}
-use mathlib.Core.Path.{_≡_, refl, ap, sym, _∙_, subst}
+use mathlib.Core.Path.{_≡_, refl, ap, sym, _∙_}
 use lib.ListN.{length, getD, take, drop}
 use lib.Dec.{eqb, leb, ltb}
-use borrow.Author.Tests.{eq-eqb, ne-eqb, le-leb, lt-leb, lt-ltb, le-ltb, eqb-true, leb-true, leb-false, ltb-true, ltb-false}
-use Rattle.meaning.specs.Tree.{Node, Pair, bytes, text, simple, float}
+use borrow.Author.Tests.{eq-eqb, ne-eqb, le-leb, lt-leb, lt-ltb, eqb-true, leb-true, leb-false, ltb-false}
+use Rattle.meaning.specs.Tree.{Node, bytes, text, simple, float}
 use Rattle.meaning.specs.Read as read
-use Rattle.meaning.specs.Read.{Outcome, got, refused, Reader, after, _>>=_, Argument, known, indefinite, argument, infoOf, Major, unsigned, negative, byteString, textString, arrayOf, mapOf, tagged, special, majorOf, content, item, noNote, times, untilBreak, toBreak, chunk, pair, run, reserved, wide, longArguments, malformed}
-use Rattle.meaning.proofs.ReadPrefix.{still, Hungry, item-hungry, chunk-hungry, pair-hungry, item-exact}
-use Rattle.cbor.specs.Ending.{FAULT, headOf, argued, endless, holds}
+use Rattle.meaning.specs.Read.{Outcome, got, refused, after, _>>=_, Argument, known, indefinite, argument, infoOf, arrayOf, mapOf, tagged, special, majorOf, content, item, noNote, times, toBreak, chunk, pair, run, reserved, wide, longArguments, malformed}
+use Rattle.meaning.proofs.ReadPrefix.{item-hungry, pair-hungry, item-exact}
+use Rattle.cbor.specs.Ending.{FAULT, headOf, holds}
 use Rattle.cbor.proofs.Heads.{Look, sized, loose, wrong, look}
-use Rattle.cbor.proofs.Majors.{head-sized, head-loose, head-refused, majors-late}
-use Rattle.stop.specs.Stop.{headLeft, OfString, byteStrings, textStrings}
-use Rattle.stop.proofs.Stuck.{differ, same-left, bind-refused, bind-got, Stuck, here, next, ended, times-stuck, break-stuck, unpair}
+use Rattle.cbor.proofs.Majors.{head-sized, head-loose, head-refused}
+use Rattle.stop.specs.Stop.{headLeft, Refuses, OfString, byteStrings, textStrings}
+use Rattle.stop.proofs.Stuck.{differ, same-left, bind-refused, bind-got, Stuck, here, times-stuck, break-stuck, unpair}
 
 -- ---------------------------------------------------------------- the head
 
@@ -96,10 +96,6 @@ module _ (d : ℕ) (o : List ℕ) where
   unfolding content read.close
   tag-stuck w k u e = bind-refused (item noNote d u) _ e here λ x r f z. differ z
 
-  tag-open : (u : List ℕ) {n : ℕ} {q : List ℕ} → content noNote (item noNote d) o tagged indefinite u ≡ refused n q → q ≡ o
-  unfolding content
-  tag-open u e = sym (same-left e)
-
   -- by the first byte
   held-sized : (b w k : ℕ) (u : List ℕ) → 128 ≤ b → b < 224 → {n : ℕ} {q : List ℕ} → content noNote (item noNote d) o (majorOf b) (known w k) u ≡ refused n q → Into d q u
   unfolding majorOf
@@ -115,20 +111,30 @@ module _ (d : ℕ) (o : List ℕ) where
       go (suc (suc (suc (suc (suc (suc zero)))))) e f = tag-stuck w k u f
       go (suc (suc (suc (suc (suc (suc (suc j))))))) e f = absurd (omega (arith, e))
 
-  held-loose : (b : ℕ) (u : List ℕ) → 128 ≤ b → b < 224 → b % 32 ≡ 31 → {n : ℕ} {q : List ℕ} → content noNote (item noNote d) o (majorOf b) indefinite u ≡ refused n q
-      → ((b ≡ 223 → ⊥) → Into d q u) × (b ≡ 223 → q ≡ o)
+  held-loose : (b : ℕ) (u : List ℕ) → 128 ≤ b → b < 224 → b % 32 ≡ 31 → (b ≡ 223 → ⊥) → {n : ℕ} {q : List ℕ} → content noNote (item noNote d) o (majorOf b) indefinite u ≡ refused n q → Into d q u
   unfolding majorOf
-  held-loose b u l h i {n} {q} = go (b / 32) refl
+  held-loose b u l h i y {n} {q} = go (b / 32) refl
     where
-      go : (j : ℕ) → b / 32 ≡ j → content noNote (item noNote d) o (getD read.majors j special) indefinite u ≡ refused n q → ((b ≡ 223 → ⊥) → Into d q u) × (b ≡ 223 → q ≡ o)
+      go : (j : ℕ) → b / 32 ≡ j → content noNote (item noNote d) o (getD read.majors j special) indefinite u ≡ refused n q → Into d q u
       go zero e f = absurd (omega (arith, e))
       go (suc zero) e f = absurd (omega (arith, e))
       go (suc (suc zero)) e f = absurd (omega (arith, e))
       go (suc (suc (suc zero))) e f = absurd (omega (arith, e))
-      go (suc (suc (suc (suc zero)))) e f = ((λ y. array-stuck indefinite u f), (λ y. absurd (omega (arith, e, y))))
-      go (suc (suc (suc (suc (suc zero))))) e f = ((λ y. map-stuck indefinite u f), (λ y. absurd (omega (arith, e, y))))
-      go (suc (suc (suc (suc (suc (suc zero)))))) e f = ((λ y. absurd (y (omega (arith, e, i)))), (λ y. tag-open u f))
+      go (suc (suc (suc (suc zero)))) e f = array-stuck indefinite u f
+      go (suc (suc (suc (suc (suc zero))))) e f = map-stuck indefinite u f
+      go (suc (suc (suc (suc (suc (suc zero)))))) e f = absurd (y (omega (arith, e, i)))
       go (suc (suc (suc (suc (suc (suc (suc j))))))) e f = absurd (omega (arith, e))
+
+-- an item whose head is refused
+pub no-head : (d b : ℕ) (t : List ℕ) → length (b ∷ t) < headOf (b ∷ t) .size → Refuses (item noNote (suc d)) (b ∷ t) (headLeft (b ∷ t))
+no-head d b t k = go (look (b % 32) t)
+  where
+    go : Look (b % 32) t → Refuses (item noNote (suc d)) (b ∷ t) (headLeft (b ∷ t))
+    go (sized w v g f i one) = absurd (let z : headOf (b ∷ t) .size ≡ w + 1 = ap (λ a. a .size) (head-sized b t w v f) in omega (arith, z, k, g))
+    go (loose i f) = absurd (let z : headOf (b ∷ t) .size ≡ 1 = ap (λ a. a .size) (head-loose b t f) in omega (arith, z, k))
+    go (wrong i f) =
+        let r = f (b ∷ t) .is in
+        record { number = _; at = _; is = opens d b t ∙ ap (λ o. after o (content noNote (item noNote d) (b ∷ t) (majorOf b))) r; left = head-left b t r }
 
 module _ (d b : ℕ) (t : List ℕ) {n : ℕ} {q : List ℕ} (e : item noNote (suc d) (b ∷ t) ≡ refused n q) where
   abbrev After : Outcome Argument → Type 0
@@ -148,24 +154,8 @@ module _ (d b : ℕ) (t : List ℕ) {n : ℕ} {q : List ℕ} (e : item noNote (s
       go (sized w v g f i one) =
           let z : headOf (b ∷ t) .size ≡ w + 1 = ap (λ a. a .size) (head-sized b t w v f) in
           rw z (let y : w + 1 ≡ suc w = omega arith in rw y (held-sized d (b ∷ t) b w v (drop w t) l h (as-read (f (b ∷ t)))))
-      go (loose i f) = rw (ap (λ a. a .size) (head-loose b t f)) (held-loose d (b ∷ t) b t l h i (as-read (f (b ∷ t))) .0 y)
+      go (loose i f) = rw (ap (λ a. a .size) (head-loose b t f)) (held-loose d (b ∷ t) b t l h i y (as-read (f (b ∷ t))))
       go (wrong i f) = absurd (let z : headOf (b ∷ t) .size ≡ FAULT + 6 = ap (λ a. a .size) (head-refused b t f) in omega (arith, z, k, room))
-
-  pub no-head : 128 ≤ b → b < 224 → length (b ∷ t) < headOf (b ∷ t) .size → headLeft (b ∷ t) ≡ length q
-  no-head l h k = go (look (b % 32) t)
-    where
-      go : Look (b % 32) t → headLeft (b ∷ t) ≡ length q
-      go (sized w v g f i one) = absurd (let z : headOf (b ∷ t) .size ≡ w + 1 = ap (λ a. a .size) (head-sized b t w v f) in omega (arith, z, k, g))
-      go (loose i f) = absurd (let z : headOf (b ∷ t) .size ≡ 1 = ap (λ a. a .size) (head-loose b t f) in omega (arith, z, k))
-      go (wrong i f) = refused-head (f (b ∷ t) .is)
-
-  pub open-tag : b ≡ 223 → length (b ∷ t) ≡ length q
-  open-tag y = go (look (b % 32) t)
-    where
-      go : Look (b % 32) t → length (b ∷ t) ≡ length q
-      go (sized w v g f i one) = absurd (let z : b % 32 ≡ 31 = omega (arith, y) in omega (arith, z, i))
-      go (loose i f) = ap length (sym (held-loose d (b ∷ t) b t (omega (arith, y)) (omega (arith, y)) i (as-read (f (b ∷ t))) .1 y))
-      go (wrong i f) = absurd (i (omega (arith, y)))
 
 -- ---------------------------------------------------------------- items that hold no other
 
@@ -330,11 +320,3 @@ module _ (m b : ℕ) (t : List ℕ) where
             (λ bs p y z. differ z)
         go (loose i f) = absurd (omega (arith, l, i))
         go (wrong i f) = let r = f (b ∷ t) in record { number = 6; is = as-argued (r .is) ∙ ap (refused 6) (argument-left (b ∷ t) (b % 32) t (r .is) .1 l) }
-
-pub head-some : (b : ℕ) (t : List ℕ) → 1 ≤ headOf (b ∷ t) .size
-head-some b t = go (look (b % 32) t)
-  where
-    go : Look (b % 32) t → 1 ≤ headOf (b ∷ t) .size
-    go (sized w v g f i one) = let z : headOf (b ∷ t) .size ≡ w + 1 = ap (λ a. a .size) (head-sized b t w v f) in omega (arith, z)
-    go (loose i f) = let z : headOf (b ∷ t) .size ≡ 1 = ap (λ a. a .size) (head-loose b t f) in omega (arith, z)
-    go (wrong i f) = let z : headOf (b ∷ t) .size ≡ FAULT + 6 = ap (λ a. a .size) (head-refused b t f) in omega (arith, z)

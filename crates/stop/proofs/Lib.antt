@@ -2,3 +2,4 @@
 pub mod Stuck
 pub mod Heads
 pub mod Turns
+pub mod Held

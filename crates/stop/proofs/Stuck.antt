@@ -1,16 +1,15 @@
 -- A run of parts that is refused: some are read, and then one is refused, or the bytes ended. What a map, an array, a tag or an indefinite string is refused for is such a run.
-use Prim.Native.Nat.{ℕ, zero, suc, _+_, _-_, _*_, _/_, _%_, _≤_, _<_}
+use Prim.Native.Nat.{ℕ, zero, suc, _≤_}
 use native.Mathlib.Omega.{arith}
 use mathlib.Core.List.{List, [], _∷_}
 use mathlib.Core.Bool.{Bool, true, false, cond}
-use mathlib.Core.Path.{_≡_, refl, ap, sym, _∙_, subst}
-use lib.ListN.{length, getD, drop}
-use lib.Dec.{eqb, leb, ltb}
-use borrow.Author.Tests.{eq-eqb, ne-eqb, le-leb, lt-leb, lt-ltb, le-ltb, eqb-true}
-use Rattle.meaning.specs.Tree.{Node, Pair}
+use mathlib.Core.Path.{_≡_, refl, sym, _∙_, subst}
+use lib.ListN.{length}
+use lib.Dec.{eqb}
+use Rattle.meaning.specs.Tree.{Node}
 use Rattle.meaning.specs.Read as read
-use Rattle.meaning.specs.Read.{Outcome, got, refused, Reader, after, _>>=_, Argument, known, indefinite, argument, infoOf, majorOf, content, item, noNote, times, untilBreak, toBreak, chunk, pair, run, number, wide, longArguments, malformed}
-use Rattle.meaning.proofs.ReadPrefix.{still, Hungry, item-hungry, chunk-hungry, pair-hungry, item-exact}
+use Rattle.meaning.specs.Read.{Outcome, got, refused, Reader, after, _>>=_, times, untilBreak, toBreak, pair}
+use Rattle.meaning.proofs.ReadPrefix.{still, Hungry}
 
 pub differ : {A : Type 0} {C : Type 0} {a : A} {r : List ℕ} {n : ℕ} {q : List ℕ} → got a r ≡ refused n q → C
 differ e = absurd (let z : _≡_ {A = ℕ} 0 1 = cc in omega arith)
@@ -61,15 +60,10 @@ module _ {A : Type 0} (m : Reader A) where
 
   -- ---------------------------------------------------------------- what is left, turn by turn
 
-  pub stuck-none : ((n : ℕ) (q : List ℕ) → m [] ≡ refused n q → q ≡ []) → ((a : A) (r : List ℕ) → m [] ≡ got a r → ⊥) → {q : List ℕ} → Stuck m q [] → q ≡ []
-  stuck-none f g (here e) = f _ _ e
-  stuck-none f g (next e h) = absurd (g _ _ e)
-  stuck-none f g (ended e) = e
-
-  pub stuck-refused : {u q : List ℕ} {n : ℕ} {p : List ℕ} → m u ≡ refused n p → 1 ≤ length u → Stuck m q u → q ≡ p
-  stuck-refused e l (here f) = same-left (sym f ∙ e)
-  stuck-refused e l (next f h) = differ (sym f ∙ e)
-  stuck-refused e l (ended f) = absurd (omega arith)
+  pub stuck-refused : {u q : List ℕ} {n : ℕ} {p : List ℕ} → m u ≡ refused n p → (u ≡ [] → p ≡ []) → Stuck m q u → q ≡ p
+  stuck-refused e z (here f) = same-left (sym f ∙ e)
+  stuck-refused e z (next f h) = differ (sym f ∙ e)
+  stuck-refused e z (ended f) = f ∙ sym (z refl)
 
   pub stuck-got : {u q r : List ℕ} {a : A} → m u ≡ got a r → 1 ≤ length u → Stuck m q u → Stuck m q r
   stuck-got e l (here f) = differ (sym e ∙ f)

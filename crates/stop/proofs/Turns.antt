@@ -2,20 +2,17 @@
 use Prim.Native.Nat.{ℕ, zero, suc, _+_, _-_, _/_, _%_, _≤_, _<_}
 use native.Mathlib.Omega.{arith}
 use mathlib.Core.List.{List, [], _∷_}
-use mathlib.Core.Bool.{Bool, true, false, _&&_}
 use mathlib.Core.Path.{_≡_, refl, ap, sym, _∙_, subst}
 use lib.ListN.{length, getD, drop, length-drop}
 use lib.Seq.{drop-drop}
-use lib.Dec.{leb, ltb}
-use borrow.Author.Tests.{le-leb, lt-leb, lt-ltb, le-ltb}
 use Rattle.meaning.specs.Read as read
 use Rattle.meaning.specs.Read.{got, refused, Reader, item, noNote, chunk, toBreak}
-use Rattle.meaning.proofs.ReadPrefix.{still, Exact, Hungry, item-exact, item-hungry, chunk-hungry}
-use Rattle.cbor.specs.Ending.{FAULT, code, ending, took, fault, itemEnd, headOf, holds}
+use Rattle.meaning.proofs.ReadPrefix.{item-exact, item-hungry, chunk-hungry}
+use Rattle.cbor.specs.Ending.{FAULT, code, itemEnd}
 use Rattle.cbor.proofs.Ends.{got-what, refused-what}
 use Rattle.cbor.proofs.Loops.{passes, fails, takes-a-byte}
 use Rattle.stop.specs.Stop.{LeftBy, OfString, headLeft, PlainStops}
-use Rattle.stop.proofs.Stuck.{differ, same-left, Stuck, here, next, ended, break-stuck, stuck-none, stuck-refused, stuck-got}
+use Rattle.stop.proofs.Stuck.{same-left, Stuck, break-stuck, stuck-refused, stuck-got}
 use Rattle.stop.proofs.Heads as heads
 
 -- ---------------------------------------------------------------- the bytes from a place on
@@ -62,10 +59,10 @@ module _ {A B : Type 0} {all : Reader B} {m : Reader A} {s : List ℕ} {at : ℕ
   stops-here l f n q e =
       let z = from-at s at l in
       let k : Stuck m q (getD s at 0 ∷ drop (suc at) s) = subst (Stuck m q) z (i .run n q e) in
-      left-at s at (i .within) ∙ ap length z ∙ ap length (sym (stuck-refused m f (omega arith) k))
+      left-at s at (i .within) ∙ ap length z ∙ ap length (sym (stuck-refused m f (λ n. n) k))
 
   pub stops-at : {c : ℕ} {p : List ℕ} {r : ℕ} → at < length s → m (drop at s) ≡ refused c p → r ≡ length p → LeftBy all s r
-  stops-at l f h n q e = h ∙ ap length (sym (stuck-refused m f (let z = length-drop at s in omega (arith, z, l)) (i .run n q e)))
+  stops-at l f h n q e = h ∙ ap length (sym (stuck-refused m f (λ n. absurd (let z = length-drop at s in let y = ap length n in omega (arith, z, y, l))) (i .run n q e)))
 
   pub goes-on : {a : A} (k : ℕ) → at < length s → m (drop at s) ≡ got a (drop k (drop at s)) → at + k ≤ length s → Inv all m s (at + k)
   goes-on k l f h = record {
@@ -73,8 +70,8 @@ module _ {A B : Type 0} {all : Reader B} {m : Reader A} {s : List ℕ} {at : ℕ
     run = λ n q e. subst (Stuck m q) (drop-drop k at s) (stuck-got m f (let z = length-drop at s in omega (arith, z, l)) (i .run n q e));
   }
 
-  pub at-end : length s ≤ at → ((n : ℕ) (q : List ℕ) → m [] ≡ refused n q → q ≡ []) → ((a : A) (r : List ℕ) → m [] ≡ got a r → ⊥) → LeftBy all s 0
-  at-end l f g n q e = ap length (sym (stuck-none m f g (subst (Stuck m q) (none-at s at l) (i .run n q e))))
+  pub at-end : {c : ℕ} → length s ≤ at → m [] ≡ refused c [] → LeftBy all s 0
+  at-end l f n q e = ap length (sym (stuck-refused m f (λ n. n) (subst (Stuck m q) (none-at s at l) (i .run n q e))))
 
 -- ---------------------------------------------------------------- chunks
 
@@ -82,17 +79,13 @@ module _ (m : ℕ) (s : List ℕ) where
   pub chunks-begin : Inv (toBreak (chunk m)) (chunk m) s 0
   chunks-begin = record { within = omega arith; run = λ n q e. break-stuck (chunk m) (chunk-hungry m) s e }
 
-  no-chunk : (n : ℕ) (q : List ℕ) → chunk m [] ≡ refused n q → q ≡ []
+  no-chunk : chunk m [] ≡ refused 6 []
   unfolding chunk read.here read.byte
-  no-chunk n q e = cc
-
-  never-chunk : (a : List ℕ) (r : List ℕ) → chunk m [] ≡ got a r → ⊥
-  unfolding chunk read.here read.byte
-  never-chunk a r e = differ (sym e)
+  no-chunk = refl
 
   module _ {at : ℕ} (i : Inv (toBreak (chunk m)) (chunk m) s at) where
     pub chunks-missing : length s ≤ at → LeftBy (toBreak (chunk m)) s 0
-    chunks-missing l = at-end i l no-chunk never-chunk
+    chunks-missing l = at-end i l no-chunk
 
     module _ (l : at < length s) (j : ℕ) (h : j ≡ getD s at 0 / 32) where
       pub other-type : (j ≡ m → ⊥) → LeftBy (toBreak (chunk m)) s (length s - at)
@@ -150,111 +143,3 @@ plain-two (b ∷ x ∷ s) n e l d h c q g = heads.two-byte d (x ∷ s) (ap (λ b
 pub plain-head : (s : List ℕ) (r : ℕ) → (length s ≡ 0 → ⊥) → getD s 0 0 < 256 → (getD s 0 0 ≡ 95 → ⊥) → (getD s 0 0 ≡ 127 → ⊥) → (getD s 0 0 ≡ 248 → ⊥) → r ≡ headLeft s → PlainStops s r
 plain-head [] r n k x y z f d h c q g = absurd (n refl)
 plain-head (b ∷ s) r n k x y z f d h c q g = f ∙ heads.plain-left d b s g h k x y z
-
--- ---------------------------------------------------------------- any item
-
--- met where no level is left
-record Deep (b : ℕ) (t : List ℕ) : Type 0 where
-  number : ℕ
-  is : item noNote 0 (b ∷ t) ≡ refused number (b ∷ t)
-
-broken : (d b : ℕ) (t : List ℕ) → b ≡ 255 → item noNote (suc d) (b ∷ t) ≡ refused 6 (b ∷ t)
-unfolding item read.here read.byte read.infoOf read.argument read.longArguments read.majorOf read.content
-broken d b t e = ap (λ b. item noNote (suc d) (b ∷ t)) e ∙ ap (λ b. refused 6 (b ∷ t)) (sym e)
-
-module _ (levels : ℕ) (s : List ℕ) where
-  abbrev pub Going : ℕ → ℕ → Type 0
-  Going left at = Inv (item noNote levels) (item noNote left) s at
-
-  pub items-begin : Going levels 0
-  items-begin = record { within = omega arith; run = λ n q e. here e }
-
-  no-item : (d n : ℕ) (q : List ℕ) → item noNote d [] ≡ refused n q → q ≡ []
-  unfolding item read.beyond read.here read.byte
-  no-item zero n q e = cc
-  no-item (suc d) n q e = cc
-
-  never-item : (d : ℕ) (a : _) (r : List ℕ) → item noNote d [] ≡ got a r → ⊥
-  unfolding item read.beyond read.here read.byte
-  never-item zero a r e = differ (sym e)
-  never-item (suc d) a r e = differ (sym e)
-
-  too-deep : (b : ℕ) (t : List ℕ) → Deep b t
-  unfolding item read.beyond
-  too-deep b t = record { number = _; is = refl }
-
-  module _ (left : ℕ) {at : ℕ} (i : Going left at) where
-    pub items-missing : length s ≤ at → LeftBy (item noNote levels) s 0
-    items-missing l = at-end i l (no-item left) (never-item left)
-
-    module _ (l : at < length s) where
-      pub no-level : left ≡ 0 → LeftBy (item noNote levels) s (length s - at)
-      no-level e = stops-here i l (ap (λ d. item noNote d (getD s at 0 ∷ drop (suc at) s)) e ∙ too-deep (getD s at 0) (drop (suc at) s) .is)
-
-      pub a-break : (left ≡ 0 → ⊥) → getD s at 0 ≡ 255 → LeftBy (item noNote levels) s (length s - at)
-      a-break n e = go left refl
-        where
-          go : (d : ℕ) → left ≡ d → LeftBy (item noNote levels) s (length s - at)
-          go zero f = absurd (n f)
-          go (suc d) f = stops-here i l (ap (λ d. item noNote d (getD s at 0 ∷ drop (suc at) s)) f ∙ broken d (getD s at 0) (drop (suc at) s) e)
-
-      module _ (room : length s < FAULT) (r : ℕ) (is : r ≡ code (itemEnd left (drop at s))) where
-        pub next-item : r ≤ length s - at → Going left (at + r)
-        next-item w =
-            let e = got-what (item noNote left) (item-exact left) (drop at s) r (passes (item noNote left) (item-exact left) (item-hungry left) s room at (i .within) r is w) in
-            goes-on i r l (e .is) (let v = i .within in omega (arith, v, w))
-
-        pub item-byte : r ≤ length s - at → 1 ≤ r
-        item-byte w = takes-a-byte (item noNote left) (item-exact left) (item-hungry left) s room at (i .within) r is w
-
-        module _ (w : length s - at < r) (d : ℕ) (z : left ≡ suc d) where
-          refused-here : {C : Type 0} → ((n : ℕ) (q : List ℕ) → item noNote left (drop at s) ≡ refused n q → item noNote (suc d) (getD s at 0 ∷ drop (suc at) s) ≡ refused n q → C) → C
-          refused-here f =
-              let x = fails (item noNote left) (item-exact left) (item-hungry left) s room at (i .within) r is w in
-              let e = refused-what (item noNote left) (item-exact left) (drop at s) (x .number) (x .is-fault) in
-              f (x .number) (e .at) (e .is) (ap (λ d. item noNote d (getD s at 0 ∷ drop (suc at) s)) (sym z) ∙ ap (item noNote left) (sym (from-at s at l)) ∙ e .is)
-
-          pub plain-item : (k : ℕ) → holds (getD s at 0) ≡ false → PlainStops (drop at s) k → LeftBy (item noNote levels) s k
-          plain-item k h f =
-              refused-here λ n q e g.
-              stops-at i l e (f d (ap (λ u. holds (getD u 0 0)) (from-at s at l) ∙ h) n q (ap (item noNote (suc d)) (from-at s at l) ∙ g))
-
-          module _ (a : 128 ≤ getD s at 0) (b : getD s at 0 < 224) where
-            pub bad-head : (k size : ℕ) → size ≡ headOf (drop at s) .size → length s - at < size → k ≡ headLeft (drop at s) → LeftBy (item noNote levels) s k
-            bad-head k size y v f =
-                refused-here λ n q e g.
-                stops-at i l e (f ∙ ap headLeft (from-at s at l)
-                ∙ heads.no-head d (getD s at 0) (drop (suc at) s) g a b
-                (let x : headOf (drop at s) .size ≡ headOf (getD s at 0 ∷ drop (suc at) s) .size = ap (λ u. headOf u .size) (from-at s at l) in
-                let t : length (drop at s) ≡ length (getD s at 0 ∷ drop (suc at) s) = ap length (from-at s at l) in let p = length-drop at s in omega (arith, x, t, p, y, v)))
-
-            pub bad-tag : getD s at 0 ≡ 223 → LeftBy (item noNote levels) s (length s - at)
-            bad-tag y =
-                refused-here λ n q e g.
-                stops-at i l e (left-at s at (i .within) ∙ ap length (from-at s at l) ∙ heads.open-tag d (getD s at 0) (drop (suc at) s) g y)
-
-            pub into-it : (size : ℕ) → (getD s at 0 ≡ 223 → ⊥) → size ≡ headOf (drop at s) .size → size ≤ length s - at → Going d (at + size)
-            into-it size y h v =
-                let x : headOf (drop at s) .size ≡ headOf (getD s at 0 ∷ drop (suc at) s) .size = ap (λ u. headOf u .size) (from-at s at l) in
-                let t : length (drop at s) ≡ length (getD s at 0 ∷ drop (suc at) s) = ap length (from-at s at l) in
-                let p = length-drop at s in
-                record {
-                  within = let o = i .within in omega (arith, o, v);
-                  run = λ n q e. refused-here λ c p′ f g.
-                      let same : q ≡ p′ = stuck-refused (item noNote left) f (omega (arith, p, l)) (i .run n q e) in
-                      subst (λ u. Stuck (item noNote d) u (drop (at + size) s)) (sym same)
-                      (subst (Stuck (item noNote d) p′)
-                      (ap (λ k. drop k (getD s at 0 ∷ drop (suc at) s)) (sym x ∙ sym h) ∙ ap (drop size) (sym (from-at s at l)) ∙ drop-drop size at s)
-                      (heads.goes-in d (getD s at 0) (drop (suc at) s) g (omega (arith, room, t, p)) a b y (omega (arith, x, t, p, h, v))));
-                }
-
-pub low-holds-none : (b : ℕ) → b < 128 → holds b ≡ false
-low-holds-none b l = rw (lt-leb 128 b l)
-
-pub high-holds-none : (b : ℕ) → 224 ≤ b → holds b ≡ false
-high-holds-none b l = rw (le-leb 128 b (omega (arith, l)), le-ltb b 224 l)
-
-pub some-head : (s : List ℕ) (size : ℕ) → size ≡ headOf s .size → 1 ≤ size
-unfolding headOf
-some-head [] size e = omega (arith, e)
-some-head (b ∷ t) size e = let h = heads.head-some b t in omega (arith, e, h)

@@ -1,5 +1,9 @@
 // Where the reading of an item that is refused stops (document 02, Request 08): how many bytes are left at the first byte of the head met; 0 where they ended early.
 ghost use mathlib.Core.Path.{_≡_};
+ghost use mathlib.Core.Bool.{false};
+ghost use Prim.Native.Nat.{_<_};
+ghost use lib.ListN.{getD};
+ghost use Rattle.cbor.specs.Ending.{holds};
 ghost use Rattle.stop.specs.Stop as is;
 
 // A head that is refused: malformed where it stands, or cut off.
@@ -61,40 +65,142 @@ fn at_plain(s: &[u8]) -> usize
     at_head(&s[0..])
 }
 
-// The item that begins s, where `levels` levels are left, and is refused: each turn passes over an item that is well-formed, or goes into the one that isn't.
+// How many bytes an item takes, or how many are left where it is refused.
+enum Reached {
+    Past(usize),
+    Stopped(usize),
+}
+
+// An item that holds no other, where a level is left.
+fn plain(s: &[u8], left: u64) -> Reached
+    requires { ⌜ (0 < left) × (holds (getD (now s) 0 0) ≡ false) ⌝ }
+    ensures { λ r. ⌜ is.Reaches left (now (s .entry)) r ⌝ }
+{
+    let r = cbor::skip(&s[0..], left);
+    if s.len() < r {
+        return Reached::Stopped(at_plain(&s[0..]));
+    }
+    Reached::Past(r)
+}
+
+// What an array, a map or a tag holds that begins with b and has the head h.
+fn inside(b: u8, h: cbor::Argued) -> cbor::Holding
+    requires { ⌜ (b ≡ 223 → ⊥) ⌝ }
+    ensures { λ r. ⌜ is.Inside b h r ⌝ }
+{
+    if 192 <= b {
+        return cbor::Holding {
+            size: h.size,
+            count: 1,
+            mode: 0,
+        };
+    }
+    if b == 191 {
+        return cbor::Holding {
+            size: h.size,
+            count: h.value,
+            mode: 2,
+        };
+    }
+    if 160 <= b {
+        return cbor::Holding {
+            size: h.size,
+            count: cbor::doubled(h.value),
+            mode: 0,
+        };
+    }
+    if b == 159 {
+        return cbor::Holding {
+            size: h.size,
+            count: h.value,
+            mode: 1,
+        };
+    }
+    cbor::Holding {
+        size: h.size,
+        count: h.value,
+        mode: 0,
+    }
+}
+
+// How an item ended that holds no other or whose head is refused, or what it holds.
+enum Begun {
+    Ended(Reached),
+    Holds(cbor::Holding),
+}
+
+// The item that begins s, up to what it holds, where `left` levels are left.
+fn begin(s: &[u8], left: u64) -> Begun
+    ensures { λ r. ⌜ is.Begins left (now (s .entry)) r ⌝ }
+{
+    if s.len() == 0 {
+        return Begun::Ended(Reached::Stopped(0));
+    }
+    if left == 0 {
+        return Begun::Ended(Reached::Stopped(s.len()));
+    }
+    let b = s[0];
+    if b < 128 {
+        return Begun::Ended(plain(&s[0..], left));
+    }
+    if 224 <= b {
+        return Begun::Ended(plain(&s[0..], left));
+    }
+    let h = cbor::head(&s[0..]);
+    if s.len() < h.size {
+        return Begun::Ended(Reached::Stopped(at_head(&s[0..])));
+    }
+    if b == 223 {
+        return Begun::Ended(Reached::Stopped(s.len()));
+    }
+    Begun::Holds(inside(b, h))
+}
+
+// The item that begins s, where `left` levels are left. Whatever is passed is passed once, at whatever level it stands.
+fn pass(s: &[u8], left: u64) -> Reached
+    ensures { λ r. ⌜ is.Reaches left (now (s .entry)) r ⌝ }
+{
+    let begun = begin(&s[0..], left);
+    match begun {
+        Begun::Ended(r) => r,
+        Begun::Holds(h) => {
+            let mode = h.mode;
+            let mut due = h.count;
+            let mut at = h.size;
+            while 0 < due {
+                if s.len() <= at {
+                    return Reached::Stopped(0);
+                }
+                if s[at] == 255 {
+                    let end = cbor::broken(mode, due, at);
+                    if s.len() < end {
+                        return Reached::Stopped(s.len() - at);
+                    }
+                    return Reached::Past(end);
+                }
+                let next = pass(&s[at..], left - 1);
+                match next {
+                    Reached::Past(n) => {
+                        at += n;
+                        due -= 1;
+                    }
+                    Reached::Stopped(k) => {
+                        return Reached::Stopped(k);
+                    }
+                }
+            }
+            Reached::Past(at)
+        }
+    }
+}
+
+// The item that begins s, where `levels` levels are left, and is refused.
 pub fn stopped(s: &[u8], levels: u64) -> usize
     ensures { λ r. ⌜ is.Stops levels (now (s .entry)) r ⌝ }
 {
-    let mut at = 0;
-    let mut left = levels;
-    while at < s.len() {
-        let b = s[at];
-        if left == 0 {
-            return s.len() - at;
-        }
-        if b == 255 {
-            return s.len() - at;
-        }
-        let r = cbor::skip(&s[at..], left);
-        if r <= s.len() - at {
-            at += r;
-            continue;
-        }
-        if b < 128 {
-            return at_plain(&s[at..]);
-        }
-        if 224 <= b {
-            return at_plain(&s[at..]);
-        }
-        let h = cbor::head(&s[at..]);
-        if s.len() - at < h.size {
-            return at_head(&s[at..]);
-        }
-        if b == 223 {
-            return s.len() - at;
-        }
-        at += h.size;
-        left -= 1;
+    let reached = pass(&s[0..], levels);
+    match reached {
+        Reached::Past(_) => 0,
+        Reached::Stopped(k) => k,
     }
-    0
 }

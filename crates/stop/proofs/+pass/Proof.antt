@@ -1,0 +1,86 @@
+-- `stop::pass` meets its contract. Each turn of its loop passes one of the items that are held, or the item stops where that one does. Fewer levels are left for what is held.
+use Rattle.stop.proofs.Held as items
+use Rattle.stop.proofs.Held.{Walk}
+use Rattle.stop.specs.Stop.{Reaches, Begins}
+use lib.ListN.{length}
+use native.Mathlib.Omega.{arith}
+use borrow.Author.Needs.{needs}
+use Prim.Native.Nat.{ℕ, _-_, _<_}
+use borrow.Fn.Kinds.{In}
+use borrow.Fn.PlainCycle.{Measures, is, falls, and}
+use Rattle.stop.proofs.pass.Reads as pass
+use Rattle.stop.proofs.pass.Kinds as pass-kinds
+use Rattle.stop.proofs.+pass.Lts-pass as pass-lts
+use Rattle.cbor.proofs.broken.Reads as broken-reads
+use Rattle.stop.proofs.begin.Reads as begin-reads
+use Rattle.stop.proofs.+pass.{statement}
+use Rattle.stop.proofs.+pass.Tie.{close}
+
+abbrev μ-pass : Measures 1 pass-kinds.ps ℕ
+μ-pass κs a = a .1 .0
+
+abbrev pass-at : ℕ → In 1 pass-kinds.ps
+pass-at t = and 1 pass-kinds.ps (is 1 pass-kinds.ps μ-pass t) pass.Pre
+
+abbrev pass-below : ℕ → In 1 pass-kinds.ps
+pass-below t = and 1 pass-kinds.ps (falls 1 pass-kinds.ps _<_ μ-pass t) pass.Pre
+
+abbrev pass-Inv-loop : pass-lts.InvT-loop
+pass-Inv-loop s left mode due₀ at₀ due at = Walk left s mode due at
+
+abbrev pass-μ-loop : pass-lts.MeasureT-loop
+pass-μ-loop s left mode due₀ at₀ due at = length s - at
+
+pub +pass-spec : {M : Type 1} → statement M
++pass-spec = close μ-pass λ t. pass-lts.spec (
+  begin-reads.Asked,
+  begin-reads.Learnt,
+  broken-reads.Asked,
+  broken-reads.Learnt,
+  pass-below t,
+  pass.Post,
+)
+    (pass-at t)
+    pass.Post
+    pass-Inv-loop
+    pass-μ-loop
+    (λ c. search needs)
+    (λ c. search needs)
+    (λ c. search needs)
+    (λ c κs. search needs)
+    (λ c. search needs)
+    (λ c. search needs)
+    (λ c. let c3 = c .before .before .before in let a = c3 .before .before .before .args in
+    items.begins (a .left) (a .s .now) _ (omega arith) (items.told (Begins (a .left)) (a .s .now) 0 (c3 .begin .ensures) (c .before .begun2 .given .1)))
+    (λ c. items.missing (c .before .before .loop .inv) (c .before .loop-test .taken) (c .if1 .taken))
+    (λ c. search needs)
+    (λ c κs. search needs)
+    (λ c. search needs)
+    (λ c. let c2 = c .before .before in let c5 = c2 .before .before .before in
+    items.break-stops (c5 .before .loop .inv) (c5 .loop-test .taken) (omega arith) (c2 .if2 .taken) _ (c .before .broken .ensures) (c .if3 .taken))
+    (λ c. let c2 = c .before .before in let c5 = c2 .before .before .before in
+    items.break-passes (c5 .before .loop .inv) (c5 .loop-test .taken) (omega arith) (c2 .if2 .taken) _ (c .before .broken .ensures) (omega arith))
+    (λ c. search needs)
+    (λ c. search needs)
+    (λ c. search needs)
+    (λ c. search needs)
+    (λ c κs. let c5 = c .before .before .before .before .before in (omega (arith, c5 .loop .inv .level, c5 .before .before .before .before .before .before .before .pre .0), tt))
+    (λ c. search needs)
+    (λ c. let c3 = c .before .before .before in let c5 = c3 .before .before in let c8 = c5 .before .before .before in let l = c8 .before .loop in
+    let a = c8 .before .before .before .before .before .before .before .before .args in
+    let p = items.item-passes (l .inv) (c8 .loop-test .taken) (omega arith) (c5 .if2 .left) _ (items.told (Reaches (a .left - 1)) (a .s .now) (l .at) (c3 .pass .ensures) (c .before .next .given .1)) in
+    omega (arith, p .next .going .within))
+    (λ c. search needs)
+    (λ c. let c3 = c .before .before .before in let c5 = c3 .before .before in let c8 = c5 .before .before .before in let l = c8 .before .loop in
+    let a = c8 .before .before .before .before .before .before .before .before .args in
+    let p = items.item-passes (l .inv) (c8 .loop-test .taken) (omega arith) (c5 .if2 .left) _ (items.told (Reaches (a .left - 1)) (a .s .now) (l .at) (c3 .pass .ensures) (c .before .next .given .1)) in
+    omega (arith, p .further-on, p .next .going .within))
+    (λ c. let c3 = c .before .before .before in let c5 = c3 .before .before in let c8 = c5 .before .before .before in let l = c8 .before .loop in
+    let a = c8 .before .before .before .before .before .before .before .before .args in
+    items.item-passes (l .inv) (c8 .loop-test .taken) (omega arith) (c5 .if2 .left) _ (items.told (Reaches (a .left - 1)) (a .s .now) (l .at) (c3 .pass .ensures) (c .before .next .given .1)) .next)
+    (λ c. search needs)
+    (λ c. let c3 = c .before .before .before in let c5 = c3 .before .before in let c8 = c5 .before .before .before in let l = c8 .before .loop in
+    let a = c8 .before .before .before .before .before .before .before .before .args in
+    items.item-stops (l .inv) (c8 .loop-test .taken) (omega arith) (c5 .if2 .left) (items.told (Reaches (a .left - 1)) (a .s .now) (l .at) (c3 .pass .ensures) (c .before .next2 .given .1)))
+    (λ c. let c3 = c .before .before .before in let a = c3 .before .before .before .args in items.told (Begins (a .left)) (a .s .now) 0 (c3 .begin .ensures) (c .before .begun .given .1))
+    (λ c. items.all-passed (c .before .loop .inv) (omega arith))
