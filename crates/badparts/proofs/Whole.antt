@@ -1,7 +1,7 @@
 -- Components and rules, a branch each.
 use Prim.Native.Nat.{ℕ, _-_, _*_, _≤_, _<_}
 use mathlib.Core.List.{List, [], _++_, map}
-use mathlib.Core.Bool.{Bool, true, false, cond}
+use mathlib.Core.Bool.{Bool, true, false}
 use mathlib.Core.Option.{Option, none, some}
 use mathlib.Core.Path.{_≡_, refl, ap, sym, _∙_, subst}
 use native.Mathlib.Omega.{arith}
@@ -19,17 +19,16 @@ use Rattle.meaning.specs.Field.{names}
 use Rattle.meaning.specs.Judge as judge
 use Rattle.meaning.specs.Judge.{inherited, part, componentsOf}
 use Rattle.meaning.proofs.Checks.{each-length}
-use Rattle.types.specs.Known.{position, formatNames}
 use Rattle.walk.specs.Reading.{Ends, Reads}
 use Rattle.walk.proofs.Passed.{Here}
 use Rattle.walk.proofs.ReadSays.{note-of}
 use Rattle.fields.specs.Slots.{Stands}
 use Rattle.component.specs.Value as value
-use Rattle.components.specs.Firsts.{offered, FoundIs, ComponentsAre}
+use Rattle.table.specs.Given.{offered}
+use Rattle.components.specs.Firsts.{FoundIs, ComponentsAre}
 use Rattle.components.specs.declared.Found.{Found}
 use Rattle.components.specs.declared.Found.the-variants.{No, Yes}
 use Rattle.formats.specs.Parts.{partRows}
-use Rattle.object.specs.Place.{formatCode}
 use Rattle.explained.specs.Step as steps
 use Rattle.explained.specs.Step.{Step, first, given, eachOf}
 use Rattle.explained.specs.Order.{allOf, componentSteps, componentsSteps, nameSteps, formatSteps, lengthNote}
@@ -39,17 +38,16 @@ use Rattle.explained.proofs.Why.{orElse, first-++}
 use Rattle.spot.specs.Shown.{spot, shown}
 use Rattle.spot.specs.declared.Spot.{Spot}
 use Rattle.badnames.specs.Keys.{Tells, NamesAt}
-use Rattle.badfields.proofs.Firsts.{Each, each-first, none-first, shown-none}
-use Rattle.badvalues.specs.Steps.{Alone}
+use Rattle.badfields.proofs.Firsts.{each-first, shown-none}
 use Rattle.badvalues.proofs.Alone.{numbered, spot-alone, passes-so}
 use Rattle.badrules.specs.Blame.{blames}
 use Rattle.badrules.proofs.Rules as rules
 use Rattle.badrules.proofs.Blamed as ruled
 use Rattle.badparts.specs.declared.Owned.{Owned}
-use Rattle.badparts.specs.Parts.{owned, ownedBy, ruleSteps, partSteps, InsideIs, ValueIs, LengthIs, Fits, Passing, BlameIs, Rule, RoleIs, RuledIs, WithinIs}
-use Rattle.badparts.proofs.Early.{Low, each-low, names-plain}
+use Rattle.badparts.specs.Parts.{owned, ownedBy, ruleSteps, partSteps, InsideIs, ValueIs, LengthIs, Passing, BlameIs, Rule, RoleIs, RuledIs, WithinIs}
+use Rattle.badparts.proofs.Early.{each-low, names-plain}
 use Rattle.badparts.proofs.Alike.{given-alike}
-use Rattle.badparts.proofs.Blames.{Blamed, blamed, picked, got}
+use Rattle.badparts.proofs.Blames.{blamed, picked, got}
 
 -- ---------------------------------------------------------------- components that pass
 

@@ -3,6 +3,7 @@
 use components::Found;
 use fields::place_of;
 use spot::Spot;
+use table::Place;
 ghost use mathlib.Core.Path.{_≡_};
 ghost use Rattle.badnames.specs.Keys.{NamesAt};
 ghost use Rattle.badparts.specs.Parts as is;
@@ -66,7 +67,23 @@ fn to_blame(layout: u64, format: u64, code: u64, s: &[u8], start: u64) -> bool
     ensures { λ r. ⌜ is.BlameIs layout format code (now (s .entry)) start r ⌝ }
 {
     let mut rows = [0u64; 64];
-    let w = components::components(layout, format, code, &s[0..], start, &mut rows);
+    let mut none = [0u64; 0];
+    let to = Place {
+        end: 0,
+        owner: 0,
+        row: 0,
+        from: 0,
+    };
+    let w = components::components(
+        layout,
+        format,
+        code,
+        &s[0..],
+        start,
+        to,
+        &mut rows,
+        &mut none,
+    );
     let found = w.found;
     match found {
         Found::No(_, _) => false,

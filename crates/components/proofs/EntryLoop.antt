@@ -7,20 +7,22 @@ use mathlib.Core.Path.{_≡_, refl, sym, subst}
 use lib.ListN.{length, drop}
 use borrow.Rule.Slice.PartAt.{part-to-end}
 use Rattle.meaning.specs.Tree.{Pair}
-use Rattle.meaning.specs.Check.{pass}
 use Rattle.meaning.specs.Layouts.{layoutOf}
 use Rattle.walk.specs.Reading.{Ends, Reads}
 use Rattle.component.specs.Value.{given}
 use Rattle.walk.proofs.Passed.{Here}
 use Rattle.component.specs.Verdict.{ComponentIs}
 use Rattle.component.specs.declared.Judged.{Judged}
-use Rattle.naming.specs.NotedNames.{tally, Tallied, Noted}
+use Rattle.naming.specs.NotedNames.{tally, Noted}
 use Rattle.naming.specs.declared.Tally.{Tally}
 use Rattle.naming.proofs.NameNoted.{none-noted}
 use Rattle.formats.specs.Parts.{partRows}
 use Rattle.components.specs.declared.First.{First}
 use Rattle.components.specs.declared.First.the-variants.{Fine}
-use Rattle.components.specs.Firsts.{entries, Given, Keeps, Kept}
+use Rattle.table.specs.Given.{Given}
+use Rattle.table.specs.Rows.{Rowed}
+use Rattle.table.specs.declared.Place.{Place}
+use Rattle.components.specs.Firsts.{entries, Keeps, Kept}
 
 pub none-kept : (g : Given) (start : ℕ) (s left size rows : List ℕ) → length size ≡ length left → Kept g start s (tally 0 false false) left size Fine rows []
 unfolding entries partRows
@@ -38,3 +40,8 @@ module _ (g : Given) (start : ℕ) (s : List ℕ) (at k : ℕ) (inside : at + k 
         named = noted .1 s at (omega arith) (part-to-end s at) done 27 p q a (kept .named);
         judged = keeps start done p 27 q r a b judged (kept .named .counted) (kept .judged);
       }
+
+-- what was noted of the pairs passed, and the table
+pub record SoFar (g : Given) (start : ℕ) (to : Place) (s : List ℕ) (names : Tally) (left size : List ℕ) (first : First) (rows before : List ℕ) (next : ℕ) (t : List ℕ) (done : List (Pair Ends)) : Type 0 where
+  pub kept : Kept g start s names left size first rows done
+  pub rowed : Rowed g start (to .end) (to .owner) (to .from) before next t done

@@ -1,12 +1,12 @@
 -- The first fault is kept: one more entry, sound or not; and what the whole map comes to.
-use Prim.Native.Nat.{ℕ, suc, _+_, _*_, _≤_, _<_}
+use Prim.Native.Nat.{ℕ, suc, _*_, _≤_, _<_}
 use native.Mathlib.Omega.{arith}
 use mathlib.Core.List.{List, [], _∷_, _++_, map, append-nil}
 use mathlib.Core.Path.{_≡_, refl, ap, sym, _∙_}
 use mathlib.Core.Option.{Option}
 use lib.ListN.{length, take, length-append}
 use Rattle.meaning.specs.Tree.{Node, Pair}
-use Rattle.meaning.specs.Check.{Check, pass, refuse, _>>=_, fault, inComponent, each}
+use Rattle.meaning.specs.Check.{pass, refuse, _>>=_, inComponent}
 use Rattle.meaning.specs.Limit.{componentLimit}
 use Rattle.meaning.specs.Model.{Component}
 use Rattle.meaning.specs.Field.{names}
@@ -23,7 +23,8 @@ use Rattle.naming.proofs.NameNoted.{map-snoc}
 use Rattle.naming.proofs.Entries as named-entries
 use Rattle.components.specs.declared.First.the-variants.{Fine, Fault}
 use Rattle.components.specs.declared.Found.the-variants.{No, Yes}
-use Rattle.components.specs.Firsts.{entry, entries, FirstIs, FoundIs}
+use Rattle.table.specs.Given.{entry}
+use Rattle.components.specs.Firsts.{entries, FirstIs, FoundIs}
 
 rows-of-one : (d : formats.Part) → partRows (d ∷ []) ≡ partRow d
 unfolding partRows

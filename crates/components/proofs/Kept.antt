@@ -1,10 +1,9 @@
 -- One more entry, a branch of `keep` each.
-use Prim.Native.Nat.{ℕ, suc, _+_, _*_, _<_}
+use Prim.Native.Nat.{ℕ, suc, _*_, _<_}
 use native.Mathlib.Omega.{arith}
 use mathlib.Core.List.{List, [], _∷_, _++_}
 use mathlib.Core.Bool.{_&&_}
 use mathlib.Core.Path.{_≡_, refl, ap, sym, _∙_, subst}
-use mathlib.Core.Option.{Option}
 use lib.ListN.{length, take}
 use lib.Dec.{eqb}
 use Rattle.meaning.specs.Check.{Check, pass, refuse}
@@ -30,12 +29,15 @@ use Rattle.component.specs.declared.Judged.{Judged}
 use Rattle.component.specs.declared.Judged.the-variants.{No, Yes}
 use Rattle.components.specs.declared.First.{First}
 use Rattle.components.specs.declared.First.the-variants.{Fine, Fault}
-use Rattle.components.specs.Firsts.{Given, offered, FirstIs, Keeps}
-use Rattle.components.specs.Typed.{WordAt, bare, lettered, UnitIs}
-use Rattle.components.specs.Row.{putRow, RoleIs, storedAs}
+use Rattle.table.specs.Given.{Given, offered}
+use Rattle.components.specs.Firsts.{FirstIs, Keeps}
+use Rattle.table.specs.WordAt.{WordAt, bare, lettered}
+use Rattle.components.specs.Typed.{UnitIs}
+use Rattle.table.specs.Stored.{RoleIs, storedAs}
+use Rattle.components.specs.Row.{putRow}
 use Rattle.components.proofs.FirstFault.{fault-stays, first-fault, still-fine}
-use Rattle.components.proofs.Lettered.{type-at, named-so}
-use Rattle.components.proofs.Storage.{withCode, stored-so}
+use Rattle.table.proofs.Lettered.{type-at, named-so}
+use Rattle.table.proofs.Storage.{withCode, stored-so}
 use Rattle.components.proofs.Rows.{row-length, row-after}
 
 plain-is : (c : List ℕ) (k : Component Ends) → WordAt c (k .type) → flag (eqb (leftWord (k .type)) 0 && eqb (k .dtype) 8) ≡ flag (plain (part k))

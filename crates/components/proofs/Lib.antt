@@ -1,9 +1,6 @@
 pub mod FirstFault
-pub mod Typed
-pub mod Lettered
 pub mod Units
 pub mod Rows
-pub mod Storage
 pub mod Kept
 pub mod EntryLoop
 pub mod MapEnd

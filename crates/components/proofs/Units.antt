@@ -20,7 +20,8 @@ use Rattle.walk.specs.declared.Letters.the-variants.{NoText, Text}
 use Rattle.component.specs.Value.{leftWord}
 use Rattle.fields.proofs.Places as places
 use Rattle.fields.proofs.Texts.{Here, no-word, word, letters}
-use Rattle.components.specs.Typed.{bare, lettered, SpeltUnit, UnitIs}
+use Rattle.table.specs.WordAt.{bare, lettered}
+use Rattle.components.specs.Typed.{SpeltUnit, UnitIs}
 
 module _ (s : List ℕ) (l : Letters) (h : TextIs (Here s 0) l) (code : ℕ) where
   pub unit-kind : l ≡ NoText → SpeltUnit s code 0

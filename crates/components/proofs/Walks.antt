@@ -1,8 +1,7 @@
 -- The whole value: a map's head, its entries and what they come to, or no map. The value c is lent whole to `walk::map`, which answered x.
-use Prim.Native.Nat.{ℕ, _+_, _-_, _≤_, _<_}
+use Prim.Native.Nat.{ℕ}
 use mathlib.Core.List.{List}
 use mathlib.Core.Path.{_≡_, refl, subst}
-use lib.ListN.{length, drop}
 use borrow.Rule.Slice.PartAt.{part-to-end}
 use Rattle.meaning.specs.Field.{names}
 use Rattle.meaning.specs.Judge.{componentsOf}
@@ -15,7 +14,8 @@ use Rattle.naming.specs.declared.Tally.{Tally}
 use Rattle.components.specs.declared.First.{First}
 use Rattle.components.specs.declared.Found.{Found}
 use Rattle.components.specs.declared.Found.the-variants.{No}
-use Rattle.components.specs.Firsts.{Given, Walked, Concluded, ComponentsAre}
+use Rattle.table.specs.Given.{Given}
+use Rattle.components.specs.Firsts.{Walked, Concluded, ComponentsAre}
 
 module _ (g : Given) (c : List ℕ) (start : ℕ) (x : Opening) (h : MapIs (Here c 0) x) where
   pub no-map : (rows : List ℕ) → x ≡ NotOpen → ComponentsAre g c start (No 8 0) rows

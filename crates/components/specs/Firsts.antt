@@ -1,17 +1,16 @@
 -- The entries of a `components` map, as they are judged one by one, and the whole map's judgement.
-use Prim.Native.Nat.{ℕ, suc, _*_, _≤_, _<_}
+use Prim.Native.Nat.{ℕ, suc, _*_, _≤_}
 use mathlib.Core.List.{List, [], _∷_, _++_, map}
 use mathlib.Core.Path.{_≡_}
 use mathlib.Core.Option.{Option}
 use lib.ListN.{length, take}
 use Rattle.meaning.specs.Tree.{Node, Pair}
-use Rattle.meaning.specs.Check.{Check, pass, refuse, inComponent, each}
+use Rattle.meaning.specs.Check.{Check, pass, refuse, each}
 use Rattle.meaning.specs.Limit.{componentLimit}
-use Rattle.meaning.specs.Model.{Named, Component}
-use Rattle.meaning.specs.Judge.{inherited, component, componentsOf, part}
+use Rattle.meaning.specs.Model.{Component}
+use Rattle.meaning.specs.Judge.{componentsOf, part}
 use Rattle.meaning.specs.Kind.{kind, mapping}
 use Rattle.meaning.specs.Layouts.{Layout, layoutOf}
-use Rattle.types.specs.Known.{position, formatNames}
 use Rattle.walk.specs.Reading.{Ends, Reads, Due}
 use Rattle.component.specs.Value.{given}
 use Rattle.component.specs.Verdict.{ComponentIs}
@@ -19,14 +18,11 @@ use Rattle.component.specs.declared.Judged.{Judged}
 use Rattle.formats.specs.Parts.{partRows}
 use Rattle.naming.specs.NotedNames.{namedAnyway, Tallied}
 use Rattle.naming.specs.declared.Tally.{Tally}
+use Rattle.table.specs.Given.{Given, Whichever, entry}
 use Rattle.components.specs.declared.First.{First}
 use Rattle.components.specs.declared.First.the-variants.{Fine, Fault}
 use Rattle.components.specs.declared.Found.{Found}
 use Rattle.components.specs.declared.Found.the-variants.{No, Yes}
-
--- an entry, with its index
-unfoldable pub entry : Layout → (List ℕ → Option ℕ) → ℕ → ℕ → Named Ends → Check (Component Ends)
-entry L above start j n = inComponent j (component L start (above (n .name .letters)) n)
 
 -- the entries of the pairs so far
 unfoldable pub entries : Layout → (List ℕ → Option ℕ) → ℕ → List (Pair Ends) → Check (List (Component Ends))
@@ -39,19 +35,6 @@ pub record Rowed (cs : List (Component Ends)) (rows : List ℕ) : Type 0 where
 abbrev pub FirstIs : Layout → (List ℕ → Option ℕ) → ℕ → List (Pair Ends) → First → List ℕ → Type 0
 FirstIs L above start done Fine rows = (cs : List (Component Ends)) × (entries L above start done ≡ pass cs) × Rowed cs rows
 FirstIs L above start done (Fault n c) rows = (o : ℕ) × (entries L above start done ≡ refuse n o c)
-
--- what an object gives to its components: the layout's number, the code of its format, and the code of its dtype, 13 or more for none
-pub record Given : Type 0 where
-  pub layout : ℕ
-  pub format : ℕ
-  pub code : ℕ
-
-abbrev pub offered : ℕ → ℕ → ℕ → Given
-offered layout format code = record { layout = layout; format = format; code = code }
-
--- for every format with that code; in layout 1.0 an object has a dtype
-abbrev pub Whichever : Given → ((List ℕ → Option ℕ) → Type 0) → Type 0
-Whichever g Q = (f : List ℕ) → g .format ≡ position formatNames f → (g .layout ≡ 1 → g .code < 13) → Q (inherited f (given (g .code)))
 
 abbrev pub FirstsAre : Given → ℕ → List (Pair Ends) → First → List ℕ → Type 0
 FirstsAre g start done first rows = Whichever g λ above. FirstIs (layoutOf (g .layout)) above start done first rows

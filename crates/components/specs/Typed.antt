@@ -1,10 +1,7 @@
--- The logical type of a component that passes, and its digest: none, or a text that stands in the component's bytes c.
-use Prim.Native.Nat.{ℕ, suc}
+-- Bytes of one element, by the logical type of a component that passes.
+use Prim.Native.Nat.{ℕ}
 use mathlib.Core.List.{List}
-use mathlib.Core.Option.{Option, none, some}
 use mathlib.Core.Path.{_≡_}
-use lib.ListN.{length}
-use Rattle.meaning.specs.Tree.{Node}
 use Rattle.meaning.specs.Check.{pass}
 use Rattle.meaning.specs.Model.{Word, Component}
 use Rattle.meaning.specs.Kind.{aWord}
@@ -14,12 +11,8 @@ use Rattle.types.specs.Known.{unitNumber}
 use Rattle.formats.specs.Parts.{unitCode}
 use Rattle.walk.specs.Reading.{Ends}
 use Rattle.walk.specs.Places.{Whatever}
-use Rattle.fields.specs.Slots.{Holds}
 use Rattle.component.specs.Value.{leftWord}
-
-pub data WordAt (c : List ℕ) (o : Option (Word Ends)) : Type 0 where
-  bare : o ≡ none → WordAt c o
-  lettered : (w : Word Ends) → o ≡ some w → (d : ℕ) (t : Node Ends) → Holds (suc d) c (length (w .note .start)) (some t) → aWord t ≡ pass w → WordAt c o
+use Rattle.table.specs.WordAt.{WordAt}
 
 -- bytes of one element, as `types::unit_of` gives them, over the storage with this code, of the logical type that begins s
 abbrev pub SpeltUnit : List ℕ → ℕ → ℕ → Type 0

@@ -1,22 +1,26 @@
-// The `components` map of an object: its names, and each component judged, in one walk.
+// The `components` map of an object: its names, and each component judged and its row put, in one walk. Whoever wants no rows lends an empty table.
 pub mod row;
 
 use component::Judged;
 use naming::Named;
 use naming::Tally;
 use row::plain;
-use row::put_row;
-use row::role;
-use row::stored;
 use row::unit;
+use table::Place;
+use table::lay::ahead;
+use table::row::put_row;
+use table::stored::role;
+use table::stored::stored;
 use walk::Entry;
 use walk::Opening;
 ghost use mathlib.Core.Path.{_≡_};
 ghost use Prim.Native.Nat.{ℕ};
 ghost use lib.ListN.{length};
 ghost use Rattle.cbor.specs.Ending.{code as ending, itemEnd, rest};
-ghost use Rattle.components.specs.Firsts.{offered, Keeps, Walked, Concluded, ComponentsAre};
 ghost use Rattle.walk.specs.Places.{Modes};
+ghost use Rattle.table.specs.Given.{offered};
+ghost use Rattle.table.specs.Rows.{AllRowed, RowsPut};
+ghost use Rattle.components.specs.Firsts.{Keeps, Walked, Concluded, ComponentsAre};
 
 // The first fault among the entries so far: its number and the component.
 pub enum First {
@@ -65,14 +69,14 @@ fn keep(
                 let r = role(&s[0..]);
                 let kept = stored(layout, format, r, code);
                 let u = unit(&c[0..], kept, left);
-                put_row(rows, j, r, u, plain(kept, left), size);
+                row::put_row(rows, j, r, u, plain(kept, left), size);
                 First::Fine
             }
         },
     }
 }
 
-// Entries that begin s, counted as `walk::map` says. Their names are noted in left and size, their rows are put.
+// Entries that begin s, counted as `walk::map` says. Their names are noted in left and size, their rows are put: into rows for the judge, into t for the reader.
 fn entries(
     layout: u64,
     format: u64,
@@ -81,12 +85,14 @@ fn entries(
     start: u64,
     mode: u64,
     count: u64,
+    to: Place,
     left: &mut [usize],
     size: &mut [usize],
     rows: &mut [u64],
+    t: &mut [u64],
 ) -> Run
     requires { ⌜ (length (now left) ≡ 16) × (length (now size) ≡ 16) × (length (now rows) ≡ 64) × Modes mode count ⌝ }
-    ensures { λ r. ⌜ (r .end ≡ ending (rest mode count 28 (now (s .entry)))) × (length (now (left .exit)) ≡ 16) × (length (now (rows .exit)) ≡ 64) × Walked (offered layout format code) start mode count (now (s .entry)) (r .names) (now (left .exit)) (now (size .exit)) (r .first) (now (rows .exit)) ⌝ }
+    ensures { λ r. ⌜ (r .end ≡ ending (rest mode count 28 (now (s .entry)))) × (length (now (left .exit)) ≡ 16) × (length (now (rows .exit)) ≡ 64) × Walked (offered layout format code) start mode count (now (s .entry)) (r .names) (now (left .exit)) (now (size .exit)) (r .first) (now (rows .exit)) × AllRowed (offered layout format code) start (to .end) (to .owner) (to .from) mode count (now (s .entry)) (now (t .entry)) (now (t .exit)) ⌝ }
 {
     let mut at = 0;
     let mut due = count;
@@ -96,6 +102,7 @@ fn entries(
         bad: false,
     };
     let mut first = First::Fine;
+    let mut next = to.from;
     loop {
         match walk::past_key(&s[at..], mode, due, 28) {
             Entry::End(e) => {
@@ -123,6 +130,7 @@ fn entries(
                     };
                 }
                 let judged = w.verdict;
+                let e = w.end;
                 first = keep(
                     layout,
                     format,
@@ -133,6 +141,19 @@ fn entries(
                     first,
                     rows,
                 );
+                put_row(
+                    layout,
+                    format,
+                    &s[at..],
+                    &s[v..],
+                    judged,
+                    e,
+                    to.end,
+                    to.owner,
+                    next,
+                    t,
+                );
+                next = ahead(next, columns::COMPONENT, t.len());
                 names = naming::note(&s[at..], names, left, size);
                 at = v + w.end;
                 due -= 2;
@@ -157,7 +178,7 @@ fn verdict(m: &[u8], names: Tally, first: First, left: &[usize], size: &[usize])
     }
 }
 
-// The components that begin c, at depth 4, of a file whose manifest begins at `start`. Their rows are put, four numbers each. `format` (types::format_code) and `code`, 13 or
+// The components that begin c, at depth 4, of a file whose manifest begins at `start`. Their rows are put into t, and into rows four numbers for each. `format` (types::format_code) and `code`, 13 or
 // more for none, are what their object says of their storage.
 pub fn components(
     layout: u64,
@@ -165,10 +186,12 @@ pub fn components(
     code: u64,
     c: &[u8],
     start: u64,
+    to: Place,
     rows: &mut [u64],
+    t: &mut [u64],
 ) -> Whole
     requires { ⌜ length (now rows) ≡ 64 ⌝ }
-    ensures { λ r. ⌜ (r .end ≡ ending (itemEnd 29 (now (c .entry)))) × (length (now (rows .exit)) ≡ 64) × ComponentsAre (offered layout format code) (now (c .entry)) start (r .found) (now (rows .exit)) ⌝ }
+    ensures { λ r. ⌜ (r .end ≡ ending (itemEnd 29 (now (c .entry)))) × (length (now (rows .exit)) ≡ 64) × ComponentsAre (offered layout format code) (now (c .entry)) start (r .found) (now (rows .exit)) × RowsPut (offered layout format code) (now (c .entry)) start (to .end) (to .owner) (to .from) (now (t .entry)) (now (t .exit)) ⌝ }
 {
     let mut left = [0usize; 16];
     let mut size = [0usize; 16];
@@ -186,9 +209,11 @@ pub fn components(
                 start,
                 mode,
                 count,
+                to,
                 &mut left,
                 &mut size,
                 rows,
+                t,
             );
             let names = w.names;
             let first = w.first;

@@ -7,7 +7,7 @@ ghost use lib.Dec.{eqb};
 ghost use lib.ListN.{length};
 ghost use Rattle.formats.specs.Parts.{flag};
 ghost use Rattle.components.specs.Typed as is;
-ghost use Rattle.components.specs.Row.{putRow, RoleIs, storedAs};
+ghost use Rattle.components.specs.Row.{putRow};
 
 // Bytes of one element of the logical type that begins s, as types::unit_of has them.
 fn spelt_unit(s: &[u8], code: u64) -> u64
@@ -31,19 +31,6 @@ pub fn unit(c: &[u8], code: u64, left: usize) -> u64
     }
     let at = place_of(c.len(), left);
     spelt_unit(&c[at..], code)
-}
-
-// The code of the role that the key at the start of s names.
-pub fn role(s: &[u8]) -> u64
-    ensures { λ r. ⌜ RoleIs (now (s .entry)) r ⌝ }
-{
-    match walk::text(&s[0..]) {
-        Letters::NoText => 8,
-        Letters::Text(at, n) => {
-            let e = at + n;
-            types::role_code(&s[at..e])
-        }
-    }
 }
 
 // Puts the row of component j, if there is room: the code of its role, bytes of one element, 1 for plain u64, and its length.
@@ -70,28 +57,4 @@ pub fn plain(code: u64, left: usize) -> u64
         }
     }
     0
-}
-
-// The storage of a component with this role, judged with this code. In layout 1.0 an index role is u64, whatever its object's dtype.
-pub fn stored(layout: u64, format: u64, role: u64, code: u64) -> u64
-    ensures { λ r. ⌜ r ≡ storedAs layout format role code ⌝ }
-{
-    if layout != 1 {
-        return code;
-    }
-    if format == 1 {
-        if role == 2 {
-            return 8;
-        }
-        if role == 3 {
-            return 8;
-        }
-        return code;
-    }
-    if format == 2 {
-        if role == 4 {
-            return 8;
-        }
-    }
-    code
 }

@@ -19,8 +19,8 @@ use Rattle.fields.specs.Slots.{Stands, Holds}
 use Rattle.fields.proofs.Texts.{Here}
 use Rattle.fields.proofs.Stands.{some-left}
 use Rattle.component.specs.Value.{leftWord}
-use Rattle.components.specs.Typed.{WordAt, bare, lettered}
-use Rattle.components.proofs.Lettered.{word-note}
+use Rattle.table.specs.WordAt.{WordAt, bare, lettered}
+use Rattle.table.proofs.Lettered.{word-note}
 use Rattle.explained.specs.Step
 use Rattle.explained.specs.Step.{Step, first, refusal}
 use Rattle.explained.specs.Order.{manifestSteps, objectSteps}

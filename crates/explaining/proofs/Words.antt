@@ -17,8 +17,8 @@ use Rattle.meaning.proofs.ReadPrefix.{alike}
 use Rattle.walk.specs.Reading.{Ends, Reads}
 use Rattle.fields.specs.Slots.{Stands, Holds}
 use Rattle.fields.proofs.Stands.{some-left, stands-at, field-found-stands}
-use Rattle.components.specs.Typed.{WordAt, bare, lettered}
-use Rattle.components.proofs.Lettered.{word-note}
+use Rattle.table.specs.WordAt.{WordAt, bare, lettered}
+use Rattle.table.proofs.Lettered.{word-note}
 use Rattle.explained.specs.Fields.{Sided, objectsField, componentsField}
 use Rattle.explained.specs.Breaks.{Field, Under, Called, nobody, ofObject, ofComponent, Said}
 use Rattle.explained.proofs.Truly.{Truly, truly-this}

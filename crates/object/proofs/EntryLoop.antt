@@ -1,10 +1,11 @@
--- The loop over an object's entries, as fields' law on walks that keep what they find in one field: here the components, with what was found in them and their rows.
+-- The loop over an object's entries, as fields' law on walks that keep what they find in one field: here the components, with what was found in them, their rows and the table.
 use Prim.Native.Nat.{ℕ, _+_, _-_, _≤_, _<_}
 use native.Mathlib.Omega.{arith}
 use mathlib.Core.List.{List, []}
 use mathlib.Core.Bool.{Bool, true, false}
-use mathlib.Core.Path.{_≡_, refl, ap, _∙_, subst}
-use lib.ListN.{length, getD, replicate}
+use mathlib.Core.Logic.{⊎-elim}
+use mathlib.Core.Path.{_≡_, refl, ap, ap₂, sym, _∙_, subst}
+use lib.ListN.{length, getD, replicate, length-drop}
 use lib.Dec.{eqb}
 use borrow.Author.Tests.{eq-eqb, ne-eqb, eqb-true, eqb-false}
 use borrow.Rule.Slice.PartAt.{part-to-end}
@@ -14,15 +15,23 @@ use Rattle.meaning.proofs.Tests.{not-both}
 use Rattle.types.specs.Known.{position, formatNames}
 use Rattle.component.specs.Value.{given}
 use Rattle.cbor.specs.Ending.{FAULT, code, itemEnd, rest}
-use Rattle.walk.specs.Places.{EntryIs, Modes}
+use Rattle.cbor.proofs.Rest.{never-empty}
+use Rattle.endian.proofs.Which.{eq-or}
+use Rattle.walk.specs.Places.{Modes, EntryIs}
 use Rattle.walk.specs.declared.Entry.{Entry}
 use Rattle.walk.specs.declared.Entry.the-variants.{End, Value}
 use Rattle.fields.specs.Slots.{marked, SlotIs}
+use Rattle.fields.specs.FieldWalk as keeping-is
 use Rattle.fields.proofs.Texts.{Here}
 use Rattle.fields.proofs.FieldLoop as keeping
 use Rattle.components.specs.declared.Found.{Found}
-use Rattle.components.specs.Firsts.{offered, ComponentsAre}
-use Rattle.object.specs.Verdict.{Says, waiting, Walked, ValueIs}
+use Rattle.table.specs.Given.{offered}
+use Rattle.table.specs.Rows.{RowsPut}
+use Rattle.table.specs.declared.Place.{Place}
+use Rattle.components.specs.Firsts.{ComponentsAre}
+use Rattle.object.specs.Verdict.{waiting, ValueIs}
+use Rattle.object.specs.Laying.{Tells, ValuePut, Walked}
+use Rattle.object.proofs.Waiting.{waits-old, waits-not, waits-other, still-blank}
 
 pub known : 4 < 5
 known = omega arith
@@ -63,46 +72,89 @@ module _ (layout start k seen : ℕ) (c : List ℕ) (found : Found) (rows : List
 -- ---------------------------------------------------------------- the loop
 
 -- up to `at`, with n items due
-pub record Looping (layout start mode count : ℕ) (s : List ℕ) (at n : ℕ) (p : List ℕ) (found : Found) (rows : List ℕ) : Type 0 where
-  pub keeps : keeping.Looping (layoutOf layout .object) 5 (layoutOf layout .objectPlaces) 4 known (layoutOf layout .objectApart) (Says layout start) 28 mode count s at n p (found, rows)
+pub record Looping (layout start : ℕ) (to : Place) (mode count : ℕ) (s before : List ℕ) (at n : ℕ) (p : List ℕ) (found : Found) (rows t : List ℕ) : Type 0 where
+  pub keeps : keeping.Looping (layoutOf layout .object) 5 (layoutOf layout .objectPlaces) 4 known (layoutOf layout .objectApart) (Tells layout start to before) 28 mode count s at n p ((found, rows), t)
   pub slots : length p ≡ 8
   pub room : length rows ≡ 64
+  pub long : length t ≡ length before
+  -- before the components are met, the table is as it was
+  pub fresh : getD p 4 0 ≡ 0 → t ≡ before
+  pub untouched : layout ≡ 1 → t ≡ before
 
-module _ (layout start mode count : ℕ) (s : List ℕ) (modes : Modes mode count) where
-  pub loop-starts : (p : List ℕ) (found : Found) (rows : List ℕ) → p ≡ replicate 8 0 → length rows ≡ 64 → Looping layout start mode count s 0 count p found rows
-  loop-starts p found rows e l = record { keeps = keeping.loop-starts (layoutOf layout .object) 5 (layoutOf layout .objectPlaces) 4 known (layoutOf layout .objectApart) (Says layout start) 28 mode count s modes p (found, rows) e; slots = ap length e; room = l }
+module _ (layout start : ℕ) (to : Place) (mode count : ℕ) (s before : List ℕ) (modes : Modes mode count) where
+  pub loop-starts : (p : List ℕ) (found : Found) (rows : List ℕ) → p ≡ replicate 8 0 → length rows ≡ 64 → Looping layout start to mode count s before 0 count p found rows before
+  loop-starts p found rows e l = record {
+    keeps = keeping.loop-starts (layoutOf layout .object) 5 (layoutOf layout .objectPlaces) 4 known (layoutOf layout .objectApart) (Tells layout start to before) 28 mode count s modes p ((found, rows), before) e;
+    slots = ap length e;
+    room = l;
+    long = refl;
+    fresh = λ z. refl;
+    untouched = λ z. refl;
+  }
 
-  module _ (room : length s < FAULT) (at n : ℕ) (p : List ℕ) (found : Found) (rows : List ℕ) (w : Looping layout start mode count s at n p found rows) where
+  module _ (room : length s < FAULT) (at n : ℕ) (p : List ℕ) (found : Found) (rows t : List ℕ) (w : Looping layout start to mode count s before at n p found rows t) where
     pub still-due : 1 ≤ mode → 0 < n
-    still-due = keeping.still-due (layoutOf layout .object) 5 (layoutOf layout .objectPlaces) 4 known (layoutOf layout .objectApart) (Says layout start) 28 mode count s modes room at n p (found, rows) (w .keeps)
+    still-due = keeping.still-due (layoutOf layout .object) 5 (layoutOf layout .objectPlaces) 4 known (layoutOf layout .objectApart) (Tells layout start to before) 28 mode count s modes room at n p ((found, rows), t) (w .keeps)
 
     module _ (x : Entry) (h : EntryIs 29 mode n (Here s at) x) where
       module _ (e : ℕ) (is : x ≡ End e) where
-        pub ends-inside : e ≤ length s - at → (at + e ≡ code (rest mode count 29 s)) × Walked layout start mode count s p found rows
-        ends-inside l = let y = keeping.ends-inside (layoutOf layout .object) 5 (layoutOf layout .objectPlaces) 4 known (layoutOf layout .objectApart) (Says layout start) 28 mode count s modes room at n p (found, rows) (w .keeps) x h e is l in (y .0, record { notes = y .1 })
+        pub ends-inside : e ≤ length s - at → (at + e ≡ code (rest mode count 29 s)) × Walked layout start to mode count s before p found rows t
+        ends-inside l = let y = keeping.ends-inside (layoutOf layout .object) 5 (layoutOf layout .objectPlaces) 4 known (layoutOf layout .objectApart) (Tells layout start to before) 28 mode count s modes room at n p ((found, rows), t) (w .keeps) x h e is l in (y .0, record { notes = y .1; untouched = w .untouched })
 
-        pub ends-faulty : length s - at < e → (e ≡ code (rest mode count 29 s)) × Walked layout start mode count s p found rows
-        ends-faulty l = let y = keeping.ends-faulty (layoutOf layout .object) 5 (layoutOf layout .objectPlaces) 4 known (layoutOf layout .objectApart) (Says layout start) 28 mode count s modes room at n p (found, rows) (w .keeps) x h e is l in (y .0, record { notes = y .1 })
+        pub ends-faulty : length s - at < e → (e ≡ code (rest mode count 29 s)) × Walked layout start to mode count s before p found rows t
+        ends-faulty l = let y = keeping.ends-faulty (layoutOf layout .object) 5 (layoutOf layout .objectPlaces) 4 known (layoutOf layout .objectApart) (Tells layout start to before) 28 mode count s modes room at n p ((found, rows), t) (w .keeps) x h e is l in (y .0, record { notes = y .1; untouched = w .untouched })
 
       module _ (k : ℕ) (is : x ≡ Value k) where
         pub value-inside : at + k ≤ length s
-        value-inside = keeping.value-inside (layoutOf layout .object) 5 (layoutOf layout .objectPlaces) 4 known (layoutOf layout .objectApart) (Says layout start) 28 mode count s modes room at n p (found, rows) (w .keeps) x h k is
+        value-inside = keeping.value-inside (layoutOf layout .object) 5 (layoutOf layout .objectPlaces) 4 known (layoutOf layout .objectApart) (Tells layout start to before) 28 mode count s modes room at n p ((found, rows), t) (w .keeps) x h k is
 
         module _ (e : ℕ) (ended : e ≡ code (itemEnd 29 (Here s (at + k)))) where
           pub two-due : 2 ≤ n
-          two-due = keeping.two-due (layoutOf layout .object) 5 (layoutOf layout .objectPlaces) 4 known (layoutOf layout .objectApart) (Says layout start) 28 mode count s modes room at n p (found, rows) (w .keeps) x h k is e ended
+          two-due = keeping.two-due (layoutOf layout .object) 5 (layoutOf layout .objectPlaces) 4 known (layoutOf layout .objectApart) (Tells layout start to before) 28 mode count s modes room at n p ((found, rows), t) (w .keeps) x h k is e ended
 
-          -- then nothing is read, and whatever was found may be answered
-          pub value-faulty : length s - (at + k) < e → (found′ : Found) (rows′ : List ℕ) → (e ≡ code (rest mode count 29 s)) × Walked layout start mode count s p found′ rows′
-          value-faulty l found′ rows′ =
-              let y = keeping.value-faulty (layoutOf layout .object) 5 (layoutOf layout .objectPlaces) 4 known (layoutOf layout .objectApart) (Says layout start) 28 mode count s modes room at n p (found, rows) (w .keeps) x h k is e ended l (found′, rows′) in (y .0, record { notes = y .1 })
+          -- in layout 1.0 still no row is put
+          as-untouched : (j seen : ℕ) (c t′ : List ℕ) → ValuePut layout start to j seen c t t′ → layout ≡ 1 → t′ ≡ before
+          as-untouched j seen c t′ put o = put .other (waits-old layout j seen o) ∙ w .untouched o
+
+          -- then nothing is read, and whatever was found and put may be answered
+          pub value-faulty : length s - (at + k) < e → (found′ : Found) (rows′ : List ℕ) (j seen : ℕ) (c t′ : List ℕ) → ValuePut layout start to j seen c t t′
+              → (e ≡ code (rest mode count 29 s)) × Walked layout start to mode count s before p found′ rows′ t′
+          value-faulty l found′ rows′ j seen c t′ put =
+              let y = keeping.value-faulty (layoutOf layout .object) 5 (layoutOf layout .objectPlaces) 4 known (layoutOf layout .objectApart) (Tells layout start to before) 28 mode count s modes room at n p ((found, rows), t) (w .keeps) x h k is e ended l ((found′, rows′), t′) in (y .0, record { notes = y .1; untouched = as-untouched j seen c t′ put })
 
           module _ (l : e ≤ length s - (at + k)) where
             pub goes-on : at < at + k + e
-            goes-on = keeping.goes-on (layoutOf layout .object) 5 (layoutOf layout .objectPlaces) 4 known (layoutOf layout .objectApart) (Says layout start) 28 mode count s modes room at n p (found, rows) (w .keeps) x h k is e ended l
+            goes-on = keeping.goes-on (layoutOf layout .object) 5 (layoutOf layout .objectPlaces) 4 known (layoutOf layout .objectApart) (Tells layout start to before) 28 mode count s modes room at n p ((found, rows), t) (w .keeps) x h k is e ended l
 
-            pub loops-on : (j : ℕ) → SlotIs (layoutOf layout .object) (Here s at) j → (found′ : Found) (rows′ : List ℕ) → length rows′ ≡ 64 → ValueIs layout start j (getD p 4 0) (Here s (at + k)) found rows found′ rows′
-                → (q : List ℕ) → q ≡ marked 5 p j (length s - (at + k)) → Looping layout start mode count s (at + k + e) (n - 2) q found′ rows′
-            loops-on j slot found′ rows′ sized valued q m =
-                let z = keeping.loops-on (layoutOf layout .object) 5 (layoutOf layout .objectPlaces) 4 known (layoutOf layout .objectApart) (Says layout start) 28 mode count s modes room at n p (found, rows) (w .keeps) x h k is e ended l j slot (found′, rows′) valued q m in
-                record { keeps = z; slots = z .slots; room = sized }
+            -- where no byte is left no value is read
+            some-left : 0 < length s - (at + k)
+            some-left = ⊎-elim (λ z. absurd (none z)) (λ z. omega arith) (eq-or (length s - (at + k)) 0)
+              where
+                none : length s - (at + k) ≡ 0 → ⊥
+                none z =
+                    let y = never-empty 29 (Here s (at + k)) (ap length (part-to-end s (at + k)) ∙ length-drop (at + k) s ∙ z) in
+                    let u : e ≡ FAULT + 6 = ended ∙ ap code y in omega arith
+
+            module _ (j : ℕ) (slot : SlotIs (layoutOf layout .object) (Here s at) j) (found′ : Found) (rows′ : List ℕ) (sized : length rows′ ≡ 64)
+                (valued : ValueIs layout start j (getD p 4 0) (Here s (at + k)) found rows found′ rows′) (t′ : List ℕ) (same : length t′ ≡ length t)
+                (put : ValuePut layout start to j (getD p 4 0) (Here s (at + k)) t t′) (q : List ℕ) (m : q ≡ marked 5 p j (length s - (at + k))) where
+              told : keeping-is.ValueIs (layoutOf layout .object) 5 4 (Tells layout start to before) 29 j (getD p 4 0) (Here s (at + k)) ((found, rows), t) ((found′, rows′), t′)
+              unfolding given inherited
+              told = record {
+                first = λ a b x r reads. (
+                  valued .first a b x r reads,
+                  λ other. subst (λ u. RowsPut (offered layout 4 13) (Here s (at + k)) start (to .end) (to .owner) (to .from) u t′) (w .fresh b) (put .first (waits-not layout j (getD p 4 0) other a b)) x r reads [] no-format (λ o. absurd (other o)),
+                );
+                other = λ h. ap₂ (λ (a : Found × List ℕ) (b : List ℕ). (a, b)) (valued .other h) (put .other (waits-other layout j (getD p 4 0) h));
+              }
+
+              still-fresh : getD q 4 0 ≡ 0 → t′ ≡ before
+              still-fresh z =
+                  let slots = w .slots in
+                  let b = still-blank 5 p j (length s - (at + k)) 4 some-left (omega arith) (omega arith) (ap (λ q. getD q 4 0) (sym m) ∙ z) in
+                  put .other (waits-other layout j (getD p 4 0) (λ a y. b .1 a)) ∙ w .fresh (b .0)
+
+              pub loops-on : Looping layout start to mode count s before (at + k + e) (n - 2) q found′ rows′ t′
+              loops-on =
+                  let z = keeping.loops-on (layoutOf layout .object) 5 (layoutOf layout .objectPlaces) 4 known (layoutOf layout .objectApart) (Tells layout start to before) 28 mode count s modes room at n p ((found, rows), t) (w .keeps) x h k is e ended l j slot ((found′, rows′), t′) told q m in
+                  record { keeps = z; slots = z .slots; room = sized; long = same ∙ w .long; fresh = still-fresh; untouched = as-untouched j (getD p 4 0) (Here s (at + k)) t′ put }

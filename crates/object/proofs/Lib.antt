@@ -5,3 +5,6 @@ pub mod Verdicts
 pub mod EntryLoop
 pub mod Walks
 pub mod Tensors
+pub mod Waiting
+pub mod LateRows
+pub mod WholeObject

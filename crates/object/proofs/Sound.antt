@@ -21,7 +21,8 @@ use Rattle.fields.proofs.Texts.{Here}
 use Rattle.shape.specs.Shape.{ShapeIs}
 use Rattle.shape.specs.declared.Shaped.{Shaped}
 use Rattle.shape.specs.declared.Shaped.the-variants.{No as NoShape, Yes as Ranked}
-use Rattle.components.specs.Firsts.{FoundIs, offered, ComponentsAre}
+use Rattle.table.specs.Given.{offered}
+use Rattle.components.specs.Firsts.{FoundIs, ComponentsAre}
 use Rattle.component.specs.Value.{given}
 use Rattle.components.specs.declared.Found.{Found}
 use Rattle.components.specs.declared.Found.the-variants.{No as Refused, Yes as Holding}

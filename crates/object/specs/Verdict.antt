@@ -22,7 +22,8 @@ use Rattle.fields.specs.Slots.{Stands, Holds}
 use Rattle.fields.specs.FieldWalk as keeping
 use Rattle.formats.specs.Parts.{partRows}
 use Rattle.components.specs.declared.Found.{Found}
-use Rattle.components.specs.Firsts.{FoundIs, offered, Whichever}
+use Rattle.table.specs.Given.{offered, Whichever}
+use Rattle.components.specs.Firsts.{FoundIs}
 use Rattle.component.specs.Value.{given}
 use Rattle.object.specs.declared.Judged.{Judged}
 use Rattle.object.specs.declared.Judged.the-variants.{No, Yes}
@@ -145,10 +146,6 @@ VerdictIs layout s start p found rows r =
 
 abbrev pub ObjectIs : Layout → List ℕ → ℕ → Judged → Type 0
 ObjectIs L s start r = (t : Node Ends) (q : List ℕ) → Reads 30 s t q → (n : Word Ends) → r ≡ judged (object L start (record { name = n; value = t }))
-
--- what is noted of all pairs that are due at s
-pub record Walked (layout start mode count : ℕ) (s p : List ℕ) (found : Found) (rows : List ℕ) : Type 0 where
-  pub notes : keeping.Walked (layoutOf layout .object) 5 4 (Says layout start) 29 mode count s p (found, rows)
 
 -- no components that are judged where they stand: another field, components again, or layout 1.0
 unfoldable pub waiting : ℕ → ℕ → ℕ → Bool

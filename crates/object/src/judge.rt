@@ -8,9 +8,12 @@ use components::Found;
 use fields::place_of;
 use formats::Ruled;
 use shape::Shaped;
+use table::Place;
 ghost use mathlib.Core.Path.{_≡_};
 ghost use lib.ListN.{length};
+ghost use Rattle.table.specs.Late.{LatePut};
 ghost use Rattle.object.specs.Verdict as is;
+ghost use Rattle.object.specs.Laying.{WaitedPut, ShapedPut, Once};
 
 // Sound, or a refusal.
 pub enum Fine {
@@ -87,7 +90,7 @@ fn ruled(code: u64, dims: &[u64], rank: usize, rows: &[u64], m: usize) -> Judged
     }
 }
 
-// What was found in the components; in layout 1.0 they are looked at now, where `left` bytes of s are left.
+// What was found in the components; in layout 1.0 they are looked at now, where `left` bytes of s are left, and their rows are put.
 fn late(
     layout: u64,
     format: u64,
@@ -96,14 +99,16 @@ fn late(
     start: u64,
     left: usize,
     found: Found,
+    to: Place,
     rows: &mut [u64],
+    t: &mut [u64],
 ) -> Found
     requires { ⌜ length (now rows) ≡ 64 ⌝ }
-    ensures { λ r. ⌜ (length (now (rows .exit)) ≡ 64) × is.LateIs layout format code (now (s .entry)) start left found (now (rows .entry)) r (now (rows .exit)) ⌝ }
+    ensures { λ r. ⌜ (length (now (rows .exit)) ≡ 64) × is.LateIs layout format code (now (s .entry)) start left found (now (rows .entry)) r (now (rows .exit)) × WaitedPut layout format code (now (s .entry)) start left to (now (t .entry)) (now (t .exit)) ⌝ }
 {
     if layout == 1 {
         let at = place_of(s.len(), left);
-        let w = components::components(layout, format, code, &s[at..], start, rows);
+        let w = components::components(layout, format, code, &s[at..], start, to, rows, t);
         return w.found;
     }
     found
@@ -117,10 +122,12 @@ fn shaped(
     start: u64,
     p: &[usize],
     found: Found,
+    to: Place,
     rows: &mut [u64],
+    t: &mut [u64],
 ) -> Judged
     requires { ⌜ (length (now p) ≡ 8) × (length (now rows) ≡ 64) ⌝ }
-    ensures { λ r. ⌜ is.ShapedIs layout d (now (s .entry)) start (now (p .entry)) found (now (rows .entry)) r ⌝ }
+    ensures { λ r. ⌜ is.ShapedIs layout d (now (s .entry)) start (now (p .entry)) found (now (rows .entry)) r × Once r (ShapedPut layout d (now (s .entry)) start (now (p .entry)) to (now (t .entry)) (now (t .exit))) ⌝ }
 {
     let mut dims = [0u64; 8];
     match shape_at(&s[0..], p[1], &mut dims) {
@@ -128,7 +135,7 @@ fn shaped(
         Shaped::Yes(rank) => match described(&s[0..], p[2], p[3]) {
             Coded::No(n) => Judged::No(n, 0),
             Coded::Yes(code) => {
-                let f = late(layout, code, d, &s[0..], start, p[4], found, rows);
+                let f = late(layout, code, d, &s[0..], start, p[4], found, to, rows, t);
                 match f {
                     Found::No(n, c) => Judged::No(n, c),
                     Found::Yes(m) => ruled(code, &dims, rank, &rows[0..], m),
@@ -139,13 +146,22 @@ fn shaped(
 }
 
 // The same, from the dtype on.
-fn sound(layout: u64, s: &[u8], start: u64, p: &[usize], found: Found, rows: &mut [u64]) -> Judged
+fn sound(
+    layout: u64,
+    s: &[u8],
+    start: u64,
+    p: &[usize],
+    found: Found,
+    to: Place,
+    rows: &mut [u64],
+    t: &mut [u64],
+) -> Judged
     requires { ⌜ (length (now p) ≡ 8) × (length (now rows) ≡ 64) ⌝ }
-    ensures { λ r. ⌜ is.SoundIs layout (now (s .entry)) start (now (p .entry)) found (now (rows .entry)) r ⌝ }
+    ensures { λ r. ⌜ is.SoundIs layout (now (s .entry)) start (now (p .entry)) found (now (rows .entry)) r × Once r (LatePut layout (now (s .entry)) (now (p .entry)) start (to .end) (to .owner) (to .from) (now (t .entry)) (now (t .exit))) ⌝ }
 {
     match tensor_at(layout, &s[0..], p[0]) {
         Coded::No(n) => Judged::No(n, 0),
-        Coded::Yes(d) => shaped(layout, d, &s[0..], start, &p[0..], found, rows),
+        Coded::Yes(d) => shaped(layout, d, &s[0..], start, &p[0..], found, to, rows, t),
     }
 }
 
@@ -156,13 +172,15 @@ pub fn verdict(
     start: u64,
     p: &[usize],
     found: Found,
+    to: Place,
     rows: &mut [u64],
+    t: &mut [u64],
 ) -> Judged
     requires { ⌜ (length (now p) ≡ 8) × (length (now rows) ≡ 64) ⌝ }
-    ensures { λ r. ⌜ is.VerdictIs layout (now (s .entry)) start (now (p .entry)) found (now (rows .entry)) r ⌝ }
+    ensures { λ r. ⌜ is.VerdictIs layout (now (s .entry)) start (now (p .entry)) found (now (rows .entry)) r × Once r (LatePut layout (now (s .entry)) (now (p .entry)) start (to .end) (to .owner) (to .from) (now (t .entry)) (now (t .exit))) ⌝ }
 {
     match known(layout, &p[0..]) {
         Fine::No(n) => Judged::No(n, 0),
-        Fine::Yes => sound(layout, &s[0..], start, &p[0..], found, rows),
+        Fine::Yes => sound(layout, &s[0..], start, &p[0..], found, to, rows, t),
     }
 }

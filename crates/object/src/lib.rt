@@ -1,4 +1,5 @@
-// An object's value: one walk passes over its map, notes where its fields stand and judges its components; then the fields are judged from these places.
+// An object's value: one walk passes over its map, notes where its fields stand, judges its components and puts their rows; then the fields are judged from these places, and its own row is put.
+// Whoever wants no rows lends an empty table.
 // Every slice runs to the manifest's end, and a place is the number of bytes left there, 0 for none.
 mod judge;
 pub mod pass;
@@ -6,12 +7,16 @@ pub mod place;
 
 use judge::verdict;
 use pass::entries;
+use table::Place;
+use table::object_row::put_object;
 use walk::Opening;
 ghost use mathlib.Core.Path.{_≡_};
 ghost use lib.ListN.{length};
 ghost use Rattle.cbor.specs.Ending.{code, itemEnd};
 ghost use Rattle.meaning.specs.Layouts.{layoutOf};
+ghost use Rattle.table.specs.Objects.{WholePut};
 ghost use Rattle.object.specs.Verdict.{ObjectIs};
+ghost use Rattle.object.specs.Laying.{OwnPut};
 
 // A refusal number and the component, or how many components there are.
 pub enum Judged {
@@ -25,22 +30,45 @@ pub struct Whole {
     pub verdict: Judged,
 }
 
-// The object that begins s, at depth 3, of a file whose manifest begins at `start`. The components' rows are put into rows, which may hold anything before.
-pub fn object(layout: u64, s: &[u8], start: u64, rows: &mut [u64]) -> Whole
+// Puts the row of an object that passes, whose key begins s; p holds the places of its fields in m.
+fn own(s: &[u8], m: &[u8], p: &[usize], v: Judged, to: Place, t: &mut [u64])
+    requires { ⌜ length (now p) ≡ 8 ⌝ }
+    ensures { λ r. ⌜ OwnPut (now (s .entry)) (now (m .entry)) (now (p .entry)) v to (now (t .entry)) (now (t .exit)) ⌝ }
+{
+    match v {
+        Judged::No(_, _) => {}
+        Judged::Yes(n) => {
+            put_object(&s[0..], &m[0..], &p[0..], n, to.end, to.row, t);
+        }
+    }
+}
+
+// The object whose key begins s and whose value begins c, at depth 3, of a file whose manifest begins at `start`. Its rows are put into t, and for the judge its components' into rows, which may hold anything
+// before.
+pub fn object(
+    layout: u64,
+    s: &[u8],
+    c: &[u8],
+    start: u64,
+    to: Place,
+    rows: &mut [u64],
+    t: &mut [u64],
+) -> Whole
     requires { ⌜ length (now rows) ≡ 64 ⌝ }
-    ensures { λ r. ⌜ (r .end ≡ code (itemEnd 30 (now (s .entry)))) × ObjectIs (layoutOf layout) (now (s .entry)) start (r .verdict) ⌝ }
+    ensures { λ r. ⌜ (r .end ≡ code (itemEnd 30 (now (c .entry)))) × ObjectIs (layoutOf layout) (now (c .entry)) start (r .verdict) × WholePut layout (now (s .entry)) (now (c .entry)) start (to .end) (to .owner) (to .row) (to .from) (now (t .entry)) (now (t .exit)) ⌝ }
 {
     let mut p = [0usize; 8];
-    match walk::map(&s[0..]) {
+    match walk::map(&c[0..]) {
         Opening::NotOpen => Whole {
-            end: cbor::skip(&s[0..], 30),
+            end: cbor::skip(&c[0..], 30),
             verdict: Judged::No(numbers::KIND, 0),
         },
         Opening::Opened(mode, count, size) => {
-            let w = entries(layout, &s[size..], start, mode, count, &mut p, rows);
+            let w = entries(layout, &c[size..], start, mode, count, to, &mut p, rows, t);
             let found = w.found;
-            let v = verdict(layout, &s[size..], start, &p, found, rows);
-            if s.len() - size < w.end {
+            let v = verdict(layout, &c[size..], start, &p, found, to, rows, t);
+            own(&s[0..], &c[size..], &p, v, to, t);
+            if c.len() - size < w.end {
                 return Whole {
                     end: w.end,
                     verdict: v,

@@ -1,6 +1,7 @@
 // Passing over the entries of an object's map.
 use components::Found;
 use components::Whole;
+use table::Place;
 use walk::Entry;
 use walk::Letters;
 ghost use mathlib.Core.Path.{_≡_};
@@ -9,8 +10,9 @@ ghost use lib.ListN.{length, replicate};
 ghost use Rattle.meaning.specs.Layouts.{layoutOf};
 ghost use Rattle.cbor.specs.Ending.{code, itemEnd, rest};
 ghost use Rattle.fields.specs.Slots.{SlotIs};
-ghost use Rattle.object.specs.Verdict.{waiting, Walked, ValueIs};
 ghost use Rattle.walk.specs.Places.{Modes};
+ghost use Rattle.object.specs.Verdict.{waiting, ValueIs};
+ghost use Rattle.object.specs.Laying.{ValuePut, Walked};
 
 // The slot of the key that begins s.
 fn slot(layout: u64, s: &[u8]) -> usize
@@ -26,7 +28,7 @@ fn slot(layout: u64, s: &[u8]) -> usize
 }
 
 // No components that are judged where they stand: another field, components again, or layout 1.0.
-pub fn waits(layout: u64, k: usize, seen: usize) -> bool
+fn waits(layout: u64, k: usize, seen: usize) -> bool
     ensures { λ r. ⌜ r ≡ waiting layout k seen ⌝ }
 {
     if layout == 1 {
@@ -47,10 +49,12 @@ fn value(
     k: usize,
     seen: usize,
     found: Found,
+    to: Place,
     rows: &mut [u64],
+    t: &mut [u64],
 ) -> Whole
     requires { ⌜ length (now rows) ≡ 64 ⌝ }
-    ensures { λ r. ⌜ (r .end ≡ code (itemEnd 29 (now (c .entry)))) × (length (now (rows .exit)) ≡ 64) × ValueIs layout start k seen (now (c .entry)) found (now (rows .entry)) (r .found) (now (rows .exit)) ⌝ }
+    ensures { λ r. ⌜ (r .end ≡ code (itemEnd 29 (now (c .entry)))) × (length (now (rows .exit)) ≡ 64) × ValueIs layout start k seen (now (c .entry)) found (now (rows .entry)) (r .found) (now (rows .exit)) × ValuePut layout start to k seen (now (c .entry)) (now (t .entry)) (now (t .exit)) ⌝ }
 {
     if waits(layout, k, seen) {
         return Whole {
@@ -58,22 +62,24 @@ fn value(
             found: found,
         };
     }
-    components::components(layout, 4, 13, &c[0..], start, rows)
+    components::components(layout, 4, 13, &c[0..], start, to, rows, t)
 }
 
 // Entries that begin s, counted as `walk::map` says: where they end, and what was found in the components. The places of the known fields are left in p, the
-// components' rows in rows.
+// components' rows in rows and in t.
 pub fn entries(
     layout: u64,
     s: &[u8],
     start: u64,
     mode: u64,
     count: u64,
+    to: Place,
     p: &mut [usize],
     rows: &mut [u64],
+    t: &mut [u64],
 ) -> Whole
     requires { ⌜ (now p ≡ replicate 8 0) × (length (now rows) ≡ 64) × Modes mode count ⌝ }
-    ensures { λ r. ⌜ (r .end ≡ code (rest mode count 29 (now (s .entry)))) × Walked layout start mode count (now (s .entry)) (now (p .exit)) (r .found) (now (rows .exit)) ⌝ }
+    ensures { λ r. ⌜ (r .end ≡ code (rest mode count 29 (now (s .entry)))) × Walked layout start to mode count (now (s .entry)) (now (t .entry)) (now (p .exit)) (r .found) (now (rows .exit)) (now (t .exit)) ⌝ }
 {
     let mut at = 0;
     let mut due = count;
@@ -95,7 +101,7 @@ pub fn entries(
             Entry::Value(k) => {
                 let v = at + k;
                 let j = slot(layout, &s[at..]);
-                let w = value(layout, &s[v..], start, j, p[4], found, rows);
+                let w = value(layout, &s[v..], start, j, p[4], found, to, rows, t);
                 let e = w.end;
                 found = w.found;
                 if s.len() - v < e {

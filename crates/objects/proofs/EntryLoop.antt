@@ -2,18 +2,19 @@
 use Prim.Native.Nat.{ℕ, _+_, _≤_}
 use native.Mathlib.Omega.{arith}
 use mathlib.Core.List.{List, [], _∷_, _++_}
-use mathlib.Core.Bool.{Bool, false}
+use mathlib.Core.Bool.{Bool, true, false}
 use mathlib.Core.Path.{_≡_, refl, sym, subst}
 use lib.ListN.{length, drop}
 use borrow.Rule.Slice.PartAt.{part-to-end}
 use Rattle.meaning.specs.Tree.{Pair}
 use Rattle.meaning.specs.Rows.{componentCount}
-use Rattle.meaning.specs.Layouts.{Layout}
+use Rattle.meaning.specs.Layouts.{Layout, layoutOf}
 use Rattle.walk.specs.Reading.{Ends, Reads}
 use Rattle.walk.proofs.Passed.{Here}
 use Rattle.naming.specs.NotedNames.{tally, Noted}
 use Rattle.naming.specs.declared.Tally.{Tally}
 use Rattle.naming.proofs.NameNoted.{none-noted}
+use Rattle.table.specs.Objects.{ObjectsLaid}
 use Rattle.object.specs.declared.Judged.{Judged}
 use Rattle.objects.specs.declared.First.{First}
 use Rattle.objects.specs.declared.First.the-variants.{Fine}
@@ -34,3 +35,8 @@ module _ (deep : Bool) (L : Layout) (start : ℕ) (s : List ℕ) (at k : ℕ) (i
         named = noted .1 s at (omega arith) (part-to-end s at) done 29 p q a (kept .named);
         judged = keeps deep L start done p (Here s (at + k)) r b judged (kept .named .counted) (kept .judged);
       }
+
+-- what was noted of the pairs passed, and the table
+pub record SoFar (deep : Bool) (layout start end from : ℕ) (s : List ℕ) (names : Tally) (left size : List ℕ) (first : First) (before : List ℕ) (row next : ℕ) (t : List ℕ) (done : List (Pair Ends)) : Type 0 where
+  pub kept : Kept deep (layoutOf layout) start s names left size first done
+  pub laid : deep ≡ true → ObjectsLaid layout start end from before row next t done

@@ -5,6 +5,7 @@ use mathlib.Core.Bool.{Bool, cond}
 use mathlib.Core.Path.{_≡_}
 use lib.ListN.{length}
 use lib.Dec.{leb}
+use Rattle.meaning.specs.Columns.{componentWidth}
 use Rattle.meaning.specs.Tree.{Node, Pair}
 use Rattle.meaning.specs.Check.{Check, pass, refuse, inObject, each}
 use Rattle.meaning.specs.Limit.{objectLimit, componentLimit}
@@ -17,6 +18,7 @@ use Rattle.naming.specs.NotedNames.{namedAnyway, Tallied}
 use Rattle.naming.specs.declared.Tally.{Tally}
 use Rattle.object.specs.Verdict as objects
 use Rattle.object.specs.declared.Judged.{Judged}
+use Rattle.object.specs.declared.Judged.the-variants.{Yes}
 use Rattle.objects.specs.declared.First.{First}
 use Rattle.objects.specs.declared.First.the-variants.{Fine, Fault}
 use Rattle.objects.specs.declared.Found.{Found}
@@ -29,6 +31,10 @@ plus total m = cond (leb m 16) (cond (leb total 16368) (total + m) total) total
 -- of whatever value c is read as, under any name
 abbrev pub OneIs : Bool → Layout → List ℕ → ℕ → Judged → Type 0
 OneIs deep L c start r = (t : Node Ends) (q : List ℕ) → Reads 30 c t q → (n : Word Ends) → r ≡ objects.judged (judging deep L start (record { name = n; value = t }))
+
+-- where the next rows begin, if those of an object that is judged as v begin at `from` of a table with `room` numbers
+abbrev pub Beyond : Judged → ℕ → ℕ → ℕ → Type 0
+Beyond v from room r = (n : ℕ) → v ≡ Yes n → n ≤ componentLimit → from + componentWidth * n ≤ room → r ≡ from + componentWidth * n
 
 -- an entry, with its index
 unfoldable pub entry : Bool → Layout → ℕ → ℕ → Named Ends → Check (Object Ends)

@@ -1,16 +1,20 @@
-// The `objects` map: its names, and each object judged, in one walk.
+// The `objects` map: its names, and each object judged and its rows put, by one walk. The judge lends it an empty table, the reader ignores what it finds.
 use naming::Named;
 use naming::Tally;
 use object::Judged;
+use table::Place;
+use table::lay::ahead;
 use walk::Entry;
 use walk::Opening;
+ghost use mathlib.Core.Bool.{true};
 ghost use mathlib.Core.Path.{_≡_};
 ghost use lib.ListN.{length};
 ghost use Rattle.meaning.specs.Layouts.{layoutOf};
 ghost use Rattle.cbor.specs.Ending.{code, itemEnd, rest};
-ghost use Rattle.objects.specs.Found.{ObjectsIs};
-ghost use Rattle.objects.specs.Firsts.{plus, OneIs, Keeps, Walked, Concluded};
 ghost use Rattle.walk.specs.Places.{Modes};
+ghost use Rattle.table.specs.Objects.{WholePut, AllLaid, Written};
+ghost use Rattle.objects.specs.Found.{ObjectsIs};
+ghost use Rattle.objects.specs.Firsts.{plus, OneIs, Beyond, Keeps, Walked, Concluded};
 
 // The first fault among the entries so far: its number, object and component; or how many components there are.
 pub enum First {
@@ -62,13 +66,22 @@ fn keep(v: Judged, j: usize, first: First) -> First
     }
 }
 
-// The value that begins c, judged as an object, its rows put into rows; passed over where only names are asked for.
-fn one(layout: u64, c: &[u8], start: u64, deep: bool, rows: &mut [u64]) -> object::Whole
+// The value that begins c, whose key begins s, judged as an object and its rows put; passed over where only names are asked for.
+fn one(
+    layout: u64,
+    s: &[u8],
+    c: &[u8],
+    start: u64,
+    deep: bool,
+    to: Place,
+    rows: &mut [u64],
+    t: &mut [u64],
+) -> object::Whole
     requires { ⌜ length (now rows) ≡ 64 ⌝ }
-    ensures { λ r. ⌜ (r .end ≡ code (itemEnd 30 (now (c .entry)))) × OneIs deep (layoutOf layout) (now (c .entry)) start (r .verdict) ⌝ }
+    ensures { λ r. ⌜ (r .end ≡ code (itemEnd 30 (now (c .entry)))) × OneIs deep (layoutOf layout) (now (c .entry)) start (r .verdict) × (deep ≡ true → WholePut layout (now (s .entry)) (now (c .entry)) start (to .end) (to .owner) (to .row) (to .from) (now (t .entry)) (now (t .exit))) ⌝ }
 {
     if deep {
-        return object::object(layout, &c[0..], start, rows);
+        return object::object(layout, &s[0..], &c[0..], start, to, rows, t);
     }
     object::Whole {
         end: cbor::skip(&c[0..], 30),
@@ -76,7 +89,22 @@ fn one(layout: u64, c: &[u8], start: u64, deep: bool, rows: &mut [u64]) -> objec
     }
 }
 
-// Entries that begin s, counted as `walk::map` says. Their names are noted in left and size.
+// Where the components' rows of the next object begin, if those of this one, judged as v, begin at `from` of a table with `room` numbers.
+fn beyond(v: Judged, from: usize, room: usize) -> usize
+    ensures { λ r. ⌜ Beyond v from room r ⌝ }
+{
+    match v {
+        Judged::No(_, _) => from,
+        Judged::Yes(n) => {
+            if 16 < n {
+                return from;
+            }
+            ahead(from, columns::COMPONENT * n, room)
+        }
+    }
+}
+
+// Entries that begin s, counted as `walk::map` says. Their names are noted in left and size; the objects' rows are put from the table's start on, the components' from `from` on.
 fn entries(
     layout: u64,
     s: &[u8],
@@ -84,11 +112,14 @@ fn entries(
     deep: bool,
     mode: u64,
     count: u64,
+    end: usize,
+    from: usize,
     left: &mut [usize],
     size: &mut [usize],
+    t: &mut [u64],
 ) -> Run
     requires { ⌜ (length (now left) ≡ 1024) × (length (now size) ≡ 1024) × Modes mode count ⌝ }
-    ensures { λ r. ⌜ (r .end ≡ code (rest mode count 30 (now (s .entry)))) × (length (now (left .exit)) ≡ 1024) × Walked deep (layoutOf layout) start mode count (now (s .entry)) (r .names) (now (left .exit)) (now (size .exit)) (r .first) ⌝ }
+    ensures { λ r. ⌜ (r .end ≡ code (rest mode count 30 (now (s .entry)))) × (length (now (left .exit)) ≡ 1024) × Walked deep (layoutOf layout) start mode count (now (s .entry)) (r .names) (now (left .exit)) (now (size .exit)) (r .first) × (deep ≡ true → AllLaid layout start end from mode count (now (s .entry)) (now (t .entry)) (now (t .exit))) ⌝ }
 {
     let mut at = 0;
     let mut due = count;
@@ -99,6 +130,8 @@ fn entries(
     };
     let mut first = First::Fine(0);
     let mut rows = [0u64; 64];
+    let mut row = 0;
+    let mut next = from;
     loop {
         match walk::past_key(&s[at..], mode, due, 30) {
             Entry::End(e) => {
@@ -117,7 +150,13 @@ fn entries(
             }
             Entry::Value(k) => {
                 let v = at + k;
-                let w = one(layout, &s[v..], start, deep, &mut rows);
+                let to = Place {
+                    end: end,
+                    owner: names.count as u64,
+                    row: row,
+                    from: next,
+                };
+                let w = one(layout, &s[at..], &s[v..], start, deep, to, &mut rows, t);
                 if s.len() - v < w.end {
                     return Run {
                         end: w.end,
@@ -127,6 +166,8 @@ fn entries(
                 }
                 let judged = w.verdict;
                 first = keep(judged, names.count, first);
+                row = ahead(row, columns::OBJECT, t.len());
+                next = beyond(judged, next, t.len());
                 names = naming::note(&s[at..], names, left, size);
                 at = v + w.end;
                 due -= 2;
@@ -157,6 +198,7 @@ pub fn objects(layout: u64, c: &[u8], start: u64, deep: bool) -> Whole
 {
     let mut left = [0usize; 1024];
     let mut size = [0usize; 1024];
+    let mut none = [0u64; 0];
     match walk::map(&c[0..]) {
         Opening::NotOpen => Whole {
             end: cbor::skip(&c[0..], 31),
@@ -170,8 +212,11 @@ pub fn objects(layout: u64, c: &[u8], start: u64, deep: bool) -> Whole
                 deep,
                 mode,
                 count,
+                0,
+                0,
                 &mut left,
                 &mut size,
+                &mut none,
             );
             let names = w.names;
             let first = w.first;
@@ -186,6 +231,32 @@ pub fn objects(layout: u64, c: &[u8], start: u64, deep: bool) -> Whole
                 end: from + w.end,
                 found: f,
             }
+        }
+    }
+}
+
+// Puts the rows of the objects whose map begins c, at depth 2, of a file whose manifest begins at `start` and ends at `end`: those of objects first, then from number `from` on those of components.
+pub fn lay(layout: u64, c: &[u8], start: u64, end: usize, from: usize, t: &mut [u64])
+    ensures { λ r. ⌜ Written layout (now (c .entry)) start end from (now (t .entry)) (now (t .exit)) ⌝ }
+{
+    let mut left = [0usize; 1024];
+    let mut size = [0usize; 1024];
+    match walk::map(&c[0..]) {
+        Opening::NotOpen => {}
+        Opening::Opened(mode, count, head) => {
+            entries(
+                layout,
+                &c[head..],
+                start,
+                true,
+                mode,
+                count,
+                end,
+                from,
+                &mut left,
+                &mut size,
+                t,
+            );
         }
     }
 }

@@ -11,7 +11,7 @@ use Rattle.meaning.specs.Refusal.{KEY, TWICE}
 use Rattle.meaning.specs.Limit.{objectLimit}
 use Rattle.meaning.specs.Tree.{Node, Pair, noteOf, mapP}
 use Rattle.meaning.specs.Text.{all}
-use Rattle.meaning.specs.Check.{Check, pass, refuse, _>>=_, _>>_, _unless_, inObject, required, optional, each}
+use Rattle.meaning.specs.Check.{Check, pass, refuse, _>>=_, _unless_, inObject, required, optional, each}
 use Rattle.meaning.specs.Read.{Span}
 use Rattle.meaning.specs.Model.{RootFields, Named, Object, Model}
 use Rattle.meaning.specs.Notes.{mapCheck, mapNamed, mapObject}
@@ -28,7 +28,7 @@ use Rattle.walk.proofs.Chains.{ate}
 use Rattle.walk.proofs.ReadSays.{note-of}
 use Rattle.fields.specs.Slots.{Holds}
 use Rattle.fields.proofs.Stands.{field-found-stands, holds-whole}
-use Rattle.components.proofs.Lettered.{pairs-chained}
+use Rattle.table.proofs.Lettered.{pairs-chained}
 use Rattle.objects.specs.Found.{passedOver, judging, objectsBy}
 use Rattle.root.specs.Verdict.{judgeBy}
 use Rattle.table.specs.Spans.{spanOf}

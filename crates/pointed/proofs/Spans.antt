@@ -1,7 +1,7 @@
 -- What the code answers of a check is its explanation.
 use Prim.Native.Nat.{ℕ, _+_, _-_}
 use native.Mathlib.Omega.{arith}
-use mathlib.Core.List.{List, _++_}
+use mathlib.Core.List.{List}
 use mathlib.Core.Option.{Option, some}
 use mathlib.Core.Path.{_≡_, refl, sym, ap, _∙_, subst}
 use lib.ListN.{length, drop, length-append}
@@ -9,12 +9,12 @@ use lib.Seq.{drop-at}
 use borrow.Rule.Slice.PartAt.{part-to-end}
 use Rattle.meaning.specs.Limit.{depthLimit}
 use Rattle.meaning.specs.Model.{Word}
-use Rattle.meaning.specs.Read.{Span, spanTo, got, item, noNote}
+use Rattle.meaning.specs.Read.{Span, spanTo}
 use Rattle.cbor.specs.Ending.{code, ending, itemEnd}
 use Rattle.walk.specs.Reading.{Ends}
 use Rattle.fields.proofs.Texts.{Here}
 use Rattle.component.specs.Value.{leftWord}
-use Rattle.components.specs.Typed.{WordAt}
+use Rattle.table.specs.WordAt.{WordAt}
 use Rattle.table.specs.declared.span.Span as found
 use Rattle.table.specs.Spans.{spanOf, spanned, spanOfOption, SpeltAt}
 use Rattle.explained.specs.Step.{Step}
@@ -23,7 +23,7 @@ use Rattle.explained.specs.Explain.{span, explanation}
 use Rattle.explained.specs.Explain as explain
 use Rattle.cursor.specs.Item.{passed}
 use Rattle.met.specs.Met as met
-use Rattle.met.specs.Met.{Tail, Passed}
+use Rattle.met.specs.Met.{Tail}
 use Rattle.pointed.specs.Pointed.{Met}
 
 module _ (m : List ℕ) (end : ℕ) where

@@ -6,7 +6,7 @@ use mathlib.Core.Path.{_≡_}
 use lib.ListN.{length}
 use Rattle.walk.specs.Reading.{Ends}
 use Rattle.component.specs.Value.{leftWord}
-use Rattle.components.specs.Typed.{WordAt}
+use Rattle.table.specs.WordAt.{WordAt}
 use Rattle.table.specs.Spans.{spanOf}
 use Rattle.explained.specs.Step.{Step}
 use Rattle.explained.specs.Notes.{mapStep}

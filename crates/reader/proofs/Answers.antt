@@ -1,19 +1,19 @@
 -- From an accepted manifest to the answer and the table: its room, where its attributes and its objects stand, and the rows.
-use Prim.Native.Nat.{ℕ, _+_, _-_, _*_, _/_, _≤_, _<_}
+use Prim.Native.Nat.{ℕ, _+_, _-_, _*_, _≤_, _<_}
 use native.Mathlib.Omega.{arith}
-use mathlib.Core.List.{List, _++_, append-assoc, append-nil}
+use mathlib.Core.List.{List, _++_, append-nil}
 use mathlib.Core.Bool.{Bool, true, false}
 use mathlib.Core.Option.{Option, none, some}
 use mathlib.Core.Path.{_≡_, refl, sym, ap, ap₂, _∙_, subst}
-use lib.ListN.{length, take, drop, length-map, length-append, length-drop, drop-of-length-le}
+use lib.ListN.{length, take, drop, length-map, length-drop, drop-of-length-le}
 use lib.Seq.{length-take-le}
 use lib.Dec.{leb}
-use borrow.Author.Tests.{leb-true, leb-false, le-leb, lt-leb}
+use borrow.Author.Tests.{leb-true}
 use borrow.Rule.Slice.PartAt.{part-to-end}
 use Rattle.meaning.specs.Columns.{objectWidth, componentWidth}
 use Rattle.meaning.specs.Tree.{Node, Pair, noteOf, mapP}
 use Rattle.meaning.specs.Read as spans
-use Rattle.meaning.specs.Check.{Check, pass, refuse, _>>=_, _>>_, _unless_, required, optional}
+use Rattle.meaning.specs.Check.{Check, pass, refuse, _>>=_, _unless_, required, optional}
 use Rattle.meaning.specs.Text.{all}
 use Rattle.meaning.specs.Refusal.{KEY, TWICE}
 use Rattle.meaning.specs.Model.{Model, RootFields}
@@ -24,18 +24,18 @@ use Rattle.meaning.specs.Layouts.{Layout, slot, somes, objectsAt, layoutOf}
 use Rattle.meaning.specs.Field.{rootFields, isSome, keyOf, count}
 use Rattle.meaning.specs.Judge.{judge, aVersion, attributesOf, objectsOf}
 use Rattle.meaning.specs.Frame.{Reading, frame, reading}
-use Rattle.meaning.specs.Rows.{attributesSpan, componentCount, rows, roomFor, roomy, answer, tableAfter, readInto}
+use Rattle.meaning.specs.Rows.{attributesSpan, rows, roomFor, roomy, answer, tableAfter, readInto}
 use Rattle.meaning.proofs.Checks.{pass-same, required-some, passed-on, passed}
 use Rattle.meaning.proofs.KindIs.{table-kind, attributes-stay}
-use Rattle.cbor.specs.Ending.{FAULT, took, code, itemEnd}
+use Rattle.cbor.specs.Ending.{FAULT}
 use Rattle.walk.specs.Reading.{Ends, Reads, leftAt}
 use Rattle.walk.proofs.Passed.{Here}
 use Rattle.walk.proofs.Chains.{ate}
 use Rattle.walk.proofs.ReadSays.{note-of}
 use Rattle.fields.specs.Slots.{Holds}
 use Rattle.fields.proofs.Stands.{field-found-stands, holds-whole}
-use Rattle.components.proofs.Lettered.{pairs-chained}
-use Rattle.table.specs.Spans.{spanOf, spanned, WholeIs}
+use Rattle.table.proofs.Lettered.{pairs-chained}
+use Rattle.table.specs.Spans.{spanOf}
 use Rattle.table.specs.Objects.{Written}
 use Rattle.table.specs.declared.span.Span.{Span}
 use Rattle.table.proofs.ObjectLoop.{count-mapped}
@@ -48,24 +48,6 @@ use Rattle.reader.specs.declared.into.Answer.{Answer}
 use Rattle.reader.specs.Verdict.{manifestReading, Accepted, ManifestIs}
 use Rattle.reader.specs.Answer.{refused, read, answered, AttributesIs, ahead, laidOver, placed, Filled}
 use Rattle.reader.proofs.Frames.{framed, inside, manifest-read}
-
--- ---------------------------------------------------------------- the attributes
-
-module _ (m : List ℕ) (left end size : ℕ) (skipped : size ≡ code (itemEnd 31 (Here m (length m - left)))) where
-  pub attributes-are : (r : Span) → WholeIs left size end r → AttributesIs m left end r
-  attributes-are r h none e = h none (sym e) (λ t z. absurd (let y : _≡_ {A = ℕ} 0 1 = cc in omega arith))
-  attributes-are r h (some t) (l, x) = h (some t) (sym (x .left-is)) (λ u z. let y : t ≡ u = cc in subst (λ (u : Node Ends). (0 < left) × (size ≡ length (noteOf u .start) - length (noteOf u .rest))) y (l, sized))
-    where
-      sized : size ≡ length (noteOf t .start) - length (noteOf t .rest)
-      sized =
-          let s : List ℕ = drop (length m - left) m in
-          let a = ate 31 s t (x .rest) (x .reads) in
-          let n = note-of 31 s t (x .rest) (x .reads) in
-          let b : size ≡ a .size = skipped ∙ ap (λ u. code (itemEnd 31 u)) (part-to-end m (length m - left)) ∙ ap code (a .ends-so) in
-          let c : length (x .rest) ≡ length s - a .size = ap length (a .is) ∙ length-drop (a .size) s in
-          let f = a .fits in
-          let g : length s - length (x .rest) ≡ a .size = omega arith in
-          b ∙ sym (ap (λ (e : Ends). length (e .start) - length (e .rest)) n ∙ g)
 
 -- ---------------------------------------------------------------- what an accepted root is made of
 
@@ -150,11 +132,6 @@ module _ (last : Bool) (room needed : ℕ) where
       by : (b : Bool) → first ≡ ahead b room needed → first ≤ room
       by false e = omega (arith, e)
       by true e = omega (arith, e)
-
-pub back-length : (first : ℕ) (t l : List ℕ) → first ≤ length t → length l ≡ length (lentPart first t) → length (lentBack first t l) ≡ length t
-back-length first t l h e =
-    let a : length (take first t ++ l) ≡ length (take first t) + length l = length-append (take first t) l in
-    ap length (back-is first t l) ∙ (omega (arith, a, length-take-le first t h, e, part-length first t, h))
 
 rows-laid : (last : Bool) (t l : List ℕ) (needed first : ℕ) → needed ≤ length t → first ≡ ahead last (length t) needed
     → lentBack first t (l ++ drop needed (lentPart first t)) ≡ laidOver last t needed l

@@ -2,19 +2,14 @@
 use Prim.Native.Nat.{ℕ, _+_, _-_}
 use mathlib.Core.List.{List, _++_}
 use mathlib.Core.Bool.{Bool, true, false}
-use mathlib.Core.Option.{Option}
 use mathlib.Core.Path.{_≡_}
 use lib.ListN.{length, take, drop}
-use Rattle.meaning.specs.Tree.{Node, mapP}
 use Rattle.meaning.specs.Check.{Check, pass, refuse, _>>=_}
-use Rattle.meaning.specs.Notes.{mapOption}
 use Rattle.meaning.specs.Frame.{Reading}
 use Rattle.meaning.specs.Layouts.{Layout}
 use Rattle.meaning.specs.Rows as meant
-use Rattle.meaning.specs.Rows.{attributesSpan, rows, roomFor, roomy, answer}
-use Rattle.walk.specs.Reading.{Ends}
-use Rattle.fields.specs.Slots.{Holds}
-use Rattle.table.specs.Spans.{spanOf, spanned}
+use Rattle.meaning.specs.Rows.{rows, roomFor, roomy, answer}
+use Rattle.table.specs.Spans.{ItemIs}
 use Rattle.table.specs.declared.span.Span.{Span}
 use Rattle.reader.specs.declared.into.Answer.{Answer}
 use Rattle.reader.specs.Verdict.{manifestReading}
@@ -45,7 +40,7 @@ read objects components start s =
 
 -- what stands at `left`, or nothing, is a whole item in the file
 abbrev pub AttributesIs : List ℕ → ℕ → ℕ → Span → Type 0
-AttributesIs m left end r = (o : Option (Node Ends)) → Holds 31 m left o → spanned r ≡ attributesSpan (mapOption (mapP (spanOf end)) o)
+AttributesIs m left end r = ItemIs 31 m left end r
 
 -- the manifest m read into a table
 abbrev into : Layout → ℕ → List ℕ → List ℕ → Check Reading

@@ -4,13 +4,12 @@ use crate::manifest;
 use fields::place_of;
 use frame::Framed;
 use table::span::Span;
-use table::span::whole;
+use table::span::item_at;
 ghost use mathlib.Core.Path.{_≡_};
 ghost use Prim.Native.Nat.{_+_, _*_, _<_, _≤_};
 ghost use lib.ListN.{length};
 ghost use lib.Dec.{leb};
 ghost use Rattle.meaning.specs.Columns.{objectWidth, componentWidth};
-ghost use Rattle.meaning.specs.Check.{refuse};
 ghost use Rattle.meaning.specs.Rows.{readInto, tableAfter};
 ghost use Rattle.meaning.specs.Layouts.{current, layoutOf};
 ghost use Rattle.cbor.specs.Ending.{FAULT};
@@ -55,9 +54,7 @@ fn fits(room: usize, objects: usize, components: usize) -> bool
 pub fn attributes(m: &[u8], left: usize, end: usize) -> Span
     ensures { λ r. ⌜ is.AttributesIs (now (m .entry)) left end r ⌝ }
 {
-    let at = place_of(m.len(), left);
-    let size = cbor::skip(&m[at..], 31);
-    whole(left, size, end)
+    item_at(&m[0..], left, 31, end)
 }
 
 // The numbers of a table that stand before the rows of so many objects and components: none, or where the rows are its last all that they don't need.
@@ -85,7 +82,7 @@ fn fill(layout: u64, m: &[u8], start: usize, last: bool, t: &mut [u64]) -> Answe
             let end = start + m.len();
             let place = place_of(m.len(), at);
             let first = ahead(last, t.len(), objects, components);
-            table::write(
+            objects::lay(
                 layout,
                 &m[place..],
                 start as u64,

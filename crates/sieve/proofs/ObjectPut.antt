@@ -35,14 +35,14 @@ three-put t t₁ t₂ t₃ i a b c e f g =
     g ∙ ap (λ (l : List ℕ). set l (i + 2) c) (f ∙ ap (λ (l : List ℕ). set l (i + 1) b) e) ∙ rw (← x, ← y) refl
 
 -- the window after the object was put there, and what was added
-module _ (layout : ℕ) (s c : List ℕ) (start end p n : ℕ) (t t′ : List ℕ) (long : 208 ≤ length t) (row : ℕ) (put : WholePut layout (Here s 0) (Here c 0) start end 0 0 objectWidth t row t′) (q k : ℕ) (sum : Added t′ p n q k) where
+module _ (layout : ℕ) (s c : List ℕ) (start end p n : ℕ) (t t′ : List ℕ) (long : 208 ≤ length t) (put : WholePut layout (Here s 0) (Here c 0) start end 0 0 objectWidth t t′) (q k : ℕ) (sum : Added t′ p n q k) where
   pub weighed : Weighed layout s c start end p n q k
   weighed x d u r key value m named o passes seen =
       let a : Reads (suc d) (Here s 0) (x .key) u = subst (λ v. Reads (suc d) v (x .key) u) (sym (part-to-end s 0)) key in
       let b : Reads 30 (Here c 0) (x .value) r = subst (λ v. Reads 30 v (x .value) r) (sym (part-to-end c 0)) value in
       let few = seen .count in
       let whole = put x d u r a b m named o passes (omega arith) (omega (arith, long, few)) in
-      sum _ (window-holds end o t t′ long seen (whole .after-is)) (mapped-in-window end o seen)
+      sum _ (window-holds end o t t′ long seen whole) (mapped-in-window end o seen)
 
 -- ---- bounds
 
@@ -83,9 +83,9 @@ module _ (layout : ℕ) (s c : List ℕ) (start end : ℕ) (fill : Bool) (from m
       let x = more-bounded (have .kept) (b .kept) in let y = plus-bounded (have .components) m (b .components) in
       record { kept = omega (arith, x, counted); dropped = b .dropped; components = omega (arith, y, held); place = p; total = q }
 
-  pub keeps-put : fill ≡ true → (row : ℕ) → WholePut layout (Here s 0) (Here c 0) start end (have .kept) (objectWidth * have .kept) (from + componentWidth * have .components) t row t′
+  pub keeps-put : fill ≡ true → WholePut layout (Here s 0) (Here c 0) start end (have .kept) (objectWidth * have .kept) (from + componentWidth * have .components) t t′
       → Keeps layout s c start end fill from m have t (with-sums (have .place) (have .total)) t′ × Bounded (with-sums (have .place) (have .total))
-  keeps-put f row put = (
+  keeps-put f put = (
     record {
       kept = counted;
       dropped = refl;
@@ -94,7 +94,7 @@ module _ (layout : ℕ) (s c : List ℕ) (start end : ℕ) (fill : Bool) (from m
         weighs = λ g. absurd (let z : true ≡ false = sym f ∙ g in let y : _≡_ {A = ℕ} 0 1 = cc in omega (arith, y));
         lays = λ g low room.
             put x d u r (subst (λ v. Reads (suc d) v (x .key) u) (sym (part-to-end s 0)) key) (subst (λ v. Reads 30 v (x .value) r) (sym (part-to-end c 0)) value) n named o passes
-            (omega (arith, low)) room .after-is;
+            (omega (arith, low)) room;
       };
     },
     keep-bounded (have .place) (have .total) (b .place) (b .total),

@@ -1,6 +1,7 @@
 // The objects of a manifest one after the other, each judged for itself: those that pass are kept, the others dropped. In a first pass what is kept is measured, one object's rows at a time in a window on the
 // stack; in a second its rows are put into a table, and what is dropped into a list. Every slice runs to the manifest's end, which is the file's place `end`.
 use object::Judged;
+use table::Place;
 use table::lay;
 use walk::Entry;
 use walk::Opening;
@@ -56,17 +57,14 @@ fn weigh(
     ensures sum { λ r. ⌜ is.Weighed layout (now (s .entry)) (now (c .entry)) start end place total (r .place) (r .total) ⌝ }
     ensures small { λ r. ⌜ (r .place ≤ suc endLimit) × (r .total ≤ suc manifestLimit) ⌝ }
 {
-    table::put_whole(
-        layout,
-        &s[0..],
-        &c[0..],
-        start,
-        end,
-        0,
-        0,
-        columns::OBJECT,
-        t,
-    );
+    let mut rows = [0u64; 64];
+    let to = Place {
+        end: end,
+        owner: 0,
+        row: 0,
+        from: columns::OBJECT,
+    };
+    object::object(layout, &s[0..], &c[0..], start, to, &mut rows, t);
     window::add(t, place, total)
 }
 
@@ -87,21 +85,16 @@ fn keep(
     ensures kept { λ r. ⌜ is.Keeps layout (now (s .entry)) (now (c .entry)) start end fill from m have (now (t .entry)) r (now (t .exit)) ⌝ }
     ensures small { λ r. ⌜ is.Bounded r ⌝ }
 {
+    let mut rows = [0u64; 64];
     let components = objects::plus(have.components, m);
     if fill {
-        let row = columns::OBJECT * have.kept;
-        let next = from + columns::COMPONENT * have.components;
-        table::put_whole(
-            layout,
-            &s[0..],
-            &c[0..],
-            start,
-            end,
-            have.kept as u64,
-            row,
-            next,
-            t,
-        );
+        let to = Place {
+            end: end,
+            owner: have.kept as u64,
+            row: columns::OBJECT * have.kept,
+            from: from + columns::COMPONENT * have.components,
+        };
+        object::object(layout, &s[0..], &c[0..], start, to, &mut rows, t);
         return Sieve {
             kept: more(have.kept),
             dropped: have.dropped,
@@ -190,7 +183,14 @@ fn step(
     ensures small { λ r. ⌜ is.Bounded (r .sieve) ⌝ }
 {
     let mut rows = [0u64; 64];
-    let w = object::object(layout, &c[0..], start, &mut rows);
+    let mut none = [0u64; 0];
+    let to = Place {
+        end: end,
+        owner: 0,
+        row: 0,
+        from: 0,
+    };
+    let w = object::object(layout, &s[0..], &c[0..], start, to, &mut rows, &mut none);
     let e = w.end;
     let v = w.verdict;
     match v {

@@ -1,5 +1,5 @@
 -- The row of a component, a branch each: none where the judgement refuses it, else twelve numbers.
-use Prim.Native.Nat.{ℕ, _+_, _<_}
+use Prim.Native.Nat.{ℕ, _+_, _≤_, _<_}
 use native.Mathlib.Omega.{arith}
 use mathlib.Core.List.{List, [], _∷_}
 use mathlib.Core.Path.{_≡_, refl, ap, ap₂, sym, _∙_, subst}
@@ -26,9 +26,9 @@ use Rattle.component.specs.Value.{leftWord, given}
 use Rattle.component.specs.Verdict.{judged}
 use Rattle.component.specs.declared.Judged.{Judged}
 use Rattle.component.specs.declared.Judged.the-variants.{No, Yes}
-use Rattle.components.specs.Row.{RoleIs, storedAs}
-use Rattle.components.proofs.Storage.{withCode, stored-so}
-use Rattle.components.proofs.Lettered.{named-so, type-at, digest-at, entered-so}
+use Rattle.table.specs.Stored.{RoleIs, storedAs}
+use Rattle.table.proofs.Storage.{withCode, stored-so}
+use Rattle.table.proofs.Lettered.{named-so, type-at, digest-at, entered-so}
 use Rattle.fields.proofs.Texts.{Here}
 use Rattle.table.specs.declared.span.Span.{Span}
 use Rattle.table.specs.Spans.{spanOf, spanned, spanOfWord, spanOfOption, SpeltIs, SpeltAt, WholeFrom}
@@ -90,6 +90,10 @@ own-of layout format code start n f fm has k passes = go (component (layoutOf la
     go (refuse m i j) e h = absurd (let z : _≡_ {A = ℕ} 0 1 = cc in omega arith)
 
 -- ---------------------------------------------------------------- the row
+
+-- beyond the table's end nothing is put
+pub row-beyond : (layout format : ℕ) (s c : List ℕ) (v : Judged) (size end owner i : ℕ) (before : List ℕ) → length before ≤ i → RowPut layout format s c v size end owner i before before
+row-beyond layout format s c v size end owner i before h code start says p d q r key value sized n name f fm has k passes = sym (laying.sets-out (rowIn end owner k) before i h)
 
 module _ (layout format : ℕ) (s c : List ℕ) (room : length c < FAULT) (v : Judged) (size end owner i : ℕ) (before after : List ℕ) where
   pub no-row : (m : ℕ) → v ≡ No m → RowPut layout format s c v size end owner i before after

@@ -1,3 +1,7 @@
+pub mod Typed
+pub mod Lettered
+pub mod Storage
+pub mod Roles
 pub mod TextSpan
 pub mod Runs
 pub mod Whole
@@ -5,8 +9,5 @@ pub mod ComponentRow
 pub mod MapEntries
 pub mod RowLoop
 pub mod ObjectRow
-pub mod ObjectFields
-pub mod LateRows
 pub mod ObjectPasses
-pub mod WholeObject
 pub mod ObjectLoop

@@ -1,9 +1,8 @@
 -- A turn of the loop over the entries of the `objects` map: the rows put so far, and one more object's; and the table in the end.
-use Prim.Native.Nat.{ℕ, suc, _+_, _-_, _*_, _≤_, _<_}
+use Prim.Native.Nat.{ℕ, suc, _+_, _*_, _≤_}
 use native.Mathlib.Nat.{zero-add}
 use native.Mathlib.Omega.{arith}
 use mathlib.Core.List.{List, [], _∷_, _++_, map, append-nil, append-assoc}
-use mathlib.Core.Logic.{⊎-elim}
 use mathlib.Core.Path.{_≡_, refl, ap, ap₂, sym, _∙_, subst}
 use lib.ListN.{length, drop, length-append, length-map}
 use lib.Seq.{sets, sets-eq}
@@ -21,24 +20,20 @@ use Rattle.meaning.specs.Rows.{objectRow, objectRows, rowsOf, componentRows, co
 use Rattle.meaning.specs.Layouts.{layoutOf}
 use Rattle.meaning.proofs.Checks.{in-object}
 use Rattle.meaning.proofs.Lengths.{object-length, objects-length, components-length, count-snoc}
-use Rattle.cbor.specs.Ending.{FAULT, code, itemEnd}
-use Rattle.endian.proofs.Which.{lt-or}
 use Rattle.walk.specs.Reading.{Ends, Reads}
-use Rattle.walk.specs.Places.{MapIs, EntryIs, Modes}
+use Rattle.walk.specs.Places.{MapIs}
 use Rattle.walk.specs.declared.Opening.{Opening}
 use Rattle.walk.specs.declared.Opening.the-variants.{NotOpen, Opened}
-use Rattle.walk.specs.declared.Entry.{Entry}
-use Rattle.walk.specs.declared.Entry.the-variants.{End, Value}
-use Rattle.walk.proofs.Passed as walked
 use Rattle.walk.proofs.Passed.{Here}
 use Rattle.walk.proofs.Opens as opens
 use Rattle.naming.proofs.NameNoted.{map-snoc}
 use Rattle.table.specs.Spans.{spanOf}
 use Rattle.table.specs.Rows.{rowsIn}
 use Rattle.table.specs.Object.{objectIn}
-use Rattle.table.specs.Objects.{WholePut, entry, objectsIn, componentsIn, Laid, ObjectsLaid, AllLaid, Written}
+use Rattle.table.specs.Objects.{WholePut, Onward, entry, objectsIn, componentsIn, Laid, ObjectsLaid, AllLaid, Written}
 use Rattle.table.proofs.Runs as laying
 use Rattle.table.proofs.MapEntries as entering
+use Rattle.table.proofs.ComponentRow.{named-pair}
 
 -- ---------------------------------------------------------------- rows
 
@@ -90,69 +85,50 @@ module _ (end : ℕ) where
 
 -- ---------------------------------------------------------------- one more object
 
-pub none-laid : (layout start end from : ℕ) (before : List ℕ) → ObjectsLaid layout start end from before 0 0 from before []
+pub none-laid : (layout start end from : ℕ) (before : List ℕ) → ObjectsLaid layout start end from before 0 from before []
 unfolding objectRows componentRows componentCount
-none-laid layout start end from before = record {
-  counted = refl;
-  laid = λ os h low room. let z = entering.none-entered (entry layout start) os h in subst (Laid end from before 0 from before) (sym z) (record { row-is = refl; next-is = omega arith; after-is = refl });
-}
+none-laid layout start end from before os h low room =
+    let z = entering.none-entered (entry layout start) os h in subst (Laid end from before 0 from before) (sym z) (record { row-is = refl; next-is = omega arith; after-is = refl })
 
 module _ (layout start end from : ℕ) (before s : List ℕ) (place k n row row′ next next′ : ℕ) (after after′ : List ℕ) (kept : length after ≡ length before)
-    (put : WholePut layout (Here s place) (Here s (place + k)) start end n row next after next′ after′) (room : ℕ) (roomy : room ≡ length after′) (kept′ : length after′ ≡ length after)
-    (further : row + objectWidth ≤ room → row′ ≡ row + objectWidth) where
+    (put : WholePut layout (Here s place) (Here s (place + k)) start end n row next after after′) (room : ℕ) (roomy : room ≡ length after′) (kept′ : length after′ ≡ length after)
+    (further : row + objectWidth ≤ room → row′ ≡ row + objectWidth) (onward : Onward layout start (Here s (place + k)) next room next′) where
   pub one-more-laid : (done : List (Pair Ends)) (p : Pair Ends) (q r : List ℕ) → Reads 30 (drop place s) (p .key) q → Reads 30 (drop (place + k) s) (p .value) r
-      → ObjectsLaid layout start end from before n row next after done → ObjectsLaid layout start end from before (n + 1) row′ next′ after′ (done ++ p ∷ [])
-  one-more-laid done p q r key value laid = record {
-    counted = let z = laid .counted in omega (arith, length-append done (p ∷ []));
-    laid = λ os h low fits.
-        let l = entering.last-entered (entry layout start) done p os h in
-        let size : length os ≡ length (l .front) + 1 = ap length (l .are) ∙ length-append (l .front) (l .last ∷ []) in
-        let many : componentCount os ≡ componentCount (l .front) + length (l .last .components) = ap componentCount (l .are) ∙ count-snoc (l .front) (l .last) in
-        let as-many : length (l .front) ≡ length done = entering.as-many (entry layout start) done (l .front) (l .before) in
-        let owner : n ≡ length (l .front) = laid .counted ∙ sym as-many in
-        let old = laid .laid (l .front) (l .before) (omega arith) (omega arith) in
-        let there = old .row-is in
-        let then = old .next-is in
-        let a : Reads 30 (Here s place) (p .key) q = subst (λ u. Reads 30 u (p .key) q) (sym (part-to-end s place)) key in
-        let b : Reads 30 (Here s (place + k)) (p .value) r = subst (λ u. Reads 30 u (p .value) r) (sym (part-to-end s (place + k))) value in
-        let whole = put p 29 q r a b (l .name) (l .name-is) (l .last) (in-object (length done) (object (layoutOf layout) start (l .name)) (l .last) (l .last-is)) (omega arith) (omega arith) in
-        let on : row′ ≡ row + objectWidth = further (omega arith) in
-        let next-so = whole .next-is in
-        let O = objectIn end (l .last) in
-        let A = objectsIn end (l .front) in
-        let B = componentsIn end (l .front) in
-        let row-there : row ≡ 0 + length A = there ∙ sym (objects-in-length end (l .front)) ∙ sym (zero-add (length A)) in
-        let next-there : next ≡ from + length B = then ∙ ap (λ i. from + i) (sym (components-in-length end (l .front))) in
-        let short : row + length O ≤ from = omega (arith, object-length (mapObject (spanOf end) (l .last))) in
-        record {
-          row-is = omega arith;
-          next-is = omega arith;
-          after-is =
-              whole .after-is
-              ∙ ap₂ (λ t w. sets (sets t row O) next (rowsIn end w (l .last .components))) (old .after-is) owner
-              ∙ ap (λ t. sets t next (rowsIn end (length (l .front)) (l .last .components))) (laying.sets-commute O B (sets before 0 A) row from short)
-              ∙ ap₂ (λ i j. sets (sets (sets (sets before 0 A) i O) from B) j (rowsIn end (length (l .front)) (l .last .components))) row-there next-there
-              ∙ sym (laying.sets-append B (rowsIn end (length (l .front)) (l .last .components)) (sets (sets before 0 A) (0 + length A) O) from)
-              ∙ ap (λ t. sets t from (B ++ rowsIn end (length (l .front)) (l .last .components))) (sym (laying.sets-append A O before 0))
-              ∙ ap₂ (λ x y. sets (sets before 0 x) from y) (sym (ap (objectsIn end) (l .are) ∙ objects-snoc end (l .front) (l .last))) (sym (ap (componentsIn end) (l .are) ∙ components-snoc end (l .front) (l .last)));
-        };
-  }
-
--- ---------------------------------------------------------------- the loop's end
-
-module _ (layout start end from mode count : ℕ) (s before : List ℕ) (modes : Modes mode count) (short : length s < FAULT) (place due n row next : ℕ) (after : List ℕ)
-    (w : walked.Passed 30 mode count s place due (ObjectsLaid layout start end from before n row next after)) (x : Entry) (h : EntryIs 30 mode due (Here s place) x) where
-  pub all-laid : (e : ℕ) → x ≡ End e → AllLaid layout start end from mode count s before after
-  all-laid e is = record {
-    n = n;
-    row = row;
-    next = next;
-    are = ⊎-elim (λ l. walked.ends-faulty 30 mode count s modes short place due _ w x h e is l .1) (λ l. walked.ends-inside 30 mode count s modes short place due _ w x h e is l .1) (lt-or (length s - place) e);
-  }
-
-  -- where a value is faulty there are no pairs
-  pub none-read : (k : ℕ) → x ≡ Value k → (e : ℕ) → e ≡ code (itemEnd 30 (Here s (place + k))) → length s - (place + k) < e → (after′ : List ℕ) → AllLaid layout start end from mode count s before after′
-  none-read k is e ended l after′ = record { n = n; row = row; next = next; are = walked.value-faulty 30 mode count s modes short place due _ w x h k is e ended l _ .1 }
+      → n ≡ length done → ObjectsLaid layout start end from before row next after done → ObjectsLaid layout start end from before row′ next′ after′ (done ++ p ∷ [])
+  one-more-laid done p q r key value counted laid os h low fits =
+      let l = entering.last-entered (entry layout start) done p os h in
+      let size : length os ≡ length (l .front) + 1 = ap length (l .are) ∙ length-append (l .front) (l .last ∷ []) in
+      let many : componentCount os ≡ componentCount (l .front) + length (l .last .components) = ap componentCount (l .are) ∙ count-snoc (l .front) (l .last) in
+      let as-many : length (l .front) ≡ length done = entering.as-many (entry layout start) done (l .front) (l .before) in
+      let owner : n ≡ length (l .front) = counted ∙ sym as-many in
+      let old = laid (l .front) (l .before) (omega arith) (omega arith) in
+      let there = old .row-is in
+      let then = old .next-is in
+      let a : Reads 30 (Here s place) (p .key) q = subst (λ u. Reads 30 u (p .key) q) (sym (part-to-end s place)) key in
+      let b : Reads 30 (Here s (place + k)) (p .value) r = subst (λ u. Reads 30 u (p .value) r) (sym (part-to-end s (place + k))) value in
+      let passes = in-object (length done) (object (layoutOf layout) start (l .name)) (l .last) (l .last-is) in
+      let whole = put p 29 q r a b (l .name) (l .name-is) (l .last) passes (omega arith) (omega arith) in
+      let on : row′ ≡ row + objectWidth = further (omega arith) in
+      let next-so : next′ ≡ next + componentWidth * length (l .last .components) =
+      onward (p .value) r b (l .name .name) (l .last) (ap (object (layoutOf layout) start) (sym (named-pair p (l .name) (l .name-is) .is)) ∙ passes) (omega arith) in
+      let O = objectIn end (l .last) in
+      let A = objectsIn end (l .front) in
+      let B = componentsIn end (l .front) in
+      let row-there : row ≡ 0 + length A = there ∙ sym (objects-in-length end (l .front)) ∙ sym (zero-add (length A)) in
+      let next-there : next ≡ from + length B = then ∙ ap (λ i. from + i) (sym (components-in-length end (l .front))) in
+      let short : row + length O ≤ from = omega (arith, object-length (mapObject (spanOf end) (l .last))) in
+      record {
+        row-is = omega arith;
+        next-is = omega arith;
+        after-is =
+            whole
+            ∙ ap₂ (λ t w. sets (sets t row O) next (rowsIn end w (l .last .components))) (old .after-is) owner
+            ∙ ap (λ t. sets t next (rowsIn end (length (l .front)) (l .last .components))) (laying.sets-commute O B (sets before 0 A) row from short)
+            ∙ ap₂ (λ i j. sets (sets (sets (sets before 0 A) i O) from B) j (rowsIn end (length (l .front)) (l .last .components))) row-there next-there
+            ∙ sym (laying.sets-append B (rowsIn end (length (l .front)) (l .last .components)) (sets (sets before 0 A) (0 + length A) O) from)
+            ∙ ap (λ t. sets t from (B ++ rowsIn end (length (l .front)) (l .last .components))) (sym (laying.sets-append A O before 0))
+            ∙ ap₂ (λ x y. sets (sets before 0 x) from y) (sym (ap (objectsIn end) (l .are) ∙ objects-snoc end (l .front) (l .last))) (sym (ap (componentsIn end) (l .are) ∙ components-snoc end (l .front) (l .last)));
+      }
 
 -- ---------------------------------------------------------------- the whole map, lent whole to `walk::map`, which answered x
 
@@ -170,7 +146,7 @@ module _ (layout : ℕ) (s : List ℕ) (start end from : ℕ) (before after : Li
       let o = opens.opened s x h mode count size e .trees 30 t q r in
       let w = subst (λ u. AllLaid layout start end from mode count u before after) (part-to-end s size) all .are (o .pairs) (o .last) (o .due) in
       let g = entering.all-entered (entry layout start) objectLimit t (o .pairs) (o .kind-is) (m .objects) is in
-      let laid = w .laid (m .objects) g (omega arith) (omega arith) in
+      let laid = w (m .objects) g (omega arith) (omega arith) in
       let A = objectsIn end (m .objects) in
       let B = componentsIn end (m .objects) in
       let seam : from ≡ 0 + length A = low ∙ sym (objects-in-length end (m .objects)) ∙ sym (zero-add (length A)) in

@@ -20,12 +20,11 @@ use Rattle.meaning.specs.Format.{formatRules}
 use Rattle.meaning.specs.Judge.{inherited, aDtype, object, shapeOf, attributesOf, componentsOf, part}
 use Rattle.meaning.proofs.Checks.{pass-same, required-some, passed-on, passed}
 use Rattle.meaning.proofs.KindIs.{attributes-stay}
-use Rattle.walk.specs.Reading.{Ends, Chain, leftAt, foldl}
+use Rattle.walk.specs.Reading.{Ends, Chain, foldl}
 use Rattle.fields.specs.Slots.{marks, Holds}
 use Rattle.fields.proofs.Stands.{field-stands}
-use Rattle.components.specs.Typed.{lettered}
-use Rattle.components.proofs.Lettered.{word-note, text-word}
-use Rattle.table.specs.Spans.{SizeIs}
+use Rattle.table.specs.WordAt.{lettered}
+use Rattle.table.proofs.Lettered.{word-note, text-word}
 use Rattle.table.specs.Object.{Described}
 use Rattle.table.specs.Late.{Gives}
 
@@ -158,18 +157,13 @@ module _ (L : Layout) (m : List ℕ) (ps : List (Pair Ends)) (q : List ℕ) (cha
   at-place : (i : ℕ) → i < 5 → Holds 29 m (getD p i 0) (field (slot i (L .object)) ps)
   at-place i l = field-stands (L .object) 5 (L .objectPlaces) 29 m ps q chain p is (L .objectApart) i l
 
-  holds-left : (left : ℕ) (o : Option (Node Ends)) → Holds 29 m left o → leftAt o ≡ left
-  holds-left left none h = sym h
-  holds-left left (some t) h = sym (h .1 .left-is)
-
   module _ (start : ℕ) (w : Word Ends) (o : Object Ends) (f : Made L start w (fieldsOf (L .object) ps) o) where
     format-held : Holds 29 m (getD p 2 0) (some (f .format))
     format-held = subst (Holds 29 m (getD p 2 0)) (f .format-got) (at-place 2 (omega arith))
 
-    pub described : (size : ℕ) → ((t : Node Ends) → field (slot 3 (L .object)) ps ≡ some t → SizeIs t size) → Described m p size o
-    described size sized =
+    pub described : Described m p o
+    described =
         let a : Holds 29 m (getD p 1 0) (some (f .shape)) = subst (Holds 29 m (getD p 1 0)) (f .shape-got) (at-place 1 (omega arith)) in
-        let c : Holds 29 m (getD p 3 0) (o .attributes) = subst (Holds 29 m (getD p 3 0)) (f .attributes-got) (at-place 3 (omega arith)) in
         let word : kinds.aWord (f .format) ≡ pass (o .format) = text-word (f .format) (o .format) (f .format-is) in
         let n : noteOf (f .format) ≡ o .format .note = sym (word-note (f .format) (o .format) word) in
         let l : getD p 2 0 ≡ length (o .format .note .start) = format-held .1 .left-is ∙ ap (λ (e : Ends). length (e .start)) n in
@@ -179,8 +173,7 @@ module _ (L : Layout) (m : List ℕ) (ps : List (Pair Ends)) (q : List ℕ) (cha
           shape-is = f .shape-is;
           format-at = lettered (o .format) refl 28 (f .format) (subst (λ (i : ℕ). Holds 29 m i (some (f .format))) l format-held) word;
           format-left = sym l;
-          attributes-left = holds-left (getD p 3 0) (o .attributes) c;
-          attributes-take = λ t e. ((subst (Holds 29 m (getD p 3 0)) e c) .0, sized t (f .attributes-got ∙ e));
+          attributes-held = subst (Holds 29 m (getD p 3 0)) (f .attributes-got) (at-place 3 (omega arith));
         }
 
     -- a tensor gives its dtype to its components
@@ -196,6 +189,8 @@ module _ (L : Layout) (m : List ℕ) (ps : List (Pair Ends)) (q : List ℕ) (cha
           format = f .format;
           format-stands = format-held .1;
           format-is = f .format-is;
+          attributes = field (slot 3 (L .object)) ps;
+          attributes-held = at-place 3 (omega arith);
           components = f .components;
           components-stand = k .1;
           components-are = f .components-are;

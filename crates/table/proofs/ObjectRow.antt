@@ -1,16 +1,19 @@
 -- The row of an object: its dimensions, unused ones cleared, and its sixteen numbers.
 use Prim.Native.Nat.{ℕ, zero, suc, _+_, _-_, _≤_, _<_}
 use native.Mathlib.Omega.{arith}
-use mathlib.Core.List.{List, [], _∷_, map}
+use mathlib.Core.List.{List, [], _∷_, _++_, map}
 use mathlib.Core.Logic.{⊎-elim}
 use mathlib.Core.Option.{some}
 use mathlib.Core.Path.{_≡_, refl, ap, ap₂, sym, _∙_, subst}
-use lib.ListN.{length, getD, take, drop, set, length-map}
+use lib.ListN.{length, getD, take, drop, set, replicate, length-map, length-append, length-replicate}
 use lib.Seq.{sets, getD-take, getD-set-same, getD-set-other, length-take-le}
 use borrow.Rule.Slice.PartAt.{part-to-end}
+use Rattle.meaning.specs.Columns.{objectWidth}
 use Rattle.meaning.specs.Tree.{Node, mapP}
 use Rattle.meaning.specs.Check.{pass, fault}
+use Rattle.meaning.specs.Read as read
 use Rattle.meaning.specs.Limit.{rankLimit}
+use Rattle.meaning.specs.Model.{Object}
 use Rattle.meaning.specs.Notes.{mapOption, mapComponent}
 use Rattle.meaning.specs.Judge.{shapeOf}
 use Rattle.meaning.specs.Rows.{objectRow, dimensions, optionalSpan, attributesSpan}
@@ -23,7 +26,7 @@ use Rattle.shape.specs.declared.Shaped.the-variants.{No, Yes}
 use Rattle.fields.specs.Slots.{Stands}
 use Rattle.fields.proofs.Texts.{Here}
 use Rattle.table.specs.declared.span.Span.{Span}
-use Rattle.table.specs.Spans.{spanOf, spanned, spanOfWord, SpeltIs, SpeltAt, WholeIs}
+use Rattle.table.specs.Spans.{spanOf, spanned, spanOfWord, SpeltIs, SpeltAt, ItemIs}
 use Rattle.table.specs.Object.{Cleared, eight, DimensionsAt, sixteen, objectIn, ObjectPut}
 use Rattle.table.proofs.Runs as laying
 use Rattle.table.proofs.ComponentRow as rows
@@ -104,14 +107,18 @@ sixteen-put t t₁ t₂ t₃ t₄ i a₀ a₁ a₂ a₃ a₄ b₀ b₁ b₂ b₃
 
 -- ---------------------------------------------------------------- the row
 
-module _ (s m p : List ℕ) (count size end i : ℕ) (before after : List ℕ) where
-  pub row-put : (d : List ℕ) (rank : ℕ) → DimensionsAt (Here m 0) (getD p 1 0) d rank → (x : Span) → SpeltIs (Here s 0) end x → (y : Span) → SpeltAt (Here m 0) (getD p 2 0) end y
-      → (z : Span) → WholeIs (getD p 3 0) size end z → after ≡ sets before i (sixteen (spanned x) rank (eight d) (spanned y) (spanned z) count) → ObjectPut s m p count size end i before after
+module _ (s m p : List ℕ) (count end i : ℕ) (before : List ℕ) where
+  -- beyond the table's end nothing is put
+  pub row-beyond : length before ≤ i → ObjectPut s m p count end i before before
+  row-beyond h e t q key o name des counted = sym (laying.sets-out (objectIn end o) before i h)
+
+  pub row-put : (after : List ℕ) (d : List ℕ) (rank : ℕ) → DimensionsAt (Here m 0) (getD p 1 0) d rank → (x : Span) → SpeltIs (Here s 0) end x → (y : Span) → SpeltAt (Here m 0) (getD p 2 0) end y
+      → (z : Span) → ItemIs 29 (Here m 0) (getD p 3 0) end z → after ≡ sets before i (sixteen (spanned x) rank (eight d) (spanned y) (spanned z) count) → ObjectPut s m p count end i before after
   unfolding objectRow optionalSpan
-  row-put d rank dims x sx y sy z sz put e t q key o name des counted =
+  row-put after d rank dims x sx y sy z sz put e t q key o name des counted =
       let a : spanned x ≡ spanOfWord end (o .name) = subst (λ u. SpeltIs u end x) (part-to-end s 0) sx e t q key (o .name) name in
       let b : spanned y ≡ spanOfWord end (o .format) = subst (λ u. SpeltAt u (getD p 2 0) end y) (part-to-end m 0) sy (some (o .format)) (des .format-at) (des .format-left) in
-      let c : spanned z ≡ attributesSpan (mapOption (mapP (spanOf end)) (o .attributes)) = sz (o .attributes) (des .attributes-left) (des .attributes-take) in
+      let c : spanned z ≡ attributesSpan (mapOption (mapP (spanOf end)) (o .attributes)) = subst (λ u. ItemIs 29 u (getD p 3 0) end z) (part-to-end m 0) sz (o .attributes) (des .attributes-held) in
       let f = subst (λ u. DimensionsAt u (getD p 1 0) d rank) (part-to-end m 0) dims .are (des .shape) (des .shape-stands) (o .shape) (des .shape-is) in
       let g : count ≡ length (map (mapComponent (spanOf end)) (o .components)) = counted ∙ sym (length-map (o .components) (mapComponent (spanOf end))) in
       let same : sixteen (spanned x) rank (eight d) (spanned y) (spanned z) count ≡ objectIn end o =
@@ -120,3 +127,14 @@ module _ (s m p : List ℕ) (count size end i : ℕ) (before after : List ℕ) w
       ∙ ap (λ u. sixteen (spanOfWord end (o .name)) (length (o .shape)) (dimensions (o .shape)) u (spanned z) count) b
       ∙ ap₂ (λ u n. sixteen (spanOfWord end (o .name)) (length (o .shape)) (dimensions (o .shape)) (spanOfWord end (o .format)) u n) c g in
       put ∙ ap (sets before i) same
+
+-- ---------------------------------------------------------------- how long it is
+
+dimensions-length : (s : List ℕ) → length (dimensions s) ≡ 8
+unfolding dimensions
+dimensions-length s = length-take-le 8 (s ++ replicate 8 0) (let a = length-append s (replicate 8 0) in let b = length-replicate {A = ℕ} 8 0 in omega arith)
+
+pub object-length : (o : Object read.Span) → length (objectRow o) ≡ objectWidth
+unfolding objectRow
+object-length o =
+    ap (λ n. suc (suc (suc n))) (length-append (dimensions (o .shape)) _ ∙ ap (λ n. n + 5) (dimensions-length (o .shape)))

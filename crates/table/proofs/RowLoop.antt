@@ -30,7 +30,7 @@ use Rattle.component.specs.Value.{given}
 use Rattle.component.specs.Verdict.{ComponentIs}
 use Rattle.component.specs.declared.Judged.{Judged}
 use Rattle.naming.proofs.NameNoted.{map-snoc}
-use Rattle.components.specs.Firsts.{Given, entry}
+use Rattle.table.specs.Given.{Given, entry}
 use Rattle.table.specs.Spans.{spanOf, SizeIs}
 use Rattle.table.specs.Row.{rowIn, RowPut}
 use Rattle.table.specs.Rows.{rowsIn, Laid, Rowed, AllRowed, RowsPut}
@@ -68,56 +68,50 @@ module _ (end owner : ℕ) (cs : List (Component Ends)) where
 
 -- ---------------------------------------------------------------- one more entry
 
-pub none-rowed : (g : Given) (start end owner from : ℕ) (before : List ℕ) → Rowed g start end owner from before 0 from before []
+pub none-rowed : (g : Given) (start end owner from : ℕ) (before : List ℕ) → Rowed g start end owner from before from before []
 unfolding rowsOf
-none-rowed g start end owner from before = record {
-  counted = refl;
-  laid = λ f fm has cs h room. let z = entering.none-entered (entry (layoutOf (g .layout)) (inherited f (given (g .code))) start) cs h in subst (Laid end owner from before from before) (sym z) (record { next-is = omega arith; after-is = refl });
-}
+none-rowed g start end owner from before f fm has cs h room =
+    let z = entering.none-entered (entry (layoutOf (g .layout)) (inherited f (given (g .code))) start) cs h in subst (Laid end owner from before from before) (sym z) (record { next-is = omega arith; after-is = refl })
 
-module _ (g : Given) (start end owner from : ℕ) (before : List ℕ) (s : List ℕ) (at k : ℕ) (count next next′ : ℕ) (after after′ : List ℕ) (kept : length after ≡ length before) (v : Judged)
+module _ (g : Given) (start end owner from : ℕ) (before : List ℕ) (s : List ℕ) (at k : ℕ) (next next′ : ℕ) (after after′ : List ℕ) (kept : length after ≡ length before) (v : Judged)
     (judged : ComponentIs (layoutOf (g .layout)) (given (g .code)) (Here s (at + k)) start v) (size : ℕ) (took : size ≡ code (itemEnd 28 (Here s (at + k)))) (put : RowPut (g .layout) (g .format) (Here s at) (Here s (at + k)) v size end owner next after after′) (room : ℕ) (roomy : room ≡ length after′) (kept′ : length after′ ≡ length after)
     (further : next + componentWidth ≤ room → next′ ≡ next + componentWidth) where
   pub one-more-rowed : (done : List (Pair Ends)) (p : Pair Ends) (q r : List ℕ) → Reads 28 (drop at s) (p .key) q → Reads 28 (drop (at + k) s) (p .value) r
-      → Rowed g start end owner from before count next after done → Rowed g start end owner from before (count + 1) next′ after′ (done ++ p ∷ [])
+      → Rowed g start end owner from before next after done → Rowed g start end owner from before next′ after′ (done ++ p ∷ [])
   unfolding entry
-  one-more-rowed done p q r key value rowed = record {
-    counted = let z = rowed .counted in omega (arith, length-append done (p ∷ []));
-    laid = λ f fm has cs h fits.
-        let above = inherited f (given (g .code)) in
-        let l = entering.last-entered (entry (layoutOf (g .layout)) above start) done p cs h in
-        let size : length cs ≡ length (l .front) + 1 = ap length (l .are) ∙ length-append (l .front) (l .last ∷ []) in
-        let old = rowed .laid f fm has (l .front) (l .before) (omega arith) in
-        let there = old .next-is in
-        let a : Reads 28 (Here s at) (p .key) q = subst (λ u. Reads 28 u (p .key) q) (sym (part-to-end s at)) key in
-        let b : Reads 28 (Here s (at + k)) (p .value) r = subst (λ u. Reads 28 u (p .value) r) (sym (part-to-end s (at + k))) value in
-        let row : after′ ≡ sets after next (rowIn end owner (l .last)) =
-        put (g .code) start judged p 27 q r a b (subst (SizeIs (p .value)) (sym took) (item-size 28 (Here s (at + k)) (p .value) r b)) (l .name) (l .name-is) f fm has (l .last)
-        (in-component (length done) (component (layoutOf (g .layout)) start (above (l .name .name .letters)) (l .name)) (l .last) (l .last-is)) in
-        let on : next′ ≡ next + componentWidth = further (omega arith) in
-        record {
-          next-is = omega arith;
-          after-is =
-              row ∙ ap₂ (λ t i. sets t i (rowIn end owner (l .last))) (old .after-is) (there ∙ ap (λ i. from + i) (sym (rows-in-length end owner (l .front))))
-              ∙ sym (laying.sets-append (rowsIn end owner (l .front)) (rowIn end owner (l .last)) before from)
-              ∙ ap (sets before from) (sym (ap (rowsIn end owner) (l .are) ∙ rows-snoc end owner (l .front) (l .last)));
-        };
-  }
+  one-more-rowed done p q r key value rowed f fm has cs h fits =
+      let above = inherited f (given (g .code)) in
+      let l = entering.last-entered (entry (layoutOf (g .layout)) above start) done p cs h in
+      let size : length cs ≡ length (l .front) + 1 = ap length (l .are) ∙ length-append (l .front) (l .last ∷ []) in
+      let old = rowed f fm has (l .front) (l .before) (omega arith) in
+      let there = old .next-is in
+      let a : Reads 28 (Here s at) (p .key) q = subst (λ u. Reads 28 u (p .key) q) (sym (part-to-end s at)) key in
+      let b : Reads 28 (Here s (at + k)) (p .value) r = subst (λ u. Reads 28 u (p .value) r) (sym (part-to-end s (at + k))) value in
+      let row : after′ ≡ sets after next (rowIn end owner (l .last)) =
+      put (g .code) start judged p 27 q r a b (subst (SizeIs (p .value)) (sym took) (item-size 28 (Here s (at + k)) (p .value) r b)) (l .name) (l .name-is) f fm has (l .last)
+      (in-component (length done) (component (layoutOf (g .layout)) start (above (l .name .name .letters)) (l .name)) (l .last) (l .last-is)) in
+      let on : next′ ≡ next + componentWidth = further (omega arith) in
+      record {
+        next-is = omega arith;
+        after-is =
+            row ∙ ap₂ (λ t i. sets t i (rowIn end owner (l .last))) (old .after-is) (there ∙ ap (λ i. from + i) (sym (rows-in-length end owner (l .front))))
+            ∙ sym (laying.sets-append (rowsIn end owner (l .front)) (rowIn end owner (l .last)) before from)
+            ∙ ap (sets before from) (sym (ap (rowsIn end owner) (l .are) ∙ rows-snoc end owner (l .front) (l .last)));
+      }
 
 -- ---------------------------------------------------------------- the whole map, lent whole to `walk::map`, which answered x
 
 module _ (g : Given) (c : List ℕ) (start end owner from : ℕ) (before : List ℕ) (x : Opening) (h : MapIs (Here c 0) x) where
-  pub no-map : (n next : ℕ) (after : List ℕ) → x ≡ NotOpen → RowsPut g c start end owner from before n next after
+  pub no-map : (after : List ℕ) → x ≡ NotOpen → RowsPut g c start end owner from before after
   unfolding componentsOf names
-  no-map n next after e t q r f fm has cs is =
+  no-map after e t q r f fm has cs is =
       absurd (let z = opens.opening c x h NotOpen e 28 t q r in let y : componentsOf (layoutOf (g .layout)) start (inherited f (given (g .code))) t ≡ refuse 8 0 0 = rw z refl in let w : pass cs ≡ refuse 8 0 0 = sym is ∙ y in let v : _≡_ {A = ℕ} 0 1 = cc in omega arith)
 
-  pub map-rowed : (mode count size : ℕ) → x ≡ Opened mode count size → (n next : ℕ) (after : List ℕ) → AllRowed g start end owner from mode count (Here c size) before n next after
-      → RowsPut g c start end owner from before n next after
+  pub map-rowed : (mode count size : ℕ) → x ≡ Opened mode count size → (after : List ℕ) → AllRowed g start end owner from mode count (Here c size) before after
+      → RowsPut g c start end owner from before after
   unfolding componentsOf entry
-  map-rowed mode count size e n next after all t q r f fm has cs is =
+  map-rowed mode count size e after all t q r f fm has cs is room =
       let E = entry (layoutOf (g .layout)) (inherited f (given (g .code))) start in
       let m = opens.opened c x h mode count size e .trees 28 t q r in
-      let w = subst (λ u. AllRowed g start end owner from mode count u before n next after) (part-to-end c size) all (m .pairs) (m .last) (m .due) in
-      let i = entering.all-entered E componentLimit t (m .pairs) (m .kind-is) cs is in
-      (w .counted ∙ sym (entering.as-many E (m .pairs) cs i), w .laid f fm has cs i)
+      let w = subst (λ u. AllRowed g start end owner from mode count u before after) (part-to-end c size) all .are (m .pairs) (m .last) (m .due) in
+      w f fm has cs (entering.all-entered E componentLimit t (m .pairs) (m .kind-is) cs is) room .after-is

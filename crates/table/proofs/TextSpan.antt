@@ -26,7 +26,7 @@ use Rattle.walk.specs.Reading.{Ends, ends, Reads}
 use Rattle.walk.proofs.ReadSays.{Says, Stood, sized, loose, stood, nothing-read}
 use Rattle.walk.proofs.Found.{major-is, text-other, Run, run-got}
 use Rattle.component.specs.Value.{leftWord}
-use Rattle.components.specs.Typed.{bare, lettered}
+use Rattle.table.specs.WordAt.{bare, lettered}
 use Rattle.fields.proofs.Places as places
 use Rattle.fields.proofs.Texts.{Here}
 use Rattle.table.specs.declared.span.Span.{Span}

@@ -2,18 +2,20 @@
 use Prim.Native.Nat.{ℕ, _-_, _<_}
 use native.Mathlib.Omega.{arith}
 use mathlib.Core.List.{List}
-use mathlib.Core.Option.{Option, some}
-use mathlib.Core.Path.{_≡_, ap, _∙_, subst}
-use lib.ListN.{length, length-drop}
+use mathlib.Core.Option.{Option, none, some}
+use mathlib.Core.Path.{_≡_, ap, sym, _∙_, subst}
+use lib.ListN.{length, drop, length-drop}
+use borrow.Rule.Slice.PartAt.{part-to-end}
 use Rattle.meaning.specs.Tree.{Node, noteOf}
 use Rattle.meaning.proofs.JudgeNatural.{note-map}
 use Rattle.meaning.specs.Rows.{attributesSpan}
 use Rattle.cbor.specs.Ending.{code, itemEnd}
 use Rattle.walk.specs.Reading.{Ends, Reads}
+use Rattle.walk.proofs.Passed.{Here}
 use Rattle.walk.proofs.Chains.{ate}
 use Rattle.walk.proofs.ReadSays.{note-of}
 use Rattle.table.specs.declared.span.Span.{Span}
-use Rattle.table.specs.Spans.{spanOf, SizeIs, WholeIs, WholeFrom}
+use Rattle.table.specs.Spans.{spanOf, SizeIs, WholeIs, WholeFrom, ItemIs}
 
 -- an item takes as many bytes as its end says
 pub item-size : (d : ℕ) (c : List ℕ) (t : Node Ends) (r : List ℕ) → Reads d c t r → SizeIs t (code (itemEnd d c))
@@ -38,3 +40,12 @@ from-whole c size end r whole = record {
   where
     same-in : {x y : Node Ends} → _≡_ {A = Option (Node Ends)} (some x) (some y) → x ≡ y
     same-in same = cc
+
+-- an item, or none, at a place where it was passed over
+module _ (d : ℕ) (m : List ℕ) (left end size : ℕ) (skipped : size ≡ code (itemEnd d (Here m (length m - left)))) where
+  pub item-there : (r : Span) → WholeIs left size end r → ItemIs d m left end r
+  item-there r h none e = h none (sym e) (λ t z. absurd (let y : _≡_ {A = ℕ} 0 1 = cc in omega arith))
+  item-there r h (some t) (l, x) = h (some t) (sym (x .left-is)) (λ u z. let y : t ≡ u = cc in subst (λ (u : Node Ends). (0 < left) × SizeIs u size) y (l, sized))
+    where
+      sized : SizeIs t size
+      sized = skipped ∙ ap (λ u. code (itemEnd d u)) (part-to-end m (length m - left)) ∙ item-size d (drop (length m - left) m) t (x .rest) (x .reads)

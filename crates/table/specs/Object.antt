@@ -13,11 +13,11 @@ use Rattle.meaning.specs.Notes.{mapObject}
 use Rattle.meaning.specs.Kind.{aWord}
 use Rattle.meaning.specs.Judge.{shapeOf}
 use Rattle.meaning.specs.Rows.{objectRow, dimensions}
-use Rattle.walk.specs.Reading.{Ends, Reads, leftAt}
+use Rattle.walk.specs.Reading.{Ends, Reads}
 use Rattle.component.specs.Value.{leftWord}
-use Rattle.components.specs.Typed.{WordAt}
-use Rattle.fields.specs.Slots.{Stands}
-use Rattle.table.specs.Spans.{spanOf, SizeIs}
+use Rattle.table.specs.WordAt.{WordAt}
+use Rattle.fields.specs.Slots.{Stands, Holds}
+use Rattle.table.specs.Spans.{spanOf}
 
 -- ---------------------------------------------------------------- dimensions
 
@@ -42,18 +42,17 @@ sixteen name rank d format attributes count = name .place ∷ name .size ∷ ran
 abbrev pub objectIn : ℕ → Object Ends → List ℕ
 objectIn end o = objectRow (mapObject (spanOf end) o)
 
--- where the fields of an object stand in m: the slots p, and how many bytes its attributes take
-pub record Described (m p : List ℕ) (size : ℕ) (o : Object Ends) : Type 0 where
+-- where the fields of an object stand in m: the slots p
+pub record Described (m p : List ℕ) (o : Object Ends) : Type 0 where
   pub shape : Node Ends
   pub shape-stands : Stands 29 m (getD p 1 0) shape
   pub shape-is : shapeOf shape ≡ pass (o .shape)
   pub format-at : WordAt m (some (o .format))
   pub format-left : leftWord (some (o .format)) ≡ getD p 2 0
-  pub attributes-left : leftAt (o .attributes) ≡ getD p 3 0
-  pub attributes-take : (t : Node Ends) → o .attributes ≡ some t → (0 < getD p 3 0) × SizeIs t size
+  pub attributes-held : Holds 29 m (getD p 3 0) (o .attributes)
 
 -- the row of every object whose key begins s and whose fields stand there
-abbrev pub ObjectPut : List ℕ → List ℕ → List ℕ → ℕ → ℕ → ℕ → ℕ → List ℕ → List ℕ → Type 0
-ObjectPut s m p count size end i before after =
-    (d : ℕ) (t : Node Ends) (q : List ℕ) → Reads (suc d) s t q → (o : Object Ends) → aWord t ≡ pass (o .name) → Described m p size o → count ≡ length (o .components)
+abbrev pub ObjectPut : List ℕ → List ℕ → List ℕ → ℕ → ℕ → ℕ → List ℕ → List ℕ → Type 0
+ObjectPut s m p count end i before after =
+    (d : ℕ) (t : Node Ends) (q : List ℕ) → Reads (suc d) s t q → (o : Object Ends) → aWord t ≡ pass (o .name) → Described m p o → count ≡ length (o .components)
     → after ≡ sets before i (objectIn end o)

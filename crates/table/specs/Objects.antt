@@ -7,7 +7,7 @@ use lib.Seq.{sets}
 use Rattle.meaning.specs.Columns.{objectWidth, componentWidth}
 use Rattle.meaning.specs.Tree.{Node, Pair}
 use Rattle.meaning.specs.Check.{Check, pass, inObject}
-use Rattle.meaning.specs.Model.{Named, Object, Model}
+use Rattle.meaning.specs.Model.{Word, Named, Object, Model}
 use Rattle.meaning.specs.Notes.{mapObject, mapModel}
 use Rattle.meaning.specs.Field.{nameOf}
 use Rattle.meaning.specs.Judge.{object, objectsOf}
@@ -22,16 +22,17 @@ use Rattle.table.specs.Object.{objectIn}
 
 -- ---------------------------------------------------------------- one object
 
--- its row from i on and its components' from `from` on
-pub record WholeLaid (end owner i from : ℕ) (before : List ℕ) (next : ℕ) (after : List ℕ) (o : Object Ends) : Type 0 where
-  pub next-is : next ≡ from + componentWidth * length (o .components)
-  pub after-is : after ≡ sets (sets before i (objectIn end o)) from (rowsIn end owner (o .components))
-
--- of every object that passes, whose key begins s and whose value begins c, where there is room
-abbrev pub WholePut : ℕ → List ℕ → List ℕ → ℕ → ℕ → ℕ → ℕ → ℕ → List ℕ → ℕ → List ℕ → Type 0
-WholePut layout s c start end owner i from before next after =
+-- the rows of every object that passes, whose key begins s and whose value begins c, where there is room: its own from i on and its components' from `from` on
+abbrev pub WholePut : ℕ → List ℕ → List ℕ → ℕ → ℕ → ℕ → ℕ → ℕ → List ℕ → List ℕ → Type 0
+WholePut layout s c start end owner i from before after =
     (p : Pair Ends) (d : ℕ) (q r : List ℕ) → Reads (suc d) s (p .key) q → Reads 30 c (p .value) r → (n : Named Ends) → nameOf p ≡ pass n → (o : Object Ends) → object (layoutOf layout) start n ≡ pass o
-    → i + objectWidth ≤ from → from + componentWidth * length (o .components) ≤ length before → WholeLaid end owner i from before next after o
+    → i + objectWidth ≤ from → from + componentWidth * length (o .components) ≤ length before → after ≡ sets (sets before i (objectIn end o)) from (rowsIn end owner (o .components))
+
+-- where the components' rows of the next object begin, if those of every object that is read at c and passes begin at `next`
+abbrev pub Onward : ℕ → ℕ → List ℕ → ℕ → ℕ → ℕ → Type 0
+Onward layout start c next room next′ =
+    (t : Node Ends) (q : List ℕ) → Reads 30 c t q → (w : Word Ends) (o : Object Ends) → object (layoutOf layout) start (record { name = w; value = t }) ≡ pass o
+    → next + componentWidth * length (o .components) ≤ room → next′ ≡ next + componentWidth * length (o .components)
 
 -- ---------------------------------------------------------------- all objects
 
@@ -51,16 +52,15 @@ pub record Laid (end from : ℕ) (before : List ℕ) (row next : ℕ) (after : L
   pub after-is : after ≡ sets (sets before 0 (objectsIn end os)) from (componentsIn end os)
 
 -- what was put of the pairs `done`
-pub record ObjectsLaid (layout start end from : ℕ) (before : List ℕ) (n row next : ℕ) (after : List ℕ) (done : List (Pair Ends)) : Type 0 where
-  pub counted : n ≡ length done
-  pub laid : (os : List (Object Ends)) → Entered (entry layout start) done os → objectWidth * length os ≤ from → from + componentWidth * componentCount os ≤ length before → Laid end from before row next after os
+abbrev pub ObjectsLaid : ℕ → ℕ → ℕ → ℕ → List ℕ → ℕ → ℕ → List ℕ → List (Pair Ends) → Type 0
+ObjectsLaid layout start end from before row next after done =
+    (os : List (Object Ends)) → Entered (entry layout start) done os → objectWidth * length os ≤ from → from + componentWidth * componentCount os ≤ length before → Laid end from before row next after os
 
 -- of all pairs that are due at s
 pub record AllLaid (layout start end from mode count : ℕ) (s before after : List ℕ) : Type 0 where
-  pub n : ℕ
   pub row : ℕ
   pub next : ℕ
-  pub are : AllPassed 30 mode count s (ObjectsLaid layout start end from before n row next after)
+  pub are : AllPassed 30 mode count s (ObjectsLaid layout start end from before row next after)
 
 -- the table of every model m whose objects are read at s, where it has room for them: its rows, and beyond them what it held
 abbrev pub Written : ℕ → List ℕ → ℕ → ℕ → ℕ → List ℕ → List ℕ → Type 0

@@ -16,7 +16,7 @@ use Rattle.walk.specs.Reading.{Ends, Reads}
 use Rattle.component.specs.Value.{given}
 use Rattle.component.specs.Verdict.{ComponentIs}
 use Rattle.component.specs.declared.Judged.{Judged}
-use Rattle.components.specs.Firsts.{offered, Whichever}
+use Rattle.table.specs.Given.{offered, Whichever}
 use Rattle.table.specs.Spans.{spanOf, SizeIs}
 
 -- its twelve numbers

@@ -15,7 +15,7 @@ use Rattle.meaning.specs.Rows.{rowsOf}
 use Rattle.meaning.specs.Layouts.{Layout, layoutOf}
 use Rattle.walk.specs.Reading.{Ends, Reads}
 use Rattle.walk.specs.Places.{AllPassed}
-use Rattle.components.specs.Firsts.{Given, Whichever, entry}
+use Rattle.table.specs.Given.{Given, Whichever, entry}
 use Rattle.table.specs.Spans.{spanOf}
 use Rattle.table.specs.Entered.{Entered}
 
@@ -28,33 +28,24 @@ pub record Laid (end owner from : ℕ) (before : List ℕ) (next : ℕ) (after :
   pub after-is : after ≡ sets before from (rowsIn end owner cs)
 
 -- what was put of the pairs `done`, in an object that gives them this
-pub record Rowed (g : Given) (start end owner from : ℕ) (before : List ℕ) (count next : ℕ) (after : List ℕ) (done : List (Pair Ends)) : Type 0 where
-  pub counted : count ≡ length done
-  pub laid : Whichever g λ above.
-      (cs : List (Component Ends)) → Entered (entry (layoutOf (g .layout)) above start) done cs → from + componentWidth * length cs ≤ length before → Laid end owner from before next after cs
+abbrev pub Rowed : Given → ℕ → ℕ → ℕ → ℕ → List ℕ → ℕ → List ℕ → List (Pair Ends) → Type 0
+Rowed g start end owner from before next after done = Whichever g λ above.
+    (cs : List (Component Ends)) → Entered (entry (layoutOf (g .layout)) above start) done cs → from + componentWidth * length cs ≤ length before → Laid end owner from before next after cs
 
 -- of all pairs that are due at s
-abbrev pub AllRowed : Given → ℕ → ℕ → ℕ → ℕ → ℕ → ℕ → List ℕ → List ℕ → ℕ → ℕ → List ℕ → Type 0
-AllRowed g start end owner from mode count s before n next after = AllPassed 28 mode count s (Rowed g start end owner from before n next after)
-
--- how many components were met, where the next row begins, and the table
-pub record Kept : Type 0 where
-  pub count : ℕ
+pub record AllRowed (g : Given) (start end owner from mode count : ℕ) (s before after : List ℕ) : Type 0 where
   pub next : ℕ
-  pub table : List ℕ
+  pub are : AllPassed 28 mode count s (Rowed g start end owner from before next after)
 
-abbrev pub kept : ℕ → ℕ → List ℕ → Kept
-kept n next t = record { count = n; next = next; table = t }
-
--- these components
-abbrev pub Put : ℕ → ℕ → ℕ → List ℕ → List (Component Ends) → Kept → Type 0
-Put end owner from before cs k = (k .count ≡ length cs) × (from + componentWidth * length cs ≤ length before → Laid end owner from before (k .next) (k .table) cs)
+-- the table after these components, where it has room for them
+abbrev pub Put : ℕ → ℕ → ℕ → List ℕ → List (Component Ends) → List ℕ → Type 0
+Put end owner from before cs after = from + componentWidth * length cs ≤ length before → after ≡ sets before from (rowsIn end owner cs)
 
 -- those of the map x, if it passes with the codes that its object gives
-abbrev pub Says : Layout → (List ℕ → Option ℕ) → ℕ → ℕ → ℕ → ℕ → List ℕ → Node Ends → Kept → Type 0
-Says L above start end owner from before x k = (cs : List (Component Ends)) → componentsOf L start above x ≡ pass cs → Put end owner from before cs k
+abbrev pub Says : Layout → (List ℕ → Option ℕ) → ℕ → ℕ → ℕ → ℕ → List ℕ → Node Ends → List ℕ → Type 0
+Says L above start end owner from before x after = (cs : List (Component Ends)) → componentsOf L start above x ≡ pass cs → Put end owner from before cs after
 
 -- of whatever is read at c, as components of an object that gives them this
-abbrev pub RowsPut : Given → List ℕ → ℕ → ℕ → ℕ → ℕ → List ℕ → ℕ → ℕ → List ℕ → Type 0
-RowsPut g c start end owner from before n next after =
-    (t : Node Ends) (q : List ℕ) → Reads 29 c t q → Whichever g λ above. Says (layoutOf (g .layout)) above start end owner from before t (kept n next after)
+abbrev pub RowsPut : Given → List ℕ → ℕ → ℕ → ℕ → ℕ → List ℕ → List ℕ → Type 0
+RowsPut g c start end owner from before after =
+    (t : Node Ends) (q : List ℕ) → Reads 29 c t q → Whichever g λ above. Says (layoutOf (g .layout)) above start end owner from before t after

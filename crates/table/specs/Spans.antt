@@ -14,8 +14,9 @@ use Rattle.meaning.specs.Kind.{aWord}
 use Rattle.meaning.specs.Rows.{wordSpan, optionalSpan, attributesSpan}
 use Rattle.walk.specs.Reading.{Ends, Reads, leftAt}
 use Rattle.walk.specs.Places.{Whatever}
+use Rattle.fields.specs.Slots.{Holds}
 use Rattle.component.specs.Value.{leftWord}
-use Rattle.components.specs.Typed.{WordAt}
+use Rattle.table.specs.WordAt.{WordAt}
 use Rattle.table.specs.declared.span.Span.{Span}
 
 abbrev pub spanOf : ℕ → Ends → read.Span
@@ -51,3 +52,7 @@ WholeIs left size end r = (o : Option (Node Ends)) → leftAt o ≡ left → ((t
 -- the item that begins c and takes `size` bytes
 pub record WholeFrom (c : List ℕ) (size end : ℕ) (r : Span) : Type 0 where
   pub is : (d : ℕ) (t : Node Ends) (q : List ℕ) → Reads d c t q → SizeIs t size → spanned r ≡ spanOf end (noteOf t)
+
+-- the item that stands where `left` bytes of m are left, under so many levels, 0 for none
+abbrev pub ItemIs : ℕ → List ℕ → ℕ → ℕ → Span → Type 0
+ItemIs d m left end r = (o : Option (Node Ends)) → Holds d m left o → spanned r ≡ attributesSpan (mapOption (mapP (spanOf end)) o)

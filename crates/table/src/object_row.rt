@@ -2,9 +2,9 @@
 use crate::lay::five;
 use crate::lay::put;
 use crate::span::Span;
+use crate::span::item_at;
 use crate::span::spelt;
 use crate::span::spelt_at;
-use crate::span::whole;
 use fields::place_of;
 use shape::Shaped;
 ghost use mathlib.Core.Path.{_≡_};
@@ -74,25 +74,27 @@ fn put_sixteen(
     }
 }
 
-// Puts the row of an object with `count` components, whose key begins s; p holds the places of its fields, `size` is its attributes' size.
+// Puts the row of an object with `count` components, whose key begins s; p holds the places of its fields.
 pub fn put_object(
     s: &[u8],
     m: &[u8],
     p: &[usize],
     count: usize,
-    size: usize,
     end: usize,
     i: usize,
     t: &mut [u64],
 )
     requires { ⌜ length (now p) ≡ 8 ⌝ }
-    ensures { λ r. ⌜ is.ObjectPut (now (s .entry)) (now (m .entry)) (now (p .entry)) count size end i (now (t .entry)) (now (t .exit)) ⌝ }
+    ensures { λ r. ⌜ is.ObjectPut (now (s .entry)) (now (m .entry)) (now (p .entry)) count end i (now (t .entry)) (now (t .exit)) ⌝ }
 {
+    if t.len() <= i {
+        return;
+    }
     let mut d = [0u64; 8];
     let rank = dimensions_at(&m[0..], p[1], &mut d);
     let name = spelt(&s[0..], end);
     let format = spelt_at(&m[0..], p[2], end);
-    let attributes = whole(p[3], size, end);
+    let attributes = item_at(&m[0..], p[3], 29, end);
     put_sixteen(
         t,
         i,

@@ -5,9 +5,9 @@ use crate::span::Span;
 use crate::span::spelt;
 use crate::span::spelt_at;
 use crate::span::whole_from;
+use crate::stored::role;
+use crate::stored::stored;
 use component::Judged;
-use components::row::role;
-use components::row::stored;
 ghost use mathlib.Core.Path.{_≡_};
 ghost use lib.Seq.{sets};
 ghost use Rattle.table.specs.Spans.{spanned};
@@ -59,6 +59,9 @@ pub fn put_row(
 )
     ensures { λ r. ⌜ RowPut layout format (now (s .entry)) (now (c .entry)) v size end owner i (now (t .entry)) (now (t .exit)) ⌝ }
 {
+    if t.len() <= i {
+        return;
+    }
     match v {
         Judged::No(_) => {}
         Judged::Yes(code, kind, offset, length, digest) => {

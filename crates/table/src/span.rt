@@ -35,7 +35,7 @@ pub fn spelt_at(c: &[u8], left: usize, end: usize) -> Span
 }
 
 // The whole item that takes `size` bytes where `left` bytes are left.
-pub fn whole(left: usize, size: usize, end: usize) -> Span
+fn whole(left: usize, size: usize, end: usize) -> Span
     ensures { λ r. ⌜ is.WholeIs left size end r ⌝ }
 {
     if left == 0 {
@@ -45,6 +45,15 @@ pub fn whole(left: usize, size: usize, end: usize) -> Span
         place: place_of(end, left) as u64,
         size: size as u64,
     }
+}
+
+// The whole item that stands where `left` bytes of m are left, with so many levels under it.
+pub fn item_at(m: &[u8], left: usize, depth: u64, end: usize) -> Span
+    ensures { λ r. ⌜ is.ItemIs depth (now (m .entry)) left end r ⌝ }
+{
+    let at = place_of(m.len(), left);
+    let size = cbor::skip(&m[at..], depth);
+    whole(left, size, end)
 }
 
 // The whole item that begins c and takes `size` bytes.

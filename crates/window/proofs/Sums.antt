@@ -2,7 +2,7 @@
 use Prim.Native.Nat.{ℕ, suc, _+_, _-_, _*_, _≤_, _<_}
 use native.Mathlib.Nat.{zero-add}
 use native.Mathlib.Omega.{arith}
-use mathlib.Core.List.{List, [], _∷_, _++_, map, append-assoc}
+use mathlib.Core.List.{List, [], _∷_, _++_, append-assoc}
 use mathlib.Core.Logic.{⊎-elim}
 use mathlib.Core.Path.{_≡_, refl, ap, ap₂, sym, _∙_, subst}
 use lib.ListN.{length, drop, getD, length-append, length-map}
@@ -54,7 +54,7 @@ none-summed layout start end p n from before h k os e w =
     let z = entering.none-entered (entry layout start) os e in
     subst (SumOf end p n from before p n from before) (sym z) (record { sum = snoc.no-sum p n h k; names = λ room. (omega arith, refl) })
 
--- what `put_whole` leaves in a window that is long enough
+-- what `object` leaves in a window that is long enough
 pub window-holds : (end : ℕ) (o : Object Ends) (t t′ : List ℕ) → 208 ≤ length t → InWindow o
     → t′ ≡ sets (sets t 0 (objectIn end o)) objectWidth (rowsIn end 0 (o .components)) → Holds t′ (mapObject (spanOf end) o)
 window-holds end o t t′ long w is =
@@ -70,8 +70,8 @@ window-holds end o t t′ long w is =
       is = is ∙ ap (λ (i : ℕ). sets (sets t 0 A) i B) seam ∙ sym (laying.sets-append A B t 0) ∙ sets-eq (A ++ B) t 0 fits ∙ append-assoc A B (drop (0 + length (A ++ B)) t);
     }
 
-module _ (layout start end p n from : ℕ) (before s : List ℕ) (place k q j next : ℕ) (after : List ℕ) (t t′ : List ℕ) (long : 208 ≤ length t) (row : ℕ)
-    (put : WholePut layout (Here s place) (Here s (place + k)) start end 0 0 objectWidth t row t′) (q′ j′ : ℕ) (sum : Added t′ q j q′ j′)
+module _ (layout start end p n from : ℕ) (before s : List ℕ) (place k q j next : ℕ) (after : List ℕ) (t t′ : List ℕ) (long : 208 ≤ length t)
+    (put : WholePut layout (Here s place) (Here s (place + k)) start end 0 0 objectWidth t t′) (q′ j′ : ℕ) (sum : Added t′ q j q′ j′)
     (after′ : List ℕ) (named : after′ ≡ sets after next (getD t′ 0 0 ∷ getD t′ 1 0 ∷ [])) (next′ : ℕ) (further : next + 2 ≤ length before → next′ ≡ next + 2) where
   pub one-more-summed : (done : List (Pair Ends)) (x : Pair Ends) (u r : List ℕ) → Reads 30 (drop place s) (x .key) u → Reads 30 (drop (place + k) s) (x .value) r
       → Summed layout start end p n from before q j next after done → Summed layout start end p n from before q′ j′ next′ after′ (done ++ x ∷ [])
@@ -86,7 +86,7 @@ module _ (layout start end p n from : ℕ) (before s : List ℕ) (place k q j ne
       let few = own .count in
       let whole = put x 29 u r a b (l .name) (l .name-is) (l .last) (in-object (length done) (object (layoutOf layout) start (l .name)) (l .last) (l .last-is)) (omega arith) (omega (arith, long, few)) in
       let O : Object Span = mapObject (spanOf end) (l .last) in
-      let held : Holds t′ O = window-holds end (l .last) t t′ long own (whole .after-is) in
+      let held : Holds t′ O = window-holds end (l .last) t t′ long own whole in
       let seen : InWindow O = mapped-in-window end (l .last) own in
       let size : length (l .front ++ l .last ∷ []) ≡ length (l .front) + 1 = length-append (l .front) (l .last ∷ []) in
       let these : spans end (l .front ++ l .last ∷ []) ≡ spans end (l .front) ++ O ∷ [] = map-snoc (mapObject (spanOf end)) (l .front) (l .last) in

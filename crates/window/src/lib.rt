@@ -7,6 +7,7 @@ use columns::RANK;
 use sizes::entries;
 use sizes::piece;
 use sizes::placing;
+use table::Place;
 use table::lay;
 use walk::Entry;
 use walk::Opening;
@@ -81,6 +82,7 @@ fn each(
     ensures sum { λ r. ⌜ AllSummed layout start end mode count first before from (now (s .entry)) (now (names .entry)) (r .place) (r .total) (now (names .exit)) ⌝ }
     ensures small { λ r. ⌜ (r .place ≤ suc endLimit) × (r .total ≤ suc manifestLimit) ⌝ }
 {
+    let mut rows = [0u64; 64];
     let mut t = [0u64; 208];
     let mut at = 0;
     let mut due = count;
@@ -97,17 +99,13 @@ fn each(
             }
             Entry::Value(k) => {
                 let v = at + k;
-                let w = table::put_whole(
-                    layout,
-                    &s[at..],
-                    &s[v..],
-                    start,
-                    end,
-                    0,
-                    0,
-                    columns::OBJECT,
-                    &mut t,
-                );
+                let to = Place {
+                    end: end,
+                    owner: 0,
+                    row: 0,
+                    from: columns::OBJECT,
+                };
+                let w = object::object(layout, &s[at..], &s[v..], start, to, &mut rows, &mut t);
                 if s.len() - v < w.end {
                     return Sum {
                         place: place,

@@ -1,7 +1,7 @@
 -- `components::keep` meets its contract: a law for each branch.
 use mathlib.Core.Path.{refl}
 use native.Mathlib.Omega.{arith}
-use Rattle.components.specs.Firsts.{offered}
+use Rattle.table.specs.Given.{offered}
 use Rattle.components.proofs.Kept as kept
 use borrow.Author.Needs.{needs}
 use Rattle.components.proofs.keep.Statement.{statement}

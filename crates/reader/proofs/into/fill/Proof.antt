@@ -1,5 +1,4 @@
 -- `reader::into::fill` meets its contract: a law for each branch.
-use Prim.Native.Nat.{_+_, _*_}
 use lib.ListN.{length}
 use borrow.Author.Tests.{not-true, not-false, leb-true}
 use native.Mathlib.Omega.{arith}
@@ -47,4 +46,4 @@ fill-spec =
     (λ c. let b4 = c .before .before .before .before in let b7 = b4 .before .before .before in let b8 = b7 .before in let b9 = b8 .before in let b10 = b9 .before in let b12 = b10 .before .before in
     let b14 = b12 .before .before in let b18 = b14 .before .before .before .before in let a = b18 .args in
     answers.filled-so (a .layout) (a .last) (a .start) (a .m .now) (a .t .now) _ (b14 .manifest .ensures) _ _ _ _ (b12 .objects .given .1) (omega (arith, (b18 .pre)))
-    (sym (not-false _ (b9 .if1 .left)) ∙ (b10 .fits2 .ensures)) _ (b7 .ahead .ensures) _ (b8 .place-of .ensures) _ (b4 .write .ensures) _ (c .attributes .ensures)))
+    (sym (not-false _ (b9 .if1 .left)) ∙ (b10 .fits2 .ensures)) _ (b7 .ahead .ensures) _ (b8 .place-of .ensures) _ (b4 .lay .ensures) _ (c .attributes .ensures)))

@@ -9,6 +9,8 @@ pub put-row-spec : {M : Type 1} → statement M
 put-row-spec =
     tie.close
     (tie.spec
+    (λ c. let b4 = c .before .before .before .before in let a = b4 .args in
+    rows.row-beyond (a .layout) (a .format) (a .s .now) (a .c .now) (a .v) (a .size) (a .end) (a .owner) (a .i) (a .t .now) (c .if1 .taken))
     (λ c. search needs)
     (λ c. search needs)
     (λ c. search needs)
@@ -33,9 +35,10 @@ put-row-spec =
     (λ c κs. search needs)
     (λ c κs. search needs)
     (λ c κs. search needs)
-    (λ c. let a = (c .before .before .before .before .before .args) in rows.no-row (a .layout) (a .format) (a .s .now) (a .c .now) (omega arith) (a .v) (a .size) (a .end) (a .owner) (a .i) (a .t .now) _ _ (c .enum-told .given .1))
+    (λ c. let b6 = c .before .before .before .before .before .before in let a = b6 .args in
+    rows.no-row (a .layout) (a .format) (a .s .now) (a .c .now) (omega arith) (a .v) (a .size) (a .end) (a .owner) (a .i) (a .t .now) _ _ (c .enum-told .given .1))
     (λ c. search needs)
-    (λ c. let b2 = c .before .before in let b4 = b2 .before .before in let b5 = b4 .before in let b7 = b5 .before .before in let b9 = b7 .before .before in let b11 = b9 .before .before in
-    let b13 = b11 .before .before in let b16 = b13 .before .before .before in let b21 = b16 .before .before .before .before .before in let a′ = b21 .args in
-    let a = (a′) in rows.a-row (a .layout) (a .format) (a .s .now) (a .c .now) (omega (arith, (b21 .good))) (a .v) (a .size) (a .end) (a .owner) (a .i) (a .t .now) _ _ _ _ _ _ (b16 .v .given .1) _ _ _
-    _ (b13 .spelt .ensures) (b11 .spelt-at .ensures) (b9 .spelt-at2 .ensures) (b7 .whole-from .ensures) _ (b5 .role .ensures) _ (b4 .stored .ensures) (b2 .put-twelve .ensures)))
+    (λ c. let b2 = c .before .before in let b4 = b2 .before .before in let b5 = b4 .before in let b7 = b5 .before .before in let b9 = b7 .before .before in let b11 = b9 .before .before in let b13 = b11 .before .before in
+    let b16 = b13 .before .before .before in let b22 = b16 .before .before .before .before .before .before in let a = b22 .args in
+    rows.a-row (a .layout) (a .format) (a .s .now) (a .c .now) (omega (arith, (b22 .good))) (a .v) (a .size) (a .end) (a .owner) (a .i) (a .t .now) _ _ _ _ _ _ (b16 .v .given .1) _ _ _ _ (b13 .spelt .ensures)
+    (b11 .spelt-at .ensures) (b9 .spelt-at2 .ensures) (b7 .whole-from .ensures) _ (b5 .role .ensures) _ (b4 .stored .ensures) (b2 .put-twelve .ensures)))

@@ -1,0 +1,115 @@
+-- A whole object, whose value c was lent whole to `walk::map`, which answered x: its entries passed over, then in layout 1.0 its components' rows put, then its own.
+use Prim.Native.Nat.{ℕ, _+_, _≤_}
+use native.Mathlib.Omega.{arith}
+use mathlib.Core.List.{List}
+use mathlib.Core.Logic.{⊎-elim}
+use mathlib.Core.Option.{Option, none}
+use mathlib.Core.Path.{_≡_, refl, ap, sym, _∙_, subst}
+use lib.ListN.{length, drop}
+use lib.Seq.{sets}
+use borrow.Author.Tests.{eq-eqb, ne-eqb}
+use borrow.Rule.Slice.PartAt.{part-to-end}
+use Rattle.meaning.specs.Tree.{Pair}
+use Rattle.meaning.specs.Check.{Check, pass, refuse, optional}
+use Rattle.meaning.specs.Model.{Word, Object}
+use Rattle.meaning.specs.Notes.{mapObject}
+use Rattle.meaning.specs.Layouts.{slot, layoutOf}
+use Rattle.meaning.specs.Field.{objectFields, fields, field}
+use Rattle.meaning.specs.Judge.{inherited, object}
+use Rattle.endian.proofs.Which.{eq-or}
+use Rattle.walk.specs.Reading.{Ends}
+use Rattle.walk.specs.Places.{MapIs}
+use Rattle.walk.specs.declared.Opening.{Opening}
+use Rattle.walk.specs.declared.Opening.the-variants.{NotOpen, Opened}
+use Rattle.walk.proofs.Passed.{Here}
+use Rattle.walk.proofs.Opens as opens
+use Rattle.table.specs.Spans.{spanOf}
+use Rattle.table.specs.Rows.{rowsIn, Put}
+use Rattle.table.specs.Object.{objectIn, ObjectPut}
+use Rattle.table.specs.Late.{Gives, LatePut}
+use Rattle.table.specs.Objects.{WholePut}
+use Rattle.table.specs.declared.Place.{Place}
+use Rattle.meaning.proofs.Checks.{pass-same}
+use Rattle.table.proofs.Runs as laying
+use Rattle.table.proofs.ComponentRow.{named-pair}
+use Rattle.table.proofs.ObjectRow.{object-length}
+use Rattle.table.proofs.ObjectPasses.{Made, fieldsOf, made, described, gives}
+use Rattle.components.specs.declared.Found.{Found}
+use Rattle.object.specs.declared.Judged.{Judged}
+use Rattle.object.specs.declared.Judged.the-variants.{No, Yes}
+use Rattle.object.specs.Verdict.{judged, ObjectIs}
+use Rattle.object.specs.Laying.{Lays, Walked, Once, OwnPut}
+use Rattle.object.proofs.Verdicts.{tensor-dtype, lacked}
+
+-- ---------------------------------------------------------------- its own row
+
+module _ (s m p : List ℕ) (v : Judged) (to : Place) (before : List ℕ) where
+  pub own-not : (n c : ℕ) → v ≡ No n c → OwnPut s m p v to before before
+  own-not n c e k f = absurd (let y : No n c ≡ Yes k = sym e ∙ f in let z : _≡_ {A = ℕ} 0 1 = cc in omega arith)
+
+  pub own-put : (n : ℕ) → v ≡ Yes n → (after : List ℕ) → ObjectPut (Here s 0) (Here m 0) (Here p 0) n (to .end) (to .row) before after → OwnPut s m p v to before after
+  own-put n e after h k f =
+      let same : n ≡ k = same-number (sym e ∙ f) in
+      subst (λ i. ObjectPut s m p i (to .end) (to .row) before after) same
+      (subst (λ u. ObjectPut u m p n (to .end) (to .row) before after) (part-to-end s 0)
+      (subst (λ u. ObjectPut (Here s 0) u p n (to .end) (to .row) before after) (part-to-end m 0)
+      (subst (λ u. ObjectPut (Here s 0) (Here m 0) u n (to .end) (to .row) before after) (part-to-end p 0) h)))
+    where
+      same-number : {i j : ℕ} → Yes i ≡ Yes j → i ≡ j
+      same-number h = cc
+
+-- ---------------------------------------------------------------- its components' rows
+
+none-passed : {A : Type 0} (F : A → Check ℕ) (o : Option A) (code : Option ℕ) → optional F o ≡ pass code → o ≡ none → none ≡ code
+none-passed F o code e n = pass-same (sym (ap (optional F) n) ∙ e)
+
+module _ (layout start : ℕ) (to : Place) (before : List ℕ) (w : Word Ends) (ps : List (Pair Ends)) (o : Object Ends) (f : Made (layoutOf layout) start w (fieldsOf (layoutOf layout .object) ps) o)
+    (m p t t′ : List ℕ) (late : LatePut layout m p start (to .end) (to .owner) (to .from) t t′) where
+  -- put while the map was passed over
+  earlier : (layout ≡ 1 → ⊥) → Lays layout start to before (f .components) t → Put (to .end) (to .owner) (to .from) before (o .components) t′
+  unfolding inherited
+  earlier e says =
+      let plain : none ≡ f .code = none-passed _ (field (slot 0 (layoutOf layout .object)) ps) (f .code) (f .code-is) (lacked (slot 0 (layoutOf layout .object)) ps (tensor-dtype layout ∙ ne-eqb layout 1 e)) in
+      subst (Put (to .end) (to .owner) (to .from) before (o .components)) (sym (late .other e)) (says e (o .components) (rw (← plain) at (f .components-are)))
+
+  -- put now
+  now-put : (e : layout ≡ 1) → Gives (layoutOf layout) start m p o → t ≡ before → Put (to .end) (to .owner) (to .from) before (o .components) t′
+  now-put e g same = subst (λ u. Put (to .end) (to .owner) (to .from) u (o .components) t′) same (late .late e o g)
+
+-- ---------------------------------------------------------------- the whole object
+
+module _ (layout : ℕ) (s c : List ℕ) (start : ℕ) (to : Place) (before : List ℕ) (x : Opening) (h : MapIs (Here c 0) x) where
+  pub no-map : (after : List ℕ) → x ≡ NotOpen → WholePut layout s c start (to .end) (to .owner) (to .row) (to .from) before after
+  unfolding object objectFields fields
+  no-map after e p d q r key value n name o is low room =
+      let so = named-pair p n name in
+      let z = opens.opening c x h NotOpen e 29 (p .value) r value in
+      let y : object (layoutOf layout) start (record { name = n .name; value = p .value }) ≡ refuse 8 0 0 = rw z refl in
+      let w : pass o ≡ refuse 8 0 0 = sym is ∙ ap (object (layoutOf layout) start) (so .is) ∙ y in
+      absurd (let v : _≡_ {A = ℕ} 0 1 = cc in omega arith)
+
+  pub whole-put : (mode count size : ℕ) → x ≡ Opened mode count size → (slots : List ℕ) (found : Found) (rows t : List ℕ) → Walked layout start to mode count (Here c size) before slots found rows t
+      → (v : Judged) → ObjectIs (layoutOf layout) c start v → (t′ : List ℕ) → Once v (LatePut layout (Here c size) slots start (to .end) (to .owner) (to .from) t t′)
+      → (after : List ℕ) → OwnPut (Here s 0) (Here c size) slots v to t′ after → WholePut layout s c start (to .end) (to .owner) (to .row) (to .from) before after
+  whole-put mode count size e slots found rows t all v verdict t′ late after put p d q r key value n name o is low room =
+      let L = layoutOf layout in
+      let m = opens.opened c x h mode count size e .trees 29 (p .value) r value in
+      let w = subst (λ u. Walked layout start to mode count u before slots found rows t) (part-to-end c size) all in
+      let so = named-pair p n name in
+      let passes : object L start (record { name = n .name; value = p .value }) ≡ pass o = ap (object L start) (sym (so .is)) ∙ is in
+      let yes : v ≡ Yes (length (o .components)) = verdict (p .value) r value (n .name) ∙ ap judged passes in
+      let l = subst (λ u. LatePut layout u slots start (to .end) (to .owner) (to .from) t t′) (part-to-end c size) (late _ yes) in
+      let a = w .notes (m .pairs) (m .last) (m .due) in
+      let f = made L start (n .name) (p .value) (m .pairs) (m .kind-is) o passes in
+      let says : Put (to .end) (to .owner) (to .from) before (o .components) t′ =
+      ⊎-elim
+      (λ e. now-put layout start to before (n .name) (m .pairs) o f (drop size c) slots t t′ l e
+      (gives L (drop size c) (m .pairs) (m .last) (m .due .chain) slots (a .0) start (n .name) o f (tensor-dtype layout ∙ eq-eqb layout 1 e)) (w .untouched e))
+      (λ e. earlier layout start to before (n .name) (m .pairs) o f (drop size c) slots t t′ l e (a .1 (f .components) (f .components-got) .1))
+      (eq-or layout 1) in
+      let own : OwnPut s (drop size c) slots v to t′ after =
+      subst (λ u. OwnPut u (drop size c) slots v to t′ after) (part-to-end s 0) (subst (λ u. OwnPut (Here s 0) u slots v to t′ after) (part-to-end c size) put) in
+      let row : after ≡ sets t′ (to .row) (objectIn (to .end) o) =
+      own _ yes d (p .key) q key o (so .word ∙ ap pass (f .named)) (described L (drop size c) (m .pairs) (m .last) (m .due .chain) slots (a .0) start (n .name) o f) refl in
+      let short : to .row + length (objectIn (to .end) o) ≤ to .from = omega (arith, object-length (mapObject (spanOf (to .end)) o)) in
+      row ∙ ap (λ t. sets t (to .row) (objectIn (to .end) o)) (says room) ∙ laying.sets-commute (objectIn (to .end) o) (rowsIn (to .end) (to .owner) (o .components)) before (to .row) (to .from) short
