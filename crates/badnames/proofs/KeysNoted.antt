@@ -1,9 +1,9 @@
 -- The walk over a map of names: one key more; and what is noted of them all, judged.
+use Rattle.meaning.specs.Check.{_unless_}
 use Prim.Native.Nat.{ℕ, zero, suc, _+_, _-_, _≤_, _<_, min}
 use native.Mathlib.Omega.{arith}
 use mathlib.Core.List.{List, [], _∷_, _++_, map}
 use mathlib.Core.Bool.{Bool, true, false, cond, not, _&&_}
-use mathlib.Core.Logic.{⊎-elim}
 use mathlib.Core.Option.{some}
 use mathlib.Core.Path.{_≡_, refl, ap, sym, _∙_, subst}
 use lib.ListN.{length, drop, length-drop, length-map}
@@ -12,16 +12,14 @@ use lib.Dec.{leb, eqb}
 use borrow.Author.Tests.{le-leb, lt-leb, eq-eqb}
 use borrow.Rule.Slice.PartAt.{part-to-end}
 use Rattle.meaning.specs.Tree.{Node, Pair, noteOf}
-use Rattle.meaning.specs.Check.{_unless_}
 use Rattle.meaning.specs.Text.{all, utf8, distinct}
 use Rattle.meaning.specs.Refusal.{KIND, KEY, TEXT, COUNT, TWICE}
 use Rattle.meaning.specs.Kind.{kind, mapping, aMapping, asMapping}
 use Rattle.meaning.specs.Field.{isSome, keyOf}
 use Rattle.meaning.proofs.Tests.{opposite}
 use Rattle.cbor.specs.Ending.{FAULT, code, itemEnd}
-use Rattle.endian.proofs.Which.{lt-or}
 use Rattle.walk.specs.Reading.{Ends, Reads}
-use Rattle.walk.specs.Places.{MapIs, EntryIs as TurnIs, Modes}
+use Rattle.walk.specs.Places.{MapIs, EntryIs as TurnIs}
 use Rattle.walk.specs.declared.Entry.{Entry}
 use Rattle.walk.specs.declared.Entry.the-variants.{End, Value}
 use Rattle.walk.specs.declared.Opening.{Opening}
@@ -59,7 +57,6 @@ keysOf t k x = record { tally = t; key = k; text = x }
 pub record Inv (tested : Bool) (levels mode count : ℕ) (s left₀ : List ℕ) (at due : ℕ) (left size : List ℕ) (t : Tally) (key text : ℕ) : Type 0 where
   pub passed : Passed levels mode count s at due (Kept tested s left size (keysOf t key text))
   pub room : length left ≡ length left₀
-  pub short : length s < FAULT
 
 pub none-kept : (tested : Bool) (s left size : List ℕ) → length size ≡ length left → {key text : ℕ} → Kept tested s left size (keysOf (tally 0 false false) key text) []
 none-kept tested s left size e = record { known = none-known tested (none-noted s left size e); odd-key = λ h. absurd (let z : _≡_ {A = ℕ} 0 1 = cc in omega arith); bad-text = λ h. absurd (let z : _≡_ {A = ℕ} 0 1 = cc in omega arith) }
@@ -89,52 +86,31 @@ module _ (tested : Bool) (s : List ℕ) (at : ℕ) (inside : at ≤ length s) (t
       }
 
 -- a turn, in the code's terms
-module _ {tested : Bool} {levels mode count at due key text : ℕ} {s left₀ left size : List ℕ} {t : Tally} (modes : Modes mode count) (w : Inv tested levels mode count s left₀ at due left size t key text) where
-  abbrev Holds : List (Pair Ends) → Type 0
-  Holds = Kept tested s left size (keysOf t key text)
-
+module _ {tested : Bool} {levels mode count at due key text : ℕ} {s left₀ left size : List ℕ} {t : Tally} (w : Inv tested levels mode count s left₀ at due left size t key text) where
   pub same-sizes : {n : ℕ} → n ≡ length left₀ → length size ≡ n
   same-sizes e = w .passed .holds .known .tallied .same-room ∙ w .room ∙ sym e
 
   pub few-noted : t .count < FAULT
-  few-noted = let a = w .passed .holds .known .tallied .counted in let b = w .passed .few in let d = w .passed .walking .within in let g = w .short in omega (arith, a, b, d, g)
-
-  pub still-due : 1 ≤ mode → 0 < due
-  still-due = walked.still-due levels mode count s modes (w .short) at due Holds (w .passed)
+  few-noted = let a = w .passed .holds .known .tallied .counted in let b = w .passed .few in let d = w .passed .walking .within in let g = w .passed .short in omega (arith, a, b, d, g)
 
   module _ {x : Entry} (h : TurnIs levels mode due (Here s at) x) where
     pub ends : {e : ℕ} → x ≡ End e → (length left ≡ length left₀) × Walked tested levels mode count s left size (keysOf t key text)
-    ends {e} is = (
-      w .room,
-      ⊎-elim (λ l. walked.ends-faulty levels mode count s modes (w .short) at due Holds (w .passed) x h e is l .1) (λ l. walked.ends-inside levels mode count s modes (w .short) at due Holds (w .passed) x h e is l .1)
-          (lt-or (length s - at) e),
-    )
+    ends is = (w .room, walked.holds-of-all (w .passed) h is)
 
-    module _ {k : ℕ} (is : x ≡ Value k) where
-      pub value-inside : at + k ≤ length s
-      value-inside = walked.value-inside levels mode count s modes (w .short) at due Holds (w .passed) x h k is
+    module _ {k : ℕ} (is : x ≡ Value k) {e : ℕ} (skipped : e ≡ code (itemEnd levels (Here s (at + k)))) where
+      pub unread : length s - (at + k) < e → (length left ≡ length left₀) × Walked tested levels mode count s left size (keysOf t key text)
+      unread l = (w .room, walked.no-pairs (w .passed) h is skipped l _)
 
-      module _ {e : ℕ} (skipped : e ≡ code (itemEnd levels (Here s (at + k)))) where
-        pub two-due : 2 ≤ due
-        two-due = walked.two-due levels mode count s modes (w .short) at due Holds (w .passed) x h k is e skipped
-
-        pub unread : length s - (at + k) < e → (length left ≡ length left₀) × Walked tested levels mode count s left size (keysOf t key text)
-        unread l = (w .room, walked.value-faulty levels mode count s modes (w .short) at due Holds (w .passed) x h k is e skipped l Holds .1)
-
-        module _ (l : e ≤ length s - (at + k)) where
-          pub further : at < at + k + e
-          further = walked.goes-on levels mode count s modes (w .short) at due Holds (w .passed) x h k is e skipped l
-
-          pub goes-on : {t′ : Tally} {left′ size′ : List ℕ} {key′ text′ : ℕ} → NotedIf tested (Here s at) t left size t′ left′ size′ → key′ ≡ cond (t .odd) key (length s - at) → text′ ≡ cond (t .bad) text (length s - at)
-              → Inv tested levels mode count s left₀ (at + k + e) (due - 2) left′ size′ t′ key′ text′
-          goes-on {t′} {left′} {size′} {key′} {text′} noted keyed texted =
-              let v = value-inside in
-              record {
-                passed = walked.one-more levels mode count s modes (w .short) at due Holds (w .passed) x h k is e skipped l (Kept tested s left′ size′ (keysOf t′ key′ text′))
-                    (λ done p few reads value kept. one-more tested s at (omega (arith, v)) t t′ left left′ size size′ key text key′ text′ noted keyed texted levels done p (drop (at + k) s) reads kept);
-                room = noted .0 ∙ w .room;
-                short = w .short;
-              }
+      pub goes-on : e ≤ length s - (at + k) → {t′ : Tally} {left′ size′ : List ℕ} {key′ text′ : ℕ} → NotedIf tested (Here s at) t left size t′ left′ size′
+          → key′ ≡ cond (t .odd) key (length s - at) → text′ ≡ cond (t .bad) text (length s - at)
+          → Inv tested levels mode count s left₀ (at + k + e) (due - 2) left′ size′ t′ key′ text′
+      goes-on l {t′} {left′} {size′} {key′} {text′} noted keyed texted =
+          let v = walked.value-inside (w .passed) h is in
+          record {
+            passed = walked.one-more (w .passed) h is skipped l
+                (λ done p few reads value kept. one-more tested s at (omega (arith, v)) t t′ left left′ size size′ key text key′ text′ noted keyed texted levels done p (drop (at + k) s) reads kept);
+            room = noted .0 ∙ w .room;
+          }
 
 -- ---------------------------------------------------------------- repeats
 

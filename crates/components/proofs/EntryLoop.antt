@@ -10,7 +10,7 @@ use Rattle.meaning.specs.Tree.{Pair}
 use Rattle.meaning.specs.Layouts.{layoutOf}
 use Rattle.walk.specs.Reading.{Ends, Reads}
 use Rattle.component.specs.Value.{given}
-use Rattle.walk.proofs.Passed.{Here}
+use Rattle.walk.proofs.Passed.{Here, Passed}
 use Rattle.component.specs.Verdict.{ComponentIs}
 use Rattle.component.specs.declared.Judged.{Judged}
 use Rattle.naming.specs.NotedNames.{tally, Noted}
@@ -45,3 +45,10 @@ module _ (g : Given) (start : ℕ) (s : List ℕ) (at k : ℕ) (inside : at + k 
 pub record SoFar (g : Given) (start : ℕ) (to : Place) (s : List ℕ) (names : Tally) (left size : List ℕ) (first : First) (rows before : List ℕ) (next : ℕ) (t : List ℕ) (done : List (Pair Ends)) : Type 0 where
   pub kept : Kept g start s names left size first rows done
   pub rowed : Rowed g start (to .end) (to .owner) (to .from) before next t done
+
+-- up to `at`, with n items due
+pub record Looping (g : Given) (start : ℕ) (to : Place) (mode count : ℕ) (s before : List ℕ) (at n : ℕ) (names : Tally) (left size : List ℕ) (first : First) (rows : List ℕ) (next : ℕ) (t : List ℕ) : Type 0 where
+  pub walking : Passed 28 mode count s at n (SoFar g start to s names left size first rows before next t)
+  pub slots : length left ≡ 16
+  pub room : length rows ≡ 64
+  pub long : length t ≡ length before

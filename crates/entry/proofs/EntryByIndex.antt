@@ -1,26 +1,23 @@
 -- The entry of an index, kept while the entries are passed over.
 use mathlib.Core.Path.{_≡_, refl, ap, sym, _∙_, subst}
 use mathlib.Core.List.{List, [], _∷_}
-use mathlib.Core.Bool.{Bool, true, false, cond}
-use mathlib.Core.Option.{none, some}
+use mathlib.Core.Bool.{Bool, cond}
 use Prim.Native.Nat.{ℕ, zero, suc, _+_, _-_, _≤_, _<_}
 use native.Mathlib.Omega.{arith}
 use lib.ListN.{length, drop, length-drop}
-use lib.Dec.{eqb}
-use borrow.Author.Tests.{eq-eqb, ne-eqb, eqb-true, eqb-false}
+use borrow.Author.Tests.{eq-eqb, ne-eqb}
 use borrow.Rule.Slice.PartAt.{part-to-end}
-use Rattle.meaning.specs.Tree.{Node, Pair, noteOf}
-use Rattle.meaning.specs.Kind.{kind, mapping, aMapping, asMapping}
-use Rattle.meaning.specs.Check.{pass}
+use Rattle.meaning.specs.Tree.{Pair, noteOf}
+use Rattle.meaning.specs.Kind.{aMapping, asMapping}
+use Rattle.cbor.specs.Ending.{FAULT}
 use Rattle.walk.specs.Reading.{Ends, Reads, Due, foldl}
 use Rattle.walk.specs.Places.{MapIs, Modes}
 use Rattle.walk.specs.declared.Opening.{Opening}
 use Rattle.walk.specs.declared.Opening.the-variants.{NotOpen, Opened}
-use Rattle.walk.proofs.Passed.{Here}
+use Rattle.walk.proofs.Passed.{Here, Passed, Folds}
 use Rattle.walk.proofs.ReadSays.{note-of}
 use Rattle.walk.proofs.Opens as opens
-use Rattle.walk.proofs.Turns.{Walking}
-use Rattle.entry.proofs.EntryLoop.{starts}
+use Rattle.walk.proofs.Passed as walked
 use Rattle.entry.specs.Nth.{places, chosen, nth, leftBoth, Held, inTable, EntryIs}
 use Rattle.entry.specs.declared.Places.{Places}
 
@@ -53,16 +50,16 @@ found index i (suc j) (p ∷ ps) e =
 
 -- up to `at`, with `due` items due: the entries passed are n, and what is held of them
 pub record Inv (left mode count : ℕ) (s : List ℕ) (index at due n : ℕ) (h : Places) : Type 0 where
-  pub walking : Walking (seen index) left mode count s none-seen at due (record { count = n; held = h })
+  pub walking : Passed left mode count s at due (Folds (seen index) none-seen (record { count = n; held = h }))
   pub few : n ≤ at
 
 module _ (left mode count : ℕ) (s : List ℕ) (index : ℕ) (h : Places) where
   pub is-held : {n : ℕ} → ((ps : List (Pair Ends)) (r : List ℕ) → Due left mode count s ps r → _≡_ {A = State} (record { count = n; held = h }) (foldl (seen index) none-seen ps)) → Held left mode count s index h
   is-held f ps r d = ap (λ (x : State). x .held) (f ps r d) ∙ found index 0 index ps (omega arith)
 
-pub begins : (left mode count : ℕ) (s : List ℕ) (index : ℕ) → Modes mode count → {h : Places} → h ≡ places 0 0 → Inv left mode count s index 0 count 0 h
-begins left mode count s index m {h} e = record {
-  walking = subst (λ (x : Places). Walking (seen index) left mode count s none-seen 0 count (record { count = 0; held = x })) (sym e) (starts (seen index) left mode count s none-seen m);
+pub begins : {left mode count : ℕ} {s : List ℕ} {index : ℕ} → Modes mode count → length s < FAULT → {h : Places} → h ≡ places 0 0 → Inv left mode count s index 0 count 0 h
+begins modes short e = record {
+  walking = walked.passed-starts modes short (record { is = ap (λ (x : Places). record { count = 0; held = x }) e });
   few = omega arith;
 }
 

@@ -1,3 +1,2 @@
 -- Laws behind the proofs of entry.
-pub mod EntryLoop
 pub mod EntryByIndex

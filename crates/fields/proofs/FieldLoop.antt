@@ -19,40 +19,46 @@ use Rattle.walk.specs.Places.{EntryIs, Modes}
 use Rattle.walk.specs.declared.Entry.{Entry}
 use Rattle.walk.specs.declared.Entry.the-variants.{End, Value}
 use Rattle.walk.proofs.Passed as passed
-use Rattle.walk.proofs.Passed.{Passed}
+use Rattle.walk.proofs.Passed.{Passed, foldl-snoc}
 use Rattle.fields.specs.Slots.{slotOf, marked, marks, SlotIs}
 use Rattle.fields.specs.FieldWalk.{Held, Noted, Walked, ValueIs}
 use Rattle.fields.proofs.Texts.{Here}
 use Rattle.fields.proofs.MarkedSlots.{marks-step, marked-length}
-use Rattle.fields.proofs.Snoc.{foldl-snoc, first-is, as-before}
+use Rattle.fields.proofs.Snoc.{first-is, as-before}
 
 chain-snoc : (d : ℕ) (s : List ℕ) (done : List (Pair Ends)) (m : List ℕ) (p : Pair Ends) (k q : List ℕ) → Chain d s done m → Reads d m (p .key) k → Reads d k (p .value) q → Chain d s (done ++ p ∷ []) q
 chain-snoc d s [] m p k q e key value = (k, q, subst (λ u. Reads d u (p .key) k) (sym e) key, value, refl)
 chain-snoc d s (x ∷ done) m p k q h key value = (h .0, h .1, h .2, h .3, chain-snoc d (h .1) done m p k q (h .4) key value)
 
-module _ (ns : Slots) (width : ℕ) (places : length ns ≡ width) (i : ℕ) (known : i < width) (apart : distinct (somes ns) ≡ true) {S : Type 0} (Says : Node Ends → S → Type 0) (d : ℕ) where
-  abbrev pub zeros : List ℕ
-  zeros = replicate (width + 3) 0
+-- ---------------------------------------------------------------- the invariant
 
+module _ {S : Type 0} (ns : Slots) (width i : ℕ) (Says : Node Ends → S → Type 0) (d : ℕ) where
   -- the pairs `done` of a map in s stand before `at`, and this is noted of them
   pub record Noting (s : List ℕ) (at : ℕ) (p : List ℕ) (kept : S) (done : List (Pair Ends)) : Type 0 where
     pub chain : Chain (suc d) s done (drop at s)
     pub noted : Noted ns width i Says p kept done
 
-  no-field : (o : Option (List ℕ)) (t : Node Ends) → field o [] ≡ some t → ⊥
-  unfolding get field
-  no-field none t g = let z : _≡_ {A = ℕ} 0 1 = cc in omega arith
-  no-field (some n) t g = let z : _≡_ {A = ℕ} 0 1 = cc in omega arith
+  -- up to `at`, with n items due
+  pub record Looping (mode count : ℕ) (s : List ℕ) (at n : ℕ) (p : List ℕ) (kept : S) : Type 0 where
+    pub places : length ns ≡ width
+    pub known : i < width
+    pub apart : distinct (somes ns) ≡ true
+    pub walking : Passed (suc d) mode count s at n (Noting s at p kept)
+    pub slots : length p ≡ width + 3
 
-  none-noted : (s p : List ℕ) (kept : S) → p ≡ zeros → Noting s 0 p kept []
-  none-noted s p kept e = record { chain = refl; noted = (e, λ x g. absurd (no-field (slot i ns) x g)) }
+no-field : (o : Option (List ℕ)) (t : Node Ends) → field o [] ≡ some t → ⊥
+unfolding get field
+no-field none t g = let z : _≡_ {A = ℕ} 0 1 = cc in omega arith
+no-field (some n) t g = let z : _≡_ {A = ℕ} 0 1 = cc in omega arith
 
+module _ {S : Type 0} {ns : Slots} {width i : ℕ} {Says : Node Ends → S → Type 0} {d : ℕ} where
   -- ---------------------------------------------------------------- one more pair
 
-  module _ (s : List ℕ) (at k e : ℕ) (p q : List ℕ) (kept kept′ : S) (j : ℕ) (slotted : SlotIs ns (Here s at) j)
+  module _ (places : length ns ≡ width) (known : i < width) (apart : distinct (somes ns) ≡ true)
+      (s : List ℕ) (at k e : ℕ) (p q : List ℕ) (kept kept′ : S) (j : ℕ) (slotted : SlotIs ns (Here s at) j)
       (valued : ValueIs ns width i Says (suc d) j (getD p i 0) (Here s (at + k)) kept kept′) (m : q ≡ marked width p j (length s - (at + k)))
       (done : List (Pair Ends)) (x : Pair Ends) (key : Reads (suc d) (drop at s) (x .key) (drop (at + k) s)) (value : Reads (suc d) (drop (at + k) s) (x .value) (drop (at + k + e) s))
-      (n : Noting s at p kept done) where
+      (n : Noting ns width i Says d s at p kept done) where
     slot-there : SlotIs ns (drop at s) j
     slot-there = subst (λ u. SlotIs ns u j) (part-to-end s at) slotted
 
@@ -60,11 +66,11 @@ module _ (ns : Slots) (width : ℕ) (places : length ns ≡ width) (i : ℕ) (kn
     unfolding keyOf
     slot-is = slot-there d (x .key) (drop (at + k) s) key
 
-    slots-are : q ≡ foldl (marks ns) zeros (done ++ x ∷ [])
+    slots-are : q ≡ foldl (marks ns) (replicate (width + 3) 0) (done ++ x ∷ [])
     slots-are =
         marks-step ns width places d s at (at + k) p q j slot-there m x _ _ key value
         ∙ ap (λ (l : List ℕ). marks ns l x) (n .noted .0)
-        ∙ sym (foldl-snoc (marks ns) zeros done x)
+        ∙ sym (foldl-snoc (marks ns) (replicate (width + 3) 0) done x)
 
     is-first : j ≡ i → getD p i 0 ≡ 0 → Held ns width i Says (done ++ x ∷ []) kept′
     is-first a b y g =
@@ -81,55 +87,55 @@ module _ (ns : Slots) (width : ℕ) (places : length ns ≡ width) (i : ℕ) (kn
     still-held =
         ⊎-elim (λ a. ⊎-elim (λ b. is-first a b) (λ b. is-other (λ a. b)) (eq-or (getD p i 0) 0)) (λ a. is-other (λ z. absurd (a z))) (eq-or j (i))
 
-    one-more-noted : Noting s (at + k + e) q kept′ (done ++ x ∷ [])
+    one-more-noted : Noting ns width i Says d s (at + k + e) q kept′ (done ++ x ∷ [])
     one-more-noted = record { chain = chain-snoc (suc d) s done (drop at s) x (drop (at + k) s) (drop (at + k + e) s) (n .chain) key value; noted = (slots-are, still-held) }
 
   -- ---------------------------------------------------------------- the loop
 
-  -- up to `at`, with n items due
-  pub record Looping (mode count : ℕ) (s : List ℕ) (at n : ℕ) (p : List ℕ) (kept : S) : Type 0 where
-    pub walking : Passed (suc d) mode count s at n (Noting s at p kept)
-    pub slots : length p ≡ width + 3
+  module _ {mode count : ℕ} {s : List ℕ} where
+    pub loop-starts : {p : List ℕ} {kept : S} → length ns ≡ width → i < width → distinct (somes ns) ≡ true → Modes mode count → length s < FAULT → p ≡ replicate (width + 3) 0
+        → Looping ns width i Says d mode count s 0 count p kept
+    loop-starts places known apart modes short e = record {
+      places = places;
+      known = known;
+      apart = apart;
+      walking = passed.passed-starts modes short (record { chain = refl; noted = (e, λ x g. absurd (no-field (slot i ns) x g)) });
+      slots = ap length e ∙ length-replicate (width + 3) 0;
+    }
 
-  module _ (mode count : ℕ) (s : List ℕ) (modes : Modes mode count) where
-    pub loop-starts : (p : List ℕ) (kept : S) → p ≡ zeros → Looping mode count s 0 count p kept
-    loop-starts p kept e = record { walking = passed.passed-starts (suc d) mode count s modes (Noting s 0 p kept) (none-noted s p kept e); slots = ap length e ∙ length-replicate (width + 3) 0 }
-
-    module _ (room : length s < FAULT) (at n : ℕ) (p : List ℕ) (kept : S) (w : Looping mode count s at n p kept) where
-      abbrev P : List (Pair Ends) → Type 0
-      P = Noting s at p kept
-
+    module _ {at n : ℕ} {p : List ℕ} {kept : S} (w : Looping ns width i Says d mode count s at n p kept) where
       pub still-due : 1 ≤ mode → 0 < n
-      still-due = passed.still-due (suc d) mode count s modes room at n P (w .walking)
+      still-due = passed.still-due (w .walking)
 
-      module _ (x : Entry) (h : EntryIs (suc d) mode n (Here s at) x) where
-        module _ (e : ℕ) (is : x ≡ End e) where
+      module _ {x : Entry} (h : EntryIs (suc d) mode n (Here s at) x) where
+        module _ {e : ℕ} (is : x ≡ End e) where
           pub ends-inside : e ≤ length s - at → (at + e ≡ code (rest mode count (suc d) s)) × Walked ns width i Says (suc d) mode count s p kept
-          ends-inside l = let y = passed.ends-inside (suc d) mode count s modes room at n P (w .walking) x h e is l in (y .0, λ ps r d. y .1 ps r d .noted)
+          ends-inside l = let y = passed.ends-inside (w .walking) h is l in (y .0, λ ps r d. y .1 ps r d .noted)
 
           pub ends-faulty : length s - at < e → (e ≡ code (rest mode count (suc d) s)) × Walked ns width i Says (suc d) mode count s p kept
-          ends-faulty l = let y = passed.ends-faulty (suc d) mode count s modes room at n P (w .walking) x h e is l in (y .0, λ ps r d. y .1 ps r d .noted)
+          ends-faulty l = let y = passed.ends-faulty (w .walking) h is l in (y .0, λ ps r d. y .1 ps r d .noted)
 
-        module _ (k : ℕ) (is : x ≡ Value k) where
+        module _ {k : ℕ} (is : x ≡ Value k) where
           pub value-inside : at + k ≤ length s
-          value-inside = passed.value-inside (suc d) mode count s modes room at n P (w .walking) x h k is
+          value-inside = passed.value-inside (w .walking) h is
 
-          module _ (e : ℕ) (ended : e ≡ code (itemEnd (suc d) (Here s (at + k)))) where
+          module _ {e : ℕ} (ended : e ≡ code (itemEnd (suc d) (Here s (at + k)))) where
             pub two-due : 2 ≤ n
-            two-due = passed.two-due (suc d) mode count s modes room at n P (w .walking) x h k is e ended
+            two-due = passed.two-due (w .walking) h is ended
 
-            pub value-faulty : length s - (at + k) < e → (kept′ : S) → (e ≡ code (rest mode count (suc d) s)) × Walked ns width i Says (suc d) mode count s p kept′
-            value-faulty l kept′ = passed.value-faulty (suc d) mode count s modes room at n P (w .walking) x h k is e ended l (Noted ns width i Says p kept′)
+            pub value-faulty : {kept′ : S} → length s - (at + k) < e → (e ≡ code (rest mode count (suc d) s)) × Walked ns width i Says (suc d) mode count s p kept′
+            value-faulty l = (passed.value-fails (w .walking) h is ended l, passed.no-pairs (w .walking) h is ended l _)
 
             module _ (l : e ≤ length s - (at + k)) where
               pub goes-on : at < at + k + e
-              goes-on = passed.goes-on (suc d) mode count s modes room at n P (w .walking) x h k is e ended l
+              goes-on = passed.goes-on (w .walking) h is ended l
 
-              pub loops-on : (j : ℕ) → SlotIs ns (Here s at) j → (kept′ : S) → ValueIs ns width i Says (suc d) j (getD p i 0) (Here s (at + k)) kept kept′
-                  → (q : List ℕ) → q ≡ marked width p j (length s - (at + k)) → Looping mode count s (at + k + e) (n - 2) q kept′
-              loops-on j slotted kept′ valued q m = record {
-                walking =
-                    passed.one-more (suc d) mode count s modes room at n P (w .walking) x h k is e ended l (Noting s (at + k + e) q kept′)
-                    (λ done y few key value noted. one-more-noted s at k e p q kept kept′ j slotted valued m done y key value noted);
+              pub loops-on : {j : ℕ} {kept′ : S} {q : List ℕ} → SlotIs ns (Here s at) j → ValueIs ns width i Says (suc d) j (getD p i 0) (Here s (at + k)) kept kept′
+                  → q ≡ marked width p j (length s - (at + k)) → Looping ns width i Says d mode count s (at + k + e) (n - 2) q kept′
+              loops-on {j} {kept′} {q} slotted valued m = record {
+                places = w .places;
+                known = w .known;
+                apart = w .apart;
+                walking = passed.one-more (w .walking) h is ended l (λ done y few key value noted. one-more-noted (w .places) (w .known) (w .apart) s at _ _ p q kept kept′ j slotted valued m done y key value noted);
                 slots = ap length m ∙ marked-length width p j (length s - (at + k)) ∙ w .slots;
               }

@@ -18,10 +18,6 @@ use Rattle.fields.specs.Slots.{slotOf, marks, Holds}
 use Rattle.fields.proofs.Marks.{position-slot}
 use Rattle.fields.proofs.Stands.{hold-none, hold-some, field-stands}
 
-pub foldl-snoc : {A S : Type 0} (f : S → A → S) (z : S) (xs : List A) (x : A) → foldl f z (xs ++ x ∷ []) ≡ f (foldl f z xs) x
-foldl-snoc f z [] x = refl
-foldl-snoc f z (y ∷ xs) x = foldl-snoc f (f z y) xs x
-
 -- ---------------------------------------------------------------- the first field of a name
 
 module _ (name : List ℕ) (q : Pair Ends) where

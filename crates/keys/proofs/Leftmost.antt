@@ -18,7 +18,7 @@ use Rattle.types.proofs.Codes.{field-most}
 use Rattle.walk.specs.Reading.{Ends, foldl, leftAt}
 use Rattle.fields.specs.Slots.{slotOf, marks}
 use Rattle.fields.proofs.Marks.{AllSome, field-is}
-use Rattle.fields.proofs.Snoc.{foldl-snoc}
+use Rattle.walk.proofs.Passed.{foldl-snoc}
 use Rattle.explained.specs.Step.{Step, first}
 use Rattle.explained.specs.Order.{fresh, more, keySteps, repeatSteps}
 use Rattle.explained.proofs.Repeat.{keysAfter, keys-snoc}

@@ -2,31 +2,26 @@
 use Prim.Native.Nat.{ℕ, zero, suc, _+_, _-_, _≤_, _<_}
 use native.Mathlib.Omega.{arith}
 use mathlib.Core.List.{List, [], _∷_}
-use mathlib.Core.Bool.{Bool, true, false, cond}
+use mathlib.Core.Bool.{Bool, cond}
 use mathlib.Core.Path.{_≡_, refl, ap, sym, _∙_, subst}
 use lib.ListN.{length, getD, drop, replicate, length-drop, length-replicate}
-use lib.Dec.{eqb, ltb}
 use borrow.Author.Tests.{eq-eqb, ne-eqb, lt-ltb, le-ltb}
 use Rattle.meaning.specs.Tree.{Pair, noteOf}
 use Rattle.meaning.specs.Field.{keyOf}
-use Rattle.meaning.specs.Layouts.{Slots, somes, layoutOf}
-use Rattle.types.specs.Known.{fieldAt}
+use Rattle.meaning.specs.Layouts.{Slots, layoutOf}
 use Rattle.cbor.specs.Ending.{FAULT}
 use Rattle.walk.specs.Reading.{Ends, Reads, Chain, Due, foldl}
 use Rattle.walk.proofs.ReadSays.{note-of}
-use Rattle.walk.proofs.Turns.{Walking}
+use Rattle.walk.proofs.Passed.{Passed, Folds, passed-starts}
 use Rattle.walk.specs.Places.{Modes}
 use Rattle.walk.proofs.Found.{no-levels}
 use Rattle.fields.specs.Slots.{slotOf, marked, marks, SlotIs}
 use Rattle.fields.proofs.Marks.{AllSome}
-use Rattle.fields.proofs.MarkedSlots.{marks-step, marked-length}
+use Rattle.fields.proofs.MarkedSlots.{marks-step}
 use Rattle.fields.proofs.Stands.{some-left}
-use Rattle.explained.specs.Step.{first}
-use Rattle.explained.specs.Order.{keySteps, repeatSteps}
 use Rattle.explained.proofs.Repeat.{keysAfter}
-use Rattle.entry.proofs.EntryLoop.{starts}
-use Rattle.keys.specs.Odd.{slotsAt, odd, firstOr, afterKey, afterCopy, leftFirst, Noted}
-use Rattle.keys.proofs.Leftmost.{State, step, KeysSome, keyLeft, slots-are, key-is, copy-is}
+use Rattle.keys.specs.Odd.{slotsAt, odd, firstOr, afterKey, afterCopy, Noted}
+use Rattle.keys.proofs.Leftmost.{State, step, KeysSome, slots-are, key-is, copy-is}
 
 module _ (seen left : ℕ) where
   pub none-seen : seen ≡ 0 → left ≡ firstOr seen left
@@ -129,15 +124,13 @@ past-list ns s m e h = (omega (arith, e), subst (SlotIs ns s) (let z : suc m ≡
 
 -- up to `at`, with `due` items due
 pub record Inv (ns : Slots) (left mode count : ℕ) (s : List ℕ) (at due : ℕ) (p : List ℕ) (key again : ℕ) : Type 0 where
-  pub walking : Walking (step ns) left mode count s (begun ns) at due (record { slots = p; key = key; again = again })
+  pub walking : Passed left mode count s at due (Folds (step ns) (begun ns) (record { slots = p; key = key; again = again }))
   pub room : length p ≡ length ns + 3
-  pub short : length s < FAULT
 
-pub begins : (ns : Slots) (left mode count : ℕ) (s p : List ℕ) → length s < FAULT → p ≡ replicate (length ns + 3) 0 → Modes mode count → Inv ns left mode count s 0 count p 0 0
-begins ns left mode count s p short e m = record {
-  walking = subst (λ (x : List ℕ). Walking (step ns) left mode count s (begun ns) 0 count (record { slots = x; key = 0; again = 0 })) (sym e) (starts (step ns) left mode count s (begun ns) m);
+pub begins : {ns : Slots} {left mode count : ℕ} {s p : List ℕ} → length s < FAULT → p ≡ replicate (length ns + 3) 0 → Modes mode count → Inv ns left mode count s 0 count p 0 0
+begins {ns} short e modes = record {
+  walking = passed-starts modes short (record { is = ap (λ (x : List ℕ). record { slots = x; key = 0; again = 0 }) e });
   room = ap length e ∙ length-replicate (length ns + 3) 0;
-  short = short;
 }
 
 pub as-long : (ns : Slots) (p z : List ℕ) → length p ≡ length ns + 3 → z ≡ replicate (length ns + 3) 0 → length p ≡ length z

@@ -73,7 +73,7 @@ module _ (layout start k seen : ℕ) (c : List ℕ) (found : Found) (rows : List
 
 -- up to `at`, with n items due
 pub record Looping (layout start : ℕ) (to : Place) (mode count : ℕ) (s before : List ℕ) (at n : ℕ) (p : List ℕ) (found : Found) (rows t : List ℕ) : Type 0 where
-  pub keeps : keeping.Looping (layoutOf layout .object) 5 (layoutOf layout .objectPlaces) 4 known (layoutOf layout .objectApart) (Tells layout start to before) 28 mode count s at n p ((found, rows), t)
+  pub keeps : keeping.Looping (layoutOf layout .object) 5 4 (Tells layout start to before) 28 mode count s at n p ((found, rows), t)
   pub slots : length p ≡ 8
   pub room : length rows ≡ 64
   pub long : length t ≡ length before
@@ -81,10 +81,11 @@ pub record Looping (layout start : ℕ) (to : Place) (mode count : ℕ) (s befor
   pub fresh : getD p 4 0 ≡ 0 → t ≡ before
   pub untouched : layout ≡ 1 → t ≡ before
 
-module _ (layout start : ℕ) (to : Place) (mode count : ℕ) (s before : List ℕ) (modes : Modes mode count) where
-  pub loop-starts : (p : List ℕ) (found : Found) (rows : List ℕ) → p ≡ replicate 8 0 → length rows ≡ 64 → Looping layout start to mode count s before 0 count p found rows before
-  loop-starts p found rows e l = record {
-    keeps = keeping.loop-starts (layoutOf layout .object) 5 (layoutOf layout .objectPlaces) 4 known (layoutOf layout .objectApart) (Tells layout start to before) 28 mode count s modes p ((found, rows), before) e;
+module _ {layout start : ℕ} {to : Place} {mode count : ℕ} {s before : List ℕ} where
+  pub loop-starts : {p : List ℕ} {found : Found} {rows : List ℕ} → Modes mode count → length s < FAULT → p ≡ replicate 8 0 → length rows ≡ 64
+      → Looping layout start to mode count s before 0 count p found rows before
+  loop-starts modes short e l = record {
+    keeps = keeping.loop-starts (layoutOf layout .objectPlaces) known (layoutOf layout .objectApart) modes short e;
     slots = ap length e;
     room = l;
     long = refl;
@@ -92,69 +93,55 @@ module _ (layout start : ℕ) (to : Place) (mode count : ℕ) (s before : List �
     untouched = λ z. refl;
   }
 
-  module _ (room : length s < FAULT) (at n : ℕ) (p : List ℕ) (found : Found) (rows t : List ℕ) (w : Looping layout start to mode count s before at n p found rows t) where
-    pub still-due : 1 ≤ mode → 0 < n
-    still-due = keeping.still-due (layoutOf layout .object) 5 (layoutOf layout .objectPlaces) 4 known (layoutOf layout .objectApart) (Tells layout start to before) 28 mode count s modes room at n p ((found, rows), t) (w .keeps)
+  module _ {at n : ℕ} {p : List ℕ} {found : Found} {rows t : List ℕ} (w : Looping layout start to mode count s before at n p found rows t) {x : Entry} (h : EntryIs 29 mode n (Here s at) x) where
+    module _ {e : ℕ} (is : x ≡ End e) where
+      pub ends-inside : e ≤ length s - at → (at + e ≡ code (rest mode count 29 s)) × Walked layout start to mode count s before p found rows t
+      ends-inside l = let y = keeping.ends-inside (w .keeps) h is l in (y .0, record { notes = y .1; untouched = w .untouched })
 
-    module _ (x : Entry) (h : EntryIs 29 mode n (Here s at) x) where
-      module _ (e : ℕ) (is : x ≡ End e) where
-        pub ends-inside : e ≤ length s - at → (at + e ≡ code (rest mode count 29 s)) × Walked layout start to mode count s before p found rows t
-        ends-inside l = let y = keeping.ends-inside (layoutOf layout .object) 5 (layoutOf layout .objectPlaces) 4 known (layoutOf layout .objectApart) (Tells layout start to before) 28 mode count s modes room at n p ((found, rows), t) (w .keeps) x h e is l in (y .0, record { notes = y .1; untouched = w .untouched })
+      pub ends-faulty : length s - at < e → (e ≡ code (rest mode count 29 s)) × Walked layout start to mode count s before p found rows t
+      ends-faulty l = let y = keeping.ends-faulty (w .keeps) h is l in (y .0, record { notes = y .1; untouched = w .untouched })
 
-        pub ends-faulty : length s - at < e → (e ≡ code (rest mode count 29 s)) × Walked layout start to mode count s before p found rows t
-        ends-faulty l = let y = keeping.ends-faulty (layoutOf layout .object) 5 (layoutOf layout .objectPlaces) 4 known (layoutOf layout .objectApart) (Tells layout start to before) 28 mode count s modes room at n p ((found, rows), t) (w .keeps) x h e is l in (y .0, record { notes = y .1; untouched = w .untouched })
+    module _ {k : ℕ} (is : x ≡ Value k) {e : ℕ} (ended : e ≡ code (itemEnd 29 (Here s (at + k)))) where
+      -- in layout 1.0 still no row is put
+      as-untouched : {j seen : ℕ} {c t′ : List ℕ} → ValuePut layout start to j seen c t t′ → layout ≡ 1 → t′ ≡ before
+      as-untouched {j} {seen} put o = put .other (waits-old layout j seen o) ∙ w .untouched o
 
-      module _ (k : ℕ) (is : x ≡ Value k) where
-        pub value-inside : at + k ≤ length s
-        value-inside = keeping.value-inside (layoutOf layout .object) 5 (layoutOf layout .objectPlaces) 4 known (layoutOf layout .objectApart) (Tells layout start to before) 28 mode count s modes room at n p ((found, rows), t) (w .keeps) x h k is
+      -- then nothing is read, and whatever was found and put may be answered
+      pub value-faulty : {found′ : Found} {rows′ : List ℕ} {j seen : ℕ} {c t′ : List ℕ} → length s - (at + k) < e → ValuePut layout start to j seen c t t′
+          → (e ≡ code (rest mode count 29 s)) × Walked layout start to mode count s before p found′ rows′ t′
+      value-faulty {found′} {rows′} {t′ = t′} l put =
+          let y = keeping.value-faulty (w .keeps) h is ended {kept′ = ((found′, rows′), t′)} l in (y .0, record { notes = y .1; untouched = as-untouched put })
 
-        module _ (e : ℕ) (ended : e ≡ code (itemEnd 29 (Here s (at + k)))) where
-          pub two-due : 2 ≤ n
-          two-due = keeping.two-due (layoutOf layout .object) 5 (layoutOf layout .objectPlaces) 4 known (layoutOf layout .objectApart) (Tells layout start to before) 28 mode count s modes room at n p ((found, rows), t) (w .keeps) x h k is e ended
+      module _ (l : e ≤ length s - (at + k)) where
+        -- where no byte is left no value is read
+        some-left : 0 < length s - (at + k)
+        some-left = ⊎-elim (λ z. absurd (none z)) (λ z. omega arith) (eq-or (length s - (at + k)) 0)
+          where
+            none : length s - (at + k) ≡ 0 → ⊥
+            none z =
+                let y = never-empty 29 (Here s (at + k)) (ap length (part-to-end s (at + k)) ∙ length-drop (at + k) s ∙ z) in
+                let u : e ≡ FAULT + 6 = ended ∙ ap code y in omega arith
 
-          -- in layout 1.0 still no row is put
-          as-untouched : (j seen : ℕ) (c t′ : List ℕ) → ValuePut layout start to j seen c t t′ → layout ≡ 1 → t′ ≡ before
-          as-untouched j seen c t′ put o = put .other (waits-old layout j seen o) ∙ w .untouched o
+        module _ {j : ℕ} (slot : SlotIs (layoutOf layout .object) (Here s at) j) {found′ : Found} {rows′ : List ℕ} (sized : length rows′ ≡ 64)
+            (valued : ValueIs layout start j (getD p 4 0) (Here s (at + k)) found rows found′ rows′) {t′ : List ℕ} (same : length t′ ≡ length t)
+            (put : ValuePut layout start to j (getD p 4 0) (Here s (at + k)) t t′) {q : List ℕ} (m : q ≡ marked 5 p j (length s - (at + k))) where
+          told : keeping-is.ValueIs (layoutOf layout .object) 5 4 (Tells layout start to before) 29 j (getD p 4 0) (Here s (at + k)) ((found, rows), t) ((found′, rows′), t′)
+          unfolding given inherited
+          told = record {
+            first = λ a b x r reads. (
+              valued .first a b x r reads,
+              λ other. subst (λ u. RowsPut (offered layout 4 13) (Here s (at + k)) start (to .end) (to .owner) (to .from) u t′) (w .fresh b) (put .first (waits-not layout j (getD p 4 0) other a b)) x r reads [] no-format (λ o. absurd (other o)),
+            );
+            other = λ h. ap₂ (λ (a : Found × List ℕ) (b : List ℕ). (a, b)) (valued .other h) (put .other (waits-other layout j (getD p 4 0) h));
+          }
 
-          -- then nothing is read, and whatever was found and put may be answered
-          pub value-faulty : length s - (at + k) < e → (found′ : Found) (rows′ : List ℕ) (j seen : ℕ) (c t′ : List ℕ) → ValuePut layout start to j seen c t t′
-              → (e ≡ code (rest mode count 29 s)) × Walked layout start to mode count s before p found′ rows′ t′
-          value-faulty l found′ rows′ j seen c t′ put =
-              let y = keeping.value-faulty (layoutOf layout .object) 5 (layoutOf layout .objectPlaces) 4 known (layoutOf layout .objectApart) (Tells layout start to before) 28 mode count s modes room at n p ((found, rows), t) (w .keeps) x h k is e ended l ((found′, rows′), t′) in (y .0, record { notes = y .1; untouched = as-untouched j seen c t′ put })
+          still-fresh : getD q 4 0 ≡ 0 → t′ ≡ before
+          still-fresh z =
+              let slots = w .slots in
+              let b = still-blank 5 p j (length s - (at + k)) 4 some-left (omega arith) (omega arith) (ap (λ q. getD q 4 0) (sym m) ∙ z) in
+              put .other (waits-other layout j (getD p 4 0) (λ a y. b .1 a)) ∙ w .fresh (b .0)
 
-          module _ (l : e ≤ length s - (at + k)) where
-            pub goes-on : at < at + k + e
-            goes-on = keeping.goes-on (layoutOf layout .object) 5 (layoutOf layout .objectPlaces) 4 known (layoutOf layout .objectApart) (Tells layout start to before) 28 mode count s modes room at n p ((found, rows), t) (w .keeps) x h k is e ended l
-
-            -- where no byte is left no value is read
-            some-left : 0 < length s - (at + k)
-            some-left = ⊎-elim (λ z. absurd (none z)) (λ z. omega arith) (eq-or (length s - (at + k)) 0)
-              where
-                none : length s - (at + k) ≡ 0 → ⊥
-                none z =
-                    let y = never-empty 29 (Here s (at + k)) (ap length (part-to-end s (at + k)) ∙ length-drop (at + k) s ∙ z) in
-                    let u : e ≡ FAULT + 6 = ended ∙ ap code y in omega arith
-
-            module _ (j : ℕ) (slot : SlotIs (layoutOf layout .object) (Here s at) j) (found′ : Found) (rows′ : List ℕ) (sized : length rows′ ≡ 64)
-                (valued : ValueIs layout start j (getD p 4 0) (Here s (at + k)) found rows found′ rows′) (t′ : List ℕ) (same : length t′ ≡ length t)
-                (put : ValuePut layout start to j (getD p 4 0) (Here s (at + k)) t t′) (q : List ℕ) (m : q ≡ marked 5 p j (length s - (at + k))) where
-              told : keeping-is.ValueIs (layoutOf layout .object) 5 4 (Tells layout start to before) 29 j (getD p 4 0) (Here s (at + k)) ((found, rows), t) ((found′, rows′), t′)
-              unfolding given inherited
-              told = record {
-                first = λ a b x r reads. (
-                  valued .first a b x r reads,
-                  λ other. subst (λ u. RowsPut (offered layout 4 13) (Here s (at + k)) start (to .end) (to .owner) (to .from) u t′) (w .fresh b) (put .first (waits-not layout j (getD p 4 0) other a b)) x r reads [] no-format (λ o. absurd (other o)),
-                );
-                other = λ h. ap₂ (λ (a : Found × List ℕ) (b : List ℕ). (a, b)) (valued .other h) (put .other (waits-other layout j (getD p 4 0) h));
-              }
-
-              still-fresh : getD q 4 0 ≡ 0 → t′ ≡ before
-              still-fresh z =
-                  let slots = w .slots in
-                  let b = still-blank 5 p j (length s - (at + k)) 4 some-left (omega arith) (omega arith) (ap (λ q. getD q 4 0) (sym m) ∙ z) in
-                  put .other (waits-other layout j (getD p 4 0) (λ a y. b .1 a)) ∙ w .fresh (b .0)
-
-              pub loops-on : Looping layout start to mode count s before (at + k + e) (n - 2) q found′ rows′ t′
-              loops-on =
-                  let z = keeping.loops-on (layoutOf layout .object) 5 (layoutOf layout .objectPlaces) 4 known (layoutOf layout .objectApart) (Tells layout start to before) 28 mode count s modes room at n p ((found, rows), t) (w .keeps) x h k is e ended l j slot ((found′, rows′), t′) told q m in
-                  record { keeps = z; slots = z .slots; room = sized; long = same ∙ w .long; fresh = still-fresh; untouched = as-untouched j (getD p 4 0) (Here s (at + k)) t′ put }
+          pub loops-on : Looping layout start to mode count s before (at + k + e) (n - 2) q found′ rows′ t′
+          loops-on =
+              let z = keeping.loops-on (w .keeps) h is ended l slot told m in
+              record { keeps = z; slots = z .slots; room = sized; long = same ∙ w .long; fresh = still-fresh; untouched = as-untouched put }

@@ -10,7 +10,7 @@ use Rattle.meaning.specs.Tree.{Pair}
 use Rattle.meaning.specs.Rows.{componentCount}
 use Rattle.meaning.specs.Layouts.{Layout, layoutOf}
 use Rattle.walk.specs.Reading.{Ends, Reads}
-use Rattle.walk.proofs.Passed.{Here}
+use Rattle.walk.proofs.Passed.{Here, Passed}
 use Rattle.naming.specs.NotedNames.{tally, Noted}
 use Rattle.naming.specs.declared.Tally.{Tally}
 use Rattle.naming.proofs.NameNoted.{none-noted}
@@ -40,3 +40,10 @@ module _ (deep : Bool) (L : Layout) (start : ℕ) (s : List ℕ) (at k : ℕ) (i
 pub record SoFar (deep : Bool) (layout start end from : ℕ) (s : List ℕ) (names : Tally) (left size : List ℕ) (first : First) (before : List ℕ) (row next : ℕ) (t : List ℕ) (done : List (Pair Ends)) : Type 0 where
   pub kept : Kept deep (layoutOf layout) start s names left size first done
   pub laid : deep ≡ true → ObjectsLaid layout start end from before row next t done
+
+-- up to `at`, with n items due
+pub record Looping (deep : Bool) (layout start end from mode count : ℕ) (s before : List ℕ) (at n : ℕ) (names : Tally) (left size : List ℕ) (first : First) (rows : List ℕ) (row next : ℕ) (t : List ℕ) : Type 0 where
+  pub walking : Passed 30 mode count s at n (SoFar deep layout start end from s names left size first before row next t)
+  pub slots : length left ≡ 1024
+  pub room : length rows ≡ 64
+  pub long : length t ≡ length before

@@ -1,27 +1,24 @@
 -- The walk over a root: one value of its map, a branch each; its loop, which is that of every walk that keeps one field; and the whole value, lent whole to
 -- `walk::map`, which answered x.
-use Prim.Native.Nat.{ℕ, _+_, _-_, _≤_, _<_}
+use Prim.Native.Nat.{ℕ, _+_, _≤_, _<_}
 use native.Mathlib.Omega.{arith}
 use mathlib.Core.List.{List}
 use mathlib.Core.Bool.{Bool, true}
 use mathlib.Core.Path.{_≡_, refl, sym, _∙_, subst}
-use lib.ListN.{length, getD, drop, replicate}
+use lib.ListN.{getD, drop}
 use borrow.Rule.Slice.PartAt.{part-to-end}
-use Rattle.meaning.specs.Tree.{Pair}
 use Rattle.meaning.specs.Check.{pass, fault}
 use Rattle.meaning.specs.Refusal.{KIND}
 use Rattle.meaning.specs.Kind.{mapping, aMapping, asMapping}
 use Rattle.meaning.specs.Layouts.{Layout, slot, objectsAt}
 use Rattle.meaning.specs.Field.{rootFields, fields, field}
 use Rattle.meaning.specs.Judge.{objectsOf, judge}
-use Rattle.cbor.specs.Ending.{FAULT, code, itemEnd, rest}
-use Rattle.walk.specs.Places.{MapIs, EntryIs, Modes}
-use Rattle.walk.specs.declared.Entry.{Entry}
-use Rattle.walk.specs.declared.Entry.the-variants.{End, Value}
+use Rattle.cbor.specs.Ending.{code, itemEnd}
+use Rattle.walk.specs.Places.{MapIs}
 use Rattle.walk.specs.declared.Opening.{Opening}
 use Rattle.walk.specs.declared.Opening.the-variants.{NotOpen, Opened}
 use Rattle.walk.proofs.Opens as opens
-use Rattle.fields.specs.Slots.{marked, SlotIs, Holds}
+use Rattle.fields.specs.Slots.{Holds}
 use Rattle.fields.proofs.Stands.{field-stands, holds-whole}
 use Rattle.fields.proofs.Texts.{Here}
 use Rattle.fields.proofs.FieldLoop as keeping
@@ -48,44 +45,7 @@ objects-known = omega arith
 
 -- up to `at`, with n items due, the slots p and what was found
 abbrev pub Looping : Bool → Layout → ℕ → ℕ → ℕ → List ℕ → ℕ → ℕ → List ℕ → Found → Type 0
-Looping deep L start = keeping.Looping (L .root) 3 (L .rootPlaces) objectsAt objects-known (L .rootApart) (Says deep L start) 30
-
-module _ (deep : Bool) (L : Layout) (start mode count : ℕ) (s : List ℕ) (modes : Modes mode count) where
-  pub loop-starts : (p : List ℕ) (found : Found) → p ≡ replicate 6 0 → Looping deep L start mode count s 0 count p found
-  loop-starts p found e = keeping.loop-starts (L .root) 3 (L .rootPlaces) objectsAt objects-known (L .rootApart) (Says deep L start) 30 mode count s modes p found e
-
-  module _ (room : length s < FAULT) (at n : ℕ) (p : List ℕ) (found : Found) (w : Looping deep L start mode count s at n p found) where
-    pub six-slots : length p ≡ 6
-    six-slots = w .slots
-
-    pub still-due : 1 ≤ mode → 0 < n
-    still-due = keeping.still-due (L .root) 3 (L .rootPlaces) objectsAt objects-known (L .rootApart) (Says deep L start) 30 mode count s modes room at n p found w
-
-    module _ (x : Entry) (h : EntryIs 31 mode n (Here s at) x) where
-      pub ends-inside : (e : ℕ) → x ≡ End e → e ≤ length s - at → (at + e ≡ code (rest mode count 31 s)) × Walked deep L start mode count s p found
-      ends-inside = keeping.ends-inside (L .root) 3 (L .rootPlaces) objectsAt objects-known (L .rootApart) (Says deep L start) 30 mode count s modes room at n p found w x h
-
-      pub ends-faulty : (e : ℕ) → x ≡ End e → length s - at < e → (e ≡ code (rest mode count 31 s)) × Walked deep L start mode count s p found
-      ends-faulty = keeping.ends-faulty (L .root) 3 (L .rootPlaces) objectsAt objects-known (L .rootApart) (Says deep L start) 30 mode count s modes room at n p found w x h
-
-      module _ (k : ℕ) (is : x ≡ Value k) where
-        pub value-inside : at + k ≤ length s
-        value-inside = keeping.value-inside (L .root) 3 (L .rootPlaces) objectsAt objects-known (L .rootApart) (Says deep L start) 30 mode count s modes room at n p found w x h k is
-
-        module _ (e : ℕ) (ended : e ≡ code (itemEnd 31 (Here s (at + k)))) where
-          pub two-due : 2 ≤ n
-          two-due = keeping.two-due (L .root) 3 (L .rootPlaces) objectsAt objects-known (L .rootApart) (Says deep L start) 30 mode count s modes room at n p found w x h k is e ended
-
-          pub value-faulty : length s - (at + k) < e → (found′ : Found) → (e ≡ code (rest mode count 31 s)) × Walked deep L start mode count s p found′
-          value-faulty = keeping.value-faulty (L .root) 3 (L .rootPlaces) objectsAt objects-known (L .rootApart) (Says deep L start) 30 mode count s modes room at n p found w x h k is e ended
-
-          module _ (l : e ≤ length s - (at + k)) where
-            pub goes-on : at < at + k + e
-            goes-on = keeping.goes-on (L .root) 3 (L .rootPlaces) objectsAt objects-known (L .rootApart) (Says deep L start) 30 mode count s modes room at n p found w x h k is e ended l
-
-            pub loops-on : (j : ℕ) → SlotIs (L .root) (Here s at) j → (found′ : Found) → ValueIs deep L start j (getD p 2 0) (Here s (at + k)) found found′
-                → (q : List ℕ) → q ≡ marked 3 p j (length s - (at + k)) → Looping deep L start mode count s (at + k + e) (n - 2) q found′
-            loops-on j slot found′ valued q m = keeping.loops-on (L .root) 3 (L .rootPlaces) objectsAt objects-known (L .rootApart) (Says deep L start) 30 mode count s modes room at n p found w x h k is e ended l j slot found′ valued q m
+Looping deep L start = keeping.Looping (L .root) 3 objectsAt (Says deep L start) 30
 
 -- ---------------------------------------------------------------- the whole value
 

@@ -1,17 +1,16 @@
 -- One object more, judged for itself: what is kept and dropped, the sums, the table and the list are those of one verdict more.
-use Prim.Native.Nat.{ℕ, suc, _+_, _-_, _*_, _≤_, _<_}
+use Prim.Native.Nat.{ℕ, suc, _+_, _*_, _≤_, _<_}
 use native.Mathlib.Nat.{zero-add}
 use native.Mathlib.Omega.{arith}
 use mathlib.Core.List.{List, [], _∷_, _++_, map, append-nil, append-assoc}
-use mathlib.Core.Bool.{Bool, true, false}
+use mathlib.Core.Bool.{Bool, true}
 use mathlib.Core.Path.{_≡_, refl, sym, ap, ap₂, _∙_, subst}
-use mathlib.Core.Logic.{⊎-elim}
 use lib.ListN.{length, drop, length-append, length-map}
 use lib.Seq.{sets}
 use borrow.Author.Tests.{le-leb}
 use borrow.Rule.Slice.PartAt.{part-to-end}
 use Rattle.meaning.specs.Columns.{objectWidth, componentWidth}
-use Rattle.meaning.specs.Limit.{objectLimit, componentLimit}
+use Rattle.meaning.specs.Limit.{objectLimit}
 use Rattle.meaning.specs.Tree.{Pair}
 use Rattle.meaning.specs.Check.{Check, pass, refuse, _>>=_, each}
 use Rattle.meaning.specs.Read.{Span}
@@ -25,16 +24,11 @@ use Rattle.meaning.proofs.Checks.{pass-same}
 use Rattle.meaning.proofs.Lengths.{object-length, objects-length, components-length, count-snoc}
 use Rattle.meaning.specs.Every.{Every}
 use Rattle.walk.specs.Reading.{Ends, Reads}
-use Rattle.walk.specs.Places.{MapIs, EntryIs, Modes}
+use Rattle.walk.specs.Places.{MapIs}
 use Rattle.walk.specs.declared.Opening.{Opening}
 use Rattle.walk.specs.declared.Opening.the-variants.{NotOpen, Opened}
 use Rattle.walk.proofs.Opens as opens
-use Rattle.walk.specs.declared.Entry.{Entry}
-use Rattle.walk.specs.declared.Entry.the-variants.{End, Value}
-use Rattle.walk.proofs.Passed as walked
-use Rattle.walk.proofs.Passed.{Here}
-use Rattle.cbor.specs.Ending.{FAULT, code, itemEnd}
-use Rattle.endian.proofs.Which.{lt-or}
+use Rattle.walk.proofs.Passed.{Here, Passed}
 use Rattle.naming.proofs.NameNoted.{map-snoc}
 use Rattle.object.specs.Verdict.{ObjectIs, judged}
 use Rattle.object.specs.declared.Judged.{Judged}
@@ -49,13 +43,13 @@ use Rattle.table.proofs.Runs as laying
 use Rattle.table.proofs.MapEntries as entering
 use Rattle.table.proofs.ObjectLoop.{count-mapped}
 use Rattle.table.proofs.ComponentRow.{named-pair}
-use Rattle.window.specs.Summed.{InWindow, Sum, spans}
+use Rattle.window.specs.Summed.{InWindow, spans}
 use Rattle.window.proofs.Snoc as snoc
 use Rattle.rescuing.specs.Sift.{Dropped, kept, dropped, verdicts}
 use Rattle.rescuing.specs.Rescue.{entryWidth, entries}
 use Rattle.rescuing.proofs.Parted.{all-counted}
 use Rattle.sieve.specs.declared.Sieve.{Sieve}
-use Rattle.sieve.specs.Sieved.{more, KeptOne, Keeps, Omits, SieveOf, Steps, own, Sieved, AllSieved, Sifted}
+use Rattle.sieve.specs.Sieved.{more, Bounded, Keeps, Omits, SieveOf, Steps, own, Sieved, AllSieved, Sifted}
 use Rattle.sieve.proofs.ObjectPut.{one-more}
 
 -- ---- one verdict more
@@ -249,16 +243,14 @@ module _ (layout start end : ℕ) (fill : Bool) (from : ℕ) (before list₀ s :
       let new = steps x 29 u r a b (l .name) (l .name-is) before list₀ (l .front) same-t same-list (omega (arith, few, size)) old in
       subst (SieveOf end fill from before list₀ z t′ list′) (ap (λ (q : Check (Object Ends)). l .front ++ q ∷ []) own-is ∙ sym (l .are)) new
 
--- ---- the loop's end
+-- ---- the loop
 
-module _ (layout start end mode count : ℕ) (fill : Bool) (from : ℕ) (s before list₀ : List ℕ) (modes : Modes mode count) (short : length s < FAULT) (place due : ℕ) (have : Sieve) (t list : List ℕ)
-    (w : walked.Passed 30 mode count s place due (Sieved layout start end fill from before list₀ have t list)) (x : Entry) (h : EntryIs 30 mode due (Here s place) x) where
-  pub all-sieved : (e : ℕ) → x ≡ End e → AllSieved layout start end mode count fill from s before list₀ have t list
-  all-sieved e is = ⊎-elim (λ l. walked.ends-faulty 30 mode count s modes short place due _ w x h e is l .1) (λ l. walked.ends-inside 30 mode count s modes short place due _ w x h e is l .1) (lt-or (length s - place) e)
-
-  -- where a value is faulty there are no pairs
-  pub none-read : (k : ℕ) → x ≡ Value k → (e : ℕ) → e ≡ code (itemEnd 30 (Here s (place + k))) → length s - (place + k) < e → (z : Sieve) (t′ list′ : List ℕ) → AllSieved layout start end mode count fill from s before list₀ z t′ list′
-  none-read k is e ended l z t′ list′ = walked.value-faulty 30 mode count s modes short place due _ w x h k is e ended l _ .1
+-- up to `at`, with `due` items due
+pub record Looping (layout start end mode count : ℕ) (fill : Bool) (from : ℕ) (s before list₀ : List ℕ) (at due : ℕ) (have : Sieve) (t list : List ℕ) : Type 0 where
+  pub walking : Passed 30 mode count s at due (Sieved layout start end fill from before list₀ have t list)
+  pub long : length t ≡ length before
+  pub listed : length list ≡ length list₀
+  pub bounded : Bounded have
 
 -- ---------------------------------------------------------------- the whole map, lent whole to `walk::map`, which answered x
 

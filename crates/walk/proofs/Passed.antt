@@ -51,68 +51,89 @@ pairOf k v = record { key = k; value = v }
 -- ---------------------------------------------------------------- the invariant
 
 pub record Passed (d mode count : ℕ) (s : List ℕ) (at n : ℕ) (P : List (Pair Ends) → Type 0) : Type 0 where
+  pub modes : Modes mode count
+  pub short : length s < FAULT
   pub done : List (Pair Ends)
   pub walking : Walking snoc d mode count s [] at n done
   pub few : length done ≤ at
   pub holds : P done
 
-module _ (d mode count : ℕ) (s : List ℕ) (modes : Modes mode count) where
-  pub passed-starts : (P : List (Pair Ends) → Type 0) → P [] → Passed d mode count s 0 count P
-  passed-starts P h = record { done = []; walking = turns.walk-starts snoc d mode count s [] (λ h. modes .loose h .1); few = omega arith; holds = h }
+module _ {d mode count : ℕ} {s : List ℕ} where
+  pub passed-starts : {P : List (Pair Ends) → Type 0} → Modes mode count → length s < FAULT → P [] → Passed d mode count s 0 count P
+  passed-starts modes short h = record { modes = modes; short = short; done = []; walking = turns.walk-starts snoc d mode count s [] (λ h. modes .loose h .1); few = omega arith; holds = h }
 
-  module _ (room : length s < FAULT) (at n : ℕ) (P : List (Pair Ends) → Type 0) (w : Passed d mode count s at n P) where
+  module _ {at n : ℕ} {P : List (Pair Ends) → Type 0} (w : Passed d mode count s at n P) where
     pub still-due : 1 ≤ mode → 0 < n
-    still-due h = let x = w .walking .endless-still h in let y = w .walking .within in omega arith
+    still-due h = let x = w .walking .endless-still h in let y = w .walking .within in let z = w .short in omega arith
 
-    module _ (x : Entry) (h : EntryIs d mode n (Here s at) x) where
+    module _ {x : Entry} (h : EntryIs d mode n (Here s at) x) where
       turned : (y : Entry) → x ≡ y → EntryIs d mode n (drop at s) y
       turned y e = subst (λ u. EntryIs d mode n u y) (part-to-end s at) (rw e at h)
 
-      module _ (e : ℕ) (is : x ≡ End e) where
-        holds-of-all : AllPassed d mode count s P
-        holds-of-all ps r y = subst P (turns.walk-ends snoc d mode count s [] room at n (w .done) (w .walking) e (turned (End e) is) ps r y ∙ fold-snoc [] ps) (w .holds)
+      module _ {e : ℕ} (is : x ≡ End e) where
+        pub holds-of-all : AllPassed d mode count s P
+        holds-of-all ps r y = subst P (turns.walk-ends snoc d mode count s [] (w .short) at n (w .done) (w .walking) e (turned (End e) is) ps r y ∙ fold-snoc [] ps) (w .holds)
 
         pub ends-inside : e ≤ length s - at → (at + e ≡ code (rest mode count d s)) × AllPassed d mode count s P
-        ends-inside l = (turns.end-within snoc d mode count s [] room at n (w .done) (w .walking) e (turned (End e) is) l, holds-of-all)
+        ends-inside l = (turns.end-within snoc d mode count s [] (w .short) at n (w .done) (w .walking) e (turned (End e) is) l, holds-of-all)
 
         pub ends-faulty : length s - at < e → (e ≡ code (rest mode count d s)) × AllPassed d mode count s P
-        ends-faulty l = (turns.end-fault snoc d mode count s [] room at n (w .done) (w .walking) e (turned (End e) is) l, holds-of-all)
+        ends-faulty l = (turns.end-fault snoc d mode count s [] (w .short) at n (w .done) (w .walking) e (turned (End e) is) l, holds-of-all)
 
-      module _ (k : ℕ) (is : x ≡ Value k) where
+      module _ {k : ℕ} (is : x ≡ Value k) where
         pub value-inside : at + k ≤ length s
-        value-inside = turns.value-within snoc d mode count s [] room at n (w .done) (w .walking) k (turned (Value k) is)
+        value-inside = turns.value-within snoc d mode count s [] (w .short) at n (w .done) (w .walking) k (turned (Value k) is)
 
-        module _ (e : ℕ) (skipped : e ≡ code (itemEnd d (Here s (at + k)))) where
+        module _ {e : ℕ} (skipped : e ≡ code (itemEnd d (Here s (at + k)))) where
           ended : e ≡ code (itemEnd d (drop (at + k) s))
           ended = skipped ∙ ap (λ u. code (itemEnd d u)) (part-to-end s (at + k))
 
           pub two-due : 2 ≤ n
-          two-due = let y = turns.value-due snoc d mode count s [] modes room at n (w .done) (w .walking) k (turned (Value k) is) e ended .0 in omega arith
+          two-due = let y = turns.value-due snoc d mode count s [] (w .modes) (w .short) at n (w .done) (w .walking) k (turned (Value k) is) e ended .0 in omega arith
 
-          -- where a value is faulty there are no pairs, so anything holds of them
-          pub value-faulty : length s - (at + k) < e → (Q : List (Pair Ends) → Type 0) → (e ≡ code (rest mode count d s)) × AllPassed d mode count s Q
-          value-faulty l Q = (
-            turns.value-fails snoc d mode count s [] modes room at n (w .done) (w .walking) k (turned (Value k) is) e ended l,
-            λ ps r y. absurd (turns.fails-unread snoc d mode count s [] modes room at n (w .done) (w .walking) k (turned (Value k) is) e ended l ps r y),
-          )
+          module _ (l : length s - (at + k) < e) where
+            pub value-fails : e ≡ code (rest mode count d s)
+            value-fails = turns.value-fails snoc d mode count s [] (w .modes) (w .short) at n (w .done) (w .walking) k (turned (Value k) is) e ended l
+
+            -- where a value is faulty there are no pairs, so anything holds of them
+            pub no-pairs : (Q : List (Pair Ends) → Type 0) → AllPassed d mode count s Q
+            no-pairs Q ps r y = absurd (turns.fails-unread snoc d mode count s [] (w .modes) (w .short) at n (w .done) (w .walking) k (turned (Value k) is) e ended l ps r y)
 
           module _ (l : e ≤ length s - (at + k)) where
             pub goes-on : at < at + k + e
-            goes-on = turns.further-on snoc d mode count s [] modes room at n (w .done) (w .walking) k (turned (Value k) is) e ended l
+            goes-on = turns.further-on snoc d mode count s [] (w .modes) (w .short) at n (w .done) (w .walking) k (turned (Value k) is) e ended l
 
-            pub one-more : (Q : List (Pair Ends) → Type 0)
+            pub one-more : {Q : List (Pair Ends) → Type 0}
                 → ((done : List (Pair Ends)) (p : Pair Ends) → length done ≤ at → Reads d (drop at s) (p .key) (drop (at + k) s) → Reads d (drop (at + k) s) (p .value) (drop (at + k + e) s) → P done → Q (done ++ p ∷ []))
                 → Passed d mode count s (at + k + e) (n - 2) Q
-            one-more Q step =
+            one-more step =
                 let key = a-tree d k (drop at s) (turned (Value k) is .3) in
                 let keyed : Reads d (drop at s) (key .tree) (drop (at + k) s) = key .reads ∙ ap (got (key .tree)) (drop-drop k at s) in
-                let value = a-tree d e (drop (at + k) s) (turns.value-ends snoc d mode count s [] modes room at n (w .done) (w .walking) k (turned (Value k) is) e ended l) in
+                let value = a-tree d e (drop (at + k) s) (turns.value-ends snoc d mode count s [] (w .modes) (w .short) at n (w .done) (w .walking) k (turned (Value k) is) e ended l) in
                 let valued : Reads d (drop (at + k) s) (value .tree) (drop (at + k + e) s) = value .reads ∙ ap (got (value .tree)) (drop-drop e (at + k) s) in
                 record {
+                  modes = w .modes;
+                  short = w .short;
                   done = snoc (w .done) (pairOf (key .tree) (value .tree));
                   walking =
-                      turns.walk-turns snoc d mode count s [] modes room at n (w .done) (w .walking) k (turned (Value k) is) e ended l (snoc (w .done) (pairOf (key .tree) (value .tree)))
+                      turns.walk-turns snoc d mode count s [] (w .modes) (w .short) at n (w .done) (w .walking) k (turned (Value k) is) e ended l (snoc (w .done) (pairOf (key .tree) (value .tree)))
                       (λ p y. ap (snoc (w .done)) (ap₂ pairOf (one-tree d (drop at s) (key .tree) (p .key) _ _ keyed (y .key)) (one-tree d (drop (at + k) s) (value .tree) (p .value) _ _ valued (y .value))));
                   few = let f = w .few in let g = goes-on in omega (arith, length-append (w .done) (pairOf (key .tree) (value .tree) ∷ []));
                   holds = step (w .done) (pairOf (key .tree) (value .tree)) (w .few) keyed valued (w .holds);
                 }
+
+-- ---------------------------------------------------------------- where what is kept is a fold over the pairs passed
+
+pub foldl-snoc : {A S : Type 0} (f : S → A → S) (z : S) (xs : List A) (x : A) → foldl f z (xs ++ x ∷ []) ≡ f (foldl f z xs) x
+foldl-snoc f z [] x = refl
+foldl-snoc f z (y ∷ xs) x = foldl-snoc f (f z y) xs x
+
+pub record Folds {S : Type 0} (f : S → Pair Ends → S) (z st : S) (done : List (Pair Ends)) : Type 0 where
+  pub is : st ≡ foldl f z done
+
+module _ {S : Type 0} {f : S → Pair Ends → S} {z : S} {d mode count : ℕ} {s : List ℕ} where
+  pub folds-on : {at n : ℕ} {st : S} (w : Passed d mode count s at n (Folds f z st)) {x : Entry} → EntryIs d mode n (Here s at) x → {k : ℕ} → x ≡ Value k
+      → {e : ℕ} → e ≡ code (itemEnd d (Here s (at + k))) → e ≤ length s - (at + k) → {q : S}
+      → ((p : Pair Ends) → Reads d (drop at s) (p .key) (drop (at + k) s) → Reads d (drop (at + k) s) (p .value) (drop (at + k + e) s) → q ≡ f st p)
+      → Passed d mode count s (at + k + e) (n - 2) (Folds f z q)
+  folds-on w h is skipped l step = one-more w h is skipped l (λ done p few key value so. record { is = step p key value ∙ ap (λ (u : S). f u p) (so .is) ∙ sym (foldl-snoc f z done p) })

@@ -3,7 +3,6 @@ use Prim.Native.Nat.{ℕ, suc, _+_, _-_, _*_, _≤_, _<_}
 use native.Mathlib.Nat.{zero-add}
 use native.Mathlib.Omega.{arith}
 use mathlib.Core.List.{List, [], _∷_, _++_, append-assoc}
-use mathlib.Core.Logic.{⊎-elim}
 use mathlib.Core.Path.{_≡_, refl, ap, ap₂, sym, _∙_, subst}
 use lib.ListN.{length, drop, getD, length-append, length-map}
 use lib.Seq.{sets, sets-eq}
@@ -21,16 +20,15 @@ use Rattle.meaning.specs.Layouts.{layoutOf}
 use Rattle.meaning.proofs.Checks.{in-object}
 use Rattle.meaning.proofs.Lengths.{object-length}
 use Rattle.meaning.specs.Every.{Every}
-use Rattle.cbor.specs.Ending.{FAULT, code, itemEnd}
-use Rattle.endian.proofs.Which.{lt-or}
+use Rattle.cbor.specs.Ending.{code, itemEnd}
 use Rattle.walk.specs.Reading.{Ends, Reads}
-use Rattle.walk.specs.Places.{MapIs, EntryIs, Modes}
+use Rattle.walk.specs.Places.{MapIs, EntryIs}
 use Rattle.walk.specs.declared.Opening.{Opening}
 use Rattle.walk.specs.declared.Opening.the-variants.{NotOpen, Opened}
 use Rattle.walk.specs.declared.Entry.{Entry}
 use Rattle.walk.specs.declared.Entry.the-variants.{End, Value}
 use Rattle.walk.proofs.Passed as walked
-use Rattle.walk.proofs.Passed.{Here}
+use Rattle.walk.proofs.Passed.{Here, Passed}
 use Rattle.walk.proofs.Opens as opens
 use Rattle.naming.proofs.NameNoted.{map-snoc}
 use Rattle.table.specs.Spans.{spanOf}
@@ -105,20 +103,25 @@ module _ (layout start end p n from : ℕ) (before s : List ℕ) (place k q j ne
             );
       })
 
--- ---------------------------------------------------------------- the loop's end
+-- ---------------------------------------------------------------- the loop
 
-module _ (layout start end mode count p n from : ℕ) (s before : List ℕ) (modes : Modes mode count) (short : length s < FAULT) (place due q j next : ℕ) (after : List ℕ)
-    (w : walked.Passed 30 mode count s place due (Summed layout start end p n from before q j next after)) (x : Entry) (h : EntryIs 30 mode due (Here s place) x) where
-  pub all-summed : (e : ℕ) → x ≡ End e → AllSummed layout start end mode count p n from s before q j after
-  all-summed e is = record {
-    next = next;
-    are = ⊎-elim (λ l. walked.ends-faulty 30 mode count s modes short place due _ w x h e is l .1) (λ l. walked.ends-inside 30 mode count s modes short place due _ w x h e is l .1) (lt-or (length s - place) e);
-  }
+-- up to `at`, with `due` items due
+pub record Looping (layout start end mode count p n from : ℕ) (s before : List ℕ) (at due place total next : ℕ) (names rows t : List ℕ) : Type 0 where
+  pub walking : Passed 30 mode count s at due (Summed layout start end p n from before place total next names)
+  pub long : length names ≡ length before
+  pub small : (place ≤ suc endLimit) × (total ≤ suc manifestLimit)
+  pub window : length t ≡ 208
+  pub room : length rows ≡ 64
+
+module _ {layout start end mode count p n from : ℕ} {s before : List ℕ} {place due q j next : ℕ} {after : List ℕ} (w : Passed 30 mode count s place due (Summed layout start end p n from before q j next after))
+    {x : Entry} (h : EntryIs 30 mode due (Here s place) x) where
+  pub all-summed : {e : ℕ} → x ≡ End e → AllSummed layout start end mode count p n from s before q j after
+  all-summed is = record { next = next; are = walked.holds-of-all w h is }
 
   -- where a value is faulty there are no pairs
-  pub none-read : (k : ℕ) → x ≡ Value k → (e : ℕ) → e ≡ code (itemEnd 30 (Here s (place + k))) → length s - (place + k) < e → (q′ j′ : ℕ) (after′ : List ℕ)
+  pub none-read : {k : ℕ} → x ≡ Value k → {e : ℕ} → e ≡ code (itemEnd 30 (Here s (place + k))) → length s - (place + k) < e → {q′ j′ : ℕ} {after′ : List ℕ}
       → AllSummed layout start end mode count p n from s before q′ j′ after′
-  none-read k is e ended l q′ j′ after′ = record { next = next; are = walked.value-faulty 30 mode count s modes short place due _ w x h k is e ended l _ .1 }
+  none-read is ended l = record { next = next; are = walked.no-pairs w h is ended l _ }
 
 -- ---------------------------------------------------------------- the whole map, lent whole to `walk::map`, which answered x
 

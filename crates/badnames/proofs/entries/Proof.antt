@@ -1,18 +1,12 @@
+use Prim.Native.Nat.{_-_}
 use Rattle.badnames.proofs.KeysNoted as noting
 use Rattle.walk.proofs.Passed as walked
 use mathlib.Core.Path.{refl}
 use lib.ListN.{length}
 use native.Mathlib.Omega.{arith}
-use Prim.Native.Nat.{_-_}
 use borrow.Author.Needs.{needs}
 use Rattle.badnames.proofs.entries.Statement.{statement}
 use Rattle.badnames.proofs.entries.Tie as tie
-use Rattle.badnames.proofs.entries.Reads as reads
-use Rattle.badnames.proofs.entries.Lts as lts
-use Rattle.badnames.proofs.kept.Reads as kept-reads
-use Rattle.cbor.proofs.skip.Reads as skip-reads
-use Rattle.badnames.proofs.noted.Reads as noted-reads
-use Rattle.walk.proofs.past_key.Reads as past-key-reads
 
 abbrev Inv-loop : tie.InvT-loop
 Inv-loop s levels mode count tested left₀ size₀ at₀ due₀ key₀ text₀ tally₀ left size at due key text tally =
@@ -27,34 +21,34 @@ entries-spec =
     (tie.spec
     Inv-loop
     μ-loop
-    (λ c. record { passed = walked.passed-starts _ _ _ _ ((c .before .before .before .pre .1)) _ (noting.none-kept _ _ _ _ ((c .before .before .before .pre .0))); room = refl; short = omega arith })
+    (λ c. record { passed = walked.passed-starts (c .before .before .before .pre .1) (omega arith) (noting.none-kept _ _ _ _ (c .before .before .before .pre .0)); room = refl })
     (λ c. search needs)
     (λ c. search needs)
     (λ c. search needs)
-    (λ c κs. noting.still-due ((c .before .before .before .before .before .pre .1)) ((c .before .loop .inv)))
+    (λ c κs. walked.still-due (c .before .loop .inv .passed))
     (λ c. search needs)
     (λ c. (c .before .before .before .before .loop .inv .room))
     (λ c. let b4 = c .before .before .before .before in let b8 = b4 .before .before .before .before in let l = b4 .loop in
-    noting.same-sizes ((b8 .pre .1)) ((l .inv)) ((b8 .pre .0)))
+    noting.same-sizes (l .inv) (b8 .pre .0))
     (λ c. let b2 = c .before .before in let b4 = b2 .before .before in let l = b4 .loop in
-    noting.ends ((b4 .before .before .before .before .pre .1)) ((l .inv)) ((b2 .past-key .ensures)) ((c .enum-told .given .1)))
+    noting.ends (l .inv) (b2 .past-key .ensures) (c .enum-told .given .1))
     (λ c. search needs)
-    (λ c. let b1 = c .before in let b3 = b1 .before .before in let b5 = b3 .before .before in let b9 = b5 .before .before .before .before in
-    omega (arith, noting.value-inside (b9 .pre .1) (b5 .loop .inv) (b3 .past-key .ensures) (b1 .k .given .1)))
-    (λ c. let b1 = c .before in let b3 = b1 .before .before in let b5 = b3 .before .before in let b9 = b5 .before .before .before .before in
-    omega (arith, noting.value-inside (b9 .pre .1) (b5 .loop .inv) (b3 .past-key .ensures) (b1 .k .given .1)))
-    (λ c. let b1 = c .before in let b3 = b1 .before .before in let b5 = b3 .before .before in let b9 = b5 .before .before .before .before in
-    omega (arith, noting.value-inside (b9 .pre .1) (b5 .loop .inv) (b3 .past-key .ensures) (b1 .k .given .1)))
-    (λ c. let b1 = c .before in let b3 = b1 .before .before in let b5 = b3 .before .before in let b9 = b5 .before .before .before .before in
-    omega (arith, noting.value-inside (b9 .pre .1) (b5 .loop .inv) (b3 .past-key .ensures) (b1 .k .given .1)))
+    (λ c. let b1 = c .before in let b3 = b1 .before .before in let b5 = b3 .before .before in
+    omega (arith, walked.value-inside (b5 .loop .inv .passed) (b3 .past-key .ensures) (b1 .k .given .1)))
+    (λ c. let b1 = c .before in let b3 = b1 .before .before in let b5 = b3 .before .before in
+    omega (arith, walked.value-inside (b5 .loop .inv .passed) (b3 .past-key .ensures) (b1 .k .given .1)))
+    (λ c. let b1 = c .before in let b3 = b1 .before .before in let b5 = b3 .before .before in
+    omega (arith, walked.value-inside (b5 .loop .inv .passed) (b3 .past-key .ensures) (b1 .k .given .1)))
+    (λ c. let b1 = c .before in let b3 = b1 .before .before in let b5 = b3 .before .before in
+    omega (arith, walked.value-inside (b5 .loop .inv .passed) (b3 .past-key .ensures) (b1 .k .given .1)))
     (λ c κs. search needs)
-    (λ c. let b3 = c .before .before .before in let b5 = b3 .before .before in let b7 = b5 .before .before in let b11 = b7 .before .before .before .before in
-    omega (arith, noting.value-inside (b11 .pre .1) (b7 .loop .inv) (b5 .past-key .ensures) (b3 .k .given .1)))
+    (λ c. let b3 = c .before .before .before in let b5 = b3 .before .before in let b7 = b5 .before .before in
+    omega (arith, walked.value-inside (b7 .loop .inv .passed) (b5 .past-key .ensures) (b3 .k .given .1)))
     (λ c. (c .before .before .before .before .before .before .before .before .loop .inv .room))
     (λ c. let b8 = c .before .before .before .before .before .before .before .before in let b12 = b8 .before .before .before .before in
-    noting.same-sizes (b12 .pre .1) (b8 .loop .inv) (b12 .pre .0))
-    (λ c. let b1 = c .before in let b4 = b1 .before .before .before in let b6 = b4 .before .before in let b8 = b6 .before .before in let b12 = b8 .before .before .before .before in
-    noting.unread (b12 .pre .1) (b8 .loop .inv) (b6 .past-key .ensures) (b4 .k .given .1) (b1 .skip .ensures) (c .if1 .taken))
+    noting.same-sizes (b8 .loop .inv) (b12 .pre .0))
+    (λ c. let b1 = c .before in let b4 = b1 .before .before .before in let b6 = b4 .before .before in let b8 = b6 .before .before in
+    noting.unread (b8 .loop .inv) (b6 .past-key .ensures) (b4 .k .given .1) (b1 .skip .ensures) (c .if1 .taken))
     (λ c. search needs)
     (λ c κs. search needs)
     (λ c. search needs)
@@ -62,13 +56,13 @@ entries-spec =
     (λ c. search needs)
     (λ c. search needs)
     (λ c. search needs)
-    (λ c κs. let b13 = c .before .before .before .before .before .before .before .before .before .before .before .before .before in let b17 = b13 .before .before .before .before in
-    noting.few-noted (b17 .pre .1) (b13 .loop .inv))
-    (λ c. let b10 = c .before .before .before .before .before .before .before .before .before .before in let b14 = b10 .before .before .before .before in let b16 = b14 .before .before in let b18 = b16 .before .before in let b22 = b18 .before .before .before .before in
-    omega (arith, noting.value-inside (b22 .pre .1) (b18 .loop .inv) (b16 .past-key .ensures) (b14 .k .given .1), (b10 .if1 .left), (b18 .loop .inv .short)))
-    (λ c. let b11 = c .before .before .before .before .before .before .before .before .before .before .before in let b14 = b11 .before .before .before in let b16 = b14 .before .before in let b18 = b16 .before .before in let b22 = b18 .before .before .before .before in
-    omega (arith, noting.two-due (b22 .pre .1) (b18 .loop .inv) (b16 .past-key .ensures) (b14 .k .given .1) (b11 .skip .ensures)))
-    (λ c. let b10 = c .before .before .before .before .before .before .before .before .before .before in let b11 = b10 .before in let b14 = b11 .before .before .before in let b16 = b14 .before .before in let b18 = b16 .before .before in let b22 = b18 .before .before .before .before in
-    omega (arith, noting.value-inside (b22 .pre .1) (b18 .loop .inv) (b16 .past-key .ensures) (b14 .k .given .1), noting.further (b22 .pre .1) (b18 .loop .inv) (b16 .past-key .ensures) (b14 .k .given .1) (b11 .skip .ensures) (omega (arith, (b10 .if1 .left))), (b10 .if1 .left)))
-    (λ c. let b4 = c .before .before .before .before in let b8 = b4 .before .before .before .before in let b9 = b8 .before in let b10 = b9 .before in let b11 = b10 .before in let b14 = b11 .before .before .before in let b16 = b14 .before .before in let b18 = b16 .before .before in let b22 = b18 .before .before .before .before in
-    noting.goes-on (b22 .pre .1) (b18 .loop .inv) (b16 .past-key .ensures) (b14 .k .given .1) (b11 .skip .ensures) (omega (arith, (b10 .if1 .left))) (b4 .noted .ensures) (b9 .kept .ensures) (b8 .kept2 .ensures)))
+    (λ c κs. let b13 = c .before .before .before .before .before .before .before .before .before .before .before .before .before in
+    noting.few-noted (b13 .loop .inv))
+    (λ c. let b10 = c .before .before .before .before .before .before .before .before .before .before in let b14 = b10 .before .before .before .before in let b16 = b14 .before .before in let b18 = b16 .before .before in
+    omega (arith, walked.value-inside (b18 .loop .inv .passed) (b16 .past-key .ensures) (b14 .k .given .1), (b10 .if1 .left), (b18 .loop .inv .passed .short)))
+    (λ c. let b11 = c .before .before .before .before .before .before .before .before .before .before .before in let b14 = b11 .before .before .before in let b16 = b14 .before .before in let b18 = b16 .before .before in
+    omega (arith, walked.two-due (b18 .loop .inv .passed) (b16 .past-key .ensures) (b14 .k .given .1) (b11 .skip .ensures)))
+    (λ c. let b10 = c .before .before .before .before .before .before .before .before .before .before in let b11 = b10 .before in let b14 = b11 .before .before .before in let b16 = b14 .before .before in let b18 = b16 .before .before in
+    omega (arith, walked.value-inside (b18 .loop .inv .passed) (b16 .past-key .ensures) (b14 .k .given .1), walked.goes-on (b18 .loop .inv .passed) (b16 .past-key .ensures) (b14 .k .given .1) (b11 .skip .ensures) (omega (arith, (b10 .if1 .left))), (b10 .if1 .left)))
+    (λ c. let b4 = c .before .before .before .before in let b8 = b4 .before .before .before .before in let b9 = b8 .before in let b10 = b9 .before in let b11 = b10 .before in let b14 = b11 .before .before .before in let b16 = b14 .before .before in let b18 = b16 .before .before in
+    noting.goes-on (b18 .loop .inv) (b16 .past-key .ensures) (b14 .k .given .1) (b11 .skip .ensures) (omega (arith, (b10 .if1 .left))) (b4 .noted .ensures) (b9 .kept .ensures) (b8 .kept2 .ensures)))

@@ -1,19 +1,12 @@
-use mathlib.Core.Path.{ap, sym, _∙_, subst}
+use mathlib.Core.Path.{_∙_}
 use Prim.Native.Nat.{_+_, _-_}
 use lib.ListN.{length}
 use native.Mathlib.Omega.{arith}
-use Rattle.entry.specs.Nth.{places}
-use Rattle.entry.proofs.EntryLoop as folding
+use Rattle.walk.proofs.Passed as walked
 use Rattle.entry.proofs.EntryByIndex as choosing
 use borrow.Author.Needs.{needs}
 use Rattle.entry.proofs.entries.Statement.{statement}
 use Rattle.entry.proofs.entries.Tie as tie
-use Rattle.entry.proofs.entries.Reads as reads
-use Rattle.entry.proofs.entries.Lts as lts
-use Rattle.cbor.proofs.skip.Reads as skip-reads
-use Rattle.entry.proofs.chosen.Reads as chosen-reads
-use Rattle.entry.proofs.placed.Reads as placed-reads
-use Rattle.walk.proofs.past_key.Reads as past-key-reads
 
 abbrev Inv-loop : tie.InvT-loop
 Inv-loop s left mode count index at₀ due₀ n₀ held₀ at due n held = choosing.Inv left mode count s index at due n held
@@ -27,7 +20,7 @@ placed-requires c κs = search needs
 
 -- src/lib.rt:42:5
 loop-holds : tie.Need-loop-holds Inv-loop μ-loop
-loop-holds c = choosing.begins _ _ _ _ _ (c .before .before .pre) (c .placed .ensures)
+loop-holds c = choosing.begins (c .before .before .pre) (omega arith) (c .placed .ensures)
 
 -- src/lib.rt:43:30
 sub-past-key : tie.Need-sub-past-key Inv-loop μ-loop
@@ -44,8 +37,8 @@ part-past-key-end c = search needs
 -- src/lib.rt:43:15
 past-key-requires : tie.Need-past-key-requires Inv-loop μ-loop
 past-key-requires c κs =
-    let l = c .before .loop in let a = c .before .before .before .before .args in
-    folding.still-due (choosing.seen (a .index)) (a .left) (a .mode) (a .count) (a .s .now) choosing.none-seen (c .before .before .before .before .pre) (omega arith) (l .at) (l .due) _ (l .inv .walking)
+    let l = c .before .loop in
+    walked.still-due (l .inv .walking)
 
 -- src/lib.rt:44:30
 enum-told : tie.Need-enum-told Inv-loop μ-loop
@@ -54,9 +47,9 @@ enum-told c = search needs
 -- src/lib.rt:44:30
 returns : tie.Need-returns Inv-loop μ-loop
 returns c =
-    let l = c .before .before .before .before .loop in let a = c .before .before .before .before .before .before .before .args in
+    let l = c .before .before .before .before .loop in
     choosing.is-held _ _ _ _ _ _
-    (folding.ends (choosing.seen (a .index)) (a .left) (a .mode) (a .count) (a .s .now) choosing.none-seen (c .before .before .before .before .before .before .before .pre) (omega arith) (l .at) (l .due) _ (l .inv .walking) _ (c .before .before .past-key .ensures) _ (c .enum-told .given .1))
+    (λ ps r y. walked.holds-of-all (l .inv .walking) (c .before .before .past-key .ensures) (c .enum-told .given .1) ps r y .is)
 
 -- src/lib.rt:45:26
 enum-known-k : tie.Need-enum-known-k Inv-loop μ-loop
@@ -65,37 +58,37 @@ enum-known-k c = search needs
 -- src/lib.rt:46:25
 add-v : tie.Need-add-v Inv-loop μ-loop
 add-v c =
-    let l = c .before .before .before .before .before .loop in let a = c .before .before .before .before .before .before .before .before .args in
+    let l = c .before .before .before .before .before .loop in
     omega (
       arith,
-      folding.value-inside (choosing.seen (a .index)) (a .left) (a .mode) (a .count) (a .s .now) choosing.none-seen (c .before .before .before .before .before .before .before .before .pre) (omega arith) (l .at) (l .due) _ (l .inv .walking) _ (c .before .before .before .past-key .ensures) _ (c .before .k .given .1),
+      walked.value-inside (l .inv .walking) (c .before .before .before .past-key .ensures) (c .before .k .given .1),
     )
 
 -- src/lib.rt:47:36
 sub-skip : tie.Need-sub-skip Inv-loop μ-loop
 sub-skip c =
-    let l = c .before .before .before .before .before .loop in let a = c .before .before .before .before .before .before .before .before .args in
+    let l = c .before .before .before .before .before .loop in
     omega (
       arith,
-      folding.value-inside (choosing.seen (a .index)) (a .left) (a .mode) (a .count) (a .s .now) choosing.none-seen (c .before .before .before .before .before .before .before .before .pre) (omega arith) (l .at) (l .due) _ (l .inv .walking) _ (c .before .before .before .past-key .ensures) _ (c .before .k .given .1),
+      walked.value-inside (l .inv .walking) (c .before .before .before .past-key .ensures) (c .before .k .given .1),
     )
 
 -- src/lib.rt:47:36
 part-skip-start : tie.Need-part-skip-start Inv-loop μ-loop
 part-skip-start c =
-    let l = c .before .before .before .before .before .loop in let a = c .before .before .before .before .before .before .before .before .args in
+    let l = c .before .before .before .before .before .loop in
     omega (
       arith,
-      folding.value-inside (choosing.seen (a .index)) (a .left) (a .mode) (a .count) (a .s .now) choosing.none-seen (c .before .before .before .before .before .before .before .before .pre) (omega arith) (l .at) (l .due) _ (l .inv .walking) _ (c .before .before .before .past-key .ensures) _ (c .before .k .given .1),
+      walked.value-inside (l .inv .walking) (c .before .before .before .past-key .ensures) (c .before .k .given .1),
     )
 
 -- src/lib.rt:47:36
 part-skip-end : tie.Need-part-skip-end Inv-loop μ-loop
 part-skip-end c =
-    let l = c .before .before .before .before .before .loop in let a = c .before .before .before .before .before .before .before .before .args in
+    let l = c .before .before .before .before .before .loop in
     omega (
       arith,
-      folding.value-inside (choosing.seen (a .index)) (a .left) (a .mode) (a .count) (a .s .now) choosing.none-seen (c .before .before .before .before .before .before .before .before .pre) (omega arith) (l .at) (l .due) _ (l .inv .walking) _ (c .before .before .before .past-key .ensures) _ (c .before .k .given .1),
+      walked.value-inside (l .inv .walking) (c .before .before .before .past-key .ensures) (c .before .k .given .1),
     )
 
 -- src/lib.rt:47:21
@@ -105,19 +98,17 @@ skip-requires c κs = search needs
 -- src/lib.rt:48:20
 sub-if1 : tie.Need-sub-if1 Inv-loop μ-loop
 sub-if1 c =
-    let l = c .before .before .before .before .before .before .before .loop in let a = c .before .before .before .before .before .before .before .before .before .before .args in
+    let l = c .before .before .before .before .before .before .before .loop in
     omega (
       arith,
-      folding.value-inside (choosing.seen (a .index)) (a .left) (a .mode) (a .count) (a .s .now) choosing.none-seen (c .before .before .before .before .before .before .before .before .before .before .pre) (omega arith) (l .at) (l .due) _ (l .inv .walking) _ (c .before .before .before .before .before .past-key .ensures) _ (c .before .before .before .k .given .1),
+      walked.value-inside (l .inv .walking) (c .before .before .before .before .before .past-key .ensures) (c .before .before .before .k .given .1),
     )
 
 -- src/lib.rt:49:21
 returns-2 : tie.Need-returns-2 Inv-loop μ-loop
 returns-2 c =
-    let l = c .before .before .before .before .before .before .before .before .loop in let a = c .before .before .before .before .before .before .before .before .before .before .before .args in
-    λ ps q d. folding.unread (choosing.seen (a .index)) (a .left) (a .mode) (a .count) (a .s .now) choosing.none-seen
-    (c .before .before .before .before .before .before .before .before .before .before .before .pre) (omega arith) (l .at) (l .due) _ (l .inv .walking) _
-    (c .before .before .before .before .before .before .past-key .ensures) _ (c .before .before .before .before .k .given .1) _ (c .before .skip .ensures) (c .if1 .taken) ps q d
+    let l = c .before .before .before .before .before .before .before .before .loop in
+    walked.no-pairs (l .inv .walking) (c .before .before .before .before .before .before .past-key .ensures) (c .before .before .before .before .k .given .1) (c .before .skip .ensures) (c .if1 .taken) _
 
 -- src/lib.rt:51:41
 sub-chosen : tie.Need-sub-chosen Inv-loop μ-loop
@@ -126,10 +117,10 @@ sub-chosen c = search needs
 -- src/lib.rt:51:55
 sub-chosen-2 : tie.Need-sub-chosen-2 Inv-loop μ-loop
 sub-chosen-2 c =
-    let l = c .before .before .before .before .before .before .before .before .loop in let a = c .before .before .before .before .before .before .before .before .before .before .before .args in
+    let l = c .before .before .before .before .before .before .before .before .loop in
     omega (
       arith,
-      folding.value-inside (choosing.seen (a .index)) (a .left) (a .mode) (a .count) (a .s .now) choosing.none-seen (c .before .before .before .before .before .before .before .before .before .before .before .pre) (omega arith) (l .at) (l .due) _ (l .inv .walking) _ (c .before .before .before .before .before .before .past-key .ensures) _ (c .before .before .before .before .k .given .1),
+      walked.value-inside (l .inv .walking) (c .before .before .before .before .before .before .past-key .ensures) (c .before .before .before .before .k .given .1),
     )
 
 -- src/lib.rt:51:17
@@ -144,10 +135,9 @@ add-n c = search needs
 add-at : tie.Need-add-at Inv-loop μ-loop
 add-at c =
     let l = c .before .before .before .before .before .before .before .before .before .loop in
-    let a = c .before .before .before .before .before .before .before .before .before .before .before .before .args in
     omega (
       arith,
-      folding.value-inside (choosing.seen (a .index)) (a .left) (a .mode) (a .count) (a .s .now) choosing.none-seen (c .before .before .before .before .before .before .before .before .before .before .before .before .pre) (omega arith) (l .at) (l .due) _ (l .inv .walking) _ (c .before .before .before .before .before .before .before .past-key .ensures) _ (c .before .before .before .before .before .k .given .1),
+      walked.value-inside (l .inv .walking) (c .before .before .before .before .before .before .before .past-key .ensures) (c .before .before .before .before .before .k .given .1),
       c .before .if1 .left,
     )
 
@@ -155,23 +145,19 @@ add-at c =
 sub-due : tie.Need-sub-due Inv-loop μ-loop
 sub-due c =
     let l = c .before .before .before .before .before .before .before .before .before .loop in
-    let a = c .before .before .before .before .before .before .before .before .before .before .before .before .args in
     omega (
       arith,
-      folding.two-due (choosing.seen (a .index)) (a .left) (a .mode) (a .count) (a .s .now) choosing.none-seen (c .before .before .before .before .before .before .before .before .before .before .before .before .pre) (omega arith) (l .at) (l .due) _ (l .inv .walking) _ (c .before .before .before .before .before .before .before .past-key .ensures) _ (c .before .before .before .before .before .k .given .1) _ (c .before .before .skip .ensures),
+      walked.two-due (l .inv .walking) (c .before .before .before .before .before .before .before .past-key .ensures) (c .before .before .before .before .before .k .given .1) (c .before .before .skip .ensures),
     )
 
 -- src/lib.rt:42:5
 loop-less : tie.Need-loop-less Inv-loop μ-loop
 loop-less c =
     let l = c .before .before .before .before .before .before .before .before .before .loop in
-    let a = c .before .before .before .before .before .before .before .before .before .before .before .before .args in
     omega (
       arith,
-      folding.further (choosing.seen (a .index)) (a .left) (a .mode) (a .count) (a .s .now) choosing.none-seen (c .before .before .before .before .before .before .before .before .before .before .before .before .pre)
-          (omega arith) (l .at) (l .due) _ (l .inv .walking) _ (c .before .before .before .before .before .before .before .past-key .ensures) _ (c .before .before .before .before .before .k .given .1) _
-          (c .before .before .skip .ensures) (omega (arith, c .before .if1 .left)),
-      folding.value-inside (choosing.seen (a .index)) (a .left) (a .mode) (a .count) (a .s .now) choosing.none-seen (c .before .before .before .before .before .before .before .before .before .before .before .before .pre) (omega arith) (l .at) (l .due) _ (l .inv .walking) _ (c .before .before .before .before .before .before .before .past-key .ensures) _ (c .before .before .before .before .before .k .given .1),
+      walked.goes-on (l .inv .walking) (c .before .before .before .before .before .before .before .past-key .ensures) (c .before .before .before .before .before .k .given .1) (c .before .before .skip .ensures) (omega (arith, c .before .if1 .left)),
+      walked.value-inside (l .inv .walking) (c .before .before .before .before .before .before .before .past-key .ensures) (c .before .before .before .before .before .k .given .1),
       c .before .if1 .left,
     )
 
@@ -179,26 +165,11 @@ loop-less c =
 loop-again : tie.Need-loop-again Inv-loop μ-loop
 loop-again c = record {
   walking =
-      folding.goes-on (choosing.seen (c .before .before .before .before .before .before .before .before .before .before .before .before .args .index))
-      (c .before .before .before .before .before .before .before .before .before .before .before .before .args .left)
-      (c .before .before .before .before .before .before .before .before .before .before .before .before .args .mode)
-      (c .before .before .before .before .before .before .before .before .before .before .before .before .args .count)
-      (c .before .before .before .before .before .before .before .before .before .before .before .before .args .s .now)
-      choosing.none-seen (c .before .before .before .before .before .before .before .before .before .before .before .before .pre)
-      (omega arith) (c .before .before .before .before .before .before .before .before .before .loop .at) (c .before .before .before .before .before .before .before .before .before .loop .due) _ (c .before .before .before .before .before .before .before .before .before .loop .inv .walking) _
-      (c .before .before .before .before .before .before .before .past-key .ensures) _ (c .before .before .before .before .before .k .given .1) _ (c .before .before .skip .ensures) (omega (arith, c .before .if1 .left)) _
-      (λ p y. choosing.one-more _ _ (c .before .before .before .before .before .before .before .before .before .before .before .before .args .s .now) (c .before .before .before .before .before .before .before .before .before .loop .at) _ _ _ _ (c .chosen .ensures) p _ _ (y .key) (y .value));
+      walked.folds-on (c .before .before .before .before .before .before .before .before .before .loop .inv .walking) (c .before .before .before .before .before .before .before .past-key .ensures) (c .before .before .before .before .before .k .given .1) (c .before .before .skip .ensures) (omega (arith, c .before .if1 .left)) (λ p key value. choosing.one-more _ _ (c .before .before .before .before .before .before .before .before .before .before .before .before .args .s .now) (c .before .before .before .before .before .before .before .before .before .loop .at) _ _ _ _ (c .chosen .ensures) p _ _ key value);
   few = omega (
     arith,
     c .before .before .before .before .before .before .before .before .before .loop .inv .few,
-    folding.further (choosing.seen (c .before .before .before .before .before .before .before .before .before .before .before .before .args .index))
-        (c .before .before .before .before .before .before .before .before .before .before .before .before .args .left)
-        (c .before .before .before .before .before .before .before .before .before .before .before .before .args .mode)
-        (c .before .before .before .before .before .before .before .before .before .before .before .before .args .count)
-        (c .before .before .before .before .before .before .before .before .before .before .before .before .args .s .now)
-        choosing.none-seen (c .before .before .before .before .before .before .before .before .before .before .before .before .pre)
-        (omega arith) (c .before .before .before .before .before .before .before .before .before .loop .at) (c .before .before .before .before .before .before .before .before .before .loop .due) _ (c .before .before .before .before .before .before .before .before .before .loop .inv .walking) _
-        (c .before .before .before .before .before .before .before .past-key .ensures) _ (c .before .before .before .before .before .k .given .1) _ (c .before .before .skip .ensures) (omega (arith, c .before .if1 .left)),
+    walked.goes-on (c .before .before .before .before .before .before .before .before .before .loop .inv .walking) (c .before .before .before .before .before .before .before .past-key .ensures) (c .before .before .before .before .before .k .given .1) (c .before .before .skip .ensures) (omega (arith, c .before .if1 .left)),
   );
 }
 

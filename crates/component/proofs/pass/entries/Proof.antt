@@ -3,6 +3,7 @@ use lib.ListN.{length}
 use Prim.Native.Nat.{_-_}
 use native.Mathlib.Omega.{arith}
 use Rattle.meaning.specs.Layouts.{layoutOf}
+use Rattle.walk.proofs.Passed as passed
 use Rattle.component.proofs.Entries as entries
 use borrow.Author.Needs.{needs}
 use Rattle.component.proofs.pass.entries.Statement.{statement}
@@ -20,84 +21,57 @@ entries-spec =
     (tie.spec
     Inv-loop
     μ-loop
-    (λ c. entries.noting-starts _ _ _ _ _ (c .before .before .pre .1) (c .before .before .pre .0))
+    (λ c. entries.noting-starts (c .before .before .pre .1) (omega arith) (c .before .before .pre .0))
     (λ c. search needs)
     (λ c. search needs)
     (λ c. search needs)
-    (λ c κs. let l = c .before .loop in let a = c .before .before .before .before .args in
-    entries.still-due (layoutOf (a .layout)) (a .mode) (a .count) (a .s .now) _ (c .before .before .before .before .pre .1) (omega arith) (l .at) (l .due) _ (l .inv))
+    (λ c κs. let l = c .before .loop in
+    passed.still-due (l .inv .walking))
     (λ c. search needs)
     (λ c. search needs)
     (λ c. search needs)
-    (λ c. let l = c .before .before .before .before .before .before .loop in let a = c .before .before .before .before .before .before .before .before .before .args in
-    entries.ends-faulty (layoutOf (a .layout)) (a .mode) (a .count) (a .s .now) _ (c .before .before .before .before .before .before .before .before .before .pre .1) (omega arith) (l .at) (l .due) _
-    (l .inv) _ (c .before .before .before .before .past-key .ensures) _ (c .before .before .e .given .1) (c .if1 .taken))
+    (λ c. let l = c .before .before .before .before .before .before .loop in
+    let y = passed.ends-faulty (l .inv .walking) (c .before .before .before .before .past-key .ensures) (c .before .before .e .given .1) (c .if1 .taken) in (y .0, λ ps r d. y .1 ps r d .is))
     (λ c. search needs)
     (λ c. search needs)
-    (λ c. let l = c .before .before .before .before .before .before .loop in let a = c .before .before .before .before .before .before .before .before .before .args in
-    entries.ends-inside (layoutOf (a .layout)) (a .mode) (a .count) (a .s .now) _ (c .before .before .before .before .before .before .before .before .before .pre .1) (omega arith) (l .at) (l .due) _
-    (l .inv) _ (c .before .before .before .before .past-key .ensures) _ (c .before .before .e .given .1) (c .if1 .left))
+    (λ c. let l = c .before .before .before .before .before .before .loop in
+    let y = passed.ends-inside (l .inv .walking) (c .before .before .before .before .past-key .ensures) (c .before .before .e .given .1) (c .if1 .left) in (y .0, λ ps r d. y .1 ps r d .is))
     (λ c. search needs)
-    (λ c. let l = c .before .before .before .before .before .loop in let a = c .before .before .before .before .before .before .before .before .args in
-    omega
-    (arith, entries.value-inside (layoutOf (a .layout)) (a .mode) (a .count) (a .s .now) _ (c .before .before .before .before .before .before .before .before .pre .1) (omega arith) (l .at) (l .due) _ (l .inv) _ (c .before .before .before .past-key .ensures) _ (c .before .k .given .1)))
-    (λ c. let l = c .before .before .before .before .before .loop in let a = c .before .before .before .before .before .before .before .before .args in
-    omega
-    (arith, entries.value-inside (layoutOf (a .layout)) (a .mode) (a .count) (a .s .now) _ (c .before .before .before .before .before .before .before .before .pre .1) (omega arith) (l .at) (l .due) _ (l .inv) _ (c .before .before .before .past-key .ensures) _ (c .before .k .given .1)))
-    (λ c. let l = c .before .before .before .before .before .loop in let a = c .before .before .before .before .before .before .before .before .args in
-    omega
-    (arith, entries.value-inside (layoutOf (a .layout)) (a .mode) (a .count) (a .s .now) _ (c .before .before .before .before .before .before .before .before .pre .1) (omega arith) (l .at) (l .due) _ (l .inv) _ (c .before .before .before .past-key .ensures) _ (c .before .k .given .1)))
+    (λ c. let l = c .before .before .before .before .before .loop in
+    omega (arith, passed.value-inside (l .inv .walking) (c .before .before .before .past-key .ensures) (c .before .k .given .1)))
+    (λ c. let l = c .before .before .before .before .before .loop in
+    omega (arith, passed.value-inside (l .inv .walking) (c .before .before .before .past-key .ensures) (c .before .k .given .1)))
+    (λ c. let l = c .before .before .before .before .before .loop in
+    omega (arith, passed.value-inside (l .inv .walking) (c .before .before .before .past-key .ensures) (c .before .k .given .1)))
     (λ c. search needs)
     (λ c κs. search needs)
-    (λ c. let l = c .before .before .before .before .before .before .before .loop in let a = c .before .before .before .before .before .before .before .before .before .before .args in
-    omega
-    (arith, entries.value-inside (layoutOf (a .layout)) (a .mode) (a .count) (a .s .now) _ (c .before .before .before .before .before .before .before .before .before .before .pre .1) (omega arith) (l .at) (l .due) _ (l .inv) _ (c .before .before .before .before .before .past-key .ensures) _ (c .before .before .before .k .given .1)))
+    (λ c. let l = c .before .before .before .before .before .before .before .loop in
+    omega (arith, passed.value-inside (l .inv .walking) (c .before .before .before .before .before .past-key .ensures) (c .before .before .before .k .given .1)))
     (λ c. search needs)
-    (λ c. let l = c .before .before .before .before .before .before .before .before .loop in let a = c .before .before .before .before .before .before .before .before .before .before .before .args in
-    entries.value-faulty (layoutOf (a .layout)) (a .mode) (a .count) (a .s .now) _ (c .before .before .before .before .before .before .before .before .before .before .before .pre .1) (omega arith) (l .at)
-    (l .due) _ (l .inv) _ (c .before .before .before .before .before .before .past-key .ensures) _ (c .before .before .before .before .k .given .1) _ (c .before .skip .ensures) (c .if2 .taken))
+    (λ c. let l = c .before .before .before .before .before .before .before .before .loop in
+    (passed.value-fails (l .inv .walking) (c .before .before .before .before .before .before .past-key .ensures) (c .before .before .before .before .k .given .1) (c .before .skip .ensures) (c .if2 .taken), passed.no-pairs (l .inv .walking) (c .before .before .before .before .before .before .past-key .ensures) (c .before .before .before .before .k .given .1) (c .before .skip .ensures) (c .if2 .taken) _))
     (λ c. search needs)
     (λ c. search needs)
     (λ c. search needs)
     (λ c κs. search needs)
     (λ c. let l = c .before .before .before .before .before .before .before .before .before .before .before .loop in
-    let a = c .before .before .before .before .before .before .before .before .before .before .before .before .before .before .args in
-    omega
-    (arith, entries.value-inside (layoutOf (a .layout)) (a .mode) (a .count) (a .s .now) _ (c .before .before .before .before .before .before .before .before .before .before .before .before .before .before .pre .1) (omega arith) (l .at) (l .due) _ (l .inv) _ (c .before .before .before .before .before .before .before .before .before .past-key .ensures) _ (c .before .before .before .before .before .before .before .k .given .1)))
-    (λ c κs. (let z = (c .before .before .before .before .before .before .before .before .before .before .before .loop .inv .slots) in omega arith, (c .slot .ensures .0)))
+    omega (arith, passed.value-inside (l .inv .walking) (c .before .before .before .before .before .before .before .before .before .past-key .ensures) (c .before .before .before .before .before .before .before .k .given .1)))
+    (λ c κs. (omega arith, (c .slot .ensures .0)))
     (λ c. let l = c .before .before .before .before .before .before .before .before .before .before .before .before .before .before .loop in
-    let a = c .before .before .before .before .before .before .before .before .before .before .before .before .before .before .before .before .before .args in
     omega (
       arith,
-      entries.value-inside (layoutOf (a .layout)) (a .mode) (a .count) (a .s .now) _
-          (c .before .before .before .before .before .before .before .before .before .before .before .before .before .before .before .before .before .pre .1) (omega arith) (l .at) (l .due) _ (l .inv) _
-          (c .before .before .before .before .before .before .before .before .before .before .before .before .past-key .ensures) _ (c .before .before .before .before .before .before .before .before .before .before .k .given .1),
+      passed.value-inside (l .inv .walking) (c .before .before .before .before .before .before .before .before .before .before .before .before .past-key .ensures) (c .before .before .before .before .before .before .before .before .before .before .k .given .1),
     ))
     (λ c. let l = c .before .before .before .before .before .before .before .before .before .before .before .before .before .before .loop in
-    let a = c .before .before .before .before .before .before .before .before .before .before .before .before .before .before .before .before .before .args in
     omega (
       arith,
-      entries.two-due (layoutOf (a .layout)) (a .mode) (a .count) (a .s .now) _
-          (c .before .before .before .before .before .before .before .before .before .before .before .before .before .before .before .before .before .pre .1) (omega arith) (l .at) (l .due) _ (l .inv) _
-          (c .before .before .before .before .before .before .before .before .before .before .before .before .past-key .ensures) _ (c .before .before .before .before .before .before .before .before .before .before .k .given .1) _
-          (c .before .before .before .before .before .before .before .skip .ensures),
+      passed.two-due (l .inv .walking) (c .before .before .before .before .before .before .before .before .before .before .before .before .past-key .ensures) (c .before .before .before .before .before .before .before .before .before .before .k .given .1) (c .before .before .before .before .before .before .before .skip .ensures),
     ))
     (λ c. let l = c .before .before .before .before .before .before .before .before .before .before .before .before .before .before .loop in
-    let a = c .before .before .before .before .before .before .before .before .before .before .before .before .before .before .before .before .before .args in
     omega (
       arith,
-      entries.value-inside (layoutOf (a .layout)) (a .mode) (a .count) (a .s .now) _
-          (c .before .before .before .before .before .before .before .before .before .before .before .before .before .before .before .before .before .pre .1) (omega arith) (l .at) (l .due) _ (l .inv) _
-          (c .before .before .before .before .before .before .before .before .before .before .before .before .past-key .ensures) _ (c .before .before .before .before .before .before .before .before .before .before .k .given .1),
-      entries.goes-on (layoutOf (a .layout)) (a .mode) (a .count) (a .s .now) _
-          (c .before .before .before .before .before .before .before .before .before .before .before .before .before .before .before .before .before .pre .1) (omega arith) (l .at) (l .due) _ (l .inv) _
-          (c .before .before .before .before .before .before .before .before .before .before .before .before .past-key .ensures) _ (c .before .before .before .before .before .before .before .before .before .before .k .given .1) _
-          (c .before .before .before .before .before .before .before .skip .ensures) (c .before .before .before .before .before .before .if2 .left),
+      passed.value-inside (l .inv .walking) (c .before .before .before .before .before .before .before .before .before .before .before .before .past-key .ensures) (c .before .before .before .before .before .before .before .before .before .before .k .given .1),
+      passed.goes-on (l .inv .walking) (c .before .before .before .before .before .before .before .before .before .before .before .before .past-key .ensures) (c .before .before .before .before .before .before .before .before .before .before .k .given .1) (c .before .before .before .before .before .before .before .skip .ensures) (c .before .before .before .before .before .before .if2 .left),
     ))
     (λ c. let l = c .before .before .before .before .before .before .before .before .before .before .before .before .before .before .loop in
-    let a = c .before .before .before .before .before .before .before .before .before .before .before .before .before .before .before .before .before .args in
-    entries.noting-goes-on (layoutOf (a .layout)) (a .mode) (a .count) (a .s .now) _
-    (c .before .before .before .before .before .before .before .before .before .before .before .before .before .before .before .before .before .pre .1) (omega arith) (l .at) (l .due) _ (l .inv) _
-    (c .before .before .before .before .before .before .before .before .before .before .before .before .past-key .ensures) _
-    (c .before .before .before .before .before .before .before .before .before .before .k .given .1) _ (c .before .before .before .before .before .before .before .skip .ensures)
-    (c .before .before .before .before .before .before .if2 .left) _ (c .before .before .before .slot .ensures .1) _ (c .before .before .mark .ensures)))
+    entries.noting-goes-on (l .inv) (c .before .before .before .before .before .before .before .before .before .before .before .before .past-key .ensures) (c .before .before .before .before .before .before .before .before .before .before .k .given .1) (c .before .before .before .before .before .before .before .skip .ensures) (c .before .before .before .before .before .before .if2 .left) (c .before .before .before .slot .ensures .1) (c .before .before .mark .ensures)))
