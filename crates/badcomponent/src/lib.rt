@@ -22,9 +22,6 @@ ghost use Rattle.badcomponent.specs.Steps as is;
 // A component's map, for `keys::entries`.
 const COMPONENT: u64 = 2;
 
-// Levels that are left for its keys and values.
-const LEVELS: u64 = 27;
-
 // Where the bytes lie, by the offset o, which has `left` bytes left, and the length l.
 fn blob(start: u64, o: u64, l: u64, left: usize) -> Spot
     ensures { λ r. ⌜ is.BlobIs start o l left r ⌝ }
@@ -116,7 +113,15 @@ pub fn component(layout: u64, above: u64, c: &[u8], start: u64) -> Spot
     match walk::map(&c[0..]) {
         Opening::NotOpen => at(8, c.len()),
         Opening::Opened(mode, count, size) => {
-            let k = badfields::first(layout, COMPONENT, LEVELS, &c[size..], mode, count, &mut p);
+            let k = badfields::first(
+                layout,
+                COMPONENT,
+                numbers::IN_COMPONENT,
+                &c[size..],
+                mode,
+                count,
+                &mut p,
+            );
             if k.number != 0 {
                 return k;
             }
@@ -136,7 +141,15 @@ pub fn length_at(layout: u64, c: &[u8]) -> usize
     match walk::map(&c[0..]) {
         Opening::NotOpen => c.len(),
         Opening::Opened(mode, count, size) => {
-            badfields::first(layout, COMPONENT, LEVELS, &c[size..], mode, count, &mut p);
+            badfields::first(
+                layout,
+                COMPONENT,
+                numbers::IN_COMPONENT,
+                &c[size..],
+                mode,
+                count,
+                &mut p,
+            );
             either(p[3], c.len())
         }
     }

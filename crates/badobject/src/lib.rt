@@ -11,9 +11,6 @@ ghost use Rattle.badobject.specs.Owner as is;
 // An object's map, for `keys::entries`.
 const OBJECT: u64 = 1;
 
-// Levels that are left for its keys and values.
-const LEVELS: u64 = 29;
-
 // Is a needed field missing?
 fn lacks(layout: u64, p: &[usize]) -> bool
     requires { ⌜ length (now p) ≡ 8 ⌝ }
@@ -63,7 +60,15 @@ pub fn object(layout: u64, s: &[u8], start: u64, n: u64, c: usize) -> Owned
     match walk::map(&s[0..]) {
         Opening::NotOpen => told(spot::at(8, s.len()), 0),
         Opening::Opened(mode, count, size) => {
-            let k = badfields::first(layout, OBJECT, LEVELS, &s[size..], mode, count, &mut p);
+            let k = badfields::first(
+                layout,
+                OBJECT,
+                numbers::IN_OBJECT,
+                &s[size..],
+                mode,
+                count,
+                &mut p,
+            );
             if k.number != 0 {
                 return told(k, 0);
             }

@@ -8,9 +8,6 @@ ghost use mathlib.Core.Path.{_≡_};
 ghost use Rattle.badnames.specs.Keys.{NamesAt};
 ghost use Rattle.badparts.specs.Parts as is;
 
-// Levels that are left for the names and values of the components' map.
-const LEVELS: u64 = 28;
-
 // A spot, and the bytes left at the name of the component that it belongs to, 0 for none.
 pub struct Owned {
     pub spot: Spot,
@@ -30,14 +27,21 @@ fn names(s: &[u8], n: u64) -> Spot
     let mut left = [0usize; 16];
     let mut size = [0usize; 16];
     let mut ix = [0u16; 16];
-    badnames::named(&s[0..], LEVELS, n, &mut left, &mut size, &mut ix)
+    badnames::named(
+        &s[0..],
+        numbers::IN_COMPONENTS,
+        n,
+        &mut left,
+        &mut size,
+        &mut ix,
+    )
 }
 
 // What breaks in component c of the map that begins s, whose object has the code `code`.
 fn inside(layout: u64, code: u64, s: &[u8], start: u64, c: usize) -> Owned
     ensures { λ r. ⌜ is.InsideIs layout code (now (s .entry)) start c r ⌝ }
 {
-    let e = entry::entry(&s[0..], LEVELS, c);
+    let e = entry::entry(&s[0..], numbers::IN_COMPONENTS, c);
     let v = place_of(s.len(), e.value);
     told(badcomponent::component(layout, code, &s[v..], start), e.key)
 }
@@ -46,7 +50,7 @@ fn inside(layout: u64, code: u64, s: &[u8], start: u64, c: usize) -> Owned
 fn at_value(s: &[u8], c: usize) -> Owned
     ensures { λ r. ⌜ is.ValueIs (now (s .entry)) c r ⌝ }
 {
-    let e = entry::entry(&s[0..], LEVELS, c);
+    let e = entry::entry(&s[0..], numbers::IN_COMPONENTS, c);
     told(spot::at(22, e.value), e.key)
 }
 
@@ -54,7 +58,7 @@ fn at_value(s: &[u8], c: usize) -> Owned
 fn at_length(layout: u64, s: &[u8], c: usize) -> Owned
     ensures { λ r. ⌜ is.LengthIs layout (now (s .entry)) c r ⌝ }
 {
-    let e = entry::entry(&s[0..], LEVELS, c);
+    let e = entry::entry(&s[0..], numbers::IN_COMPONENTS, c);
     let v = place_of(s.len(), e.value);
     told(
         spot::at(23, badcomponent::length_at(layout, &s[v..])),

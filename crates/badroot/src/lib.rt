@@ -45,7 +45,14 @@ fn names(s: &[u8], n: u64) -> Spot
     let mut left = [0usize; 1024];
     let mut size = [0usize; 1024];
     let mut ix = [0u16; 1024];
-    badnames::named(&s[0..], 30, n, &mut left, &mut size, &mut ix)
+    badnames::named(
+        &s[0..],
+        numbers::IN_OBJECTS,
+        n,
+        &mut left,
+        &mut size,
+        &mut ix,
+    )
 }
 
 // Attributes, objects and their names, of a root that has `whole` bytes left. Its entries begin s, and p has the places of its fields.
@@ -90,7 +97,7 @@ pub fn root(layout: u64, s: &[u8], n: u64) -> Rooted
             objects: 0,
         },
         Opening::Opened(mode, count, size) => {
-            let k = badfields::first(layout, 0, 31, &s[size..], mode, count, &mut p);
+            let k = badfields::first(layout, 0, numbers::IN_ROOT, &s[size..], mode, count, &mut p);
             let objects = p[2];
             if k.number != 0 {
                 return Rooted {
@@ -114,7 +121,7 @@ pub fn objects(layout: u64, s: &[u8]) -> usize
     match walk::map(&s[0..]) {
         Opening::NotOpen => 0,
         Opening::Opened(mode, count, size) => {
-            badfields::first(layout, 0, 31, &s[size..], mode, count, &mut p);
+            badfields::first(layout, 0, numbers::IN_ROOT, &s[size..], mode, count, &mut p);
             p[2]
         }
     }

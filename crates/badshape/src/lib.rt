@@ -6,9 +6,6 @@ use walk::Opening;
 ghost use mathlib.Core.Path.{_≡_};
 ghost use Rattle.badshape.specs.Steps.{ShapeIs};
 
-// Levels that are left for the elements.
-const LEVELS: u64 = 28;
-
 // The shape that begins s.
 pub fn shape(s: &[u8]) -> Spot
     ensures { λ r. ⌜ ShapeIs (now (s .entry)) r ⌝ }
@@ -22,7 +19,7 @@ pub fn shape(s: &[u8]) -> Spot
         let Numeral::Number(_) = walk::number(&s[at..]) else {
             return spot::at(8, s.len() - at);
         };
-        let k = cbor::skip(&s[at..], LEVELS);
+        let k = cbor::skip(&s[at..], numbers::IN_SHAPE);
         if s.len() - at < k {
             return spot::at(8, s.len() - at);
         }

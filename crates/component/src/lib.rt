@@ -33,7 +33,7 @@ pub fn component(layout: u64, above: u64, c: &[u8], start: u64) -> Whole
     let mut p = [0usize; 10];
     match walk::map(&c[0..]) {
         Opening::NotOpen => Whole {
-            end: cbor::skip(&c[0..], 28),
+            end: cbor::skip(&c[0..], numbers::IN_COMPONENTS),
             verdict: Judged::No(numbers::KIND),
         },
         Opening::Opened(mode, count, size) => {

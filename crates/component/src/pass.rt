@@ -31,7 +31,7 @@ pub fn entries(layout: u64, s: &[u8], mode: u64, count: u64, p: &mut [usize]) ->
     let mut at = 0;
     let mut due = count;
     loop {
-        match walk::past_key(&s[at..], mode, due, 27) {
+        match walk::past_key(&s[at..], mode, due, numbers::IN_COMPONENT) {
             Entry::End(e) => {
                 if s.len() - at < e {
                     return e;
@@ -40,7 +40,7 @@ pub fn entries(layout: u64, s: &[u8], mode: u64, count: u64, p: &mut [usize]) ->
             }
             Entry::Value(k) => {
                 let v = at + k;
-                let e = cbor::skip(&s[v..], 27);
+                let e = cbor::skip(&s[v..], numbers::IN_COMPONENT);
                 if s.len() - v < e {
                     return e;
                 }

@@ -104,7 +104,7 @@ fn entries(
     let mut first = First::Fine;
     let mut next = to.from;
     loop {
-        match walk::past_key(&s[at..], mode, due, 28) {
+        match walk::past_key(&s[at..], mode, due, numbers::IN_COMPONENTS) {
             Entry::End(e) => {
                 if s.len() - at < e {
                     return Run {
@@ -197,7 +197,7 @@ pub fn components(
     let mut size = [0usize; 16];
     match walk::map(&c[0..]) {
         Opening::NotOpen => Whole {
-            end: cbor::skip(&c[0..], 29),
+            end: cbor::skip(&c[0..], numbers::IN_OBJECT),
             found: Found::No(numbers::KIND, 0),
         },
         Opening::Opened(mode, count, from) => {

@@ -16,9 +16,6 @@ ghost use Rattle.panel.specs.ListedText.{told, textAfter};
 ghost use Rattle.explained.specs.Sentence.{sentence};
 ghost use Rattle.explaining.specs.Judged as is;
 
-// The levels that the names and the values of a manifest's objects have.
-const OBJECTS: u64 = 30;
-
 // An object of the manifest m, the one with the index o, that is refused with the number n for its component c. The objects stand where `objects` bytes are left.
 fn inside(
     layout: u64,
@@ -33,7 +30,7 @@ fn inside(
     ensures { λ r. ⌜ is.InsideIs (layoutOf layout) (now (m .entry)) start end n o c objects r ⌝ }
 {
     let from = place_of(m.len(), objects);
-    let e = entry::entry(&m[from..], OBJECTS, o as usize);
+    let e = entry::entry(&m[from..], numbers::IN_OBJECTS, o as usize);
     let v = place_of(m.len(), e.value);
     let w = badobject::object(layout, &m[v..], start, n, c as usize);
     pointed(&m[0..], end, n, o, c, e.key, w.key, w.spot.left)

@@ -32,7 +32,7 @@ pub fn any_deep(rows: &[u64], n: usize, buffer: &[u8]) -> bool
             buffer,
             rows[at + columns::ATTRIBUTES],
             rows[at + columns::ATTRIBUTES_LENGTH],
-            29,
+            numbers::IN_OBJECT,
         ) {
             return true;
         }

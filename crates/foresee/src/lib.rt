@@ -80,7 +80,7 @@ pub fn verdict(
     requires { ⌜ rowsSound (now buffer) (now rows) objects components (record { place = place; size = size }) ≡ true ⌝ }
     ensures { λ r. ⌜ judged (described (now (buffer .entry)) (asked (now (rows .entry)) objects components (record { place = place; size = size }))) ≡ is.foretold r ⌝ }
 {
-    if depth::deep(buffer, place, size, 31) {
+    if depth::deep(buffer, place, size, numbers::IN_ROOT) {
         return Foreseen::Fault(numbers::DEEP, 0, 0);
     }
     let n = objects as usize;

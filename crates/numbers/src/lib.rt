@@ -66,3 +66,18 @@ pub const OBJECTS_MOST: usize = 1_024;
 pub const OBJECTS_MOST_64: u64 = OBJECTS_MOST as u64;
 
 pub const RANK_MOST: usize = 8;
+
+// How many levels may still nest where an item stands: 32 at the root, one less in each map or array (document 01, "up to depth 32"). In a map that is for its keys and values, in a shape for its elements.
+pub const AT_ROOT: u64 = 32;
+
+pub const IN_ROOT: u64 = 31;
+
+pub const IN_OBJECTS: u64 = 30;
+
+pub const IN_OBJECT: u64 = 29;
+
+pub const IN_COMPONENTS: u64 = 28;
+
+pub const IN_COMPONENT: u64 = 27;
+
+pub const IN_SHAPE: u64 = 28;

@@ -60,7 +60,7 @@ pub fn object(
     let mut p = [0usize; 8];
     match walk::map(&c[0..]) {
         Opening::NotOpen => Whole {
-            end: cbor::skip(&c[0..], 30),
+            end: cbor::skip(&c[0..], numbers::IN_OBJECTS),
             verdict: Judged::No(numbers::KIND, 0),
         },
         Opening::Opened(mode, count, size) => {

@@ -58,7 +58,7 @@ fn value(
 {
     if waits(layout, k, seen) {
         return Whole {
-            end: cbor::skip(&c[0..], 29),
+            end: cbor::skip(&c[0..], numbers::IN_OBJECT),
             found: found,
         };
     }
@@ -85,7 +85,7 @@ pub fn entries(
     let mut due = count;
     let mut found = Found::Yes(0);
     loop {
-        match walk::past_key(&s[at..], mode, due, 29) {
+        match walk::past_key(&s[at..], mode, due, numbers::IN_OBJECT) {
             Entry::End(e) => {
                 if s.len() - at < e {
                     return Whole {

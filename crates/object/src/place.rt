@@ -21,7 +21,7 @@ pub fn shape_at(s: &[u8], left: usize, dims: &mut [u64]) -> Shaped
     ensures { λ r. ⌜ is.ShapeAt (now (s .entry)) left (now (dims .exit)) r ⌝ }
 {
     let at = place_of(s.len(), left);
-    shape::shape(&s[at..], 28, dims)
+    shape::shape(&s[at..], numbers::IN_SHAPE, dims)
 }
 
 // Is a format with this code UTF-8? One that is known needs no look.

@@ -84,7 +84,7 @@ fn one(
         return object::object(layout, &s[0..], &c[0..], start, to, rows, t);
     }
     object::Whole {
-        end: cbor::skip(&c[0..], 30),
+        end: cbor::skip(&c[0..], numbers::IN_OBJECTS),
         verdict: Judged::Yes(0),
     }
 }
@@ -133,7 +133,7 @@ fn entries(
     let mut row = 0;
     let mut next = from;
     loop {
-        match walk::past_key(&s[at..], mode, due, 30) {
+        match walk::past_key(&s[at..], mode, due, numbers::IN_OBJECTS) {
             Entry::End(e) => {
                 if s.len() - at < e {
                     return Run {
@@ -201,7 +201,7 @@ pub fn objects(layout: u64, c: &[u8], start: u64, deep: bool) -> Whole
     let mut none = [0u64; 0];
     match walk::map(&c[0..]) {
         Opening::NotOpen => Whole {
-            end: cbor::skip(&c[0..], 31),
+            end: cbor::skip(&c[0..], numbers::IN_ROOT),
             found: Found::No(numbers::KIND, 0, 0),
         },
         Opening::Opened(mode, count, from) => {

@@ -54,7 +54,7 @@ fn fits(room: usize, objects: usize, components: usize) -> bool
 pub fn attributes(m: &[u8], left: usize, end: usize) -> Span
     ensures { λ r. ⌜ is.AttributesIs (now (m .entry)) left end r ⌝ }
 {
-    item_at(&m[0..], left, 31, end)
+    item_at(&m[0..], left, numbers::IN_ROOT, end)
 }
 
 // The numbers of a table that stand before the rows of so many objects and components: none, or where the rows are its last all that they don't need.

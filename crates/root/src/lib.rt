@@ -32,7 +32,7 @@ fn judged_root(layout: u64, s: &[u8], start: u64, deep: bool) -> Whole
     let mut p = [0usize; 6];
     match walk::map(&s[0..]) {
         Opening::NotOpen => Whole {
-            end: cbor::skip(&s[0..], 32),
+            end: cbor::skip(&s[0..], numbers::AT_ROOT),
             verdict: Judged::No(numbers::KIND, 0, 0),
             objects: 0,
         },

@@ -44,7 +44,7 @@ fn value(
         }
     }
     Whole {
-        end: cbor::skip(&c[0..], 31),
+        end: cbor::skip(&c[0..], numbers::IN_ROOT),
         found: found,
     }
 }
@@ -66,7 +66,7 @@ pub fn entries(
     let mut due = count;
     let mut found = Found::Yes(0, 0);
     loop {
-        match walk::past_key(&s[at..], mode, due, 31) {
+        match walk::past_key(&s[at..], mode, due, numbers::IN_ROOT) {
             Entry::End(e) => {
                 if s.len() - at < e {
                     return Whole {

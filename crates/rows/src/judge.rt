@@ -81,7 +81,12 @@ fn object(buffer: &[u8], row: &[u64]) -> bool
     if !inside(n, row[FORMAT], row[FORMAT_LENGTH]) {
         return false;
     }
-    attributes(&buffer[0..], row[ATTRIBUTES], row[ATTRIBUTES_LENGTH], 29)
+    attributes(
+        &buffer[0..],
+        row[ATTRIBUTES],
+        row[ATTRIBUTES_LENGTH],
+        numbers::IN_OBJECT,
+    )
 }
 
 // Each of n objects.

@@ -34,7 +34,7 @@ pub fn sound(
     if !owned::in_order(&rows[0..], &rows[first..], objects, components) {
         return false;
     }
-    if !judge::attributes(&buffer[0..], place, size, 31) {
+    if !judge::attributes(&buffer[0..], place, size, numbers::IN_ROOT) {
         return false;
     }
     if !judge::objects(&buffer[0..], &rows[0..], objects) {

@@ -232,7 +232,7 @@ fn each(
         total: 0,
     };
     loop {
-        match walk::past_key(&s[at..], mode, due, 30) {
+        match walk::past_key(&s[at..], mode, due, numbers::IN_OBJECTS) {
             Entry::End(_) => return have,
             Entry::Value(k) => {
                 let v = at + k;

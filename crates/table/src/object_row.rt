@@ -35,7 +35,7 @@ fn dimensions_at(m: &[u8], left: usize, d: &mut [u64]) -> usize
     ensures { λ r. ⌜ is.DimensionsAt (now (m .entry)) left (now (d .exit)) r ⌝ }
 {
     let at = place_of(m.len(), left);
-    match shape::shape(&m[at..], 28, d) {
+    match shape::shape(&m[at..], numbers::IN_SHAPE, d) {
         Shaped::No(_) => 0,
         Shaped::Yes(rank) => {
             clear(d, rank);
@@ -94,7 +94,7 @@ pub fn put_object(
     let rank = dimensions_at(&m[0..], p[1], &mut d);
     let name = spelt(&s[0..], end);
     let format = spelt_at(&m[0..], p[2], end);
-    let attributes = item_at(&m[0..], p[3], 29, end);
+    let attributes = item_at(&m[0..], p[3], numbers::IN_OBJECT, end);
     put_sixteen(
         t,
         i,

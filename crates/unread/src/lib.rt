@@ -4,9 +4,6 @@ use sentence::Explanation;
 ghost use mathlib.Core.Path.{_≡_};
 ghost use Rattle.unread.specs.Unread as is;
 
-// The levels that a manifest has.
-const LEVELS: u64 = 32;
-
 // A refusal that belongs to no object, and the bytes at fault.
 pub fn alone(number: u64, place: u64, length: u64) -> Explanation
     ensures { λ r. ⌜ is.explanation r ≡ is.lone number place length ⌝ }
@@ -47,11 +44,11 @@ pub fn framed(layout: u64, n: u64, file: &[u8]) -> Explanation
 fn left_at(m: &[u8]) -> usize
     ensures { λ r. ⌜ is.StopsAt (now (m .entry)) r ⌝ }
 {
-    let e = cbor::skip(&m[0..], LEVELS);
+    let e = cbor::skip(&m[0..], numbers::AT_ROOT);
     if e < m.len() {
         return m.len() - e;
     }
-    stop::stopped(&m[0..], LEVELS)
+    stop::stopped(&m[0..], numbers::AT_ROOT)
 }
 
 // A manifest m that ends at `end` and is refused with the number n as it is read.

@@ -90,7 +90,7 @@ fn each(
     let mut total = before;
     let mut next = from;
     loop {
-        match walk::past_key(&s[at..], mode, due, 30) {
+        match walk::past_key(&s[at..], mode, due, numbers::IN_OBJECTS) {
             Entry::End(_) => {
                 return Sum {
                     place: place,
