@@ -49,10 +49,6 @@ rows-of-one : (owner : ℕ) (c : Component Span) → rowsOf owner (c ∷ []) ≡
 unfolding rowsOf
 rows-of-one owner c = append-nil (componentRow owner c)
 
-row-length : (owner : ℕ) (c : Component Span) → length (componentRow owner c) ≡ componentWidth
-unfolding componentRow
-row-length owner c = refl
-
 module _ (end owner : ℕ) (cs : List (Component Ends)) where
   pub rows-in-length : length (rowsIn end owner cs) ≡ componentWidth * length cs
   rows-in-length = parts-length owner (map (mapComponent (spanOf end)) cs) ∙ ap (λ n. componentWidth * n) (map-length cs)
