@@ -8,7 +8,7 @@ use lib.ListN.{length, getD, take, drop, length-drop}
 use borrow.Rule.Slice.PartAt.{part-to-end}
 use lib.Seq.{drop-drop}
 use Rattle.meaning.specs.Read as read
-use Rattle.meaning.specs.Read.{refused, Reader, item, noNote}
+use Rattle.meaning.specs.Read.{refused, item, noNote}
 use Rattle.meaning.proofs.ReadPrefix.{item-exact}
 use Rattle.cbor.specs.declared.Holding.{Holding}
 use Rattle.cbor.specs.Ending.{FAULT, code, ending, took, fault, shift, itemEnd, headOf, holds, rest, broken, endless}
@@ -16,7 +16,6 @@ use Rattle.cbor.proofs.Ends.{fine-ending, is-took, is-fault, shift-shift, got-w
 use Rattle.cbor.proofs.Loops.{holds-others, holds-none}
 use Rattle.cbor.proofs.Rest as due
 use Rattle.stop.specs.Stop.{LeftBy, Refuses, PlainStops, headLeft, Opens}
-use Rattle.stop.proofs.Stuck.{same-left}
 use Rattle.stop.proofs.Heads as heads
 use Rattle.stop.proofs.Turns.{Inv, from-at, stops-here, stops-at, goes-on, at-end}
 
@@ -28,12 +27,6 @@ told P s at {r} f e = subst (P (drop at s)) e (subst (λ u. P u r) (part-to-end 
 
 refuses : (d : ℕ) (s : List ℕ) {c k : ℕ} → itemEnd d s ≡ fault c → LeftBy (item noNote d) s k → Refuses (item noNote d) s k
 refuses d s e f = let r = refused-what (item noNote d) (item-exact d) s _ e in record { number = _; at = r .at; is = r .is; left = f _ _ (r .is) }
-
-pub left-there : {A : Type 0} {m : Reader A} {s : List ℕ} {k : ℕ} → Refuses m s k → LeftBy m s k
-left-there r n q e = r .left ∙ ap length (same-left (sym (r .is) ∙ e))
-
-pub never-refused : (d : ℕ) (s : List ℕ) (k : ℕ) {n : ℕ} → itemEnd d s ≡ took n → LeftBy (item noNote d) s k
-never-refused d s k {n} e c q f = let z : fault c ≡ took n = sym (ap (ending s) f) ∙ e in absurd (let y : _≡_ {A = ℕ} 0 1 = cc in omega arith)
 
 -- an item by the number that `skip` answers
 module _ (d : ℕ) (s : List ℕ) (room : length s < FAULT) (r : ℕ) (is : r ≡ code (itemEnd d s)) where

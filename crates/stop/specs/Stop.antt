@@ -18,9 +18,6 @@ use Rattle.stop.specs.declared.Begun.the-variants.{Ended, Holds}
 abbrev pub LeftBy : {A : Type 0} → Reader A → List ℕ → ℕ → Type 0
 LeftBy m s r = (n : ℕ) (q : List ℕ) → m s ≡ refused n q → r ≡ length q
 
-abbrev pub Stops : ℕ → List ℕ → ℕ → Type 0
-Stops d s r = LeftBy (item noNote d) s r
-
 abbrev pub PlainStops : List ℕ → ℕ → Type 0
 PlainStops s r = (d : ℕ) → holds (getD s 0 0) ≡ false → LeftBy (item noNote (suc d)) s r
 
@@ -48,6 +45,10 @@ pub record Refuses {A : Type 0} (m : Reader A) (s : List ℕ) (k : ℕ) : Type 0
 abbrev pub Reaches : ℕ → List ℕ → Reached → Type 0
 Reaches d s (Past n) = itemEnd d s ≡ took n
 Reaches d s (Stopped k) = Refuses (item noNote d) s k
+
+-- an item of r bytes, if there are so many
+abbrev pub Light : ℕ → List ℕ → ℕ → Type 0
+Light d s r = r ≤ length s → itemEnd d s ≡ took r
 
 -- whatever begins with b and has the head h holds r
 pub record Inside (b : ℕ) (h : Argued) (r : Holding) : Type 0 where

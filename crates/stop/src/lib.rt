@@ -66,7 +66,7 @@ fn at_plain(s: &[u8]) -> usize
 }
 
 // How many bytes an item takes, or how many are left where it is refused.
-enum Reached {
+pub enum Reached {
     Past(usize),
     Stopped(usize),
 }
@@ -156,8 +156,24 @@ fn begin(s: &[u8], left: u64) -> Begun
     Begun::Holds(inside(b, h))
 }
 
+// How many bytes the item takes that begins s, if it holds no other and is well-formed; else more than there are.
+fn light(s: &[u8], left: u64) -> usize
+    ensures { λ r. ⌜ is.Light left (now (s .entry)) r ⌝ }
+{
+    if s.len() == 0 {
+        return 1;
+    }
+    let b = s[0];
+    if 128 <= b {
+        if b < 224 {
+            return cbor::MALFORMED;
+        }
+    }
+    cbor::skip(&s[0..], left)
+}
+
 // The item that begins s, where `left` levels are left. Whatever is passed is passed once, at whatever level it stands.
-fn pass(s: &[u8], left: u64) -> Reached
+pub fn pass(s: &[u8], left: u64) -> Reached
     ensures { λ r. ⌜ is.Reaches left (now (s .entry)) r ⌝ }
 {
     let begun = begin(&s[0..], left);
@@ -178,29 +194,24 @@ fn pass(s: &[u8], left: u64) -> Reached
                     }
                     return Reached::Past(end);
                 }
+                let k = light(&s[at..], left - 1);
+                if k <= s.len() - at {
+                    at += k;
+                    due -= 1;
+                    continue;
+                }
                 let next = pass(&s[at..], left - 1);
                 match next {
                     Reached::Past(n) => {
                         at += n;
                         due -= 1;
                     }
-                    Reached::Stopped(k) => {
-                        return Reached::Stopped(k);
+                    Reached::Stopped(left) => {
+                        return Reached::Stopped(left);
                     }
                 }
             }
             Reached::Past(at)
         }
-    }
-}
-
-// The item that begins s, where `levels` levels are left, and is refused.
-pub fn stopped(s: &[u8], levels: u64) -> usize
-    ensures { λ r. ⌜ is.Stops levels (now (s .entry)) r ⌝ }
-{
-    let reached = pass(&s[0..], levels);
-    match reached {
-        Reached::Past(_) => 0,
-        Reached::Stopped(k) => k,
     }
 }

@@ -10,55 +10,47 @@ use Rattle.meaning.specs.Tree.{Node, mapP, nothing}
 use Rattle.meaning.specs.Refusal.{CBOR}
 use Rattle.meaning.specs.Read.{Outcome, got, refused, after, Span, spanTo, item, noNote, closed, manifest}
 use Rattle.meaning.proofs.ReadNatural.{mapOut, item-follows}
-use Rattle.meaning.proofs.ReadPrefix.{item-hungry}
-use Rattle.cbor.specs.Ending.{FAULT, code, ending, itemEnd}
+use Rattle.meaning.proofs.ReadPrefix.{item-hungry, item-exact}
+use Rattle.cbor.specs.Ending.{took, fault, ending, itemEnd}
+use Rattle.cbor.proofs.Ends.{got-what}
 use Rattle.fields.proofs.Texts.{Here}
-use Rattle.stop.specs.Stop.{Stops}
+use Rattle.stop.specs.Stop.{Refuses}
 use Rattle.explained.specs.Explain.{span, headSpan, explanation, alone}
 use Rattle.unread.specs.Unread.{StopsAt}
 
 abbrev Item : Type 0
 Item = Node (Unit {0})
 
--- what is met where the item ends, and where it doesn't
+-- what is met where the item ends
 still-left : (t : Item) (r : List ℕ) (n : ℕ) (q : List ℕ) → closed t r ≡ refused n q → r ≡ q
 unfolding closed
 still-left t [] n q e = absurd (let z : _≡_ {A = ℕ} 0 1 = cc in omega arith)
 still-left t (b ∷ r) n q e = cc
 
-nothing-left : (t : Item) (r : List ℕ) (n : ℕ) (q : List ℕ) → closed t r ≡ refused n q → 0 < length r
-unfolding closed
-nothing-left t [] n q e = absurd (let z : _≡_ {A = ℕ} 0 1 = cc in omega arith)
-nothing-left t (b ∷ r) n q e = omega arith
-
-module _ (m : List ℕ) (room : length m < FAULT) (e : ℕ) (asked : e ≡ code (itemEnd 32 (Here m 0))) where
-  ends-so : (o : Outcome Item) → item noNote 32 m ≡ o → e ≡ code (ending m o)
-  ends-so o h = asked ∙ ap (λ u. code (itemEnd 32 u)) (part-to-end m 0) ∙ ap (λ o. code (ending m o)) h
+module _ (m : List ℕ) where
+  pub inside : {e : ℕ} → itemEnd 32 m ≡ took e → e ≤ length m
+  inside {e} ends = got-what (item noNote 32) (item-exact 32) m e ends .within
 
   -- bytes are left over
-  pub left-over : e < length m → StopsAt m (length m - e)
+  pub left-over : {e : ℕ} → itemEnd 32 m ≡ took e → StopsAt m (length m - e)
   unfolding manifest
-  left-over l n q = go (item noNote 32 m) refl
+  left-over {e} ends n q = go (item noNote 32 m) refl
     where
       go : (o : Outcome Item) → item noNote 32 m ≡ o → after o closed ≡ refused n q → length m - e ≡ length q
       go (got t r) h z =
-          let y : e ≡ length m - length r = ends-so (got t r) h in
+          let y : took (length m - length r) ≡ took e = sym (ap (ending m) h) ∙ ends in
+          let v : length m - length r ≡ e = cc in
           let x : length r ≡ length q = ap length (still-left t r n q z) in
           let w : length r < length m = item-hungry 32 [] m t r h in
-          omega arith
-      go (refused k p) h z = let y : e ≡ FAULT + k = ends-so (refused k p) h in absurd (omega arith)
+          omega (arith, v, x, w)
+      go (refused k p) h z = absurd (let y : fault k ≡ took e = sym (ap (ending m) h) ∙ ends in let u : _≡_ {A = ℕ} 0 1 = cc in omega (arith, u))
 
-  pub stops : length m ≤ e → (r : ℕ) → Stops 32 (Here m 0) r → StopsAt m r
+  pub stops : {k : ℕ} → Refuses (item noNote 32) m k → StopsAt m k
   unfolding manifest
-  stops l r told n q = go (item noNote 32 m) refl
-    where
-      go : (o : Outcome Item) → item noNote 32 m ≡ o → after o closed ≡ refused n q → r ≡ length q
-      go (got t s) h z =
-          let y : e ≡ length m - length s = ends-so (got t s) h in
-          let x : 0 < length s = nothing-left t s n q z in
-          let w : length s < length m = item-hungry 32 [] m t s h in
-          absurd (omega arith)
-      go (refused k p) h z = let y : _≡_ {A = Outcome Item} (refused k p) (refused n q) = z in told n q (ap (item noNote 32) (part-to-end m 0) ∙ h ∙ y)
+  stops r n q e =
+      let y : _≡_ {A = Outcome Item} (refused (r .number) (r .at)) (refused n q) = sym (ap (λ o. after o closed) (r .is)) ∙ e in
+      let x : r .at ≡ q = cc in
+      r .left ∙ ap length x
 
 -- the same for spans
 module _ (m : List ℕ) (end left : ℕ) (told : StopsAt (Here m 0) left) (n : ℕ) (q : List ℕ) (e : manifest (spanTo end) m ≡ refused n q) where

@@ -1,6 +1,7 @@
 // Why a file is refused before anything is said of its tree (document 02, Request 08): its frame, 1 to 5, or the reading of its manifest, 6 and 7.
 use fields::place_of;
 use sentence::Explanation;
+use stop::Reached;
 ghost use mathlib.Core.Path.{_≡_};
 ghost use Rattle.unread.specs.Unread as is;
 
@@ -44,11 +45,11 @@ pub fn framed(layout: u64, n: u64, file: &[u8]) -> Explanation
 fn left_at(m: &[u8]) -> usize
     ensures { λ r. ⌜ is.StopsAt (now (m .entry)) r ⌝ }
 {
-    let e = cbor::skip(&m[0..], numbers::AT_ROOT);
-    if e < m.len() {
-        return m.len() - e;
+    let reached = stop::pass(&m[0..], numbers::AT_ROOT);
+    match reached {
+        Reached::Past(n) => m.len() - n,
+        Reached::Stopped(left) => left,
     }
-    stop::stopped(&m[0..], numbers::AT_ROOT)
 }
 
 // A manifest m that ends at `end` and is refused with the number n as it is read.

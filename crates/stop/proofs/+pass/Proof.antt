@@ -1,10 +1,11 @@
 -- `stop::pass` meets its contract. Each turn of its loop passes one of the items that are held, or the item stops where that one does. Fewer levels are left for what is held.
 use Rattle.stop.proofs.Held as items
 use Rattle.stop.proofs.Held.{Walk}
-use Rattle.stop.specs.Stop.{Reaches, Begins}
-use lib.ListN.{length}
+use Rattle.stop.specs.Stop.{Reaches, Begins, Light}
+use lib.ListN.{length, length-drop}
 use native.Mathlib.Omega.{arith}
 use borrow.Author.Needs.{needs}
+use mathlib.Core.Path.{refl}
 use Prim.Native.Nat.{ℕ, _-_, _<_}
 use borrow.Fn.Kinds.{In}
 use borrow.Fn.PlainCycle.{Measures, is, falls, and}
@@ -13,6 +14,7 @@ use Rattle.stop.proofs.pass.Kinds as pass-kinds
 use Rattle.stop.proofs.+pass.Lts-pass as pass-lts
 use Rattle.cbor.proofs.broken.Reads as broken-reads
 use Rattle.stop.proofs.begin.Reads as begin-reads
+use Rattle.stop.proofs.light.Reads as light-reads
 use Rattle.stop.proofs.+pass.{statement}
 use Rattle.stop.proofs.+pass.Tie.{close}
 
@@ -37,6 +39,8 @@ pub +pass-spec : {M : Type 1} → statement M
   begin-reads.Learnt,
   broken-reads.Asked,
   broken-reads.Learnt,
+  light-reads.Asked,
+  light-reads.Learnt,
   pass-below t,
   pass.Post,
 )
@@ -64,23 +68,42 @@ pub +pass-spec : {M : Type 1} → statement M
     (λ c. search needs)
     (λ c. search needs)
     (λ c. search needs)
-    (λ c κs. let c5 = c .before .before .before .before .before in (omega (arith, c5 .loop .inv .level, c5 .before .before .before .before .before .before .before .pre .0), tt))
+    (λ c κs. search needs)
     (λ c. search needs)
-    (λ c. let c3 = c .before .before .before in let c5 = c3 .before .before in let c8 = c5 .before .before .before in let l = c8 .before .loop in
-    let a = c8 .before .before .before .before .before .before .before .before .args in
-    let p = items.item-passes (l .inv) (c8 .loop-test .taken) (omega arith) (c5 .if2 .left) _ (items.told (Reaches (a .left - 1)) (a .s .now) (l .at) (c3 .pass .ensures) (c .before .next .given .1)) in
+    (λ c. let c1 = c .before in let c3 = c1 .before .before in let c6 = c3 .before .before .before in let l = c6 .before .loop in
+    let a = c6 .before .before .before .before .before .before .before .before .args in
+    let p = items.item-passes (l .inv) (c6 .loop-test .taken) (omega arith) (c3 .if2 .left) _ (items.told (Light (a .left - 1)) (a .s .now) (l .at) (c1 .light .ensures) refl (omega (arith, length-drop (l .at) (a .s .now), c .if4 .taken))) in
     omega (arith, p .next .going .within))
     (λ c. search needs)
-    (λ c. let c3 = c .before .before .before in let c5 = c3 .before .before in let c8 = c5 .before .before .before in let l = c8 .before .loop in
-    let a = c8 .before .before .before .before .before .before .before .before .args in
-    let p = items.item-passes (l .inv) (c8 .loop-test .taken) (omega arith) (c5 .if2 .left) _ (items.told (Reaches (a .left - 1)) (a .s .now) (l .at) (c3 .pass .ensures) (c .before .next .given .1)) in
+    (λ c. let c1 = c .before in let c3 = c1 .before .before in let c6 = c3 .before .before .before in let l = c6 .before .loop in
+    let a = c6 .before .before .before .before .before .before .before .before .args in
+    let p = items.item-passes (l .inv) (c6 .loop-test .taken) (omega arith) (c3 .if2 .left) _ (items.told (Light (a .left - 1)) (a .s .now) (l .at) (c1 .light .ensures) refl (omega (arith, length-drop (l .at) (a .s .now), c .if4 .taken))) in
     omega (arith, p .further-on, p .next .going .within))
-    (λ c. let c3 = c .before .before .before in let c5 = c3 .before .before in let c8 = c5 .before .before .before in let l = c8 .before .loop in
-    let a = c8 .before .before .before .before .before .before .before .before .args in
-    items.item-passes (l .inv) (c8 .loop-test .taken) (omega arith) (c5 .if2 .left) _ (items.told (Reaches (a .left - 1)) (a .s .now) (l .at) (c3 .pass .ensures) (c .before .next .given .1)) .next)
+    (λ c. let c1 = c .before in let c3 = c1 .before .before in let c6 = c3 .before .before .before in let l = c6 .before .loop in
+    let a = c6 .before .before .before .before .before .before .before .before .args in
+    let p = items.item-passes (l .inv) (c6 .loop-test .taken) (omega arith) (c3 .if2 .left) _ (items.told (Light (a .left - 1)) (a .s .now) (l .at) (c1 .light .ensures) refl (omega (arith, length-drop (l .at) (a .s .now), c .if4 .taken))) in
+    p .next)
     (λ c. search needs)
-    (λ c. let c3 = c .before .before .before in let c5 = c3 .before .before in let c8 = c5 .before .before .before in let l = c8 .before .loop in
-    let a = c8 .before .before .before .before .before .before .before .before .args in
-    items.item-stops (l .inv) (c8 .loop-test .taken) (omega arith) (c5 .if2 .left) (items.told (Reaches (a .left - 1)) (a .s .now) (l .at) (c3 .pass .ensures) (c .before .next2 .given .1)))
+    (λ c. search needs)
+    (λ c. search needs)
+    (λ c. search needs)
+    (λ c κs. let c8 = c .before .before .before .before .before .before .before .before in (omega (arith, c8 .loop .inv .level, c8 .before .before .before .before .before .before .before .pre .0), tt))
+    (λ c. search needs)
+    (λ c. let c3 = c .before .before .before in let c8 = c3 .before .before .before .before .before in let c11 = c8 .before .before .before in let l = c11 .before .loop in
+    let a = c11 .before .before .before .before .before .before .before .before .args in
+    let p = items.item-passes (l .inv) (c11 .loop-test .taken) (omega arith) (c8 .if2 .left) _ (items.told (Reaches (a .left - 1)) (a .s .now) (l .at) (c3 .pass .ensures) (c .before .next .given .1)) in
+    omega (arith, p .next .going .within))
+    (λ c. search needs)
+    (λ c. let c3 = c .before .before .before in let c8 = c3 .before .before .before .before .before in let c11 = c8 .before .before .before in let l = c11 .before .loop in
+    let a = c11 .before .before .before .before .before .before .before .before .args in
+    let p = items.item-passes (l .inv) (c11 .loop-test .taken) (omega arith) (c8 .if2 .left) _ (items.told (Reaches (a .left - 1)) (a .s .now) (l .at) (c3 .pass .ensures) (c .before .next .given .1)) in
+    omega (arith, p .further-on, p .next .going .within))
+    (λ c. let c3 = c .before .before .before in let c8 = c3 .before .before .before .before .before in let c11 = c8 .before .before .before in let l = c11 .before .loop in
+    let a = c11 .before .before .before .before .before .before .before .before .args in
+    items.item-passes (l .inv) (c11 .loop-test .taken) (omega arith) (c8 .if2 .left) _ (items.told (Reaches (a .left - 1)) (a .s .now) (l .at) (c3 .pass .ensures) (c .before .next .given .1)) .next)
+    (λ c. search needs)
+    (λ c. let c3 = c .before .before .before in let c8 = c3 .before .before .before .before .before in let c11 = c8 .before .before .before in let l = c11 .before .loop in
+    let a = c11 .before .before .before .before .before .before .before .before .args in
+    items.item-stops (l .inv) (c11 .loop-test .taken) (omega arith) (c8 .if2 .left) (items.told (Reaches (a .left - 1)) (a .s .now) (l .at) (c3 .pass .ensures) (c .before .next2 .given .1)))
     (λ c. let c3 = c .before .before .before in let a = c3 .before .before .before .args in items.told (Begins (a .left)) (a .s .now) 0 (c3 .begin .ensures) (c .before .begun .given .1))
     (λ c. items.all-passed (c .before .loop .inv) (omega arith))

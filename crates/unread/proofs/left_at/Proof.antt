@@ -1,5 +1,7 @@
 -- `unread::left_at` meets its contract: a law for each branch.
 use Rattle.unread.proofs.Stopped as stopped
+use Rattle.stop.specs.Stop.{Reaches}
+use Rattle.stop.proofs.Held.{told}
 use native.Mathlib.Omega.{arith}
 use borrow.Author.Needs.{needs}
 use Rattle.unread.proofs.left_at.Statement.{statement}
@@ -14,9 +16,10 @@ left-at-spec =
     (λ c. search needs)
     (λ c κs. search needs)
     (λ c. search needs)
-    (λ c. stopped.left-over (c .before .before .before .before .args .m .now) (omega arith) _ (c .before .skip .ensures) (c .if1 .taken))
+    (λ c. let b3 = c .before .before .before in let m = b3 .before .before .before .args .m .now in
+    omega (arith, stopped.inside m (told (Reaches 32) m 0 (b3 .pass .ensures) (c .before .reached .given .1))))
     (λ c. search needs)
-    (λ c. search needs)
-    (λ c. search needs)
-    (λ c κs. search needs)
-    (λ c. stopped.stops (c .before .before .before .before .before .before .args .m .now) (omega arith) _ (c .before .before .before .skip .ensures) (omega arith) _ (c .stopped .ensures)))
+    (λ c. let b3 = c .before .before .before in let m = b3 .before .before .before .args .m .now in
+    stopped.left-over m (told (Reaches 32) m 0 (b3 .pass .ensures) (c .before .reached .given .1)))
+    (λ c. let b3 = c .before .before .before in let m = b3 .before .before .before .args .m .now in
+    stopped.stops m (told (Reaches 32) m 0 (b3 .pass .ensures) (c .before .reached2 .given .1))))
