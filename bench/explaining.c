@@ -1,9 +1,10 @@
 /* Why a file is refused: beside the acceptance check where the fault is in the last of many objects, and beside one strict pass of large manifests. */
 #include "bench.h"
+#include "peers.h"
 #include "zt.h"
 #include <stdlib.h>
 
-enum { OBJECTS = 1000, TEXT = 1 << 10 };
+enum { OBJECTS = 1000, LARGE = 1 << 24, TEXT = 1 << 10 };
 
 static uint8_t line[TEXT];
 
@@ -23,12 +24,23 @@ static bool refused(const void *x) {
     return zt_accept(z->file.bytes, z->file.length) != ZT_ACCEPTED;
 }
 
+static bool strictly_refused(const void *x) { return !c_item_utf8(x); }
+
 static const program explain = {"zt_explain", explained}, say = {"zt_sentence", said}, refuse = {"zt_accept", refused};
 
 static void beside(const char *what, zt_file z) {
     spoil_dtype(&z);
     compare(what, explain, refuse, &z, OBJECTS, z.manifest.length, 2.5);
     compare("", say, explain, &z, OBJECTS, z.manifest.length, 0);
+    free(z.file.bytes);
+}
+
+/* The reading itself is refused: the place is looked for in the depth. */
+static void unread(void) {
+    zt_file z = broken_deep(LARGE);
+    double bytes = (double)z.manifest.length;
+    compare("items of one byte at depth 32, the last malformed", explain, (program){"C strict, UTF-8", strictly_refused}, &z, bytes, z.manifest.length, 4);
+    compare("", explain, refuse, &z, bytes, z.manifest.length, 0);
     free(z.file.bytes);
 }
 
@@ -39,4 +51,5 @@ void explaining(void) {
 
     heading("why 16 MiB are refused", "per byte");
     for (int i = 0; i < LARGE_KINDS; i++) grown(large_kinds[i], true, explain, refuse);
+    unread();
 }

@@ -302,6 +302,17 @@ static zt_file middles(size_t size) { return by_names(size, LONG / 2); }
 static zt_file ends(size_t size) { return by_names(size, LONG - 6); }
 static zt_file components(size_t size) { return packed(size / LONG, LONG / 16 - 64); }
 
+zt_file broken_deep(size_t size) {
+    enum { ARRAYS = 29 };
+    input in = empty(), items = flat(size - 64 - ARRAYS);
+    for (int i = 0; i < ARRAYS; i++) head(&in, 4, 1);
+    put(&in, items.bytes, items.length);
+    free(items.bytes);
+    zt_file z = with_value(in);
+    z.manifest.bytes[z.manifest.length - 1] = 28;
+    return z;
+}
+
 /* The place after the first or the last copy of these bytes in a manifest. */
 static uint8_t *after(const zt_file *z, const char *bytes, size_t length, bool last) {
     uint8_t *found = NULL;

@@ -39,6 +39,9 @@ zt_file with_value(input value);                     /* that has this item in an
 zt_file named(names n);                              /* of objects without components, by these names */
 zt_file packed(size_t objects, size_t digest);       /* of objects with 16 components, each with a digest so long */
 
+/* A file whose manifest has so many bytes or a little fewer: items of one byte at depth 32, in arrays one in the other, and the last of them is malformed. */
+zt_file broken_deep(size_t size);
+
 /* The last dtype of a file of either layout becomes none of the 13. */
 void spoil_dtype(zt_file *z);
 
