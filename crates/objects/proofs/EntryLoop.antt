@@ -42,8 +42,8 @@ pub record SoFar (deep : Bool) (layout start end from : ℕ) (s : List ℕ) (nam
   pub laid : deep ≡ true → ObjectsLaid layout start end from before row next t done
 
 -- up to `at`, with n items due
-pub record Looping (deep : Bool) (layout start end from mode count : ℕ) (s before : List ℕ) (at n : ℕ) (names : Tally) (left size : List ℕ) (first : First) (rows : List ℕ) (row next : ℕ) (t : List ℕ) : Type 0 where
+pub record Looping (deep : Bool) (layout start end from mode count : ℕ) (s before : List ℕ) (at n : ℕ) (names : Tally) (left₀ left size : List ℕ) (first : First) (rows : List ℕ) (row next : ℕ) (t : List ℕ) : Type 0 where
   pub walking : Passed 30 mode count s at n (SoFar deep layout start end from s names left size first before row next t)
-  pub slots : length left ≡ 1024
+  pub slots : length left ≡ length left₀
   pub room : length rows ≡ 64
   pub long : length t ≡ length before

@@ -118,8 +118,8 @@ fn entries(
     size: &mut [usize],
     t: &mut [u64],
 ) -> Run
-    requires { ⌜ (length (now left) ≡ 1024) × (length (now size) ≡ 1024) × Modes mode count ⌝ }
-    ensures { λ r. ⌜ (r .end ≡ code (rest mode count 30 (now (s .entry)))) × (length (now (left .exit)) ≡ 1024) × Walked deep (layoutOf layout) start mode count (now (s .entry)) (r .names) (now (left .exit)) (now (size .exit)) (r .first) × (deep ≡ true → AllLaid layout start end from mode count (now (s .entry)) (now (t .entry)) (now (t .exit))) ⌝ }
+    requires { ⌜ (length (now size) ≡ length (now left)) × Modes mode count ⌝ }
+    ensures { λ r. ⌜ (r .end ≡ code (rest mode count 30 (now (s .entry)))) × (length (now (left .exit)) ≡ length (now (left .entry))) × Walked deep (layoutOf layout) start mode count (now (s .entry)) (r .names) (now (left .exit)) (now (size .exit)) (r .first) × (deep ≡ true → AllLaid layout start end from mode count (now (s .entry)) (now (t .entry)) (now (t .exit))) ⌝ }
 {
     let mut at = 0;
     let mut due = count;
@@ -239,8 +239,8 @@ pub fn objects(layout: u64, c: &[u8], start: u64, deep: bool) -> Whole
 pub fn lay(layout: u64, c: &[u8], start: u64, end: usize, from: usize, t: &mut [u64])
     ensures { λ r. ⌜ Written layout (now (c .entry)) start end from (now (t .entry)) (now (t .exit)) ⌝ }
 {
-    let mut left = [0usize; 1024];
-    let mut size = [0usize; 1024];
+    let mut left = [0usize; 0];
+    let mut size = [0usize; 0];
     match walk::map(&c[0..]) {
         Opening::NotOpen => {}
         Opening::Opened(mode, count, head) => {

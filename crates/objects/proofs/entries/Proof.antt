@@ -1,7 +1,7 @@
 -- `objects::entries` meets its contract: a law for each branch. The loop keeps what was noted and put of the pairs passed.
 use Prim.Native.Nat.{_-_}
 use native.Mathlib.Omega.{arith}
-use mathlib.Core.Path.{refl, _∙_, sym}
+use mathlib.Core.Path.{refl, _∙_}
 use lib.ListN.{length}
 use Rattle.walk.proofs.Passed as walked
 use Rattle.objects.proofs.Laying as laying
@@ -14,7 +14,7 @@ use Rattle.objects.proofs.entries.Tie as tie
 
 abbrev Inv-loop : tie.InvT-loop
 Inv-loop layout s start deep mode count end from left₀ size₀ t₀ at₀ due₀ names₀ first₀ rows₀ row₀ next₀ left size t at due names first rows row next =
-    looping.Looping deep layout start end from mode count s t₀ at due names left size first rows row next t
+    looping.Looping deep layout start end from mode count s t₀ at due names left₀ left size first rows row next t
 
 abbrev μ-loop : tie.MeasureT-loop
 μ-loop layout s start deep mode count end from left₀ size₀ t₀ at₀ due₀ names₀ first₀ rows₀ row₀ next₀ left size t at due names first rows row next = length s - at
@@ -27,8 +27,8 @@ entries-spec =
     μ-loop
     (λ c. let b4 = c .before .before .before .before in
     record {
-      walking = walked.passed-starts (b4 .pre .2) (omega arith) (record { kept = looping.none-kept _ _ _ _ _ _ ((b4 .pre .1) ∙ sym (b4 .pre .0)); laid = λ d. objecting.none-laid _ _ _ _ _ });
-      slots = b4 .pre .0;
+      walking = walked.passed-starts (b4 .pre .1) (omega arith) (record { kept = looping.none-kept _ _ _ _ _ _ (b4 .pre .0); laid = λ d. objecting.none-laid _ _ _ _ _ });
+      slots = refl;
       room = refl;
       long = refl;
     })

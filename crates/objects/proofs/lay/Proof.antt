@@ -1,7 +1,5 @@
 -- `objects::lay` meets its contract: a law for each branch.
 use mathlib.Core.Path.{refl}
-use lib.ListN.{length-replicate}
-use Prim.Native.Nat.{ℕ}
 use Rattle.table.proofs.ObjectLoop as objecting
 use Rattle.walk.proofs.Opens as opens
 use borrow.Author.Needs.{needs}
@@ -26,7 +24,7 @@ lay-spec =
     (λ c. search needs)
     (λ c. search needs)
     (λ c κs. let b5 = c .before .before .before .before .before in let b7 = b5 .before .before in let b11 = b7 .before .before .before .before in
-    (length-replicate {A = ℕ} 1024 0, length-replicate {A = ℕ} 1024 0, opens.modes (b11 .args .c .now) _ (b7 .map .ensures) _ _ _ (b5 .mode .given .1)))
+    (refl, opens.modes (b11 .args .c .now) _ (b7 .map .ensures) _ _ _ (b5 .mode .given .1)))
     (λ c. let b2 = c .before .before in let b6 = b2 .before .before .before .before in let a = b6 .args in
     objecting.no-map (a .layout) (a .c .now) (a .start) (a .end) (a .from) (a .t .now) _ _ (b2 .map .ensures) (c .enum-told .given .1))
     (λ c. search needs)

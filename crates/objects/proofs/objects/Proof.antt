@@ -1,9 +1,7 @@
 -- `objects::objects` meets its contract: a law for each branch.
 use native.Mathlib.Omega.{arith}
-use mathlib.Core.Path.{ap, _∙_}
-use lib.ListN.{length-replicate}
+use mathlib.Core.Path.{refl, ap, _∙_}
 use borrow.Rule.Slice.PartAt.{part-to-end}
-use Prim.Native.Nat.{ℕ}
 use Rattle.cbor.specs.Ending.{code, itemEnd}
 use Rattle.meaning.specs.Layouts.{layoutOf}
 use Rattle.objects.proofs.Walks as walks
@@ -35,7 +33,7 @@ objects-spec =
     (λ c. search needs)
     (λ c. search needs)
     (λ c κs. let b5 = c .before .before .before .before .before in let b7 = b5 .before .before in let b10 = b7 .before .before .before in
-    (length-replicate {A = ℕ} 1024 0, length-replicate {A = ℕ} 1024 0, opens.modes (b10 .args .c .now) _ (b7 .map .ensures) _ _ _ (b5 .mode .given .1)))
+    (refl, opens.modes (b10 .args .c .now) _ (b7 .map .ensures) _ _ _ (b5 .mode .given .1)))
     (λ c. let b10 = c .before .before .before .before .before .before .before .before .before .before in let b12 = b10 .before .before in let b15 = b12 .before .before .before in
     opens.size-inside (b15 .args .c .now) _ (b12 .map .ensures) _ _ _ (b10 .mode .given .1))
     (λ c. let b10 = c .before .before .before .before .before .before .before .before .before .before in let b12 = b10 .before .before in let b15 = b12 .before .before .before in
