@@ -74,7 +74,7 @@ enum zt_refusal {
  * Bytes of stack to have free for any call. Measured, not proved: the deepest use seen on files at every limit lies below it, and the tests measure
  * it anew (c/stack.c). zt_merge takes the most: while it holds the names of both files, it reads each, which takes as many again.
  */
-#define ZT_STACK 51200
+#define ZT_STACK 52224
 
 /* Document 01's limits, and how many numbers the largest table has. */
 #define ZT_OBJECTS_MOST 1024
