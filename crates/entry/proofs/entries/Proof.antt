@@ -165,7 +165,8 @@ loop-less c =
 loop-again : tie.Need-loop-again Inv-loop μ-loop
 loop-again c = record {
   walking =
-      walked.folds-on (c .before .before .before .before .before .before .before .before .before .loop .inv .walking) (c .before .before .before .before .before .before .before .past-key .ensures) (c .before .before .before .before .before .k .given .1) (c .before .before .skip .ensures) (omega (arith, c .before .if1 .left)) (λ p key value. choosing.one-more _ _ (c .before .before .before .before .before .before .before .before .before .before .before .before .args .s .now) (c .before .before .before .before .before .before .before .before .before .loop .at) _ _ _ _ (c .chosen .ensures) p _ _ key value);
+      walked.folds-on (c .before .before .before .before .before .before .before .before .before .loop .inv .walking) (c .before .before .before .before .before .before .before .past-key .ensures) (c .before .before .before .before .before .k .given .1) (c .before .before .skip .ensures) (omega (arith, c .before .if1 .left))
+      (λ p key value. choosing.one-more _ _ (c .before .before .before .before .before .before .before .before .before .before .before .before .args .s .now) (c .before .before .before .before .before .before .before .before .before .loop .at) _ _ _ _ (c .chosen .ensures) p _ _ key value);
   few = omega (
     arith,
     c .before .before .before .before .before .before .before .before .before .loop .inv .few,
