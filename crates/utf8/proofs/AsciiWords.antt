@@ -12,7 +12,7 @@ use borrow.Author.Tests.{ltb-true, ltb-false}
 use borrow.Rule.Slice.PartAt.{part-to-end}
 use Rattle.endian.specs.Word.{word}
 use Rattle.meaning.specs.Text.{utf8}
-use Rattle.utf8.specs.Lead.{ranges, Ends}
+use Rattle.utf8.specs.Lead.{ranges, Ends, Rest}
 use Rattle.utf8.proofs.Utf8Steps.{Says, lead-low}
 use Rattle.text.proofs.WordsDecide.{Bytes}
 
@@ -65,6 +65,18 @@ whole-word {t} {i} h ht k p e z l m n =
     let low = low-bytes t ht k p 0 0 (ap (λ u. bitAnd u (highest k 0)) (sym e) ∙ z) .1 in
     whole-run (p + k - i) h (omega arith) n (λ j x y. low j (omega arith) y)
 
+-- where all up to k is whole, the rest decides, and the other way
+pub whole-rest : {t : List ℕ} {k : ℕ} → Whole t k → k ≤ length t → Rest t k
+unfolding utf8 ranges
+whole-rest h l = record { inside = l; decides = h .says }
+
+pub rest-is-whole : {t : List ℕ} {k : ℕ} → Rest t k → Whole t k
+unfolding utf8 ranges
+rest-is-whole r = record { says = r .decides }
+
+pub rest-of-all : {t : List ℕ} {k : ℕ} → Rest (take (length t - 0) (drop 0 t)) k → Rest t k
+rest-of-all {t} {k} r = rw (part-to-end t 0) at r
+
 -- the part from there on decides
 pub rest-decides : {t : List ℕ} {i : ℕ} {r : Bool} → Whole t i → r ≡ utf8 (take (length t - i) (drop i t)) → r ≡ utf8 t
 unfolding utf8 ranges
@@ -75,6 +87,11 @@ module _ {t : List ℕ} {i : ℕ} (h : Whole t i) where
   rest-is : utf8 t ≡ utf8 (drop i t)
   unfolding utf8 ranges
   rest-is = h .says
+
+  pub rest-on : {k : ℕ} → i ≤ length t → Rest (take (length t - i) (drop i t)) k → Rest t (i + k)
+  rest-on {k} l e =
+      let z : k ≤ length (drop i t) = rw (part-to-end t i) at (e .inside) in
+      record { inside = omega (arith, length-drop i t); decides = rest-is ∙ ap utf8 (sym (part-to-end t i)) ∙ e .decides ∙ ap (λ l. utf8 (drop k l)) (part-to-end t i) ∙ ap utf8 (drop-drop k i t) }
 
   pub rest-wrong : {n k : ℕ} → Ends (take (length t - i) (drop i t)) n k → k ≡ 0 → false ≡ utf8 t
   rest-wrong e z = sym (rest-is ∙ ap utf8 (sym (part-to-end t i)) ∙ e .wrong z)

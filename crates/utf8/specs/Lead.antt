@@ -25,6 +25,11 @@ pub record Leads (b : ℕ) (r : Lead) : Type 0 where
   pub none-can : r .need ≡ 4 → follow b ≡ none
   pub some-can : (r .need ≡ 4 → ⊥) → follow b ≡ some (ranges (r .need) (r .low) (r .high))
 
+-- the first k bytes are whole characters, so that the rest decides
+pub record Rest (t : List ℕ) (k : ℕ) : Type 0 where
+  pub inside : k ≤ length t
+  pub decides : utf8 t ≡ utf8 (drop k t)
+
 -- the first k bytes, of n or more, are whole characters, so that the rest decides; k is 0 if they can't be
 pub record Ends (t : List ℕ) (n k : ℕ) : Type 0 where
   pub wrong : k ≡ 0 → utf8 t ≡ false

@@ -1,8 +1,9 @@
-// UTF-8: eight bytes at a time while all are below 128; a word that has another is passed character by character, and then words are tried again.
+// UTF-8: 32 bytes at a time while all are below 128, then eight; a word that has another is passed character by character, and then words are tried again.
 use endian::be4;
 use endian::be8;
 use endian::wide;
 ghost use mathlib.Core.Path.{_≡_};
+ghost use mathlib.Core.Bool.{true};
 ghost use Prim.Native.Nat.{_≤_};
 ghost use lib.ListN.{length};
 ghost use Rattle.meaning.specs.Text as meant;
@@ -198,13 +199,47 @@ fn utf8_by_halves(t: &[u8]) -> bool
     true
 }
 
+// The first 32 bytes are below 128.
+fn low_at_first(t: &[u8]) -> bool
+    requires { ⌜ 32 ≤ length (now t) ⌝ }
+    ensures { λ r. ⌜ (r ≡ true → leads.Rest (now (t .entry)) 32) ⌝ }
+{
+    if be8(t, 0) & HIGH_OF_EIGHT != 0 {
+        return false;
+    }
+    if be8(t, 8) & HIGH_OF_EIGHT != 0 {
+        return false;
+    }
+    if be8(t, 16) & HIGH_OF_EIGHT != 0 {
+        return false;
+    }
+    be8(t, 24) & HIGH_OF_EIGHT == 0
+}
+
+// So many bytes, by 32, are below 128 before one that isn't.
+fn low_on(t: &[u8]) -> usize
+    ensures { λ r. ⌜ leads.Rest (now (t .entry)) r ⌝ }
+{
+    let mut i: usize = 0;
+    let mut left = t.len() / 32;
+    while 0 < left {
+        if low_at_first(&t[i..]) {
+            i += 32;
+            left -= 1;
+            continue;
+        }
+        return i;
+    }
+    i
+}
+
 // The same of eight bytes or more, by words; the last word overlaps, and what it doesn't settle goes byte by byte.
 fn utf8_by_words(t: &[u8]) -> bool
     requires { ⌜ 8 ≤ length (now t) ⌝ }
     ensures { λ r. ⌜ r ≡ meant.utf8 (now (t .entry)) ⌝ }
 {
     let last = t.len() - 8;
-    let mut i: usize = 0;
+    let mut i = low_on(&t[0..]);
     while i < last {
         if be8(&t[i..], 0) & HIGH_OF_EIGHT != 0 {
             let k = eight_on(&t[i..]);

@@ -1,4 +1,4 @@
--- `text::utf::utf8_by_words` meets its contract. The loop's invariant: up to i all is whole characters; the last word overlaps. Assumes nothing.
+-- `utf8::utf8_by_words` meets its contract. The loop's invariant: up to i all is whole characters; the last word overlaps. Assumes nothing.
 use Prim.Native.Nat.{_-_, _≤_}
 use mathlib.Core.Path.{_∙_}
 use native.Mathlib.Omega.{arith}
@@ -23,7 +23,11 @@ utf8-by-words-spec =
     Inv-loop
     μ-loop
     (λ c. search needs)
-    (λ c. (omega arith, steps.says-all _))
+    (λ c. search needs)
+    (λ c. search needs)
+    (λ c. search needs)
+    (λ c κs. search needs)
+    (λ c. let r = ascii.rest-of-all (c .low-on .ensures) in (r .inside, ascii.rest-is-whole r))
     (λ c. search needs)
     (λ c. search needs)
     (λ c. search needs)
@@ -40,7 +44,7 @@ utf8-by-words-spec =
     (λ c. search needs)
     (λ c. search needs)
     (λ c. let l = c .before .before .before .before .loop in
-    (omega arith, ascii.whole-word (l .inv .1) (λ j. omega (arith, (c .before .before .before .before .before .shared-slice-known .given) j)) 8 (l .i) ((c .before .be8 .ensures) ∙ words.word-part 8 _ (l .i)) (omega arith) (omega arith) (omega arith) (omega arith)))
+    (omega arith, ascii.whole-word (l .inv .1) (λ j. omega (arith, (c .before .before .before .before .before .before .before .shared-slice-known .given) j)) 8 (l .i) ((c .before .be8 .ensures) ∙ words.word-part 8 _ (l .i)) (omega arith) (omega arith) (omega arith) (omega arith)))
     (λ c. search needs)
     (λ c. search needs)
     (λ c. search needs)
@@ -50,7 +54,7 @@ utf8-by-words-spec =
     (λ c. search needs)
     (λ c κs. search needs)
     (λ c. ascii.rest-decides (c .before .before .before .before .before .before .loop .inv .1) (c .utf8-by-bytes .ensures))
-    (λ c. let l = c .before .before .before .before .loop in let a = c .before .before .before .before .before .before .args in
+    (λ c. let l = c .before .before .before .before .loop in let a = c .before .before .before .before .before .before .before .before .args in
     steps.says-end
-    (ascii.whole-word (l .inv .1) (λ j. omega (arith, (c .before .before .before .before .before .shared-slice-known .given) j)) 8 (length (a .t .now) - 8) ((c .before .be82 .ensures) ∙ words.word-part 8 _ (length (a .t .now) - 8)) (omega arith) (omega arith) (omega arith) (omega arith))
+    (ascii.whole-word (l .inv .1) (λ j. omega (arith, (c .before .before .before .before .before .before .before .shared-slice-known .given) j)) 8 (length (a .t .now) - 8) ((c .before .be82 .ensures) ∙ words.word-part 8 _ (length (a .t .now) - 8)) (omega arith) (omega arith) (omega arith) (omega arith))
     (omega arith)))
