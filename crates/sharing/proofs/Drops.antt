@@ -59,13 +59,18 @@ module _ (size engine : ℕ) (l : List ℕ) where
     pub loaded-small : engine ≤ 1
     loaded-small = small (at .who) (at .number-is)
 
+    pub rows-low : p + q ≤ size
+    rows-low = inside size engine l p q o c at
+
     -- both parts lie in the list
     pub rows-inside : p + q ≤ length l
-    rows-inside = let z = inside size engine l p q o c at in let y = whole size l engine p q o c h in omega (arith, z, y)
+    rows-inside = let z = rows-low in let y = whole size l engine p q o c h in omega (arith, z, y)
+
+    pub state-fits : (r : ℕ) → r ≡ size + 8 * engine → r + 8 ≤ length l
+    state-fits r e = let y = whole size l engine p q o c h in let w = loaded-small in omega (arith, y, w, e)
 
     pub state-inside : (x : List ℕ) → x ≡ sets l p (replicate q 0) → (r : ℕ) → r ≡ size + 8 * engine → r + 8 ≤ length x
-    state-inside x f r e =
-        let y = whole size l engine p q o c h in let n : length x ≡ length l = ap length f ∙ length-sets l p (replicate q 0) in let w = loaded-small in omega (arith, n, y, w, e)
+    state-inside x f r e = let n : length x ≡ length l = ap length f ∙ length-sets l p (replicate q 0) in let y = state-fits r e in omega (arith, n, y)
 
     drop-writes : (w : Who) (s : Shared) → Opened size l s → engine ≡ numberOf w → p ≡ placeOf size w (own w s) → q ≡ heldOf (own w s .state)
         → closed (given w s) ≡ sets (sets l p (replicate q 0)) (size + 8 * engine) (replicate 8 0)

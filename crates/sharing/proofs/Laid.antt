@@ -5,7 +5,6 @@ use mathlib.Core.List.{List, [], _∷_, _++_}
 use mathlib.Core.Path.{_≡_, refl, sym, ap, ap₂, _∙_}
 use lib.ListN.{length, take, drop, replicate, length-drop, length-replicate, take-append-drop}
 use lib.Seq.{sets, length-take-le}
-use borrow.Rule.Slice.PartAt.{part-to-end}
 use borrow.Rule.Slice.PartMut.{putMid, postOf, put-same}
 use Rattle.meaning.specs.Check.{Check, pass, refuse}
 use Rattle.meaning.specs.Columns.{objectWidth, componentWidth}
@@ -47,10 +46,10 @@ module _ (size engine free layout : ℕ) (file l : List ℕ) where
   Lays a after = (a ≡ read.answered (readInto (layoutOf layout) file free)) × (after ≡ laid size engine l (readInto (layoutOf layout) file free))
 
   abbrev into : List ℕ → Check Reading
-  into t = readInto (layoutOf layout) (take (length file - 0) (drop 0 file)) (length t)
+  into t = readInto (layoutOf layout) file (length t)
 
   into-is : (t : List ℕ) → length t ≡ free → into t ≡ readInto (layoutOf layout) file free
-  into-is t e = ap₂ {A = List ℕ} {B = ℕ} (λ f n. readInto (layoutOf layout) f n) (part-to-end file 0) e
+  into-is t e = ap (λ (n : ℕ). readInto (layoutOf layout) file n) e
 
   abbrev Fitting : Check Reading → Type 0
   Fitting k = (r : Reading) → k ≡ pass r → needed r ≤ free

@@ -126,11 +126,6 @@ module _ (size engine layout : ℕ) (file l : List ℕ) where
     answer-found : is.answer (answered size engine asks l) ≡ read.answered found
     answer-found = ap is.answer answered-found ∙ answer-took found
 
-    -- the code hands the whole file on
-    pub handed : (a : Answer) (after : List ℕ) → (file₀ : List ℕ) → file₀ ≡ file
-        → (a ≡ read.answered (readInto (layoutOf layout) file₀ free)) × (after ≡ laid size engine l (readInto (layoutOf layout) file₀ free)) → (a ≡ read.answered found) × (after ≡ laid size engine l found)
-    handed a x f e h = subst (λ (y : List ℕ). (a ≡ read.answered (readInto (layoutOf layout) y free)) × (x ≡ laid size engine l (readInto (layoutOf layout) y free))) e h
-
     -- the reader refuses: nothing was laid
     pub refused-loads : (a : Answer) (after : List ℕ) → (a ≡ read.answered found) × (after ≡ laid size engine l found) → 0 < a .number → Loads a after
     unfolding answer laid taken

@@ -1,5 +1,5 @@
 -- View, listing and what is held, from where an engine's rows stand.
-use Prim.Native.Nat.{ℕ, zero, suc, _+_, _-_}
+use Prim.Native.Nat.{ℕ, zero, suc, _+_, _-_, _*_}
 use native.Mathlib.Omega.{arith}
 use mathlib.Core.List.{List, [], _∷_, _++_}
 use mathlib.Core.Bool.{Bool, true, false, cond, not}
@@ -51,14 +51,14 @@ module _ (size engine : ℕ) (l : List ℕ) where
     said (refuse n o c) = refl
 
     pub loaded-view : (p q o c : ℕ) → standing size engine l ≡ Loaded p q o c
-        → views.told (viewed (take (length file - 0) (drop 0 file)) (take (p + q - p) (drop p l)) o c index) ≡ extent (answered size engine (view file index) l)
+        → views.told (viewed file (take (p + q - p) (drop p l)) o c index) ≡ extent (answered size engine (view file index) l)
     unfolding told
     loaded-view p q o c h =
         let i = loaded-at size l engine p q o c h in
         let r = rows-there size engine l p q o c i in
         let a : Engine = own (i .who) (i .shared) in
-        let v : viewed (take (length file - 0) (drop 0 file)) (take (p + q - p) (drop p l)) o c index ≡ viewed file (a .rows) (objectsOf (a .state)) (componentsOf (a .state)) index =
-        ap₂ {A = List ℕ} {B = List ℕ} (λ f t. viewed f t o c index) (part-to-end file 0) r ∙ ap₂ {A = ℕ} {B = ℕ} (λ x y. viewed file (a .rows) x y index) (i .objects-is) (i .components-is) in
+        let v : viewed file (take (p + q - p) (drop p l)) o c index ≡ viewed file (a .rows) (objectsOf (a .state)) (componentsOf (a .state)) index =
+        ap (λ (t : List ℕ). viewed file t o c index) r ∙ ap₂ {A = ℕ} {B = ℕ} (λ x y. viewed file (a .rows) x y index) (i .objects-is) (i .components-is) in
         ap views.told v ∙ said (viewed file (a .rows) (objectsOf (a .state)) (componentsOf (a .state)) index)
         ∙ sym (ap extent (told-there size engine l p q o c i (view file index) ∙ (let z = i .loaded in rw z refl)))
 
@@ -102,15 +102,15 @@ module _ (size engine : ℕ) (l : List ℕ) where
         by false = refl
 
     pub loaded-list : (p q o c : ℕ) → standing size engine l ≡ Loaded p q o c → (r : Listed) (after : List ℕ)
-        → r ≡ panels.told (lines.listed (take (length file - 0) (drop 0 file)) (take (p + q - p) (drop p l)) o c) (length lentText)
-        → after ≡ panels.textAfter (lines.listed (take (length file - 0) (drop 0 file)) (take (p + q - p) (drop p l)) o c) lentText → Shows r after
+        → r ≡ panels.told (lines.listed file (take (p + q - p) (drop p l)) o c) (length lentText)
+        → after ≡ panels.textAfter (lines.listed file (take (p + q - p) (drop p l)) o c) lentText → Shows r after
     unfolding told
     loaded-list p q o c h r after e f =
         let i = loaded-at size l engine p q o c h in
         let a : Engine = own (i .who) (i .shared) in
         let k : Check (List ℕ) = lines.listed file (a .rows) (objectsOf (a .state)) (componentsOf (a .state)) in
-        let v : lines.listed (take (length file - 0) (drop 0 file)) (take (p + q - p) (drop p l)) o c ≡ k =
-        ap₂ {A = List ℕ} {B = List ℕ} (λ x t. lines.listed x t o c) (part-to-end file 0) (rows-there size engine l p q o c i)
+        let v : lines.listed file (take (p + q - p) (drop p l)) o c ≡ k =
+        ap (λ (t : List ℕ). lines.listed file t o c) (rows-there size engine l p q o c i)
         ∙ ap₂ {A = ℕ} {B = ℕ} (λ x y. lines.listed file (a .rows) x y) (i .objects-is) (i .components-is) in
         let w : answered size engine asks l ≡ fitting k = told-there size engine l p q o c i asks ∙ (let z = i .loaded in rw z refl) in (
           e ∙ ap (λ (x : Check (List ℕ)). panels.told x (length lentText)) v ∙ list-told k ∙ ap listed (sym w),
@@ -130,15 +130,14 @@ module _ (size engine : ℕ) (l : List ℕ) where
       let w : answered size engine holds l ≡ pass (has (replicate 7 0)) = idle-told free i holds ∙ (let z = i .idle in rw z refl) in
       sym (ap held w)
 
-  first-state : (w : Who) (s : Shared) → opened size l ≡ pass s → engine ≡ numberOf w → engine ≡ 0 → take 8 (drop size l) ≡ own w s .state
+  state-there : (w : Who) (s : Shared) → length l ≡ size + 16 → opened size l ≡ pass s → engine ≡ numberOf w → take 8 (drop (size + 8 * engine) l) ≡ own w s .state
   unfolding partOf
-  first-state first s e n z = ap (λ (a : Engine). a .state) (part-opened size first l s e)
-  first-state second s e n z = absurd (omega (arith, n, z))
-
-  second-state : (w : Who) (s : Shared) → length l ≡ size + 16 → opened size l ≡ pass s → engine ≡ numberOf w → (engine ≡ 0 → ⊥) → take 8 (drop (size + 8) l) ≡ own w s .state
-  unfolding partOf
-  second-state first s k e n z = absurd (z n)
-  second-state second s k e n z = sym (back-is size l k) ∙ ap (λ (a : Engine). a .state) (part-opened size second l s e)
+  state-there first s k e n =
+      let z : size + 8 * engine ≡ size = omega (arith, n) in
+      ap (λ (i : ℕ). take 8 (drop i l)) z ∙ ap (λ (a : Engine). a .state) (part-opened size first l s e)
+  state-there second s k e n =
+      let z : size + 8 * engine ≡ size + 8 = omega (arith, n) in
+      ap (λ (i : ℕ). take 8 (drop i l)) z ∙ sym (back-is size l k) ∙ ap (λ (a : Engine). a .state) (part-opened size second l s e)
 
   module _ (p q o c : ℕ) (h : standing size engine l ≡ Loaded p q o c) where
     abbrev at : LoadedAt size engine l p q o c
@@ -151,11 +150,11 @@ module _ (size engine : ℕ) (l : List ℕ) where
         let w : answered size engine holds l ≡ pass (has (placeOf size (at .who) a ∷ take 6 (drop 1 (a .state)))) = told-there size engine l p q o c at holds ∙ (let z = at .loaded in rw z refl) in
         ap₂ {A = ℕ} {B = List ℕ} (λ x y. heldWith 0 (x ∷ take 6 (drop 1 y))) (at .place-is) e ∙ sym (ap held w)
 
-    pub first-holds : engine ≡ 0 → heldWith 0 (p ∷ take 6 (drop 1 (take 8 (drop size l)))) ≡ held (answered size engine holds l)
-    first-holds z = held-so (take 8 (drop size l)) (first-state (at .who) (at .shared) (at .opens) (at .number-is) z)
-
-    pub second-holds : (engine ≡ 0 → ⊥) → heldWith 0 (p ∷ take 6 (drop 1 (take 8 (drop (size + 8) l)))) ≡ held (answered size engine holds l)
-    second-holds z = held-so (take 8 (drop (size + 8) l)) (second-state (at .who) (at .shared) (whole size l engine p q o c h) (at .opens) (at .number-is) z)
+    pub loaded-holds : (r : ℕ) → r ≡ size + 8 * engine → heldWith 0 (p ∷ take 6 (drop 1 (take (r + 8 - r) (drop r l)))) ≡ held (answered size engine holds l)
+    loaded-holds r e =
+        let z : r + 8 - r ≡ 8 = omega arith in
+        held-so (take (r + 8 - r) (drop r l))
+        (ap₂ {A = ℕ} {B = ℕ} (λ i j. take i (drop j l)) z e ∙ state-there (at .who) (at .shared) (whole size l engine p q o c h) (at .opens) (at .number-is))
 
 pub held-is : (s : List ℕ) → length s ≡ 8 → (p : ℕ)
     → _≡_ {A = Held} (record { number = 0; place = p; numbers = getD s 1 0; objects = getD s 2 0; components = getD s 3 0; start = getD s 4 0; attributes = getD s 5 0; length = getD s 6 0 }) (heldWith 0 (p ∷ take 6 (drop 1 s)))

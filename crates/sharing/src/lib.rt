@@ -118,10 +118,10 @@ fn lay(shared: &mut [u64], engine: u64, free: usize, layout: u64, file: &[u8]) -
     ensures left { λ r. ⌜ now (shared .exit) ≡ is.laid 65536 engine (now (shared .entry)) (readInto (layoutOf layout) (now (file .entry)) free) ⌝ }
 {
     if engine == 0 {
-        return read_as(layout, &file[0..], &mut shared[0..free]);
+        return read_as(layout, file, &mut shared[0..free]);
     }
     let begin = states::TABLE - free;
-    read_last(layout, &file[0..], &mut shared[begin..states::TABLE])
+    read_last(layout, file, &mut shared[begin..states::TABLE])
 }
 
 // A file's rows are laid into what is free, and the engine's state says so.
@@ -133,7 +133,7 @@ pub fn load(shared: &mut [u64], engine: u64, layout: u64, file: &[u8]) -> Answer
         Place::Nowhere => refused(numbers::INDEX),
         Place::Loaded(_, _, _, _) => refused(numbers::BUSY),
         Place::Idle(free) => {
-            let a = lay(shared, engine, free, layout, &file[0..]);
+            let a = lay(shared, engine, free, layout, file);
             if 0 < a.number {
                 return a;
             }
@@ -191,7 +191,7 @@ pub fn release(shared: &mut [u64], engine: u64) -> u64
 pub fn view(shared: &[u64], engine: u64, file: &[u8], index: u64) -> Extent
     ensures { λ r. ⌜ r ≡ is.extent (answered 65536 engine (view (now (file .entry)) index) (now (shared .entry))) ⌝ }
 {
-    match states::standing(&shared[0..], engine) {
+    match states::standing(shared, engine) {
         Place::Nowhere => Extent {
             number: numbers::INDEX,
             offset: 0,
@@ -204,7 +204,7 @@ pub fn view(shared: &[u64], engine: u64, file: &[u8], index: u64) -> Extent
         },
         Place::Loaded(place, numbers, objects, components) => {
             let end = place + numbers;
-            view::range(&file[0..], &shared[place..end], objects, components, index)
+            view::range(file, &shared[place..end], objects, components, index)
         }
     }
 }
@@ -214,7 +214,7 @@ pub fn list(shared: &[u64], engine: u64, file: &[u8], text: &mut [u8]) -> Listed
     ensures answer { λ r. ⌜ r ≡ is.listed (answered 65536 engine (list (now (file .entry)) (length (now (text .entry)))) (now (shared .entry))) ⌝ }
     ensures written { λ r. ⌜ now (text .exit) ≡ is.textAfter (answered 65536 engine (list (now (file .entry)) (length (now (text .entry)))) (now (shared .entry))) (now (text .entry)) ⌝ }
 {
-    match states::standing(&shared[0..], engine) {
+    match states::standing(shared, engine) {
         Place::Nowhere => Listed {
             number: numbers::INDEX,
             length: 0,
@@ -225,7 +225,7 @@ pub fn list(shared: &[u64], engine: u64, file: &[u8], text: &mut [u8]) -> Listed
         },
         Place::Loaded(place, numbers, objects, components) => {
             let end = place + numbers;
-            panel::list(&file[0..], &shared[place..end], objects, components, text)
+            panel::list(file, &shared[place..end], objects, components, text)
         }
     }
 }
@@ -265,14 +265,13 @@ fn held_by(s: &[u64], place: usize) -> Held
 pub fn holds(shared: &[u64], engine: u64) -> Held
     ensures { λ r. ⌜ r ≡ is.held (answered 65536 engine holds (now (shared .entry))) ⌝ }
 {
-    match states::standing(&shared[0..], engine) {
+    match states::standing(shared, engine) {
         Place::Nowhere => nothing_held(numbers::INDEX),
         Place::Idle(_) => nothing_held(0),
         Place::Loaded(place, _, _, _) => {
-            if engine == 0 {
-                return held_by(&shared[states::TABLE..states::SECOND], place);
-            }
-            held_by(&shared[states::SECOND..states::SHARED], place)
+            let at = states::state_at(engine);
+            let end = at + states::STATE;
+            held_by(&shared[at..end], place)
         }
     }
 }

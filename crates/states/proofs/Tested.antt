@@ -2,28 +2,25 @@
 use Prim.Native.Nat.{ℕ, zero, suc, _+_, _-_, _*_, _/_, _≤_, _<_}
 use native.Mathlib.Numerals.{add-one}
 use native.Mathlib.Omega.{arith}
-use mathlib.Core.List.{List, [], _∷_, _++_}
+use mathlib.Core.List.{List, [], _∷_}
 use mathlib.Core.Bool.{Bool, true, false, cond, _&&_}
-use mathlib.Core.Path.{_≡_, refl, sym, ap, ap₂, _∙_, subst}
-use lib.Dec.{eqb, leb}
+use mathlib.Core.Path.{_≡_, refl, sym, ap, _∙_}
+use lib.Dec.{eqb}
 use lib.ListN.{length, take, drop, getD, length-drop, drop-of-length-le}
 use lib.Seq.{drop-cons, drop-drop, take-all, length-take-le}
-use borrow.Author.Tests.{eq-eqb, ne-eqb, le-leb, lt-leb, leb-true, eqb-true}
+use borrow.Author.Tests.{eq-eqb, ne-eqb, le-leb, lt-leb, eqb-true}
 use borrow.Rule.Slice.PartAt.{part-to-end}
-use Rattle.meaning.specs.Check.{Check, pass, refuse, _>>=_, _>>_, _unless_}
+use Rattle.meaning.specs.Check.{pass, refuse}
 use Rattle.meaning.specs.Refusal.{INDEX}
 use Rattle.meaning.specs.Columns.{objectWidth, componentWidth}
 use Rattle.meaning.specs.Text.{all}
-use Rattle.engines.specs.Shared.{Who, first, second, whoOf, Engine, flagOf, heldOf, objectsOf, componentsOf, layoutColumn, stateSound, Shared, own, partOf, usable, apart, opened}
+use Rattle.engines.specs.Shared.{first, second, flagOf, heldOf, objectsOf, componentsOf, layoutColumn, stateSound, Shared, partOf, usable, apart, opened}
 use Rattle.engines.specs.Calls.{placeOf}
-use Rattle.states.specs.Places.{standsBy, both, stands, standing}
+use Rattle.states.specs.Places.{standsBy, fitting, both, stands, standing}
 use Rattle.states.specs.declared.Usage.{Usage}
 use Rattle.states.specs.declared.Usage.the-variants.{Unusable, Holding}
-use Rattle.states.specs.declared.Place.{Place}
 use Rattle.states.specs.declared.Place.the-variants.{Nowhere, Idle, Loaded}
-use Rattle.engines.proofs.Kept.{eqb-same, Ok}
 use Rattle.engines.proofs.Opens.{Opened, opened-closed}
-use Rattle.engines.proofs.EachCall.{part-opened}
 
 -- ---- exactly so many numbers
 
@@ -46,9 +43,6 @@ module _ (h o c : ℕ) where
           absurd (let w : _≡_ {A = ℕ} 0 1 = ap (λ (b : Bool). cond b 1 0) x in omega (arith, w))))
 
 -- ---- zeros
-
-abbrev isZero : ℕ → Bool
-isZero n = eqb n 0
 
 -- the first i are zeros
 pub record ZerosTo (s : List ℕ) (i : ℕ) : Type 0 where
@@ -117,16 +111,25 @@ stands-loaded s place free h = rw (ne-eqb (flagOf s) 0 h) refl
 pub both-ways : {n m : ℕ} → m ≤ n → n ≤ m → n ≡ m
 both-ways a b = omega (arith, a, b)
 
--- so many numbers are held by each
-module _ (size h k x y : ℕ) (a : x ≡ h) (b : y ≡ k) where
-  pub past-first : size < x → size < h + k
-  past-first c = omega (arith, a, c)
+-- what two states hold
+module _ (size : ℕ) (a b : List ℕ) where
+  pub first-unsound : stateSound a ≡ false → Unusable ≡ fitting size a b
+  unfolding fitting
+  first-unsound h = rw h refl
 
-  pub past-both : x ≤ size → size - x < y → size < h + k
-  past-both c d = omega (arith, a, b, c, d)
+  module _ (h : stateSound a ≡ true) where
+    pub second-unsound : stateSound b ≡ false → Unusable ≡ fitting size a b
+    unfolding fitting
+    second-unsound k = rw (h, k) refl
 
-  pub within-both : x ≤ size → y ≤ size - x → h + k ≤ size
-  within-both c d = omega (arith, a, b, c, d)
+    module _ (k : stateSound b ≡ true) where
+      pub too-many : size < heldOf a + heldOf b → Unusable ≡ fitting size a b
+      unfolding fitting
+      too-many l = rw (h, k, lt-leb (heldOf a + heldOf b) size l) refl
+
+      pub both-fit : heldOf a + heldOf b ≤ size → Holding (heldOf a) (heldOf b) ≡ fitting size a b
+      unfolding fitting
+      both-fit l = rw (h, k, le-leb (heldOf a + heldOf b) size l) refl
 
 module _ (size : ℕ) (l : List ℕ) where
   abbrev front : List ℕ
@@ -151,26 +154,9 @@ module _ (size : ℕ) (l : List ℕ) where
     pub back-eight : length back ≡ 8
     back-eight = let d : length (drop (size + 8) l) ≡ length l - (size + 8) = length-drop (size + 8) l in length-take-le 8 (drop (size + 8) l) (omega (arith, d, n))
 
-    long : eqb (length l) (size + 16) ≡ true
-    long = eq-eqb (length l) (size + 16) n
-
-    pub first-unsound : stateSound front ≡ false → Unusable ≡ both size l
-    unfolding both usable partOf
-    first-unsound a = rw (long, a) refl
-
-    module _ (a : stateSound front ≡ true) where
-      pub second-unsound : stateSound back ≡ false → Unusable ≡ both size l
-      unfolding both usable partOf
-      second-unsound b = let e = back-is in rw (long, a, e, b) refl
-
-      module _ (b : stateSound back ≡ true) where
-        pub too-many : size < heldOf front + heldOf back → Unusable ≡ both size l
-        unfolding both usable partOf
-        too-many h = let e = back-is in rw (long, a, e, b, lt-leb (heldOf front + heldOf back) size h) refl
-
-        pub both-fit : heldOf front + heldOf back ≤ size → Holding (heldOf front) (heldOf back) ≡ both size l
-        unfolding both usable partOf
-        both-fit h = let e = back-is in rw (long, a, e, b, le-leb (heldOf front + heldOf back) size h) refl
+    pub both-are : fitting size front back ≡ both size l
+    unfolding both fitting usable partOf
+    both-are = let e = back-is in rw (eq-eqb (length l) (size + 16) n, e) refl
 
   -- ---- and from there where an engine stands
 

@@ -1,11 +1,11 @@
 -- Where an engine's rows stand in any list of numbers, as the code asks it.
-use Prim.Native.Nat.{ℕ}
+use Prim.Native.Nat.{ℕ, _+_}
 use mathlib.Core.List.{List}
-use mathlib.Core.Bool.{Bool, cond}
+use mathlib.Core.Bool.{Bool, cond, _&&_}
 use lib.ListN.{length}
-use lib.Dec.{eqb}
+use lib.Dec.{eqb, leb}
 use Rattle.meaning.specs.Check.{Check, pass, refuse}
-use Rattle.engines.specs.Shared.{Who, first, second, whoOf, Engine, flagOf, heldOf, objectsOf, componentsOf, Shared, own, partOf, usable, opened}
+use Rattle.engines.specs.Shared.{Who, first, second, whoOf, Engine, flagOf, heldOf, objectsOf, componentsOf, stateSound, Shared, own, partOf, usable, opened}
 use Rattle.engines.specs.Calls.{placeOf}
 use Rattle.states.specs.declared.Usage.{Usage}
 use Rattle.states.specs.declared.Usage.the-variants.{Unusable, Holding}
@@ -19,6 +19,10 @@ standsBy place free state = cond (eqb (flagOf state) 0) (Idle free) (Loaded plac
 module _ (size : ℕ) where
   abbrev bothIf : Bool → ℕ → ℕ → Usage
   bothIf b front back = cond b (Holding front back) Unusable
+
+  -- the numbers that two states hold
+  unfoldable pub fitting : List ℕ → List ℕ → Usage
+  fitting a b = bothIf (stateSound a && stateSound b && leb (heldOf a + heldOf b) size) (heldOf a) (heldOf b)
 
   -- the numbers that both hold
   unfoldable pub both : List ℕ → Usage

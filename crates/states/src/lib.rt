@@ -79,11 +79,26 @@ fn sound(s: &[u64]) -> bool
     true
 }
 
-fn numbers_held(s: &[u64]) -> u64
-    requires { ⌜ length (now s) ≡ 8 ⌝ }
-    ensures { λ r. ⌜ r ≡ heldOf (now (s .entry)) ⌝ }
+// What two states of eight numbers hold, tested; their numbers stand side by side in the table.
+fn fitting(first: &[u64], second: &[u64]) -> Usage
+    requires { ⌜ (length (now first) ≡ 8) × (length (now second) ≡ 8) ⌝ }
+    ensures { λ r. ⌜ r ≡ is.fitting 65536 (now (first .entry)) (now (second .entry)) ⌝ }
 {
-    s[1]
+    if !sound(first) {
+        return Usage::Unusable;
+    }
+    if !sound(second) {
+        return Usage::Unusable;
+    }
+    let front = first[1] as usize;
+    let back = second[1] as usize;
+    if TABLE < front {
+        return Usage::Unusable;
+    }
+    if TABLE - front < back {
+        return Usage::Unusable;
+    }
+    Usage::Holding(front, back)
 }
 
 // Both states, tested.
@@ -96,21 +111,7 @@ fn both(shared: &[u64]) -> Usage
     if SHARED < shared.len() {
         return Usage::Unusable;
     }
-    if !sound(&shared[TABLE..SECOND]) {
-        return Usage::Unusable;
-    }
-    if !sound(&shared[SECOND..SHARED]) {
-        return Usage::Unusable;
-    }
-    let front = numbers_held(&shared[TABLE..SECOND]) as usize;
-    let back = numbers_held(&shared[SECOND..SHARED]) as usize;
-    if TABLE < front {
-        return Usage::Unusable;
-    }
-    if TABLE - front < back {
-        return Usage::Unusable;
-    }
-    Usage::Holding(front, back)
+    fitting(&shared[TABLE..SECOND], &shared[SECOND..SHARED])
 }
 
 fn stands_by(s: &[u64], place: usize, free: usize) -> Place
