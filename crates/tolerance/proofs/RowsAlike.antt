@@ -95,6 +95,10 @@ module _ (L : Layout) (E : Node (Unit {0}) → Node (Unit {0}) → Type 0) (file
   rows-more (suc n) m row more =
       (let z : suc n + m ≡ suc (n + m) = omega arith in ap (λ (j : ℕ). rowsThen j row more) z) ∙ ap (λ (fs : List Field). row ++ fs) (rows-more n m row more)
 
+  -- what precedes, joined otherwise
+  joined-alike : (fs : List Field) (x₁ y₁ l x₂ y₂ k : List ℕ) → Alike fs (x₁ ++ (y₁ ++ l)) (x₂ ++ (y₂ ++ k)) → Alike fs ((x₁ ++ y₁) ++ l) ((x₂ ++ y₂) ++ k)
+  joined-alike fs x₁ y₁ l x₂ y₂ k h = rw (append-assoc x₁ y₁ l, append-assoc x₂ y₂ k) h
+
   module _ (start : ℕ) (header : 8 ≤ start) where
     words-alike : (w₁ w₂ : Word Span) → WordStands L file₁ start w₁ → WordStands L file₂ start w₂ → w₁ .letters ≡ w₂ .letters → TextsAlike file₁ file₂ (wordSpan w₁) (wordSpan w₂)
     unfolding wordSpan
@@ -160,11 +164,9 @@ module _ (L : Layout) (E : Node (Unit {0}) → Node (Unit {0}) → Type 0) (file
         let same : alike (shape o₁ ++ (ending o₁ ++ l)) (shape o₁ ++ (ending o₂ ++ k)) =
         numbers-alike (shape o₁) 9 (nine o₁) (textSpan ∷ mapSpan ∷ number ∷ fs) (ending o₁ ++ l) (ending o₂ ++ k) last in
         let own : alike (shape o₁ ++ (ending o₁ ++ l)) (shape o₂ ++ (ending o₂ ++ k)) =
-        subst (λ (x : List ℕ). alike (shape o₁ ++ (ending o₁ ++ l)) (x ++ (ending o₂ ++ k))) shapes same in
-        let first : alike ((shape o₁ ++ ending o₁) ++ l) (shape o₂ ++ (ending o₂ ++ k)) =
-        subst (λ (x : List ℕ). alike x (shape o₂ ++ (ending o₂ ++ k))) (sym (append-assoc (shape o₁) (ending o₁) l)) own in (
+        subst (λ (x : List ℕ). alike (shape o₁ ++ (ending o₁ ++ l)) (x ++ (ending o₂ ++ k))) shapes same in (
           words-alike (o₁ .name) (o₂ .name) (h₁ .name) (h₂ .name) (ap (λ (o : Object (Unit {0})). o .name .letters) e),
-          subst (λ (x : List ℕ). alike ((shape o₁ ++ ending o₁) ++ l) x) (sym (append-assoc (shape o₂) (ending o₂) k)) first,
+          joined-alike (replicate 9 number ++ textSpan ∷ mapSpan ∷ number ∷ fs) (shape o₁) (ending o₁) l (shape o₂) (ending o₂) k own,
         )
 
     rows-alike : (i : ℕ) (cs₁ cs₂ : List (Component Span)) → Every (ComponentAccepted L file₁ start) cs₁ → Every (ComponentAccepted L file₂ start) cs₂
@@ -180,7 +182,7 @@ module _ (L : Layout) (E : Node (Unit {0}) → Node (Unit {0}) → Type 0) (file
         let done : Alike (componentFields ++ rowsThen (length cs₁) componentFields fs) (componentRow i c₁ ++ (rowsOf i cs₁ ++ l)) (componentRow i c₂ ++ (rowsOf i cs₂ ++ k)) =
         component-alike i c₁ c₂ (h₁ .0) (h₂ .0) first (es .0) (rowsThen (length cs₁) componentFields fs) (rowsOf i cs₁ ++ l) (rowsOf i cs₂ ++ k)
         (rows-alike i cs₁ cs₂ (h₁ .1) (h₂ .1) others (es .1) fs l k more) in
-        rw (append-assoc (componentRow i c₁) (rowsOf i cs₁) l, append-assoc (componentRow i c₂) (rowsOf i cs₂) k) done
+        joined-alike (componentFields ++ rowsThen (length cs₁) componentFields fs) (componentRow i c₁) (rowsOf i cs₁) l (componentRow i c₂) (rowsOf i cs₂) k done
 
     objects-alike : (os₁ os₂ : List (Object Span)) → Every (ObjectAccepted L file₁ start) os₁ → Every (ObjectAccepted L file₂ start) os₂
         → map (mapObject nothing) os₁ ≡ map (mapObject nothing) os₂
@@ -195,7 +197,7 @@ module _ (L : Layout) (E : Node (Unit {0}) → Node (Unit {0}) → Type 0) (file
         let done : Alike (objectFields ++ rowsThen (length os₁) objectFields fs) (objectRow o₁ ++ (objectRows os₁ ++ l)) (objectRow o₂ ++ (objectRows os₂ ++ k)) =
         object-alike o₁ o₂ (h₁ .0) (h₂ .0) first (rowsThen (length os₁) objectFields fs) (objectRows os₁ ++ l) (objectRows os₂ ++ k)
         (objects-alike os₁ os₂ (h₁ .1) (h₂ .1) others fs l k more) in
-        rw (append-assoc (objectRow o₁) (objectRows os₁) l, append-assoc (objectRow o₂) (objectRows os₂) k) done
+        joined-alike (objectFields ++ rowsThen (length os₁) objectFields fs) (objectRow o₁) (objectRows os₁) l (objectRow o₂) (objectRows os₂) k done
 
     components-alike : (i : ℕ) (os₁ os₂ : List (Object Span)) → Every (ObjectAccepted L file₁ start) os₁ → Every (ObjectAccepted L file₂ start) os₂
         → map (mapObject nothing) os₁ ≡ map (mapObject nothing) os₂ → Along Entries os₁ os₂
@@ -216,7 +218,7 @@ module _ (L : Layout) (E : Node (Unit {0}) → Node (Unit {0}) → Type 0) (file
         let done : Alike (rowsThen n componentFields (rowsThen m componentFields fs)) (own₁ ++ (more₁ ++ l)) (own₂ ++ (more₂ ++ k)) =
         rows-alike i (o₁ .components) (o₂ .components) (h₁ .0 .components) (h₂ .0 .components) (ap (λ (o : Object (Unit {0})). o .components) first) (es .0)
         (rowsThen m componentFields fs) (more₁ ++ l) (more₂ ++ k) (components-alike (suc i) os₁ os₂ (h₁ .1) (h₂ .1) others (es .1) fs l k more) in
-        rw (rows-more n m componentFields fs, append-assoc own₁ more₁ l, append-assoc own₂ more₂ k) done
+        rw (rows-more n m componentFields fs) (joined-alike (rowsThen n componentFields (rowsThen m componentFields fs)) own₁ more₁ l own₂ more₂ k done)
 
     pub table-alike : (m₁ m₂ : Model Span) → Every (ObjectAccepted L file₁ start) (m₁ .objects) → Every (ObjectAccepted L file₂ start) (m₂ .objects)
         → mapModel nothing m₁ ≡ mapModel nothing m₂ → Along Entries (m₁ .objects) (m₂ .objects)

@@ -1,19 +1,21 @@
 -- By computation: one exporter's file and the other's, with the fields of all three kinds of map in reverse, unknown ones among them, meet Req 06's premise and are accepted with
 -- two rows each; with a fault in a component they get its refusal; and a file with its objects exchanged is told apart.
-use Prim.Native.Nat.{ℕ}
+use Prim.Native.Nat.{ℕ, _+_}
+use Prim.Native.String.{String}
 use native.Mathlib.Omega.{arith}
-use mathlib.Core.List.{List, [], _∷_, _++_}
+use mathlib.Core.List.{List, [], _∷_, _++_, reverse}
 use mathlib.Core.Path.{_≡_, refl, ap, sym, subst}
 use lib.ListN.{replicate}
 use Rattle.meaning.specs.Columns.{shapeColumn}
-use Rattle.meaning.specs.Tree.{Node, Pair}
+use Rattle.meaning.specs.Tree.{Node, Pair, uint, text, array, dict, simple, ε, nodes, pairs}
+use Rattle.meaning.specs.Text.{ascii}
 use Rattle.meaning.specs.Check.{refuse}
 use Rattle.meaning.specs.Refusal.{ALIGN}
 use Rattle.meaning.specs.Computed.{computed}
 use Rattle.meaning.specs.Layouts.{current, old}
 use Rattle.meaning.specs.Drop.{isUnknown, plainVersion, known, holds, inMap, inText, onValue, onField, dropComponent, dropObject, dropRoot}
 use Rattle.meaning.specs.Rows.{answer}
-use Rattle.meaning.specs.Moved.{Permuted, ComponentMoved, first, later, done, put, end, next, maps, whole, value}
+use Rattle.meaning.specs.Moved.{Permuted, ComponentMoved, ObjectMoved, RootMoved, first, later, done, put, end, next, maps, whole, value}
 use Rattle.meaning.specs.Parsed.{parsed, SameFiles}
 use Rattle.shown.proofs.ReadingJudged.{current-framing, old-framing}
 use Rattle.tolerance.specs.Manifests.{FieldsMoved, AlikeEntry}
@@ -32,6 +34,38 @@ one = exported forwards
 abbrev pub theOther : ℕ → List ℕ
 theOther = exported backwards
 
+-- ---- what the manifests mean, with the pairs of their maps in an order
+
+abbrev word : String → Node (Unit {0})
+word s = text tt (ascii s)
+
+abbrev mapWith : List (Pair (Unit {0})) → Node (Unit {0})
+mapWith ps = dict tt (pairs ps)
+
+abbrev field : String → Node (Unit {0}) → Pair (Unit {0})
+field s v = record { key = word s; value = v }
+
+module _ (order : List (Pair (Unit {0})) → List (Pair (Unit {0}))) where
+  abbrev component : ℕ → ℕ → Node (Unit {0})
+  component offset size =
+      mapWith (order (field "dtype" (word "u8") ∷ field "stride" (uint tt 1) ∷ field "offset" (uint tt offset) ∷ field "length" (uint tt size) ∷ field "digest" (word "crc32:0") ∷ []))
+
+  abbrev object : ℕ → ℕ → Node (Unit {0})
+  object offset size = mapWith (order (field "shape" (array tt (nodes (uint tt size ∷ []))) ∷ field "format" (word "dense") ∷ field "chart" (simple tt 22)
+      ∷ field "components" (mapWith (field "data" (component offset size) ∷ [])) ∷ []))
+
+  abbrev root : ℕ → Node (Unit {0})
+  root offset = mapWith (order (field "version" (word "1.2.0") ∷ field "x" (array tt ε) ∷ field "attributes" (mapWith (field "by" (word "us") ∷ []))
+      ∷ field "objects" (mapWith (field "a" (object 64 8) ∷ field "b" (object offset 4) ∷ [])) ∷ []))
+
+  -- layout 1.0's, once the unknown field is dropped
+  abbrev tensor : Node (Unit {0})
+  tensor = mapWith (order (field "dtype" (word "uint8") ∷ field "shape" (array tt (nodes (uint tt 8 ∷ []))) ∷ field "format" (word "dense")
+      ∷ field "components" (mapWith (field "data" (mapWith (order (field "offset" (uint tt 64) ∷ field "length" (uint tt 8) ∷ []))) ∷ [])) ∷ []))
+
+  abbrev oldRoot : Node (Unit {0})
+  oldRoot = mapWith (order (field "version" (word "1.0") ∷ field "tensors" (mapWith (field "w" tensor ∷ [])) ∷ []))
+
 -- four pairs, and five, in reverse
 module _ {P : Type 0} (R : Pair P → Pair P → Type 0) where
   four : {a b c d a′ b′ c′ d′ : Pair P} → R a a′ → R b b′ → R c c′ → R d d′ → Permuted R (a ∷ b ∷ c ∷ d ∷ []) (d′ ∷ c′ ∷ b′ ∷ a′ ∷ [])
@@ -40,14 +74,24 @@ module _ {P : Type 0} (R : Pair P → Pair P → Type 0) where
   five : {a b c d e a′ b′ c′ d′ e′ : Pair P} → R a a′ → R b b′ → R c c′ → R d d′ → R e e′ → Permuted R (a ∷ b ∷ c ∷ d ∷ e ∷ []) (e′ ∷ d′ ∷ c′ ∷ b′ ∷ a′ ∷ [])
   five ra rb rc rd re = put ra (four rb rc rd re) (later (later (later (later first))))
 
+object-is-moved : (offset size : ℕ) → ObjectMoved current (object (λ ps. ps) offset size) (object reverse offset size)
+unfolding computed holds
+object-is-moved offset size = maps (four _ whole whole whole (value refl refl (maps (next refl (maps (five _ refl refl refl refl refl)) end))))
+
+root-is-moved : (offset : ℕ) → RootMoved current (root (λ ps. ps) offset) (root reverse offset)
+unfolding computed holds
+root-is-moved offset = maps (four _ whole whole whole (value refl refl (maps (next refl (object-is-moved 64 8) (next refl (object-is-moved offset 4) end)))))
+
+old-root-is-moved : RootMoved old (oldRoot (λ ps. ps)) (oldRoot reverse)
+unfolding computed holds
+old-root-is-moved = maps (put whole (put (value refl refl (maps (next refl
+    (maps (four _ whole whole whole (value refl refl (maps (next refl (maps (put refl (put refl done first) (later first))) end))))) end))) done first) (later first))
+
+-- ---- fields in reverse
+
 pub fields-are-moved : (offset : ℕ) → FieldsMoved current (parsed current (one offset)) (parsed current (theOther offset))
-unfolding computed parsed holds
-fields-are-moved offset = record {
-  start = refl;
-  moved = maps (four _ whole whole whole (value refl refl (maps
-      (next refl (maps (four _ whole whole whole (value refl refl (maps (next refl (maps (five _ refl refl refl refl refl)) end)))))
-      (next refl (maps (four _ whole whole whole (value refl refl (maps (next refl (maps (five _ refl refl refl refl refl)) end))))) end)))));
-}
+unfolding computed parsed
+fields-are-moved offset = record { start = refl; moved = root-is-moved (0 + offset) }
 
 -- both are accepted: two objects, two components
 pub one-answer : answerOf current (one 64) table ≡ acceptance 2 2 72 (record { place = 101; size = 7 })
@@ -111,11 +155,7 @@ oldTable = replicate 28 7
 
 pub old-files-are-the-same : SameFiles old (parsed old (tensorFile forwards "1.0")) (parsed old (tensorFile backwards "1.7"))
 unfolding computed parsed isUnknown plainVersion known holds inMap inText onValue onField dropComponent dropObject dropRoot
-old-files-are-the-same = record {
-  start = refl;
-  same = maps (put whole (put (value refl refl (maps (next refl
-      (maps (four _ whole whole whole (value refl refl (maps (next refl (maps (put refl (put refl done first) (later first))) end))))) end))) done first) (later first));
-}
+old-files-are-the-same = record { start = refl; same = old-root-is-moved }
 
 pub old-rows : afterwards old (tensorFile forwards "1.0") oldTable
     ≡ 98 ∷ 1 ∷ 1 ∷ 8 ∷ replicate 7 0 ++ 128 ∷ 5 ∷ 0 ∷ 0 ∷ 1 ∷ 146 ∷ 4 ∷ 11 ∷ 0 ∷ 0 ∷ 64 ∷ 8 ∷ 0 ∷ 0 ∷ 0 ∷ 150 ∷ 18 ∷ []
