@@ -3,26 +3,25 @@ use Prim.Native.Nat.{ℕ, zero, suc, _+_, _-_, _*_, _≤_, _<_}
 use native.Mathlib.Omega.{arith}
 use native.Mathlib.Nat.{zero-add}
 use mathlib.Core.List.{List, [], _∷_, _++_}
-use mathlib.Core.Option.{Option, none, some, Option·some-injective, Option·none-ne-some}
-use mathlib.Core.Path.{_≡_, refl, sym, ap, ap₂, _∙_, subst}
-use lib.ListN.{length, take, drop, getD, getElem?, set, length-set}
+use mathlib.Core.Option.{none, some, Option·some-injective, Option·none-ne-some}
+use mathlib.Core.Path.{_≡_, refl, sym, ap, _∙_, subst}
+use lib.ListN.{length, getD, getElem?, set, length-set}
 use lib.Seq.{getD-drop, getD-set-same, getD-set-other}
 use Rattle.text.proofs.OrderIsTotal.{Which, less, more, equal, which}
 use Rattle.meaning.specs.Columns.{objectWidth, componentWidth, nameColumn, nameLengthColumn}
 use Rattle.meaning.specs.Limit.{objectLimit}
 use Rattle.meaning.specs.Asked.{askedObject}
 use Rattle.meaning.specs.Described.{DescribedObject, describedObject}
-use Rattle.text.proofs.SameIsEqual.{whole}
 use Rattle.put.specs.Wrote.{most, capped, Wrote}
-use Rattle.put.proofs.PiecesInTurn.{Rest, rest-all, rest-less, rest-none, nothing, then, as-bytes}
+use Rattle.put.proofs.PiecesInTurn.{Rest, rest-all, nothing, then, as-bytes}
 use Rattle.matching.specs.Named.{nameAt, named, Rows}
 use Rattle.matching.specs.Matched.{First, Sorted}
-use Rattle.changes.specs.Changes.{Entry, Found, entry, numbers, flat, across, object, ofObject, ifAbsent, inBoth}
+use Rattle.changes.specs.Changes.{Entry, entry, numbers, flat, across, object, ofObject, ifAbsent, inBoth}
 use Rattle.changes.proofs.Lists.{seek-lacks}
 use Rattle.parts.proofs.MatchedRows.{seek-first}
 use Rattle.parts.proofs.Turns.{across-next, flat-append}
 use Rattle.pairs.specs.Objects.{objectAt, countAt}
-use Rattle.models.specs.Tables.{startOf, Starts, Table, Known, objectOf, objectsFrom, oldsFrom, newsFrom, changesOf}
+use Rattle.models.specs.Tables.{startOf, Starts, Table, Known, Beside, objectOf, objectsFrom, oldsFrom, newsFrom, changesOf}
 
 module _ (file table : List ℕ) where
   pub object-name : (row first : ℕ) → objectAt file table row first .name ≡ nameAt file table row
@@ -74,40 +73,34 @@ module _ (file table : List ℕ) where
       pub object-lacks : n ≤ r → object w (objectsFrom file table n 0 n) ≡ none
       object-lacks l = seek-lacks (λ (o : DescribedObject). o .name) (objectsFrom file table n 0 n) w (λ j o h e. not-before j o h e (omega (arith, at-zero j o h .0)))
 
--- ---- from whole parts
-
-abbrev W : List ℕ → List ℕ
-W s = take (length s - 0) (drop 0 s)
-
 pub row-lies : {table : List ℕ} {n j : ℕ} → Table table n → j < n → objectWidth * j + objectWidth ≤ length table
 row-lies t l = t .each _ l .own .lies
 
-pub asked : (file table ix starts : List ℕ) (n sorted : ℕ) → Known file table n starts ix sorted
-    → Rows (W table) 0 objectWidth n × (sorted ≤ length (W ix)) × Sorted (named (W file) (W table) 0 objectWidth) n (W ix) sorted
-asked file table ix starts n sorted k = rw (whole file, whole table, whole ix) (record { wide = omega arith; lie = omega (arith, k .rows .lie) }, k .room, k .names)
+pub asked : {file table ix : List ℕ} {n sorted : ℕ} → Known file table n ix sorted → Rows table 0 objectWidth n × (sorted ≤ length ix) × Sorted (named file table 0 objectWidth) n ix sorted
+asked k = (record { wide = omega arith; lie = omega (arith, k .rows .lie) }, k .room, k .names)
 
-module _ (first a : List ℕ) (m i : ℕ) (second b : List ℕ) (n : ℕ) {r : ℕ} {w : List ℕ} (f : First (named (W second) (W b) 0 objectWidth) n w r) (e : w ≡ nameAt (W first) (W a) (objectWidth * i)) where
-  matched : First (named second b 0 objectWidth) n (objectOf first a m i .name) r
-  matched =
-      let z : w ≡ objectOf first a m i .name = e ∙ (rw (whole first, whole a) refl) ∙ sym (object-name first a (objectWidth * i) (startOf a m i)) in
-      subst (λ (v : List ℕ). First (named second b 0 objectWidth) n v r) z (rw (whole second, whole b) at f)
+pub matched : (first a : List ℕ) (p : ℕ) (second b : List ℕ) (n : ℕ) {r : ℕ} {w : List ℕ} → First (named second b 0 objectWidth) n w r → w ≡ nameAt first a p → Beside (nameAt first a p) second b n r
+matched first a p second b n {r} {w} f e =
+    let g : First (named second b 0 objectWidth) n (nameAt first a p) r = subst (λ (v : List ℕ). First (named second b 0 objectWidth) n v r) e f in
+    record { found = object-found second b n g; lacks = object-lacks second b n g }
 
-  pub is-found : r < n → object (objectOf first a m i .name) (objectsFrom second b n 0 n) ≡ some (record { index = r; it = objectOf second b n r })
-  is-found l = object-found second b n matched l
+-- ---- one object
 
-  pub is-absent : n ≤ r → object (objectOf first a m i .name) (objectsFrom second b n 0 n) ≡ none
-  is-absent l = object-lacks second b n matched l
+module _ (first a : List ℕ) (m i : ℕ) (second b : List ℕ) (n : ℕ) {r : ℕ} (f : Beside (nameAt first a (objectWidth * i)) second b n r) where
+  is-found : r < n → object (objectOf first a m i .name) (objectsFrom second b n 0 n) ≡ some (record { index = r; it = objectOf second b n r })
+  is-found l = rw (object-name first a (objectWidth * i) (startOf a m i)) (f .found l)
 
-  -- ---- one object
+  is-absent : n ≤ r → object (objectOf first a m i .name) (objectsFrom second b n 0 n) ≡ none
+  is-absent l = rw (object-name first a (objectWidth * i) (startOf a m i)) (f .lacks l)
 
   module _ {at past : ℕ} {xs ys : List ℕ} where
     pub first-only : n ≤ r → Wrote (numbers (entry 1 i 0 0 0 0 0 0)) at xs ys past → Wrote (flat (ofObject i (objectOf first a m i) (object (objectOf first a m i .name) (objectsFrom second b n 0 n)))) at xs ys past
     first-only l w = rw (is-absent l) w
 
     pub in-both : r < n → {c d : ℕ} → c ≡ startOf a m i → d ≡ startOf b n r
-        → Wrote (flat (inBoth i r (objectAt (W first) (W a) (objectWidth * i) c) (objectAt (W second) (W b) (objectWidth * r) d))) at xs ys past
+        → Wrote (flat (inBoth i r (objectAt first a (objectWidth * i) c) (objectAt second b (objectWidth * r) d))) at xs ys past
         → Wrote (flat (ofObject i (objectOf first a m i) (object (objectOf first a m i .name) (objectsFrom second b n 0 n)))) at xs ys past
-    in-both l ec ed w = rw (is-found l) (rw (whole first, whole a, whole second, whole b, ec, ed) at w)
+    in-both l ec ed w = rw (is-found l) (rw (ec, ed) at w)
 
     pub second-only : n ≤ r → Wrote (numbers (entry 2 0 i 0 0 0 0 0)) at xs ys past
         → Wrote (flat (ifAbsent (entry 2 0 i 0 0 0 0 0) (object (objectOf first a m i .name) (objectsFrom second b n 0 n)))) at xs ys past
@@ -148,8 +141,8 @@ begun-more {table} {n} {j} {at} {old} {starts} h b l = record {
     go i m (more w) = absurd (omega arith)
     go i m (equal w) = rw w (getD-set-same starts j at 0 (omega (arith, b .size)) ∙ b .here)
 
-pub begun-all : {table : List ℕ} {n j at : ℕ} {old starts : List ℕ} → Begun table n j at old starts → n ≤ j → Starts table n starts × (length starts ≡ length old)
-begun-all b l = (record { is = λ i m. b .is i (omega arith) }, b .size)
+pub begun-all : {table : List ℕ} {n j at : ℕ} {old starts : List ℕ} → n ≤ length old → Begun table n j at old starts → n ≤ j → Starts table n starts × (length starts ≡ length old)
+begun-all h b l = (record { long = omega (arith, h, b .size); is = λ i m. b .is i (omega arith) }, b .size)
 
 -- ---- turns of the loops
 
@@ -170,19 +163,9 @@ module _ (file table : List ℕ) (m : ℕ) (g : ℕ → DescribedObject → List
   turns-end i l = ap (λ (os : List DescribedObject). flat (across (λ x o. g (i + x) o) os)) (objects-none file table m i (m - i) (omega arith))
 
 -- what was sorted, handed on
-pub known : (file table : List ℕ) (n : ℕ) → Table table n → {starts ix : List ℕ} {k : ℕ} → Starts (W table) n starts → length starts ≡ objectLimit
-    → Sorted (named (W file) (W table) 0 objectWidth) n ix k → length ix ≡ objectLimit → Known (W file) (W table) n starts ix k
-known file table n t b l s e =
-    record { rows = rw (whole table) t; begins = b; long = omega (arith, t .few); room = omega (arith, s .few, t .few); names = s }
+pub known : {file table : List ℕ} {n : ℕ} → Table table n → {ix : List ℕ} {k : ℕ} → Sorted (named file table 0 objectWidth) n ix k → length ix ≡ objectLimit → Known file table n ix k
+known t s e = record { rows = t; room = omega (arith, s .few, t .few, e); names = s }
 
-module _ (first a : List ℕ) (m : ℕ) (second b : List ℕ) (n : ℕ) where
-  abbrev os : List DescribedObject
-  os = objectsFrom first a m 0 m
-
-  abbrev ps : List DescribedObject
-  ps = objectsFrom second b n 0 n
-
-  pub both-written : {at q r : ℕ} {xs ys zs : List ℕ} → Wrote (flat (oldsFrom (objectsFrom (W second) (W b) n 0 n) 0 (objectsFrom (W first) (W a) m 0 m))) at xs ys q
-      → Wrote (flat (newsFrom (objectsFrom (W first) (W a) m 0 m) 0 (objectsFrom (W second) (W b) n 0 n))) q ys zs r → Wrote (flat (changesOf os ps)) at xs zs r
-  both-written w v =
-      as-bytes (sym (flat-append (oldsFrom ps 0 os) (newsFrom os 0 ps))) (then (rw (whole first, whole a, whole second, whole b) at w) (rw (whole first, whole a, whole second, whole b) at v))
+pub both-written : (os ps : List DescribedObject) {at q r : ℕ} {xs ys zs : List ℕ} → Wrote (flat (oldsFrom ps 0 os)) at xs ys q → Wrote (flat (newsFrom os 0 ps)) q ys zs r
+    → Wrote (flat (changesOf os ps)) at xs zs r
+both-written os ps w v = as-bytes (sym (flat-append (oldsFrom ps 0 os) (newsFrom os 0 ps))) (then w v)

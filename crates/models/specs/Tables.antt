@@ -1,6 +1,7 @@
 -- The objects of a table by their numbers, and what is known of a table that was read.
 use Prim.Native.Nat.{ℕ, zero, suc, _+_, _*_, _≤_, _<_}
 use mathlib.Core.List.{List, [], _∷_, _++_}
+use mathlib.Core.Option.{none, some}
 use mathlib.Core.Path.{_≡_}
 use lib.ListN.{length, getD}
 use Rattle.meaning.specs.Columns.{objectWidth, componentWidth}
@@ -32,15 +33,19 @@ pub record Table (table : List ℕ) (n : ℕ) : Type 0 where
 
 -- the array says where
 pub record Starts (table : List ℕ) (n : ℕ) (starts : List ℕ) : Type 0 where
+  pub long : n ≤ length starts
   pub is : (j : ℕ) → j < n → getD starts j 0 ≡ startOf table n j
 
--- and their names are sorted
-pub record Known (file table : List ℕ) (n : ℕ) (starts ix : List ℕ) (sorted : ℕ) : Type 0 where
+-- n objects' rows lie there, and their names are sorted
+pub record Known (file table : List ℕ) (n : ℕ) (ix : List ℕ) (sorted : ℕ) : Type 0 where
   pub rows : Table table n
-  pub begins : Starts table n starts
-  pub long : n ≤ length starts
   pub room : sorted ≤ length ix
   pub names : Sorted (named file table 0 objectWidth) n ix sorted
+
+-- r is the number of the object of this name among the n, or n or more if there is none
+pub record Beside (name file table : List ℕ) (n r : ℕ) : Type 0 where
+  pub found : r < n → object name (objectsFrom file table n 0 n) ≡ some (record { index = r; it = objectOf file table n r })
+  pub lacks : n ≤ r → object name (objectsFrom file table n 0 n) ≡ none
 
 -- all but the 2s, from the object i on, beside the second's; the 2s, from the object j on, beside the first's
 abbrev pub oldsFrom : List DescribedObject → ℕ → List DescribedObject → List Entry

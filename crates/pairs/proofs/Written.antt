@@ -1,25 +1,22 @@
 -- An entry that is written after those that follow it; and objects that nothing tells apart have no entry.
-use Prim.Native.Nat.{ℕ, zero, suc, _+_, _-_, _*_, _≤_, _<_}
+use Prim.Native.Nat.{ℕ, zero, suc, _+_, _-_, _≤_, _<_}
 use native.Mathlib.Nat.{zero-add}
 use native.Mathlib.Omega.{arith}
 use mathlib.Core.List.{List, [], _∷_, _++_, map}
-use mathlib.Core.Bool.{Bool, true, false, cond, not, _||_}
+use mathlib.Core.Bool.{Bool, true, false, cond, _||_}
 use mathlib.Core.Option.{Option, none, some}
-use mathlib.Core.Path.{_≡_, refl, sym, ap, ap₂, _∙_, subst}
-use lib.ListN.{length, take, drop, getD, set, length-set, length-append}
+use mathlib.Core.Path.{_≡_, refl, sym, ap, ap₂, _∙_}
+use lib.ListN.{length, take, set}
 use lib.Seq.{sets, set-comm, set-out, length-sets, getD-drop, drop-drop}
-use lib.Dec.{eqb, ltb}
-use borrow.Author.Tests.{eq-eqb, ne-eqb, eqb-true, ltb-true, ltb-false}
+use lib.Dec.{eqb}
+use borrow.Author.Tests.{ne-eqb}
 use Rattle.meaning.specs.Columns.{componentWidth, rankColumn, shapeColumn, formatColumn, formatLengthColumn}
-use Rattle.meaning.specs.Text.{same}
 use Rattle.meaning.specs.Asked.{askedObject, askedComponent, eachRow}
 use Rattle.meaning.specs.Described.{DescribedComponent, DescribedObject, describedComponent, describedObject}
-use Rattle.text.proofs.SameIsEqual.{whole}
 use Rattle.rows.specs.Placed.{componentsAt}
-use Rattle.rows.proofs.EachRow.{next-row-at}
 use Rattle.put.specs.Wrote.{most, capped, Wrote}
 use Rattle.put.proofs.PiecesInTurn.{then, nothing, as-bytes, by-place, capped-low, capped-high, still-short}
-use Rattle.changes.specs.Changes.{Entry, Found, entry, numbers, flat, across, any, bit, absent, found, lone, shared, part, partWhat, objectWhat, unlessZero, ofPart, ifAbsent, inBoth, firsts, seconds, otherDtype, otherType, otherBytes}
+use Rattle.changes.specs.Changes.{Found, entry, numbers, flat, across, bit, absent, found, lone, shared, part, objectWhat, ofPart, ifAbsent, inBoth, firsts, seconds, otherDtype, otherType, otherBytes}
 use Rattle.differing.specs.Rows.{partAt, shapeAt, formatAt}
 use Rattle.differing.specs.Bits.{ownWhat}
 use Rattle.parts.specs.declared.Seen.{Seen}
@@ -27,7 +24,7 @@ use Rattle.parts.specs.declared.Lone.{Lone}
 use Rattle.matching.specs.Named.{named}
 use Rattle.matching.specs.Matched.{Sorted}
 use Rattle.parts.specs.Parts.{partsAt, Known}
-use Rattle.parts.specs.Seen.{firstsFrom, secondsFrom, PartsSeen, LonesSeen}
+use Rattle.parts.specs.Seen.{PartsSeen, LonesSeen}
 use Rattle.parts.proofs.Turns.{flat-append, across-same, bit-small}
 use Rattle.pairs.specs.Objects.{objectAt, countAt, Lie, BothSeen}
 
@@ -146,13 +143,15 @@ both-seen cs ds i j at {f = f} {s = s} hf hs he = record {
     go true t = refl
     go false t = refl
 
+pub what-fits : (cs ds : List DescribedComponent) {i j at own : ℕ} {xs zs : List ℕ} {s : Seen} → own ≤ 3 → BothSeen cs ds i j at xs zs s → own + s .names + s .dtypes + s .kinds + s .bytes ≤ 63
+what-fits cs ds l h =
+    rw (h .names, h .dtypes, h .kinds, h .bytes)
+    (omega (arith, l, bit-small 4 (lone cs ds || lone ds cs), bit-small 8 (shared otherDtype cs ds), bit-small 16 (shared otherType cs ds), bit-small 32 (shared otherBytes cs ds)))
+
 module _ (o p : DescribedObject) (i j at : ℕ) (xs : List ℕ) {past : ℕ} {zs : List ℕ} {s : Seen} {own : ℕ} (ep : past ≡ capped (at + 8))
     (hs : BothSeen (o .components) (p .components) i j past xs zs s) (ho : own ≡ ownWhat (o .shape) (o .format) (p .shape) (p .format)) where
   what-is : own + s .names + s .dtypes + s .kinds + s .bytes ≡ objectWhat o p
   what-is = rw (ho, hs .names, hs .dtypes, hs .kinds, hs .bytes) refl
-
-  pub what-fits : own + s .names + s .dtypes + s .kinds + s .bytes ≤ 63
-  what-fits = rw what-is (omega (arith, bit-small 1 (not (same (o .shape) (p .shape))), bit-small 2 (not (same (o .format) (p .format))), bit-small 4 (lone (o .components) (p .components) || lone (p .components) (o .components)), bit-small 8 (shared otherDtype (o .components) (p .components)), bit-small 16 (shared otherType (o .components) (p .components)), bit-small 32 (shared otherBytes (o .components) (p .components))))
 
   after-it : Wrote (flat (firsts i j o p) ++ flat (seconds i j o p)) past xs zs (s .at)
   after-it =
@@ -181,23 +180,17 @@ module _ (o p : DescribedObject) (i j at : ℕ) (xs : List ℕ) {past : ℕ} {zs
       let m : flat (inBoth i j o p) ≡ [] = rw (n, none₁, none₂) refl in
       rw (zz, m) (nothing q (after-it .short) h)
 
--- ---- from whole parts
+-- ---- the objects that the rows count
 
-module _ (first a : List ℕ) (p c : ℕ) (second b : List ℕ) (q d : ℕ) (i j : ℕ) where
-  abbrev W : List ℕ → List ℕ
-  W s = take (length s - 0) (drop 0 s)
-
-  pub seen-is : {m n past : ℕ} {xs zs : List ℕ} {s : Seen} → m ≡ countAt a p → n ≡ countAt b q
-      → BothSeen (partsAt (W first) (W a) c m) (partsAt (W second) (W b) d n) i j past xs zs s
+module _ (first a : List ℕ) (p c : ℕ) (second b : List ℕ) (q d : ℕ) where
+  pub seen-is : {i j m n past : ℕ} {xs zs : List ℕ} {s : Seen} → m ≡ countAt a p → n ≡ countAt b q → BothSeen (partsAt first a c m) (partsAt second b d n) i j past xs zs s
       → BothSeen (objectAt first a p c .components) (objectAt second b q d .components) i j past xs zs s
-  seen-is em en h = rw (components-are first a p c, components-are second b q d) (rw (em, en, whole first, whole a, whole second, whole b) at h)
+  seen-is em en h = rw (components-are first a p c, components-are second b q d) (rw (em, en) at h)
 
-  pub own-is : {own : ℕ} → own ≡ ownWhat (shapeAt (W a) p) (formatAt (W first) (W a) p) (shapeAt (W b) q) (formatAt (W second) (W b) q)
+  pub own-is : {own : ℕ} → own ≡ ownWhat (shapeAt a p) (formatAt first a p) (shapeAt b q) (formatAt second b q)
       → own ≡ ownWhat (objectAt first a p c .shape) (objectAt first a p c .format) (objectAt second b q d .shape) (objectAt second b q d .format)
-  own-is h = rw (shape-is first a p c, format-is first a p c, shape-is second b q d, format-is second b q d) (rw (whole first, whole a, whole second, whole b) at h)
+  own-is h = rw (shape-is first a p c, format-is first a p c, shape-is second b q d, format-is second b q d) h
 
 -- what was sorted, handed on
-pub known : (file table : List ℕ) (first n : ℕ) → Lie table first n → {ix : List ℕ} {k : ℕ}
-    → Sorted (named (take (length file - 0) (drop 0 file)) (take (length table - 0) (drop 0 table)) first componentWidth) n ix k → length ix ≡ 16
-    → Known (take (length file - 0) (drop 0 file)) (take (length table - 0) (drop 0 table)) first n ix k
-known file table first n l s e = record { rows = record { wide = omega arith; lie = rw (whole table) (l .parts) }; room = omega (arith, s .few, l .few); names = s }
+pub known : {file table : List ℕ} {first n : ℕ} → Lie table first n → {ix : List ℕ} {k : ℕ} → Sorted (named file table first componentWidth) n ix k → length ix ≡ 16 → Known file table first n ix k
+known l s e = record { rows = record { wide = omega arith; lie = l .parts }; room = omega (arith, s .few, l .few); names = s }

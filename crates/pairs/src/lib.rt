@@ -1,6 +1,7 @@
 // Two objects of one name: what differs between them, an entry for that, and those of their components after it. The entry's place is kept free until its components have been seen.
 use columns::COMPONENT;
 use columns::COUNT;
+use parts::Lone;
 use parts::Seen;
 use parts::either;
 ghost use mathlib.Core.Path.{_≡_};
@@ -8,6 +9,7 @@ ghost use Prim.Native.Nat.{_+_};
 ghost use Rattle.put.specs.Wrote.{Wrote, capped};
 ghost use Rattle.changes.specs.Changes.{flat, inBoth};
 ghost use Rattle.parts.specs.Parts.{partsAt};
+ghost use Rattle.parts.specs.Seen.{PartsSeen, LonesSeen};
 ghost use Rattle.pairs.specs.Objects.{objectAt, Lie, Sized, BothSeen};
 
 // No list is as long as this, and no place is above it.
@@ -21,6 +23,52 @@ fn past_one(at: usize) -> usize
         return put::placed(at + 8);
     }
     MOST
+}
+
+// The components of the first, m from the row c on, beside the n of the second from d on.
+fn firsts(
+    first: &[u8],
+    a: &[u64],
+    c: usize,
+    m: usize,
+    second: &[u8],
+    b: &[u64],
+    d: usize,
+    n: usize,
+    i: u64,
+    j: u64,
+    list: &mut [u64],
+    at: usize,
+) -> Seen
+    requires { ⌜ Lie (now a) c m × Lie (now b) d n ⌝ }
+    ensures { λ r. ⌜ PartsSeen (partsAt (now (first .entry)) (now (a .entry)) c m) (partsAt (now (second .entry)) (now (b .entry)) d n) i j at (now (list .entry)) (now (list .exit)) r ⌝ }
+{
+    let mut y = [0u16; 16];
+    let sorted = matching::sort(second, b, d, COMPONENT, n, &mut y);
+    parts::of_first(first, a, c, m, second, b, d, n, &y, sorted, i, j, list, at)
+}
+
+// Those of the second whose names the first's lack.
+fn seconds(
+    second: &[u8],
+    b: &[u64],
+    d: usize,
+    n: usize,
+    first: &[u8],
+    a: &[u64],
+    c: usize,
+    m: usize,
+    i: u64,
+    j: u64,
+    list: &mut [u64],
+    at: usize,
+) -> Lone
+    requires { ⌜ Lie (now a) c m × Lie (now b) d n ⌝ }
+    ensures { λ r. ⌜ LonesSeen (partsAt (now (second .entry)) (now (b .entry)) d n) (partsAt (now (first .entry)) (now (a .entry)) c m) i j at (now (list .entry)) (now (list .exit)) r ⌝ }
+{
+    let mut x = [0u16; 16];
+    let sorted = matching::sort(first, a, c, COMPONENT, m, &mut x);
+    parts::of_second(second, b, d, n, first, a, c, m, &x, sorted, i, j, list, at)
 }
 
 // Their components: m in the first from the row c on, n in the second from d on.
@@ -41,42 +89,8 @@ fn of_components(
     requires { ⌜ Lie (now a) c m × Lie (now b) d n ⌝ }
     ensures { λ r. ⌜ BothSeen (partsAt (now (first .entry)) (now (a .entry)) c m) (partsAt (now (second .entry)) (now (b .entry)) d n) i j at (now (list .entry)) (now (list .exit)) r ⌝ }
 {
-    let mut x = [0u16; 16];
-    let mut y = [0u16; 16];
-    let sx = matching::sort(&first[0..], &a[0..], c, COMPONENT, m, &mut x);
-    let sy = matching::sort(&second[0..], &b[0..], d, COMPONENT, n, &mut y);
-    let f = parts::of_first(
-        &first[0..],
-        &a[0..],
-        c,
-        m,
-        &second[0..],
-        &b[0..],
-        d,
-        n,
-        &y,
-        sy,
-        i,
-        j,
-        list,
-        at,
-    );
-    let s = parts::of_second(
-        &second[0..],
-        &b[0..],
-        d,
-        n,
-        &first[0..],
-        &a[0..],
-        c,
-        m,
-        &x,
-        sx,
-        i,
-        j,
-        list,
-        f.at,
-    );
+    let f = firsts(first, a, c, m, second, b, d, n, i, j, list, at);
+    let s = seconds(second, b, d, n, first, a, c, m, i, j, list, f.at);
     Seen {
         at: s.at,
         names: either(f.names, s.names),
@@ -106,21 +120,8 @@ pub fn of_pair(
 {
     let m = a[p + COUNT] as usize;
     let n = b[q + COUNT] as usize;
-    let own = differing::of_objects(&first[0..], &a[0..], p, &second[0..], &b[0..], q);
-    let s = of_components(
-        &first[0..],
-        &a[0..],
-        c,
-        m,
-        &second[0..],
-        &b[0..],
-        d,
-        n,
-        i,
-        j,
-        list,
-        past_one(at),
-    );
+    let own = differing::of_objects(first, a, p, second, b, q);
+    let s = of_components(first, a, c, m, second, b, d, n, i, j, list, past_one(at));
     let what = own + s.names + s.dtypes + s.kinds + s.bytes;
     if what == 0 {
         return put::placed(at);

@@ -2,22 +2,22 @@
 use Prim.Native.Nat.{ℕ, zero, suc, _+_, _-_, _*_, _≤_, _<_}
 use native.Mathlib.Omega.{arith}
 use mathlib.Core.List.{List, [], _∷_}
-use mathlib.Core.Bool.{Bool, true, false, cond}
+use mathlib.Core.Bool.{true, false}
 use mathlib.Core.Option.{Option, none, some, Option·some-injective, Option·none-ne-some}
 use mathlib.Core.Path.{_≡_, refl, sym, ap, _∙_, subst}
-use lib.ListN.{length, take, drop, getD, getElem?}
+use lib.ListN.{getElem?}
 use lib.Seq.{getD-drop}
 use Rattle.meaning.specs.Columns.{componentWidth, nameColumn, nameLengthColumn}
 use Rattle.meaning.specs.Text.{same}
 use Rattle.meaning.specs.Asked.{askedComponent}
 use Rattle.meaning.specs.Described.{DescribedComponent, describedComponent}
-use Rattle.text.proofs.SameIsEqual.{eq-same, ne-same, whole}
-use Rattle.matching.specs.Named.{nameAt, named, Rows}
-use Rattle.matching.specs.Matched.{First, Sorted}
+use Rattle.text.proofs.SameIsEqual.{eq-same, ne-same}
+use Rattle.matching.specs.Named.{nameAt, named}
+use Rattle.matching.specs.Matched.{First}
 use Rattle.changes.specs.Changes.{Found, seek, part}
 use Rattle.changes.proofs.Lists.{seek-lacks}
 use Rattle.differing.specs.Rows.{partAt}
-use Rattle.parts.specs.Parts.{partsAt, Known}
+use Rattle.parts.specs.Parts.{partsAt, Beside}
 
 -- ---- the first of a name in a list
 
@@ -88,36 +88,13 @@ module _ (file table : List ℕ) where
       let y : m - k - 1 ≡ m - (k + 1) = omega arith in
       parts-next (p + componentWidth * k) (m - k) (omega arith) ∙ (rw (z, y))
 
--- ---- from whole parts
+-- ---- the component of a name
 
-abbrev W : List ℕ → List ℕ
-W s = take (length s - 0) (drop 0 s)
-
-module _ (file table ix : List ℕ) (row n sorted : ℕ) where
-  pub asked : Known file table row n ix sorted
-      → Rows (W table) row componentWidth n × (sorted ≤ length (W ix)) × Sorted (named (W file) (W table) row componentWidth) n (W ix) sorted
-  asked k = rw (whole file, whole table, whole ix) (k .rows, k .room, k .names)
-
-  pub known-whole : Known file table row n ix sorted → Known (W file) (W table) row n (W ix) sorted
-  known-whole k = rw (whole file, whole table, whole ix) k
-
-module _ (first a : List ℕ) (p : ℕ) (second b : List ℕ) (q n : ℕ) {r : ℕ} {w : List ℕ} (f : First (named (W second) (W b) q componentWidth) n w r) (e : w ≡ nameAt (W first) (W a) p) where
-  matched : First (named second b q componentWidth) n (partAt first a p .name) r
-  matched =
-      let z : w ≡ partAt first a p .name = e ∙ (rw (whole first, whole a) refl) ∙ sym (part-name first a p) in
-      subst (λ (v : List ℕ). First (named second b q componentWidth) n v r) z (rw (whole second, whole b) at f)
-
-  pub is-found : r < n → part (partAt first a p .name) (partsAt second b q n) ≡ some (record { index = r; it = partAt second b (q + componentWidth * r) })
-  is-found l = part-found second b q n matched l
-
-  pub is-absent : n ≤ r → part (partAt first a p .name) (partsAt second b q n) ≡ none
-  is-absent l = part-lacks second b q n matched l
-
-  pub row-found : Rows b q componentWidth n → r < n → q + componentWidth * r + componentWidth ≤ length b
-  row-found k l = omega (arith, k .lie)
-
-pub parts-whole : (file table : List ℕ) (row : ℕ) → partAt (W file) (W table) row ≡ partAt file table row
-parts-whole file table row = rw (whole file, whole table)
+pub matched : (first a : List ℕ) (p : ℕ) (second b : List ℕ) (q n : ℕ) {r : ℕ} {w : List ℕ} → First (named second b q componentWidth) n w r → w ≡ nameAt first a p
+    → Beside (partAt first a p) second b q n r
+matched first a p second b q n {r} {w} f e =
+    let g : First (named second b q componentWidth) n (partAt first a p .name) r = subst (λ (v : List ℕ). First (named second b q componentWidth) n v r) (e ∙ sym (part-name first a p)) f in
+    record { found = part-found second b q n g; lacks = part-lacks second b q n g }
 
 pub parts-begin : (file table : List ℕ) (p m : ℕ) → partsAt file table (p + componentWidth * 0) (m - 0) ≡ partsAt file table p m
 parts-begin file table p m = let z : p + componentWidth * 0 ≡ p = omega arith in let y : m - 0 ≡ m = omega arith in rw (z, y)

@@ -1,17 +1,17 @@
 -- Turns of the loops over components: what is still to be written, and what is still to be seen.
-use Prim.Native.Nat.{ℕ, zero, suc, _+_, _-_, _*_, _≤_, _<_}
+use Prim.Native.Nat.{ℕ, suc, _+_, _-_, _≤_, _<_}
 use native.Mathlib.Omega.{arith}
 use mathlib.Core.List.{List, [], _∷_, _++_}
 use mathlib.Core.Bool.{Bool, true, false, cond, _||_}
-use mathlib.Core.Option.{Option, none, some}
+use mathlib.Core.Option.{none, some}
 use mathlib.Core.Path.{_≡_, refl, sym, ap, ap₂, _∙_, subst}
 use lib.ListN.{length}
 use lib.Dec.{eqb}
 use borrow.Author.Tests.{eq-eqb, ne-eqb, eqb-true}
 use Rattle.meaning.specs.Described.{DescribedComponent}
 use Rattle.put.specs.Wrote.{most, capped, Wrote}
-use Rattle.put.proofs.PiecesInTurn.{Rest, rest-all, rest-less, rest-none, as-bytes, nothing}
-use Rattle.changes.specs.Changes.{Entry, Found, entry, numbers, flat, across, any, bit, absent, found, lone, shared, part, partWhat, ofPart, ifAbsent, otherDtype, otherType, otherBytes, positionApart, countApart}
+use Rattle.put.proofs.PiecesInTurn.{Rest, rest-all, rest-less, rest-none, nothing}
+use Rattle.changes.specs.Changes.{Entry, Found, entry, numbers, flat, across, bit, absent, found, lone, shared, part, partWhat, ofPart, ifAbsent, otherDtype, otherType, otherBytes}
 use Rattle.differing.specs.declared.Differences.{Differences}
 use Rattle.differing.specs.Bits as differing
 use Rattle.parts.specs.declared.Seen.{Seen}
@@ -42,9 +42,6 @@ abbrev pub Owes : ℕ → ℕ → Bool → Bool → Type 0
 Owes n seen rest all = cond (eqb seen 0) (bit n rest) seen ≡ bit n all
 
 module _ (n : ℕ) where
-  pub owes-all : (all : Bool) → Owes n 0 all all
-  owes-all all = refl
-
   pub owes-less : eqb n 0 ≡ false → (seen x r : ℕ) (s t all : Bool) → Owes n seen (s || t) all → x ≡ bit n s → r ≡ cond (eqb seen 0) x seen → Owes n r t all
   owes-less z seen x r s t all h e f = go (eqb seen 0) refl s h e f
     where
@@ -62,35 +59,34 @@ module _ (n : ℕ) where
 
 -- ---- one component
 
-module _ (c : DescribedComponent) (ds : List DescribedComponent) (i j k at : ℕ) (xs : List ℕ) where
-  pub part-absent : part (c .name) ds ≡ none → {ys : List ℕ} {past : ℕ} → Wrote (numbers (entry 5 i j k 0 0 0 0)) at xs ys past
-      → PartSeen c ds i j k at xs ys (record { at = past; names = 4; dtypes = 0; kinds = 0; bytes = 0 })
-  part-absent e w = record { wrote = rw e w; names = rw e refl; dtypes = rw e refl; kinds = rw e refl; bytes = rw e refl }
+module _ (c : DescribedComponent) (i j k at : ℕ) (xs : List ℕ) where
+  pub part-absent : {ys : List ℕ} {past : ℕ} → Wrote (numbers (entry 5 i j k 0 0 0 0)) at xs ys past → PartSeen c none i j k at xs ys (record { at = past; names = 4; dtypes = 0; kinds = 0; bytes = 0 })
+  part-absent w = record { wrote = w; names = refl; dtypes = refl; kinds = refl; bytes = refl }
 
-  module _ {f : Found DescribedComponent} (e : part (c .name) ds ≡ some f) {d : Differences} (h : d ≡ differing.told c (f .it)) where
+  module _ (f : Found DescribedComponent) {d : Differences} (h : d ≡ differing.told c (f .it)) where
     what-is : d .dtype + d .kind + d .bytes ≡ partWhat c (f .it)
     what-is = rw h refl
 
     pub part-differs : (d .dtype + d .kind + d .bytes ≡ 0 → ⊥) → {ys : List ℕ} {past : ℕ}
         → Wrote (numbers (entry 4 i j k (f .index) (d .dtype + d .kind + d .bytes) (d .position) (d .count))) at xs ys past
-        → PartSeen c ds i j k at xs ys (record { at = past; names = 0; dtypes = d .dtype; kinds = d .kind; bytes = d .bytes })
+        → PartSeen c (some f) i j k at xs ys (record { at = past; names = 0; dtypes = d .dtype; kinds = d .kind; bytes = d .bytes })
     part-differs z w =
         let n : eqb (partWhat c (f .it)) 0 ≡ false = ne-eqb _ 0 (λ q. z (what-is ∙ q)) in
-        record { wrote = rw (e, n) (rw h at w); names = rw e refl; dtypes = rw (e, h) refl; kinds = rw (e, h) refl; bytes = rw (e, h) refl }
+        record { wrote = rw n (rw h at w); names = refl; dtypes = rw h refl; kinds = rw h refl; bytes = rw h refl }
 
     pub part-same : d .dtype + d .kind + d .bytes ≡ 0 → length xs < most → {past : ℕ} → past ≡ capped at
-        → PartSeen c ds i j k at xs xs (record { at = past; names = 0; dtypes = 0; kinds = 0; bytes = 0 })
+        → PartSeen c (some f) i j k at xs xs (record { at = past; names = 0; dtypes = 0; kinds = 0; bytes = 0 })
     part-same z l q =
         let n : eqb (partWhat c (f .it)) 0 ≡ true = eq-eqb _ 0 (sym what-is ∙ z) in
         let u : d .dtype ≡ 0 = omega arith in
         let v : d .kind ≡ 0 = omega arith in
         let w : d .bytes ≡ 0 = omega arith in
         record {
-          wrote = rw (e, n) (nothing _ l q);
-          names = rw e refl;
-          dtypes = rw e (sym u ∙ ap (λ (r : Differences). r .dtype) h);
-          kinds = rw e (sym v ∙ ap (λ (r : Differences). r .kind) h);
-          bytes = rw e (sym w ∙ ap (λ (r : Differences). r .bytes) h);
+          wrote = rw n (nothing _ l q);
+          names = refl;
+          dtypes = sym u ∙ ap (λ (r : Differences). r .dtype) h;
+          kinds = sym v ∙ ap (λ (r : Differences). r .kind) h;
+          bytes = sym w ∙ ap (λ (r : Differences). r .bytes) h;
         }
 
 -- ---- the first's components
@@ -107,7 +103,7 @@ module _ (cs ds : List DescribedComponent) (i j at : ℕ) (xs : List ℕ) where
   going-all l e = rw e (record { wrote = rest-all _ _ _ l; name = refl; dtype = refl; kind = refl; byte = refl })
 
   pub going-less : {k : ℕ} {rest less : List DescribedComponent} {c : DescribedComponent} {past n d t b n′ d′ t′ b′ : ℕ} {ys zs : List ℕ} {s : Seen}
-      → Going cs ds i j at xs k rest past n d t b ys → rest ≡ c ∷ less → PartSeen c ds i j k past ys zs s
+      → Going cs ds i j at xs k rest past n d t b ys → rest ≡ c ∷ less → PartSeen c (part (c .name) ds) i j k past ys zs s
       → n′ ≡ cond (eqb n 0) (s .names) n → d′ ≡ cond (eqb d 0) (s .dtypes) d → t′ ≡ cond (eqb t 0) (s .kinds) t → b′ ≡ cond (eqb b 0) (s .bytes) b
       → Going cs ds i j at xs (k + 1) less (s .at) n′ d′ t′ b′ zs
   going-less {k} {rest} {less} {c} {past} {n} {d} {t} {b} {n′} {d′} {t′} {b′} {ys} {zs} {s} g e p en ed et eb =

@@ -4,14 +4,16 @@ use matching::find;
 use matching::name_at;
 ghost use mathlib.Core.Path.{_≡_};
 ghost use mathlib.Core.Bool.{cond};
+ghost use mathlib.Core.Option.{some};
 ghost use Prim.Native.Nat.{_+_, _*_, _≤_};
 ghost use lib.ListN.{length};
 ghost use lib.Dec.{eqb};
 ghost use Rattle.meaning.specs.Columns.{componentWidth};
 ghost use Rattle.matching.specs.Named.{named, Rows};
 ghost use Rattle.matching.specs.Matched.{Sorted};
+ghost use Rattle.changes.specs.Changes.{part};
 ghost use Rattle.differing.specs.Rows.{partAt};
-ghost use Rattle.parts.specs.Parts.{partsAt, Known};
+ghost use Rattle.parts.specs.Parts.{partsAt, Known, Beside};
 ghost use Rattle.parts.specs.Seen.{PartSeen, PartsSeen, LoneSeen, LonesSeen};
 
 // The place past the entries; 4, 8, 16 and 32 where names, dtypes, types and bytes differ, else 0.
@@ -35,6 +37,63 @@ pub fn either(a: u64, b: u64) -> u64
     if a == 0 { b } else { a }
 }
 
+// The number of the component among the n of the second from q on, whose names are sorted in ix, that has the name of the first's whose row begins at p; n if none has.
+fn beside(
+    first: &[u8],
+    a: &[u64],
+    p: usize,
+    second: &[u8],
+    b: &[u64],
+    q: usize,
+    n: usize,
+    ix: &[u16],
+    sorted: usize,
+) -> usize
+    requires { ⌜ (p + componentWidth ≤ length (now a)) × Known (now second) (now b) q n (now ix) sorted ⌝ }
+    ensures { λ r. ⌜ Beside (partAt (now (first .entry)) (now (a .entry)) p) (now (second .entry)) (now (b .entry)) q n r ⌝ }
+{
+    find(second, b, q, COMPONENT, n, ix, sorted, name_at(first, a, p))
+}
+
+// The component k of the first, whose row begins at p, and the second's of its name, which is l and whose row begins at q.
+fn of_shared(
+    first: &[u8],
+    a: &[u64],
+    p: usize,
+    second: &[u8],
+    b: &[u64],
+    q: usize,
+    i: u64,
+    j: u64,
+    k: u64,
+    l: u64,
+    list: &mut [u64],
+    at: usize,
+) -> Seen
+    requires { ⌜ (p + componentWidth ≤ length (now a)) × (q + componentWidth ≤ length (now b)) ⌝ }
+    ensures { λ r. ⌜ PartSeen (partAt (now (first .entry)) (now (a .entry)) p) (some (record { index = l; it = partAt (now (second .entry)) (now (b .entry)) q })) i j k at (now (list .entry)) (now (list .exit)) r ⌝ }
+{
+    let d = differing::of_parts(first, a, p, second, b, q);
+    let what = d.dtype + d.kind + d.bytes;
+    if what == 0 {
+        return Seen {
+            at: put::placed(at),
+            names: 0,
+            dtypes: 0,
+            kinds: 0,
+            bytes: 0,
+        };
+    }
+    let past = entries::entry(list, at, 4, i, j, k, l, what, d.position, d.count);
+    Seen {
+        at: past,
+        names: 0,
+        dtypes: d.dtype,
+        kinds: d.kind,
+        bytes: d.bytes,
+    }
+}
+
 // The component k of the first, whose row begins at p, beside the n of the second from q on, whose names are sorted in ix.
 fn of_part(
     first: &[u8],
@@ -53,18 +112,9 @@ fn of_part(
     at: usize,
 ) -> Seen
     requires { ⌜ (p + componentWidth ≤ length (now a)) × Known (now second) (now b) q n (now ix) sorted ⌝ }
-    ensures { λ r. ⌜ PartSeen (partAt (now (first .entry)) (now (a .entry)) p) (partsAt (now (second .entry)) (now (b .entry)) q n) i j k at (now (list .entry)) (now (list .exit)) r ⌝ }
+    ensures { λ r. ⌜ PartSeen (partAt (now (first .entry)) (now (a .entry)) p) (part (partAt (now (first .entry)) (now (a .entry)) p .name) (partsAt (now (second .entry)) (now (b .entry)) q n)) i j k at (now (list .entry)) (now (list .exit)) r ⌝ }
 {
-    let l = find(
-        &second[0..],
-        &b[0..],
-        q,
-        COMPONENT,
-        n,
-        &ix[0..],
-        sorted,
-        name_at(&first[0..], &a[0..], p),
-    );
+    let l = beside(first, a, p, second, b, q, n, ix, sorted);
     if n <= l {
         let past = entries::entry(list, at, 5, i, j, k, 0, 0, 0, 0);
         return Seen {
@@ -76,25 +126,7 @@ fn of_part(
         };
     }
     let row = q + COMPONENT * l;
-    let d = differing::of_parts(&first[0..], &a[0..], p, &second[0..], &b[0..], row);
-    let what = d.dtype + d.kind + d.bytes;
-    if what == 0 {
-        return Seen {
-            at: put::placed(at),
-            names: 0,
-            dtypes: 0,
-            kinds: 0,
-            bytes: 0,
-        };
-    }
-    let past = entries::entry(list, at, 4, i, j, k, l as u64, what, d.position, d.count);
-    Seen {
-        at: past,
-        names: 0,
-        dtypes: d.dtype,
-        kinds: d.kind,
-        bytes: d.bytes,
-    }
+    of_shared(first, a, p, second, b, row, i, j, k, l as u64, list, at)
 }
 
 // The m components of the first from p on.
@@ -126,14 +158,14 @@ pub fn of_first(
     while k < m {
         let row = p + COMPONENT * k;
         let s = of_part(
-            &first[0..],
-            &a[0..],
+            first,
+            a,
             row,
-            &second[0..],
-            &b[0..],
+            second,
+            b,
             q,
             n,
-            &ix[0..],
+            ix,
             sorted,
             i,
             j,
@@ -177,16 +209,7 @@ fn of_lone(
     requires { ⌜ (q + componentWidth ≤ length (now b)) × Known (now first) (now a) p n (now ix) sorted ⌝ }
     ensures { λ r. ⌜ LoneSeen (partAt (now (second .entry)) (now (b .entry)) q) (partsAt (now (first .entry)) (now (a .entry)) p n) i j l at (now (list .entry)) (now (list .exit)) r ⌝ }
 {
-    let k = find(
-        &first[0..],
-        &a[0..],
-        p,
-        COMPONENT,
-        n,
-        &ix[0..],
-        sorted,
-        name_at(&second[0..], &b[0..], q),
-    );
+    let k = beside(second, b, q, first, a, p, n, ix, sorted);
     if n <= k {
         let past = entries::entry(list, at, 6, i, j, 0, l, 0, 0, 0);
         return Lone { at: past, names: 4 };
@@ -223,14 +246,14 @@ pub fn of_second(
     while l < m {
         let row = q + COMPONENT * l;
         let s = of_lone(
-            &second[0..],
-            &b[0..],
+            second,
+            b,
             row,
-            &first[0..],
-            &a[0..],
+            first,
+            a,
             p,
             n,
-            &ix[0..],
+            ix,
             sorted,
             i,
             j,

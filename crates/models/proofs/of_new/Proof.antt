@@ -4,41 +4,23 @@ use native.Mathlib.Omega.{arith}
 use Rattle.models.proofs.Objects as objects
 use Rattle.models.proofs.of_new.Statement.{statement}
 use Rattle.models.proofs.of_new.Tie as tie
-use Rattle.text.proofs.SameIsEqual.{whole}
 
 pub of-new-spec : {M : Type 1} → statement M
 of-new-spec =
     tie.close
     (tie.spec
     (λ c. search needs)
-    (λ c. search needs)
-    (λ c. search needs)
-    (λ c. search needs)
-    (λ c. search needs)
-    (λ c. search needs)
-    (λ c. search needs)
-    (λ c. search needs)
-    (λ c. search needs)
-    (λ c. search needs)
-    (λ c. search needs)
-    (λ c. search needs)
-    (λ c. search needs)
-    (λ c. search needs)
-    (λ c. search needs)
-    (λ c. search needs)
     (λ c κs.
-    let at12 = c .before .before .before .before .before .before .before .before .before .before .before .before in
-    rw (whole (at12 .args .b .now)) (omega (arith, objects.row-lies (at12 .pre .0) (at12 .pre .1))))
-    (λ c κs.
-    let at13 = c .before .before .before .before .before .before .before .before .before .before .before .before .before in
-    objects.asked (at13 .args .first .now) (at13 .args .a .now) (at13 .args .ix .now) (at13 .args .from .now) (at13 .args .m) (at13 .args .sorted) (at13 .pre .2))
-    (λ c κs. search needs)
-    (λ c. search needs)
-    (λ c.
     let at6 = c .before .before .before .before .before .before in
-    let at19 = at6 .before .before .before .before .before .before .before .before .before .before .before .before .before in
-    objects.second-only (at19 .args .second .now) (at19 .args .b .now) (at19 .args .n) (at19 .args .j) (at19 .args .first .now) (at19 .args .a .now) (at19 .args .m) (c .before .before .before .before .before .find .ensures) (at6 .name-at .ensures) (c .before .before .before .before .if1 .taken) (c .before .before .entry .ensures))
+    (objects.row-lies (at6 .pre .0) (at6 .pre .1), (at6 .pre .2)))
+    (λ c κs. search needs)
+    (λ c. search needs)
+    (λ c.
+    let at12 = c .before .before .before .before .before .before .before .before .before .before .before .before in
+    objects.second-only (at12 .args .second .now) (at12 .args .b .now) (at12 .args .n) (at12 .args .j) (at12 .args .first .now) (at12 .args .a .now) (at12 .args .m)
+    (c .before .before .before .before .before .beside .ensures) (c .before .before .before .before .if1 .taken) (c .before .before .entry .ensures))
     (λ c κs. search needs)
     (λ c.
-    let at16 = c .before .before .before .before .before .before .before .before .before .before .before .before .before .before .before .before in
-    objects.not-new (at16 .args .second .now) (at16 .args .b .now) (at16 .args .n) (at16 .args .j) (at16 .args .first .now) (at16 .args .a .now) (at16 .args .m) (c .before .before .find .ensures) (c .before .before .before .name-at .ensures) (omega (arith, (c .before .if1 .left))) (search needs) (c .placed .ensures)))
+    let at9 = c .before .before .before .before .before .before .before .before .before in
+    objects.not-new (at9 .args .second .now) (at9 .args .b .now) (at9 .args .n) (at9 .args .j) (at9 .args .first .now) (at9 .args .a .now) (at9 .args .m) (c .before .before .beside .ensures)
+    (omega (arith, (c .before .if1 .left))) (omega (arith, (at9 .fits), (at9 .good))) (c .placed .ensures)))

@@ -34,5 +34,5 @@ put-starts-spec =
     (λ c. search needs)
     (λ c. let b2 = c .before .before in
     objects.begun-more ((b2 .before .pre .1)) ((b2 .loop .inv)) ((c .before .loop-test .taken)))
-    (λ c. objects.begun-all ((c .before .loop .inv)) (omega arith) .1)
-    (λ c. objects.begun-all ((c .before .loop .inv)) (omega arith)))
+    (λ c. objects.begun-all (c .before .before .pre .1) (c .before .loop .inv) (omega arith) .1)
+    (λ c. objects.begun-all (c .before .before .pre .1) (c .before .loop .inv) (omega arith)))

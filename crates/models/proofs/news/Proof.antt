@@ -1,0 +1,19 @@
+-- `models::news` meets its contract: that of what was sorted.
+use borrow.Author.Needs.{needs}
+use Rattle.models.proofs.Objects as objects
+use Rattle.models.proofs.news.Statement.{statement}
+use Rattle.models.proofs.news.Tie as tie
+
+pub news-spec : {M : Type 1} → statement M
+news-spec =
+    tie.close
+    (tie.spec
+    (λ c. search needs)
+    (λ c κs. search needs)
+    (λ c. search needs)
+    (λ c κs.
+    let at3 = c .before .before .before in
+    let at10 = at3 .before .before .before .before .before .before .before in
+    ((at10 .pre .1), objects.known (at10 .pre .0) (at3 .sort .ensures .0) (at3 .sort .ensures .1)))
+    (λ c. search needs)
+    (λ c. search needs))
