@@ -9,7 +9,6 @@ use Rattle.meaning.specs.Columns.{objectWidth}
 use Rattle.meaning.specs.Layouts.{magic}
 use Rattle.meaning.specs.WrittenFile.{littleBytes}
 use Rattle.rows.specs.Turns.{begun}
-use Rattle.rows.proofs.Lent.{lent-both}
 use Rattle.emit.specs.Laid.{Room, Laid}
 use Rattle.emit.proofs.LaidPieces.{part, back, as-bytes, room-as, room-first, room-next, then, lent, same-length, front-of, relaid}
 use Rattle.layout.specs.Pieces.{blobsOf, manifestFrom, wholeOf}
@@ -39,24 +38,15 @@ module _ {buffer plan rows xs : List ℕ} {objects components place size : ℕ} 
     over-magic : front (take start ys) ≡ front magic
     over-magic = ap front (front-of m)
 
-    -- of a buffer and rows that are lent whole
-    abbrev lent-front : List ℕ
-    lent-front = blobsOf (part 0 buffer) plan (part 0 rows) (take start ys) components (objectWidth * objects) (begun plan)
+    pub room-blobs : FrontRoom (front (take start ys)) start ys
+    room-blobs = record {
+      front = omega (arith, m .past, m .fits, same-length m);
+      fits = rw over-magic (omega (arith, room-first {us = front magic} _ in-order .fits, same-length m));
+    }
 
-    lent-is : lent-front ≡ front (take start ys)
-    lent-is = lent-both buffer rows 0 (λ b r. blobsOf b plan r (take start ys) components (objectWidth * objects) (begun plan))
-
-    pub room-blobs : FrontRoom lent-front start ys
-    room-blobs =
-        subst (λ (bs : List ℕ). FrontRoom bs start ys) (sym lent-is)
-        (record {
-          front = omega (arith, m .past, m .fits, same-length m);
-          fits = rw over-magic (omega (arith, room-first {us = front magic} _ in-order .fits, same-length m));
-        })
-
-    module _ {zs : List ℕ} {end : ℕ} (g : Laid lent-front 0 ys zs end) where
+    module _ {zs : List ℕ} {end : ℕ} (g : Laid (front (take start ys)) 0 ys zs end) where
       b : Laid (front magic) 0 xs zs end
-      b = relaid m (as-bytes (lent-is ∙ over-magic) g) grows
+      b = relaid m (as-bytes over-magic g) grows
 
       pub room-manifest : Room manifest end zs
       room-manifest = room-first _ (room-next b in-order)

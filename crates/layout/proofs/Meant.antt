@@ -28,7 +28,7 @@ use Rattle.rows.proofs.Whole.{sound-components}
 use Rattle.rows.proofs.Steps.{next-object, own-sound}
 use Rattle.rows.proofs.Describes as describes
 use Rattle.rows.proofs.Describes.{counted-next, rows-counted}
-use Rattle.layout.specs.Pieces.{presence, range, optional, componentAt, objectFront, objectRest, blobsOf, componentsOf, reachedPast, objectsOf, rootFront, manifestFrom, wholeOf}
+use Rattle.layout.specs.Pieces.{presence, range, optional, componentFields, componentAt, objectFront, objectRest, blobsOf, componentsOf, reachedPast, objectsOf, rootFront, manifestFrom, wholeOf}
 use Rattle.layout.specs.Rows.{Within, ComponentRow, ComponentRows, ObjectRows, WholeRows}
 use Rattle.layout.proofs.RowLoop.{within-length, first-component, next-components, its-components, next-objects}
 use Rattle.sizes.proofs.Exact.{entries-many}
@@ -72,7 +72,7 @@ module _ (buffer : List ℕ) where
 
   component-meant : (row : List ℕ) (offset : ℕ) → Within buffer (getD row offsetColumn 0) (getD row lengthColumn 0)
       → componentAt buffer row offset ≡ entryBytes (under (describedComponent buffer (askedComponent row) .name) (componentBytes offset (describedComponent buffer (askedComponent row))))
-  unfolding componentAt optional presence entryBytes componentBytes describedComponent askedComponent presentAt
+  unfolding componentAt componentFields optional presence entryBytes componentBytes describedComponent askedComponent presentAt
   component-meant row offset w =
       ap (λ (z : List ℕ). textBytes (range buffer (getD row 0 0) (getD row 1 0)) ++ z)
       (sym (ap (λ (n : ℕ). mapBytes (given componentNames (some (textBytes (storageOf (getD row dtypeColumn 0) .called))

@@ -1,7 +1,7 @@
 -- Rows one after the other: what the next of them contributes, and what is left. Assumes nothing.
 use Prim.Native.Nat.{ℕ, zero, suc, _+_, _-_, _*_, _≤_, _<_}
 use native.Mathlib.Omega.{arith}
-use mathlib.Core.List.{List, [], _++_}
+use mathlib.Core.List.{List, [], _++_, append-assoc}
 use mathlib.Core.Path.{_≡_, refl, sym, ap, _∙_, subst}
 use lib.ListN.{length, take, drop, getD, length-drop}
 use lib.Seq.{getD-drop, length-take-le}
@@ -13,7 +13,7 @@ use Rattle.rows.specs.Turns.{offsetAt, stepped, turnLimit, blobSizes, counted}
 use Rattle.rows.proofs.Turns.{reached-above, reached-next, reached-split}
 use Rattle.rows.proofs.Describes.{counted-next}
 use Rattle.rows.proofs.Lent.{lent-both}
-use Rattle.layout.specs.Pieces.{range, componentAt, objectFront, objectRest, blobsOf, componentsOf, reachedPast, objectsOf}
+use Rattle.layout.specs.Pieces.{range, componentAt, objectFront, objectRest, objectAt, blobsOf, componentsOf, reachedPast, objectsOf}
 use Rattle.layout.specs.Rows.{Within, ComponentRow, ObjectRow, ComponentRows, ObjectRows}
 
 -- what is asked of a buffer that is lent whole, and of rows that are lent from a place on
@@ -133,17 +133,16 @@ module _ {buffer plan rows : List ℕ} {n row from reached : ℕ} (rs : ObjectRo
 
 module _ (buffer plan rows : List ℕ) where
   pub objects-next : (n row from reached : ℕ) → 0 < n → objectsOf buffer plan rows n row from reached
-      ≡ objectFront buffer (drop row rows)
-      ++ (objectRest buffer (drop row rows)
+      ≡ objectAt buffer (drop row rows)
       ++ (componentsOf buffer plan rows (getD rows (row + countColumn) 0) from reached
-      ++ objectsOf buffer plan rows (n - 1) (row + objectWidth) (from + componentWidth * getD rows (row + countColumn) 0) (reachedPast plan rows (getD rows (row + countColumn) 0) from reached)))
+      ++ objectsOf buffer plan rows (n - 1) (row + objectWidth) (from + componentWidth * getD rows (row + countColumn) 0) (reachedPast plan rows (getD rows (row + countColumn) 0) from reached))
   unfolding objectsOf
   objects-next zero row from reached h = absurd (omega (arith, h))
   objects-next (suc n) row from reached h = let e : n ≡ suc n - 1 = omega arith in
-      ap (λ (k : ℕ). objectFront buffer (drop row rows)
-      ++ (objectRest buffer (drop row rows)
+      sym (append-assoc (objectFront buffer (drop row rows)) (objectRest buffer (drop row rows)) _)
+      ∙ ap (λ (k : ℕ). objectAt buffer (drop row rows)
       ++ (componentsOf buffer plan rows (getD rows (row + countColumn) 0) from reached
-      ++ objectsOf buffer plan rows k (row + objectWidth) (from + componentWidth * getD rows (row + countColumn) 0) (reachedPast plan rows (getD rows (row + countColumn) 0) from reached)))) e
+      ++ objectsOf buffer plan rows k (row + objectWidth) (from + componentWidth * getD rows (row + countColumn) 0) (reachedPast plan rows (getD rows (row + countColumn) 0) from reached))) e
 
   pub objects-none : (n row from reached : ℕ) → n ≤ 0 → objectsOf buffer plan rows n row from reached ≡ []
   unfolding objectsOf

@@ -4,7 +4,6 @@ use native.Mathlib.Omega.{arith}
 use mathlib.Core.List.{List, _++_}
 use mathlib.Core.Path.{_≡_, refl, sym, ap, _∙_, subst}
 use lib.ListN.{length, take, drop, getD}
-use borrow.Rule.Slice.PartAt.{part-to-end}
 use Rattle.meaning.specs.Columns.{objectWidth, componentWidth, countColumn, offsetColumn, lengthColumn}
 use Rattle.meaning.specs.WrittenFile.{over}
 use Rattle.meaning.proofs.Over.{over-length}
@@ -12,17 +11,9 @@ use Rattle.rows.specs.Turns.{offsetAt, stepped}
 use Rattle.emit.specs.Laid.{Room, Laid}
 use Rattle.emit.proofs.LaidPieces.{Going, going, go-on, room-one, as-bytes, same-length, stands, front-of, relaid}
 use Rattle.rows.proofs.Turns.{reached-next}
-use Rattle.layout.specs.Pieces.{range, componentAt, objectFront, objectRest, blobsOf, componentsOf, reachedPast, objectsOf}
+use Rattle.layout.specs.Pieces.{range, componentAt, objectAt, blobsOf, componentsOf, reachedPast, objectsOf}
 use Rattle.layout.specs.Rows.{FrontRoom, BlobRoom, ComponentRows, ObjectRows}
 use Rattle.layout.proofs.RowLoop.{blobs-next, blobs-none, blobs-grow, within-length, components-next, objects-next, next-components, next-objects, first-blob}
-
--- what is asked of a buffer that is lent whole
-module _ (buffer : List ℕ) where
-  pub whole {ℓ} : {A : Type ℓ} (f : List ℕ → A) → f (take (length buffer - 0) (drop 0 buffer)) ≡ f buffer
-  whole f = ap f (part-to-end buffer 0)
-
-  pub as-whole : (P : List ℕ → Type 0) → P buffer → P (take (length buffer - 0) (drop 0 buffer))
-  as-whole P h = subst (λ (T : Type 0). T) (sym (whole P)) h
 
 -- ---- blobs: what stands at the output's front, and which are left where a turn is reached
 
@@ -118,23 +109,19 @@ module _ {buffer plan rows all xs ys : List ℕ} {at left row from reached past 
   abbrev count : ℕ
   count = getD rows (row + countColumn) 0
 
-  pub room-for-front : Room (objectFront buffer (drop row rows)) past ys
-  room-for-front = room-one _ (b .going) (objects-next buffer plan rows left row from reached some)
+  pub room-for-object : Room (objectAt buffer (drop row rows)) past ys
+  room-for-object = room-one _ (b .going) (objects-next buffer plan rows left row from reached some)
 
-  module _ {us : List ℕ} {p : ℕ} (v : Laid (objectFront buffer (drop row rows)) past ys us p) where
-    after-front : Going all at xs (objectRest buffer (drop row rows) ++ (componentsOf buffer plan rows count from reached
-        ++ objectsOf buffer plan rows (left - 1) (row + objectWidth) (from + componentWidth * count) (reachedPast plan rows count from reached))) p us
-    after-front = go-on (b .going) (objects-next buffer plan rows left row from reached some) v
+  module _ {us : List ℕ} {p : ℕ} (v : Laid (objectAt buffer (drop row rows)) past ys us p) where
+    after-object : Going all at xs (componentsOf buffer plan rows count from reached
+        ++ objectsOf buffer plan rows (left - 1) (row + objectWidth) (from + componentWidth * count) (reachedPast plan rows count from reached)) p us
+    after-object = go-on (b .going) (objects-next buffer plan rows left row from reached some) v
 
-    pub room-for-rest : Room (objectRest buffer (drop row rows)) p us
-    room-for-rest = room-one _ after-front refl
+    pub room-for-components : Room (componentsOf buffer plan rows count from reached) p us
+    room-for-components = room-one _ after-object refl
 
-    module _ {vs : List ℕ} {q : ℕ} (w : Laid (objectRest buffer (drop row rows)) p us vs q) where
-      pub room-for-components : Room (componentsOf buffer plan rows count from reached) q vs
-      room-for-components = room-one _ (go-on after-front refl w) refl
-
-      pub object-turn : {zs : List ℕ} {next reached′ : ℕ} → Laid (componentsOf buffer plan rows count from reached) q vs zs next → reached′ ≡ reachedPast plan rows count from reached
-          → ObjectsLeft buffer plan rows all at xs (left - 1) (row + objectWidth) (from + componentWidth * count) reached′ next zs
-      object-turn {zs} {next} c e =
-          subst (λ (k : ℕ). ObjectsLeft buffer plan rows all at xs (left - 1) (row + objectWidth) (from + componentWidth * count) k next zs) (sym e)
-          (record { rest = next-objects (b .rest) some; going = go-on (go-on after-front refl w) refl c })
+    pub object-turn : {zs : List ℕ} {next reached′ : ℕ} → Laid (componentsOf buffer plan rows count from reached) p us zs next → reached′ ≡ reachedPast plan rows count from reached
+        → ObjectsLeft buffer plan rows all at xs (left - 1) (row + objectWidth) (from + componentWidth * count) reached′ next zs
+    object-turn {zs} {next} c e =
+        subst (λ (k : ℕ). ObjectsLeft buffer plan rows all at xs (left - 1) (row + objectWidth) (from + componentWidth * count) k next zs) (sym e)
+        (record { rest = next-objects (b .rest) some; going = go-on after-object refl c })

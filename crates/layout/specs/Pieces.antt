@@ -17,6 +17,10 @@ use Rattle.rows.specs.Turns.{begun, offsetAt, stepped, reached, blobSizes}
 unfoldable pub presence : ℕ → ℕ → ℕ
 presence place size = cond (eqb place 0 && eqb size 0) 0 1
 
+-- the shape of the object whose row these numbers begin with
+abbrev pub shapeField : List ℕ → List ℕ
+shapeField row = textBytes (ascii "shape") ++ listBytes (take (getD row rankColumn 0) (drop shapeColumn row))
+
 module _ (buffer : List ℕ) where
   -- a range's bytes
   abbrev pub range : ℕ → ℕ → List ℕ
@@ -28,22 +32,26 @@ module _ (buffer : List ℕ) where
 
   -- ---- of the row that these numbers begin with
 
-  unfoldable pub componentAt : List ℕ → ℕ → List ℕ
-  componentAt row offset =
-      textBytes (range (getD row 0 0) (getD row 1 0))
-      ++ (shortestHead 5 (3 + presence (getD row typeColumn 0) (getD row typeLengthColumn 0) + presence (getD row digestColumn 0) (getD row digestLengthColumn 0))
-      ++ ((textBytes (ascii "dtype") ++ textBytes (storageOf (getD row dtypeColumn 0) .called))
+  -- a component's fields
+  unfoldable pub componentFields : List ℕ → ℕ → List ℕ
+  componentFields row offset =
+      (textBytes (ascii "dtype") ++ textBytes (storageOf (getD row dtypeColumn 0) .called))
       ++ (optional (ascii "type") textBytes (getD row typeColumn 0) (getD row typeLengthColumn 0)
       ++ ((textBytes (ascii "offset") ++ numberBytes offset)
       ++ ((textBytes (ascii "length") ++ numberBytes (getD row lengthColumn 0))
-      ++ optional (ascii "digest") textBytes (getD row digestColumn 0) (getD row digestLengthColumn 0))))))
+      ++ optional (ascii "digest") textBytes (getD row digestColumn 0) (getD row digestLengthColumn 0))))
+
+  -- its name, and the map of these
+  unfoldable pub componentAt : List ℕ → ℕ → List ℕ
+  componentAt row offset =
+      textBytes (range (getD row 0 0) (getD row 1 0))
+      ++ (shortestHead 5 (3 + presence (getD row typeColumn 0) (getD row typeLengthColumn 0) + presence (getD row digestColumn 0) (getD row digestLengthColumn 0)) ++ componentFields row offset)
 
   -- an object's name and shape
   unfoldable pub objectFront : List ℕ → List ℕ
   objectFront row =
       textBytes (range (getD row 0 0) (getD row 1 0))
-      ++ (shortestHead 5 (3 + presence (getD row attributesColumn 0) (getD row attributesLengthColumn 0))
-      ++ (textBytes (ascii "shape") ++ listBytes (take (getD row rankColumn 0) (drop shapeColumn row))))
+      ++ (shortestHead 5 (3 + presence (getD row attributesColumn 0) (getD row attributesLengthColumn 0)) ++ shapeField row)
 
   -- and the rest, up to its components
   unfoldable pub objectRest : List ℕ → List ℕ
@@ -51,6 +59,9 @@ module _ (buffer : List ℕ) where
       (textBytes (ascii "format") ++ textBytes (range (getD row formatColumn 0) (getD row formatLengthColumn 0)))
       ++ (optional (ascii "attributes") (λ bs. bs) (getD row attributesColumn 0) (getD row attributesLengthColumn 0)
       ++ (textBytes (ascii "components") ++ shortestHead 5 (getD row countColumn 0)))
+
+  abbrev pub objectAt : List ℕ → List ℕ
+  objectAt row = objectFront row ++ objectRest row
 
   -- the manifest up to its objects; the root's attributes stand at the place `place` of the buffer
   unfoldable pub rootFront : ℕ → ℕ → ℕ → List ℕ

@@ -85,24 +85,29 @@ pub fn blobs_at(
     past
 }
 
-// The entry of the component whose row these numbers begin with.
+// The fields of the component whose row these numbers begin with.
+fn component_fields(out: &mut [u8], at: usize, buffer: &[u8], row: &[u64], offset: u64) -> usize
+    requires { ⌜ ComponentRow (now buffer) (now row) ⌝ }
+    requires { ⌜ Room (is.componentFields (now buffer) (now row) offset) at (now out) ⌝ }
+    ensures { λ r. ⌜ Laid (is.componentFields (now (buffer .entry)) (now (row .entry)) offset) at (now (out .entry)) (now (out .exit)) r ⌝ }
+{
+    let a = storage_field(out, at, row[DTYPE]);
+    let b = optional_word(out, a, b"type", buffer, row[TYPE], row[TYPE_LENGTH]);
+    let c = number_field(out, b, b"offset", offset);
+    let d = number_field(out, c, b"length", row[LENGTH]);
+    optional_word(out, d, b"digest", buffer, row[DIGEST], row[DIGEST_LENGTH])
+}
+
+// Its entry: its name, and the map of these.
 fn component_at(out: &mut [u8], at: usize, buffer: &[u8], row: &[u64], offset: u64) -> usize
     requires { ⌜ ComponentRow (now buffer) (now row) ⌝ }
     requires { ⌜ Room (is.componentAt (now buffer) (now row) offset) at (now out) ⌝ }
     ensures { λ r. ⌜ Laid (is.componentAt (now (buffer .entry)) (now (row .entry)) offset) at (now (out .entry)) (now (out .exit)) r ⌝ }
 {
     let a = word_at(out, at, buffer, row[NAME], row[NAME_LENGTH]);
-    let b = head_at(
-        out,
-        a,
-        5,
-        3 + presence(row[TYPE], row[TYPE_LENGTH]) + presence(row[DIGEST], row[DIGEST_LENGTH]),
-    );
-    let c = storage_field(out, b, row[DTYPE]);
-    let d = optional_word(out, c, b"type", buffer, row[TYPE], row[TYPE_LENGTH]);
-    let e = number_field(out, d, b"offset", offset);
-    let f = number_field(out, e, b"length", row[LENGTH]);
-    optional_word(out, f, b"digest", buffer, row[DIGEST], row[DIGEST_LENGTH])
+    let n = 3 + presence(row[TYPE], row[TYPE_LENGTH]) + presence(row[DIGEST], row[DIGEST_LENGTH]);
+    let b = head_at(out, a, 5, n);
+    component_fields(out, b, buffer, row, offset)
 }
 
 // The entries of n components, where the turn `turn` is reached.

@@ -1,5 +1,6 @@
 // Ranges of the buffer, and fields: a key and its value, laid at a place.
 use emit::bytes_at;
+use emit::head_at;
 use emit::number_at;
 use emit::text_at;
 use put::NAMES;
@@ -9,7 +10,7 @@ ghost use mathlib.Core.List.{_++_};
 ghost use Prim.Native.Nat.{_+_, _<_, _≤_};
 ghost use Rattle.meaning.specs.Text.{ascii};
 ghost use Rattle.meaning.specs.Types.{storageOf};
-ghost use Rattle.meaning.specs.Manifest.{numberBytes, textBytes};
+ghost use Rattle.meaning.specs.Manifest.{shortestHead, numberBytes, textBytes};
 ghost use Rattle.emit.specs.Laid.{Room, Laid};
 ghost use Rattle.layout.specs.Pieces.{range, optional};
 ghost use Rattle.layout.specs.Pieces as is;
@@ -53,6 +54,15 @@ pub fn number_field(out: &mut [u8], at: usize, key: &[u8], n: u64) -> usize
 {
     let past = text_at(out, at, key);
     number_at(out, past, n)
+}
+
+// A key and the head of the map under it.
+pub fn map_field(out: &mut [u8], at: usize, key: &[u8], n: u64) -> usize
+    requires { ⌜ Room (textBytes (now key) ++ shortestHead 5 n) at (now out) ⌝ }
+    ensures { λ r. ⌜ Laid (textBytes (now (key .entry)) ++ shortestHead 5 n) at (now (out .entry)) (now (out .exit)) r ⌝ }
+{
+    let past = text_at(out, at, key);
+    head_at(out, past, 5, n)
 }
 
 pub fn word_field(

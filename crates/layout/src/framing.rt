@@ -1,5 +1,6 @@
 // The manifest, and the whole file around it.
 use crate::components::blobs_at;
+use crate::fields::map_field;
 use crate::fields::optional_item;
 use crate::fields::presence;
 use crate::objects::objects_at;
@@ -24,8 +25,7 @@ pub fn root(out: &mut [u8], buffer: &[u8], objects: u64, place: u64, size: u64) 
     let b = text_at(out, a, b"version");
     let c = text_at(out, b, b"1.2.0");
     let d = optional_item(out, c, b"attributes", buffer, place, size);
-    let e = text_at(out, d, b"objects");
-    head_at(out, e, 5, objects)
+    map_field(out, d, b"objects", objects)
 }
 
 // The manifest over the front of a lent part; its length.
@@ -44,18 +44,9 @@ fn manifest(
     requires { ⌜ Room (is.manifestFrom (now buffer) (now plan) (now rows) objects first place size) 0 (now out) ⌝ }
     ensures { λ r. ⌜ Laid (is.manifestFrom (now (buffer .entry)) (now (plan .entry)) (now (rows .entry)) objects first place size) 0 (now (out .entry)) (now (out .exit)) r ⌝ }
 {
-    let past = root(out, &buffer[0..], objects, place, size);
+    let past = root(out, buffer, objects, place, size);
     let turn = first_turn(plan);
-    objects_at(
-        out,
-        past,
-        &buffer[0..],
-        plan,
-        &rows[0..],
-        objects,
-        first,
-        turn,
-    )
+    objects_at(out, past, buffer, plan, rows, objects, first, turn)
 }
 
 // Header, blobs, manifest, size, footer.
@@ -76,21 +67,12 @@ pub fn whole(
     let first = columns::OBJECT * objects as usize;
     let turn = first_turn(plan);
     let start = magic_at(out, 0);
-    let end = blobs_at(
-        out,
-        start,
-        &buffer[0..],
-        plan,
-        &rows[0..],
-        components,
-        first,
-        turn,
-    );
+    let end = blobs_at(out, start, buffer, plan, rows, components, first, turn);
     let n = manifest(
         &mut out[end..],
-        &buffer[0..],
+        buffer,
         plan,
-        &rows[0..],
+        rows,
         objects,
         first,
         place,

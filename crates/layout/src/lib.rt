@@ -32,14 +32,5 @@ pub fn file(
         ≡ askedFile (now (buffer .entry)) (now (plan .entry)) (now (rows .entry)) objects components place size
         ++ drop (length (askedFile (now (buffer .entry)) (now (plan .entry)) (now (rows .entry)) objects components place size)) (now (out .entry)) ⌝ }
 {
-    framing::whole(
-        out,
-        &buffer[0..],
-        plan,
-        &rows[0..],
-        objects,
-        components,
-        place,
-        size,
-    )
+    framing::whole(out, buffer, plan, rows, objects, components, place, size)
 }

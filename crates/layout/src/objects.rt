@@ -1,5 +1,6 @@
 // Objects in the manifest, with their components.
 use crate::components::components_at;
+use crate::fields::map_field;
 use crate::fields::optional_item;
 use crate::fields::presence;
 use crate::fields::word_at;
@@ -16,11 +17,25 @@ use columns::SHAPE;
 use emit::head_at;
 use emit::list_at;
 use emit::text_at;
+ghost use Prim.Native.Nat.{_+_, _≤_};
+ghost use lib.ListN.{length, getD};
+ghost use Rattle.meaning.specs.Columns.{rankColumn, shapeColumn};
 ghost use Rattle.emit.specs.Laid.{Room, Laid};
 ghost use Rattle.layout.specs.Pieces as is;
 ghost use Rattle.layout.specs.Rows.{ObjectRow, ObjectRows};
 
-// The name and the shape of the object whose row these numbers begin with.
+// The shape of the object whose row these numbers begin with.
+fn shape_field(out: &mut [u8], at: usize, row: &[u64]) -> usize
+    requires { ⌜ shapeColumn + getD (now row) rankColumn 0 ≤ length (now row) ⌝ }
+    requires { ⌜ Room (is.shapeField (now row)) at (now out) ⌝ }
+    ensures { λ r. ⌜ Laid (is.shapeField (now (row .entry))) at (now (out .entry)) (now (out .exit)) r ⌝ }
+{
+    let past = text_at(out, at, b"shape");
+    let end = SHAPE + row[RANK] as usize;
+    list_at(out, past, &row[SHAPE..end])
+}
+
+// Its name and its shape.
 fn front_at(out: &mut [u8], at: usize, buffer: &[u8], row: &[u64]) -> usize
     requires { ⌜ ObjectRow (now buffer) (now row) ⌝ }
     requires { ⌜ Room (is.objectFront (now buffer) (now row)) at (now out) ⌝ }
@@ -33,12 +48,10 @@ fn front_at(out: &mut [u8], at: usize, buffer: &[u8], row: &[u64]) -> usize
         5,
         3 + presence(row[ATTRIBUTES], row[ATTRIBUTES_LENGTH]),
     );
-    let c = text_at(out, b, b"shape");
-    let end = SHAPE + row[RANK] as usize;
-    list_at(out, c, &row[SHAPE..end])
+    shape_field(out, b, row)
 }
 
-// The rest of it, up to its components.
+// The rest of it.
 fn rest_at(out: &mut [u8], at: usize, buffer: &[u8], row: &[u64]) -> usize
     requires { ⌜ ObjectRow (now buffer) (now row) ⌝ }
     requires { ⌜ Room (is.objectRest (now buffer) (now row)) at (now out) ⌝ }
@@ -53,8 +66,17 @@ fn rest_at(out: &mut [u8], at: usize, buffer: &[u8], row: &[u64]) -> usize
         row[ATTRIBUTES],
         row[ATTRIBUTES_LENGTH],
     );
-    let c = text_at(out, b, b"components");
-    head_at(out, c, 5, row[COUNT])
+    map_field(out, b, b"components", row[COUNT])
+}
+
+// All of it, up to its components.
+fn object_at(out: &mut [u8], at: usize, buffer: &[u8], row: &[u64]) -> usize
+    requires { ⌜ ObjectRow (now buffer) (now row) ⌝ }
+    requires { ⌜ Room (is.objectAt (now buffer) (now row)) at (now out) ⌝ }
+    ensures { λ r. ⌜ Laid (is.objectAt (now (buffer .entry)) (now (row .entry))) at (now (out .entry)) (now (out .exit)) r ⌝ }
+{
+    let front = front_at(out, at, buffer, row);
+    rest_at(out, front, buffer, row)
 }
 
 // The entries of n objects, the first at the rows' start, their components from the place `first` on, where the turn `turn` is reached.
@@ -79,9 +101,8 @@ pub fn objects_at(
     let mut left = n;
     while 0 < left {
         let count = rows[row + COUNT];
-        let front = front_at(out, past, &buffer[0..], &rows[row..]);
-        let rest = rest_at(out, front, &buffer[0..], &rows[row..]);
-        let p = components_at(out, rest, &buffer[0..], plan, &rows[0..], count, from, next);
+        let begun = object_at(out, past, &buffer[0..], &rows[row..]);
+        let p = components_at(out, begun, buffer, plan, rows, count, from, next);
         past = p.at;
         next = p.turn;
         from += columns::COMPONENT * count as usize;

@@ -44,7 +44,7 @@ use Rattle.merge.specs.Checked.{span, Ready, Cases, CheckedIs}
 use Rattle.merge.specs.declared.Verdict.{Verdict}
 use Rattle.merge.specs.declared.Verdict.the-variants.{No, Yes}
 use Rattle.merger.specs.declared.Merged.{Merged}
-use Rattle.merger.specs.MergedFile.{answered, Enough}
+use Rattle.merger.specs.MergedFile.{answered, joinedOf, Enough}
 
 -- ---- which case it was
 
@@ -141,10 +141,10 @@ module _ {l : ℕ} {first : List ℕ} {l′ : ℕ} {second : List ℕ} {n c plac
   pub few-objects : n + k ≤ 1024
   few-objects = y .few
 
-  pub few-first : n ≤ 1024
+  few-first : n ≤ 1024
   few-first = let h = y .few in omega (arith, h)
 
-  pub few-second : k ≤ 1024
+  few-second : k ≤ 1024
   few-second = let h = y .few in omega (arith, h)
 
   pub few-all : c + d ≤ 16384
@@ -315,17 +315,17 @@ module _ {l : ℕ} {first : List ℕ} {l′ : ℕ} {second : List ℕ} {n c plac
               blobs = fit-of.blob-rows second [] (rows m′ ++ R) k d (span other rest) sound′ h;
             }
 
-        pub rows-first : Rows first (part 0 (back cut t u)) n c 8
+        rows-first : Rows first (part 0 (back cut t u)) n c 8
         rows-first = subst (λ (x : List ℕ). Rows first x n c 8) (sym whole) fit
 
-        pub rows-second : Rows second (part cut (back cut t u)) k d turn
+        rows-second : Rows second (part cut (back cut t u)) k d turn
         rows-second = subst (λ (x : List ℕ). Rows second x k d turn) (sym behind) fit′
 
         -- which file's attributes are kept
-        pub within-first : Within first place size
+        within-first : Within first place size
         within-first = fit-of.attributes-fit first [] T n c (span place size) sound
 
-        pub within-second : Within second other rest
+        within-second : Within second other rest
         within-second = fit-of.attributes-fit second [] (rows m′ ++ R) k d (span other rest) sound′
 
         there : a .attributes ≡ presentAt first (span place size)
@@ -334,31 +334,43 @@ module _ {l : ℕ} {first : List ℕ} {l′ : ℕ} {second : List ℕ} {n c plac
         there′ : b .attributes ≡ presentAt second (span other rest)
         there′ = of-file.attributes-there (layoutOf l′) (size-back l′) second (y .held′) (y .read′) (y .is′) .0 ∙ ap (presentAt second) (sym (y .attributes′))
 
-        pub kept-second : eqb place 0 && eqb size 0 ≡ true → presentAt second (span other rest) ≡ orElse (a .attributes) (b .attributes)
+        kept-second : eqb place 0 && eqb size 0 ≡ true → presentAt second (span other rest) ≡ orElse (a .attributes) (b .attributes)
         unfolding presentAt orElse
         kept-second e = sym there′ ∙ sym (rw (there, e) refl)
 
-        pub kept-first : eqb place 0 && eqb size 0 ≡ false → presentAt first (span place size) ≡ orElse (a .attributes) (b .attributes)
+        kept-first : eqb place 0 && eqb size 0 ≡ false → presentAt first (span place size) ≡ orElse (a .attributes) (b .attributes)
         unfolding presentAt orElse
         kept-first e = rw (there, e) refl
 
-        module _ (from : List ℕ) (p q : ℕ) (kept : presentAt from (span p q) ≡ orElse (a .attributes) (b .attributes)) where
-          abbrev laid : List ℕ
-          laid = wholeOf from p q first (part 0 (back cut t u)) n c second (part cut (back cut t u)) k d turn
+        is-file : (from : List ℕ) (p q : ℕ) → presentAt from (span p q) ≡ orElse (a .attributes) (b .attributes)
+            → wholeOf from p q first (part 0 (back cut t u)) n c second (part cut (back cut t u)) k d turn ≡ plainFile (merged a b)
+        is-file from p q kept =
+            ap₂ (λ (x z : List ℕ). wholeOf from p q first x n c second z k d turn) whole behind
+            ∙ meant.whole-meant from p q first T n c (span place size) second (rows m′ ++ R) k d turn (span other rest) sound sound′ fit fit′
+            (y .turn-is ∙ ap (λ (x : Described). reached [] 8 (map length (blobs x))) (sym says))
+            (kept ∙ ap₂ (λ (x z : Described). orElse (x .attributes) (z .attributes)) (sym says) (sym says′))
+            ∙ ap₂ (λ (x z : Described). plainFile (merged x z)) says says′
 
-          is-file : laid ≡ plainFile (merged a b)
-          is-file =
-              ap₂ (λ (x z : List ℕ). wholeOf from p q first x n c second z k d turn) whole behind
-              ∙ meant.whole-meant from p q first T n c (span place size) second (rows m′ ++ R) k d turn (span other rest) sound sound′ fit fit′
-              (y .turn-is ∙ ap (λ (x : Described). reached [] 8 (map length (blobs x))) (sym says))
-              (kept ∙ ap₂ (λ (x z : Described). orElse (x .attributes) (z .attributes)) (sym says) (sym says′))
-              ∙ ap₂ (λ (x z : Described). plainFile (merged x z)) says says′
+        abbrev laid : List ℕ
+        laid = joinedOf first (part 0 (back cut t u)) n c place size second (part cut (back cut t u)) k d other rest turn
 
-          pub room-file : Room laid 0 out
-          room-file = let e = y .long-is in let h = room .bytes in record { fits = omega (arith, e, h, ap length is-file) }
+        joined-is : laid ≡ plainFile (merged a b)
+        joined-is = by (eqb place 0 && eqb size 0) refl
+          where
+            by : (x : Bool) → eqb place 0 && eqb size 0 ≡ x → laid ≡ plainFile (merged a b)
+            by true e = rw e (is-file second other rest (kept-second e))
+            by false e = rw e (is-file first place size (kept-first e))
 
-          pub output-is : {after : List ℕ} {r : ℕ} → Laid laid 0 out after r → after ≡ mergeOutput out (merge (layoutOf l) first (layoutOf l′) second (length table) (length out))
-          unfolding mergeOutput
-          output-is w =
-              w .is ∙ at-front laid out ∙ ap (λ (x : List ℕ). x ++ drop (length x) out) is-file
-              ∙ rw (goes-well (length table) (length out) (room .bytes) (room .numbers)) refl
+        -- what joining them asks
+        pub join-asks : (Within first place size × Within second other rest × (n ≤ 1024) × (k ≤ 1024))
+            × ((Rows first (part 0 (back cut t u)) n c 8 × Rows second (part cut (back cut t u)) k d turn) × Room laid 0 out)
+        join-asks =
+            let e = y .long-is in
+            let h = room .bytes in
+            ((within-first, within-second, few-first, few-second), ((rows-first, rows-second), record { fits = omega (arith, e, h, ap length joined-is) }))
+
+        pub output-is : {after : List ℕ} {r : ℕ} → Laid laid 0 out after r → after ≡ mergeOutput out (merge (layoutOf l) first (layoutOf l′) second (length table) (length out))
+        unfolding mergeOutput
+        output-is w =
+            w .is ∙ at-front laid out ∙ ap (λ (x : List ℕ). x ++ drop (length x) out) joined-is
+            ∙ rw (goes-well (length table) (length out) (room .bytes) (room .numbers)) refl

@@ -1,8 +1,11 @@
--- The merge's answer as the code's, and room for both files' rows and for the merged file.
+-- The merge's answer as the code's, the file by both files' rows, and room for both files' rows and for the merged file.
 use Prim.Native.Nat.{ℕ, _+_, _*_, _≤_}
 use mathlib.Core.List.{List}
+use mathlib.Core.Bool.{cond, _&&_}
+use lib.Dec.{eqb}
 use lib.ListN.{length}
 use Rattle.meaning.specs.Columns.{objectWidth, componentWidth}
+use Rattle.joint.specs.Joint.{wholeOf}
 use Rattle.merging.specs.Merge.{Merge, MergeAnswer, mergeAnswer}
 use Rattle.merger.specs.declared.Merged.{Merged}
 
@@ -11,6 +14,11 @@ told a = record { number = a .number; file = a .file; object = a .object; compon
 
 abbrev pub answered : Merge → Merged
 answered m = told (mergeAnswer m)
+
+-- the file by both files' rows: the root's attributes are the first's if it has any, else the second's
+abbrev pub joinedOf : List ℕ → List ℕ → ℕ → ℕ → ℕ → ℕ → List ℕ → List ℕ → ℕ → ℕ → ℕ → ℕ → ℕ → List ℕ
+joinedOf first rows n c place size second others k d other rest turn =
+    cond (eqb place 0 && eqb size 0) (wholeOf second other rest first rows n c second others k d turn) (wholeOf first place size first rows n c second others k d turn)
 
 -- rows of n + k objects and c + d components, and an output of `long` bytes
 pub record Enough (n c k d long : ℕ) (rows out : List ℕ) : Type 0 where

@@ -2,14 +2,17 @@
 use merge::Verdict;
 ghost use mathlib.Core.Path.{_≡_};
 ghost use mathlib.Core.Bool.{_&&_};
-ghost use Prim.Native.Nat.{_+_, _*_};
+ghost use Prim.Native.Nat.{_+_, _*_, _≤_};
 ghost use lib.ListN.{length};
 ghost use lib.Dec.{leb};
 ghost use Rattle.meaning.specs.Columns.{objectWidth, componentWidth};
 ghost use Rattle.meaning.specs.Layouts.{layoutOf};
+ghost use Rattle.emit.specs.Laid.{Room, Laid};
+ghost use Rattle.layout.specs.Rows.{Within};
+ghost use Rattle.joint.specs.Joint.{Rows};
 ghost use Rattle.merging.specs.Merge as is;
 ghost use Rattle.merge.specs.Checked.{Ready};
-ghost use Rattle.merger.specs.MergedFile.{answered, Enough};
+ghost use Rattle.merger.specs.MergedFile.{answered, joinedOf, Enough};
 
 // A refusal's number, which file it is about (1 or 2, or 0 for the merged one), object and component; or 0, or ROOM, and the merged file's length.
 #[repr(C)]
@@ -21,7 +24,63 @@ pub struct Merged {
     pub length: u64,
 }
 
-// Both files' rows, the second's behind the first's, and the file by them. The root's attributes are the first's if it has any, else the second's.
+// The file by both files' rows; its length. The root's attributes are the first's if it has any, else the second's.
+fn join(
+    out: &mut [u8],
+    first: &[u8],
+    rows: &[u64],
+    n: u64,
+    c: u64,
+    place: u64,
+    size: u64,
+    second: &[u8],
+    others: &[u64],
+    k: u64,
+    d: u64,
+    other: u64,
+    rest: u64,
+    turn: u64,
+) -> usize
+    requires { ⌜ Within (now first) place size × Within (now second) other rest × (n ≤ 1024) × (k ≤ 1024) ⌝ }
+    requires { ⌜ Rows (now first) (now rows) n c 8 × Rows (now second) (now others) k d turn ⌝ }
+    requires { ⌜ Room (joinedOf (now first) (now rows) n c place size (now second) (now others) k d other rest turn) 0 (now out) ⌝ }
+    ensures { λ r. ⌜ Laid (joinedOf (now (first .entry)) (now (rows .entry)) n c place size (now (second .entry)) (now (others .entry)) k d other rest turn) 0 (now (out .entry)) (now (out .exit)) r ⌝ }
+{
+    if rows::absent(place, size) {
+        return joint::both(
+            out,
+            second,
+            other,
+            rest,
+            first,
+            rows,
+            n,
+            c,
+            second,
+            others,
+            k,
+            d,
+            turn,
+        );
+    }
+    joint::both(
+        out,
+        first,
+        place,
+        size,
+        first,
+        rows,
+        n,
+        c,
+        second,
+        others,
+        k,
+        d,
+        turn,
+    )
+}
+
+// Both files' rows, the second's behind the first's, and the file by them.
 fn lay(
     one: u64,
     first: &[u8],
@@ -46,37 +105,20 @@ fn lay(
     let cut = columns::OBJECT * n as usize + columns::COMPONENT * c as usize;
     reader::into::read_as(one, first, rows);
     reader::into::read_as(two, second, &mut rows[cut..]);
-    if rows::absent(place, size) {
-        joint::both(
-            out,
-            second,
-            other,
-            rest,
-            first,
-            &rows[0..],
-            n,
-            c,
-            second,
-            &rows[cut..],
-            k,
-            d,
-            turn,
-        );
-        return;
-    }
-    joint::both(
+    join(
         out,
-        first,
-        place,
-        size,
         first,
         &rows[0..],
         n,
         c,
+        place,
+        size,
         second,
         &rows[cut..],
         k,
         d,
+        other,
+        rest,
         turn,
     );
 }

@@ -1,19 +1,14 @@
 -- The end of a component's line: what is found, in words.
-use Prim.Native.Nat.{ℕ, _-_}
+use Prim.Native.Nat.{ℕ}
 use mathlib.Core.List.{List, [], _∷_, _++_}
-use mathlib.Core.Bool.{Bool, true, false, cond}
-use mathlib.Core.Path.{_≡_, refl, sym, ap, _∙_}
-use lib.ListN.{length, take, drop}
+use mathlib.Core.Bool.{Bool, true, false}
+use mathlib.Core.Path.{_≡_, refl, ap, _∙_}
 use borrow.Author.Tests.{ne-eqb}
 use Rattle.meaning.specs.Text.{ascii}
 use Rattle.meaning.specs.Listing.{blanked}
 use Rattle.finding.specs.Table.{atRow}
 use Rattle.finding.specs.declared.Shown.{Shown}
-use Rattle.finding.proofs.Rows.{lent-row}
 use Rattle.panel.specs.Summary.{spanWords, nanWords, words, more}
-
-abbrev Whole : List ℕ → List ℕ
-Whole s = take (length s - 0) (drop 0 s)
 
 module _ (f : Shown) where
   empty-is : f .finding ≡ 1 → ascii " empty" ++ (10 ∷ []) ≡ blanked (words f)
@@ -32,9 +27,9 @@ module _ (f : Shown) where
   unfolding words blanked
   none-is a b c = rw (ne-eqb (f .finding) 1 a, ne-eqb (f .finding) 2 b, ne-eqb (f .finding) 3 c) refl
 
-module _ (file table : List ℕ) (row : ℕ) {f : Shown} (e : f ≡ atRow (Whole file) (Whole table) row) where
+module _ (file table : List ℕ) (row : ℕ) {f : Shown} (e : f ≡ atRow file table row) where
   found : blanked (words f) ≡ blanked (words (atRow file table row))
-  found = ap (λ (g : Shown). blanked (words g)) (lent-row file table row f e)
+  found = ap (λ (g : Shown). blanked (words g)) e
 
   pub empty : f .finding ≡ 1 → ascii " empty" ++ (10 ∷ []) ≡ blanked (words (atRow file table row))
   empty h = empty-is f h ∙ found
@@ -49,8 +44,8 @@ module _ (file table : List ℕ) (row : ℕ) {f : Shown} (e : f ≡ atRow (Whole
   none a b c = none-is f a b c ∙ found
 
 module _ (file table : List ℕ) (row : ℕ) (summary : Bool) where
-  pub with-found : summary ≡ true → blanked (words (atRow (Whole file) (Whole table) row)) ≡ blanked (more summary file table row)
-  with-found e = rw e (ap (λ (g : Shown). blanked (words g)) (lent-row file table row (atRow (Whole file) (Whole table) row) refl))
+  pub with-found : summary ≡ true → blanked (words (atRow file table row)) ≡ blanked (more summary file table row)
+  with-found e = rw e refl
 
   pub without : summary ≡ false → 10 ∷ [] ≡ blanked (more summary file table row)
   unfolding blanked

@@ -3,8 +3,7 @@ use Prim.Native.Nat.{ℕ, zero, suc, _+_, _-_, _*_, _≤_, _<_}
 use native.Mathlib.Omega.{arith}
 use mathlib.Core.List.{List, [], _∷_, _++_, append-assoc}
 use mathlib.Core.Path.{_≡_, refl, ap, _∙_}
-use lib.ListN.{length, take, drop, getD}
-use borrow.Rule.Slice.PartAt.{part-to-end}
+use lib.ListN.{take, drop, getD}
 use Rattle.meaning.specs.Columns.{objectWidth, componentWidth, formatColumn, formatLengthColumn, dtypeColumn, offsetColumn, lengthColumn}
 use Rattle.meaning.specs.Text.{ascii}
 use Rattle.meaning.specs.Types.{storageOf}
@@ -12,11 +11,6 @@ use Rattle.meaning.specs.Listing.{line, blanked, shownText, decimal}
 use Rattle.panel.specs.Lines.{countAt, textAt, blobWords, blobLine, blobLines, objectLine, objectLines}
 
 module _ (file table : List ℕ) where
-  -- a text of the file, found in the file as it is lent whole
-  whole-text : (i : ℕ) (s : List ℕ) → s ≡ take (getD table (i + 1) 0) (drop (getD table i 0) (take (length file - 0) (drop 0 file))) → s ≡ textAt file table i
-  unfolding textAt
-  whole-text i s e = e ∙ ap (λ (f : List ℕ). take (getD table (i + 1) 0) (drop (getD table i 0) f)) (part-to-end file 0)
-
   -- the words up to the size, and what follows it
   together : (w n s o z l : List ℕ) → (w ++ ((32 ∷ n) ++ ((32 ∷ s) ++ ((32 ∷ o) ++ (32 ∷ z))))) ++ l ≡ w ++ (32 ∷ (n ++ (32 ∷ (s ++ (32 ∷ (o ++ (32 ∷ (z ++ l))))))))
   together w n s o z l =
@@ -27,26 +21,24 @@ module _ (file table : List ℕ) where
       append-assoc (32 ∷ n) ((32 ∷ s) ++ ((32 ∷ o) ++ (32 ∷ z))) l ∙ ap (λ (k : List ℕ). 32 ∷ (n ++ k)) b in
       append-assoc w ((32 ∷ n) ++ ((32 ∷ s) ++ ((32 ∷ o) ++ (32 ∷ z)))) l ∙ ap (λ (k : List ℕ). w ++ k) c
 
-  pub blob-is : (more : ℕ → List (List ℕ)) (row : ℕ) (name l : List ℕ) → name ≡ take (getD table (row + 1) 0) (drop (getD table row 0) (take (length file - 0) (drop 0 file)))
-      → l ≡ blanked (more row)
-      → blobWords (shownText name) (storageOf (getD table (row + dtypeColumn) 0) .called) (decimal (getD table (row + offsetColumn) 0)) (decimal (getD table (row + lengthColumn) 0)) ++ l
+  pub blob-is : (more : ℕ → List (List ℕ)) (row : ℕ) (name : List ℕ) → name ≡ take (getD table (row + 1) 0) (drop (getD table row 0) file)
+      → blobWords (shownText name) (storageOf (getD table (row + dtypeColumn) 0) .called) (decimal (getD table (row + offsetColumn) 0)) (decimal (getD table (row + lengthColumn) 0)) ++ blanked (more row)
       ≡ blobLine file table more row
-  unfolding blobLine blobWords line blanked
-  blob-is more row name l e f =
-      together (ascii "blob") (shownText name) (storageOf (getD table (row + dtypeColumn) 0) .called) (decimal (getD table (row + offsetColumn) 0)) (decimal (getD table (row + lengthColumn) 0)) l
-      ∙ ap (λ (k : List ℕ). ascii "blob" ++ (32 ∷ (shownText name ++ (32 ∷ (storageOf (getD table (row + dtypeColumn) 0) .called ++ (32 ∷ (decimal (getD table (row + offsetColumn) 0) ++ (32 ∷ (decimal (getD table (row + lengthColumn) 0) ++ k))))))))) f
+  unfolding blobLine blobWords line blanked textAt
+  blob-is more row name e =
+      together (ascii "blob") (shownText name) (storageOf (getD table (row + dtypeColumn) 0) .called) (decimal (getD table (row + offsetColumn) 0)) (decimal (getD table (row + lengthColumn) 0)) (blanked (more row))
       ∙ ap (λ (s : List ℕ). line (ascii "blob") (shownText s ∷ storageOf (getD table (row + dtypeColumn) 0) .called ∷ decimal (getD table (row + offsetColumn) 0) ∷ decimal (getD table (row + lengthColumn) 0) ∷ more row))
-      (whole-text row name e)
+      e
 
-  pub object-is : (row : ℕ) (name format : List ℕ) → name ≡ take (getD table (row + 1) 0) (drop (getD table row 0) (take (length file - 0) (drop 0 file)))
-      → format ≡ take (getD table (row + formatLengthColumn) 0) (drop (getD table (row + formatColumn) 0) (take (length file - 0) (drop 0 file)))
+  pub object-is : (row : ℕ) (name format : List ℕ) → name ≡ take (getD table (row + 1) 0) (drop (getD table row 0) file)
+      → format ≡ take (getD table (row + formatLengthColumn) 0) (drop (getD table (row + formatColumn) 0) file)
       → line (ascii "object") (shownText name ∷ shownText format ∷ []) ≡ objectLine file table row
-  unfolding objectLine
+  unfolding objectLine textAt
   object-is row name format e f =
-      ap (λ (s : List ℕ). line (ascii "object") (shownText s ∷ shownText format ∷ [])) (whole-text row name e)
+      ap (λ (s : List ℕ). line (ascii "object") (shownText s ∷ shownText format ∷ [])) e
       ∙ ap (λ (s : List ℕ). line (ascii "object") (shownText (textAt file table row) ∷ shownText s ∷ []))
-      (whole-text (row + formatColumn) format (f ∙ (let z : row + formatLengthColumn ≡ row + formatColumn + 1 = omega arith in
-      ap (λ (k : ℕ). take (getD table k 0) (drop (getD table (row + formatColumn) 0) (take (length file - 0) (drop 0 file)))) z)))
+      (f ∙ (let z : row + formatLengthColumn ≡ row + formatColumn + 1 = omega arith in
+      ap (λ (k : ℕ). take (getD table k 0) (drop (getD table (row + formatColumn) 0) file)) z))
 
   module _ (more : ℕ → List (List ℕ)) where
     pub blobs-next : (n row : ℕ) → 0 < n → blobLines file table more n row ≡ blobLine file table more row ++ blobLines file table more (n - 1) (row + componentWidth)

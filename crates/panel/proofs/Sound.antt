@@ -3,7 +3,7 @@ use Prim.Native.Nat.{ℕ, zero, suc, _+_, _-_, _*_, _/_, _≤_, _<_}
 use native.Mathlib.Omega.{arith}
 use mathlib.Core.List.{List}
 use mathlib.Core.Bool.{Bool, true, false, _&&_}
-use mathlib.Core.Path.{_≡_, refl, sym, ap, _∙_, subst}
+use mathlib.Core.Path.{_≡_, refl, sym, ap, _∙_}
 use lib.ListN.{length, take, drop, getD}
 use lib.Dec.{leb, eqb}
 use borrow.Author.Tests.{le-leb, lt-leb, lt-ltb, le-ltb, eq-eqb, ne-eqb, leb-true, eqb-true, eqb-false}
@@ -138,9 +138,5 @@ module _ (file table : List ℕ) (objects components : ℕ) where
         (eqb (counted table objects 0) components)
         all-sound)
 
-    -- asked of the table as it is lent whole
-    pub lines-lie : (objectWidth * objects ≤ length (take (length table - 0) (drop 0 table)))
-        × (objectWidth * objects + componentWidth * counted (take (length table - 0) (drop 0 table)) objects 0 ≤ length (take (length table - 0) (drop 0 table)))
-    lines-lie =
-        subst (λ (t : List ℕ). (objectWidth * objects ≤ length t) × (objectWidth * objects + componentWidth * counted t objects 0 ≤ length t)) (sym (part-to-end table 0))
-        (omega (arith, sound-lies), omega (arith, sound-lies, sound-counts))
+    pub lines-lie : (objectWidth * objects ≤ length table) × (objectWidth * objects + componentWidth * counted table objects 0 ≤ length table)
+    lines-lie = (omega (arith, sound-lies), omega (arith, sound-lies, sound-counts))

@@ -2,39 +2,45 @@
 use put::blank_number;
 use put::byte;
 use put::word;
+ghost use mathlib.Core.List.{_∷_, _++_};
 ghost use Prim.Native.Nat.{_+_, _≤_};
 ghost use lib.ListN.{length};
 ghost use Rattle.meaning.specs.Columns.{componentWidth};
-ghost use Rattle.meaning.specs.Listing.{blanked};
+ghost use Rattle.meaning.specs.Listing.{blanked, decimal};
 ghost use Rattle.finding.specs.Table.{atRow};
 ghost use Rattle.put.specs.Wrote.{Wrote};
 ghost use Rattle.panel.specs.Summary as is;
 
-fn blank_float(bits: u64, out: &mut [u8], at: usize) -> usize
-    ensures { λ r. ⌜ Wrote (is.blankFloat bits) at (now (out .entry)) (now (out .exit)) r ⌝ }
+// Words, and the number after them.
+pub fn numbered(said: &[u8], n: u64, out: &mut [u8], at: usize) -> usize
+    ensures { λ r. ⌜ Wrote (now (said .entry) ++ (32 ∷ decimal n)) at (now (out .entry)) (now (out .exit)) r ⌝ }
 {
-    let from = byte(out, at, 32);
-    decimal::text::float(out, from, (bits % 4294967296) as u32)
+    let past = word(out, at, said);
+    blank_number(out, past, n)
 }
 
-fn span(smallest: u64, largest: u64, nans: u64, out: &mut [u8], at: usize) -> usize
-    ensures { λ r. ⌜ Wrote (blanked (is.spanWords smallest largest nans)) at (now (out .entry)) (now (out .exit)) r ⌝ }
+// The same of a float.
+fn floated(said: &[u8], bits: u64, out: &mut [u8], at: usize) -> usize
+    ensures { λ r. ⌜ Wrote (now (said .entry) ++ is.blankFloat bits) at (now (out .entry)) (now (out .exit)) r ⌝ }
 {
-    let a = word(out, at, b" min");
-    let b = blank_float(smallest, out, a);
-    let c = word(out, b, b" max");
-    let d = blank_float(largest, out, c);
-    let e = word(out, d, b" nan");
-    let f = blank_number(out, e, nans);
-    byte(out, f, 10)
+    let past = word(out, at, said);
+    let from = byte(out, past, 32);
+    decimal::text::float(out, from, (bits % 4294967296) as u32)
 }
 
 fn only_nan(nans: u64, out: &mut [u8], at: usize) -> usize
     ensures { λ r. ⌜ Wrote (blanked (is.nanWords nans)) at (now (out .entry)) (now (out .exit)) r ⌝ }
 {
-    let a = word(out, at, b" nan");
-    let b = blank_number(out, a, nans);
-    byte(out, b, 10)
+    let past = numbered(b" nan", nans, out, at);
+    byte(out, past, 10)
+}
+
+fn span(smallest: u64, largest: u64, nans: u64, out: &mut [u8], at: usize) -> usize
+    ensures { λ r. ⌜ Wrote (blanked (is.spanWords smallest largest nans)) at (now (out .entry)) (now (out .exit)) r ⌝ }
+{
+    let a = floated(b" min", smallest, out, at);
+    let b = floated(b" max", largest, out, a);
+    only_nan(nans, out, b)
 }
 
 // What is found in the component whose row begins here.
@@ -42,7 +48,7 @@ fn found(file: &[u8], table: &[u64], row: usize, out: &mut [u8], at: usize) -> u
     requires { ⌜ row + componentWidth ≤ length (now table) ⌝ }
     ensures { λ r. ⌜ Wrote (blanked (is.words (atRow (now (file .entry)) (now (table .entry)) row))) at (now (out .entry)) (now (out .exit)) r ⌝ }
 {
-    let f = finding::table::at_row(&file[0..], &table[0..], row);
+    let f = finding::table::at_row(file, table, row);
     if f.finding == 1 {
         return word(out, at, b" empty\n");
     }
@@ -67,7 +73,7 @@ pub fn ending(
     ensures { λ r. ⌜ Wrote (blanked (is.more summary (now (file .entry)) (now (table .entry)) row)) at (now (out .entry)) (now (out .exit)) r ⌝ }
 {
     if summary {
-        return found(&file[0..], &table[0..], row, out, at);
+        return found(file, table, row, out, at);
     }
     byte(out, at, 10)
 }
@@ -83,13 +89,9 @@ pub fn bytes_line(
 ) -> usize
     ensures { λ r. ⌜ Wrote (is.bytesLine frame manifest inside between) at (now (out .entry)) (now (out .exit)) r ⌝ }
 {
-    let a = word(out, at, b"bytes frame");
-    let b = blank_number(out, a, frame);
-    let c = word(out, b, b" manifest");
-    let d = blank_number(out, c, manifest);
-    let e = word(out, d, b" inside");
-    let f = blank_number(out, e, inside);
-    let g = word(out, f, b" between");
-    let h = blank_number(out, g, between);
-    byte(out, h, 10)
+    let a = numbered(b"bytes frame", frame, out, at);
+    let b = numbered(b" manifest", manifest, out, a);
+    let c = numbered(b" inside", inside, out, b);
+    let d = numbered(b" between", between, out, c);
+    byte(out, d, 10)
 }

@@ -27,23 +27,16 @@ pub fn list(file: &[u8], table: &[u64], objects: u64, components: u64, text: &mu
     ensures answer { λ r. ⌜ r ≡ told (is.listed (now (file .entry)) (now (table .entry)) objects components) (length (now (text .entry))) ⌝ }
     ensures written { λ r. ⌜ now (text .exit) ≡ textAfter (is.listed (now (file .entry)) (now (table .entry)) objects components) (now (text .entry)) ⌝ }
 {
-    if rows::sound(&file[0..], &table[0..], objects, components) {
+    if rows::sound(file, table, objects, components) {
         let mut scrap = [0u8; 1];
-        let n = lines::whole(
-            &file[0..],
-            &table[0..],
-            objects,
-            components,
-            false,
-            &mut scrap,
-        );
+        let n = lines::whole(file, table, objects, components, false, &mut scrap);
         if text.len() < n {
             return Listed {
                 number: numbers::ROOM,
                 length: 0,
             };
         }
-        lines::whole(&file[0..], &table[0..], objects, components, false, text);
+        lines::whole(file, table, objects, components, false, text);
         return Listed {
             number: 0,
             length: n as u64,
@@ -70,7 +63,7 @@ fn summed(
     requires { ⌜ is.sound (now file) (now table) objects components ≡ true ⌝ }
     ensures { λ r. ⌜ Wrote (summaries.summaryText (now (file .entry)) (now (table .entry)) objects components (summaries.bytesLine frame manifest inside between)) 0 (now (out .entry)) (now (out .exit)) r ⌝ }
 {
-    let at = lines::whole(&file[0..], &table[0..], objects, components, true, out);
+    let at = lines::whole(file, table, objects, components, true, out);
     ends::bytes_line(frame, manifest, inside, between, out, at)
 }
 
@@ -89,11 +82,11 @@ pub fn summary(
     ensures answer { λ r. ⌜ r ≡ told (summaries.summarised (now (file .entry)) (now (table .entry)) objects components (summaries.bytesLine frame manifest inside between)) (length (now (text .entry))) ⌝ }
     ensures written { λ r. ⌜ now (text .exit) ≡ textAfter (summaries.summarised (now (file .entry)) (now (table .entry)) objects components (summaries.bytesLine frame manifest inside between)) (now (text .entry)) ⌝ }
 {
-    if rows::sound(&file[0..], &table[0..], objects, components) {
+    if rows::sound(file, table, objects, components) {
         let mut scrap = [0u8; 1];
         let n = summed(
-            &file[0..],
-            &table[0..],
+            file,
+            table,
             objects,
             components,
             frame,
@@ -109,8 +102,8 @@ pub fn summary(
             };
         }
         summed(
-            &file[0..],
-            &table[0..],
+            file,
+            table,
             objects,
             components,
             frame,

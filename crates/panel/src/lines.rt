@@ -1,5 +1,6 @@
 // The lines of a listing, into `out` from `at` on as far as they fit; each answers the place past its lines.
 use crate::ends::ending;
+use crate::ends::numbered;
 use columns::COUNT;
 use columns::DTYPE;
 use columns::FORMAT;
@@ -30,21 +31,18 @@ ghost use Rattle.put.specs.Wrote.{Wrote};
 fn heading(objects: u64, components: u64, out: &mut [u8]) -> usize
     ensures { λ r. ⌜ Wrote (line (ascii "objects") (decimal objects ∷ ascii "components" ∷ decimal components ∷ [])) 0 (now (out .entry)) (now (out .exit)) r ⌝ }
 {
-    let a = word(out, 0, b"objects");
-    let b = blank_number(out, a, objects);
-    let c = word(out, b, b" components");
-    let d = blank_number(out, c, components);
-    byte(out, d, 10)
+    let a = numbered(b"objects", objects, out, 0);
+    let b = numbered(b" components", components, out, a);
+    byte(out, b, 10)
 }
 
 pub fn refused(number: u64, object: u64, component: u64, out: &mut [u8]) -> usize
     ensures { λ r. ⌜ Wrote (line (ascii "refused") (decimal number ∷ decimal object ∷ decimal component ∷ [])) 0 (now (out .entry)) (now (out .exit)) r ⌝ }
 {
-    let a = word(out, 0, b"refused");
-    let b = blank_number(out, a, number);
-    let c = blank_number(out, b, object);
-    let d = blank_number(out, c, component);
-    byte(out, d, 10)
+    let a = numbered(b"refused", number, out, 0);
+    let b = blank_number(out, a, object);
+    let c = blank_number(out, b, component);
+    byte(out, c, 10)
 }
 
 // All but what follows the size.
@@ -52,7 +50,7 @@ fn blob_words(name: &[u8], code: u64, offset: u64, size: u64, out: &mut [u8], at
     ensures { λ r. ⌜ Wrote (is.blobWords (shownText (now (name .entry))) (storageOf code .called) (decimal offset) (decimal size)) at (now (out .entry)) (now (out .exit)) r ⌝ }
 {
     let a = word(out, at, b"blob");
-    let b = blank_text(out, a, &name[0..]);
+    let b = blank_text(out, a, name);
     let c = blank_storage(out, b, code);
     let d = blank_number(out, c, offset);
     blank_number(out, d, size)
@@ -63,7 +61,7 @@ fn blob(file: &[u8], table: &[u64], row: usize, summary: bool, out: &mut [u8], a
     requires { ⌜ row + componentWidth ≤ length (now table) ⌝ }
     ensures { λ r. ⌜ Wrote (is.blobLine (now (file .entry)) (now (table .entry)) (more summary (now (file .entry)) (now (table .entry))) row) at (now (out .entry)) (now (out .exit)) r ⌝ }
 {
-    let name = part(&file[0..], table[row], table[row + NAME_LENGTH]);
+    let name = part(file, table[row], table[row + NAME_LENGTH]);
     let past = blob_words(
         name,
         table[row + DTYPE],
@@ -72,7 +70,7 @@ fn blob(file: &[u8], table: &[u64], row: usize, summary: bool, out: &mut [u8], a
         out,
         at,
     );
-    ending(&file[0..], &table[0..], row, summary, out, past)
+    ending(file, table, row, summary, out, past)
 }
 
 // n components, the first at the row `from`.
@@ -92,7 +90,7 @@ fn blobs(
     let mut row = from;
     let mut left = n;
     while 0 < left {
-        past = blob(&file[0..], &table[0..], row, summary, out, past);
+        past = blob(file, table, row, summary, out, past);
         row += columns::COMPONENT;
         left -= 1;
     }
@@ -103,8 +101,8 @@ fn object_words(name: &[u8], format: &[u8], out: &mut [u8], at: usize) -> usize
     ensures { λ r. ⌜ Wrote (line (ascii "object") (shownText (now (name .entry)) ∷ shownText (now (format .entry)) ∷ [])) at (now (out .entry)) (now (out .exit)) r ⌝ }
 {
     let a = word(out, at, b"object");
-    let b = blank_text(out, a, &name[0..]);
-    let c = blank_text(out, b, &format[0..]);
+    let b = blank_text(out, a, name);
+    let c = blank_text(out, b, format);
     byte(out, c, 10)
 }
 
@@ -113,8 +111,8 @@ fn object(file: &[u8], table: &[u64], row: usize, out: &mut [u8], at: usize) -> 
     requires { ⌜ row + objectWidth ≤ length (now table) ⌝ }
     ensures { λ r. ⌜ Wrote (is.objectLine (now (file .entry)) (now (table .entry)) row) at (now (out .entry)) (now (out .exit)) r ⌝ }
 {
-    let name = part(&file[0..], table[row], table[row + NAME_LENGTH]);
-    let format = part(&file[0..], table[row + FORMAT], table[row + FORMAT_LENGTH]);
+    let name = part(file, table[row], table[row + NAME_LENGTH]);
+    let format = part(file, table[row + FORMAT], table[row + FORMAT_LENGTH]);
     object_words(name, format, out, at)
 }
 
@@ -137,8 +135,8 @@ fn objects_of(
     let mut left = n;
     while 0 < left {
         let count = table[row + COUNT];
-        let next = object(&file[0..], &table[0..], row, out, past);
-        past = blobs(&file[0..], &table[0..], count, from, summary, out, next);
+        let next = object(file, table, row, out, past);
+        past = blobs(file, table, count, from, summary, out, next);
         from += columns::COMPONENT * count as usize;
         row += columns::OBJECT;
         left -= 1;
@@ -159,8 +157,8 @@ pub fn whole(
 {
     let at = heading(objects, components, out);
     objects_of(
-        &file[0..],
-        &table[0..],
+        file,
+        table,
         objects,
         columns::OBJECT * objects as usize,
         summary,

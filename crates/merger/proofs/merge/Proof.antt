@@ -6,12 +6,6 @@ use Rattle.merger.proofs.MergedLaid as laying
 use borrow.Author.Needs.{needs}
 use Rattle.merger.proofs.merge.Statement.{statement}
 use Rattle.merger.proofs.merge.Tie as tie
-use Rattle.merger.proofs.merge.Reads as reads
-use Rattle.merger.proofs.merge.Lts as lts
-use Rattle.account.proofs.clear.Reads as clear-reads
-use Rattle.merge.proofs.checked.Reads as checked-reads
-use Rattle.merger.proofs.fits.Reads as fits-reads
-use Rattle.merger.proofs.lay.Reads as lay-reads
 
 pub merge-spec : {M : Type 1} → statement M
 merge-spec =
@@ -21,8 +15,8 @@ merge-spec =
     (λ c. search needs)
     (λ c κs. search needs)
     (λ c. search needs)
-    (λ c. let h = laying.few-objects (laying.ready-so ((c .before .before .before .checked .ensures)) ((c .before .n .given .1))) in omega (arith, h))
-    (λ c. let h = laying.few-all (laying.ready-so ((c .before .before .before .checked .ensures)) ((c .before .n .given .1))) in omega (arith, h))
+    (λ c. let h = laying.few-objects (laying.ready-so (c .before .before .before .checked .ensures) (c .before .n .given .1)) in omega (arith, h))
+    (λ c. let h = laying.few-all (laying.ready-so (c .before .before .before .checked .ensures) (c .before .n .given .1)) in omega (arith, h))
     (λ c κs. search needs)
     (λ c κs. search needs)
     (λ c. search needs)

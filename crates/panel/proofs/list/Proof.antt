@@ -1,10 +1,5 @@
 -- `panel::list` meets its contract: a law for each branch. Assumes nothing.
 use Rattle.panel.proofs.Answers as answers
-use Rattle.panel.proofs.Sound as rows
-use Rattle.put.proofs.PiecesInTurn as writing
-use mathlib.Core.Bool.{false}
-use Rattle.panel.specs.Lines.{text, sound}
-use Rattle.panel.specs.Summary.{more}
 use mathlib.Core.Path.{sym, _∙_}
 use borrow.Author.Needs.{needs}
 use Rattle.panel.proofs.list.Statement.{statement}
@@ -14,41 +9,16 @@ pub list-spec : {M : Type 1} → statement M
 list-spec =
     tie.close
     (tie.spec
-    (λ c. search needs)
-    (λ c. search needs)
-    (λ c. search needs)
-    (λ c. search needs)
-    (λ c. search needs)
-    (λ c. search needs)
     (λ c κs. search needs)
     (λ c. search needs)
+    (λ c κs. sym (c .before .before .sound .ensures) ∙ (c .before .if1 .taken))
+    (λ c. let b2 = c .before .before in let b4 = b2 .before .before in let b5 = b4 .before in let a = b5 .before .before .before .before .args in
+    answers.too-long _ _ (a .text .now) (answers.all-listed (a .file .now) (a .table .now) (a .objects) (a .components) (sym (b4 .if1 .taken) ∙ (b5 .sound .ensures))) _ (b2 .whole .ensures .past) (c .if2 .taken))
+    (λ c κs. let b5 = c .before .before .before .before .before in
+    sym (b5 .before .sound .ensures) ∙ (b5 .if1 .taken))
     (λ c. search needs)
-    (λ c. search needs)
-    (λ c. search needs)
-    (λ c. search needs)
-    (λ c. search needs)
-    (λ c. search needs)
-    (λ c κs. let b3 = c .before .before .before in
-    sym (b3 .before .sound .ensures) ∙ (b3 .if1 .taken))
-    (λ c. let b2 = c .before .before in let b6 = b2 .before .before .before .before in let b7 = b6 .before in let a = b7 .before .before .before .before .before .before .args in
-    answers.too-long _ _ (a .text .now)
-    (answers.all-listed (a .file .now) (a .table .now) (a .objects) (a .components) (sym (b6 .if1 .taken) ∙ (b7 .sound .ensures) ∙ rows.lent (a .file .now) (a .table .now) (λ f t. sound f t (a .objects) (a .components))))
-    _ ((writing.as-bytes (rows.lent (a .file .now) (a .table .now) (λ f t. text f t (more false f t) (a .objects) (a .components))) (b2 .whole .ensures)) .past) (c .if2 .taken))
-    (λ c. search needs)
-    (λ c. search needs)
-    (λ c. search needs)
-    (λ c. search needs)
-    (λ c. search needs)
-    (λ c. search needs)
-    (λ c κs. let b9 = c .before .before .before .before .before .before .before .before .before in
-    sym (b9 .before .sound .ensures) ∙ (b9 .if1 .taken))
-    (λ c. search needs)
-    (λ c. let b2 = c .before .before in let b6 = b2 .before .before .before .before in let b8 = b6 .before .before in let b12 = b8 .before .before .before .before in let b13 = b12 .before in
-    let a = b13 .before .before .before .before .before .before .args in
-    answers.listed-whole _ _ (a .text .now)
-    (answers.all-listed (a .file .now) (a .table .now) (a .objects) (a .components) (sym (b12 .if1 .taken) ∙ (b13 .sound .ensures) ∙ rows.lent (a .file .now) (a .table .now) (λ f t. sound f t (a .objects) (a .components))))
-    _ ((writing.as-bytes (rows.lent (a .file .now) (a .table .now) (λ f t. text f t (more false f t) (a .objects) (a .components))) (b8 .whole .ensures)) .past) (b6 .if2 .left) _ _
-    (writing.as-bytes (rows.lent (a .file .now) (a .table .now) (λ f t. text f t (more false f t) (a .objects) (a .components))) (b2 .whole2 .ensures)))
-    (λ c. let a = c .before .before .before .before .before .before .before .args in
-    answers.refused _ (a .text .now)
-    (answers.not-listed (a .file .now) (a .table .now) (a .objects) (a .components) (sym (c .if1 .left) ∙ (c .before .sound .ensures) ∙ rows.lent (a .file .now) (a .table .now) (λ f t. sound f t (a .objects) (a .components))))))
+    (λ c. let b2 = c .before .before in let b4 = b2 .before .before in let b6 = b4 .before .before in let b8 = b6 .before .before in let b9 = b8 .before in let a = b9 .before .before .before .before .args in
+    answers.listed-whole _ _ (a .text .now) (answers.all-listed (a .file .now) (a .table .now) (a .objects) (a .components) (sym (b8 .if1 .taken) ∙ (b9 .sound .ensures))) _ (b6 .whole .ensures .past) (b4 .if2 .left) _ _
+    (b2 .whole2 .ensures))
+    (λ c. let a = c .before .before .before .before .before .args in
+    answers.refused _ (a .text .now) (answers.not-listed (a .file .now) (a .table .now) (a .objects) (a .components) (sym (c .if1 .left) ∙ (c .before .sound .ensures)))))

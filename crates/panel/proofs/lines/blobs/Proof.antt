@@ -2,10 +2,9 @@
 use Prim.Native.Nat.{_+_, _*_, _≤_}
 use lib.ListN.{length}
 use Rattle.meaning.specs.Columns.{componentWidth}
-use Rattle.panel.specs.Lines.{blobLine, blobLines}
+use Rattle.panel.specs.Lines.{blobLines}
 use Rattle.put.proofs.PiecesInTurn as writing
 use Rattle.panel.proofs.LinesInTurn as following
-use Rattle.panel.proofs.Sound as rows
 use Rattle.panel.specs.Summary.{more}
 use borrow.Author.Needs.{needs}
 use Rattle.panel.proofs.lines.blobs.Statement.{statement}
@@ -24,18 +23,14 @@ blobs-spec =
     Inv-loop
     μ-loop
     (λ c. (search needs, writing.rest-all _ _ _ (search needs)))
-    (λ c. search needs)
-    (λ c. search needs)
-    (λ c. search needs)
-    (λ c. search needs)
-    (λ c. search needs)
-    (λ c. search needs)
     (λ c κs. search needs)
     (λ c. search needs)
     (λ c. search needs)
     (λ c. search needs)
-    (λ c. let b2 = c .before .before in let b6 = b2 .before .before .before .before in let b7 = b6 .before in let l = b7 .loop in let a = b7 .before .before .before .before .args in
-    (search needs, writing.rest-less ((l .inv .1)) (following.blobs-next (a .file .now) (a .table .now) (more (a .summary) (a .file .now) (a .table .now)) (l .left) (l .row) (b6 .loop-test .taken)) (writing.as-bytes (rows.lent (a .file .now) (a .table .now) (λ f t. blobLine f t (more (a .summary) f t) (l .row))) (b2 .blob .ensures))))
+    (λ c. let b2 = c .before .before in let b4 = b2 .before .before in let b5 = b4 .before in let l = b5 .loop in let a = b5 .before .before .before .before .args in (
+      search needs,
+      writing.rest-less (l .inv .1) (following.blobs-next (a .file .now) (a .table .now) (more (a .summary) (a .file .now) (a .table .now)) (l .left) (l .row) (b4 .loop-test .taken)) (b2 .blob .ensures),
+    ))
     (λ c κs. search needs)
     (λ c. let b2 = c .before .before in let l = b2 .loop in let a = b2 .before .before .before .before .args in
     writing.same-length

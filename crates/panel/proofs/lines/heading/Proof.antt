@@ -1,6 +1,7 @@
--- `panel::lines::heading` meets its contract: a law for each branch. Assumes nothing.
+-- `panel::lines::heading` meets its contract: one piece after the other. Assumes nothing.
 use Rattle.meaning.specs.Listing.{line, blanked}
 use Rattle.put.proofs.PiecesInTurn as writing
+use mathlib.Core.Path.{refl}
 use borrow.Author.Needs.{needs}
 use Rattle.panel.proofs.lines.heading.Statement.{statement}
 use Rattle.panel.proofs.lines.heading.Tie as tie
@@ -9,14 +10,10 @@ pub heading-spec : {M : Type 1} → statement M
 heading-spec =
     tie.close
     (tie.spec
+    (λ c. refl)
+    (λ c κs. tt)
+    (λ c. refl)
+    (λ c κs. tt)
+    (λ c κs. tt)
     (λ c. search needs)
-    (λ c κs. search needs)
-    (λ c κs. search needs)
-    (λ c. search needs)
-    (λ c κs. search needs)
-    (λ c κs. search needs)
-    (λ c κs. search needs)
-    (λ c. search needs)
-    (λ c. let b2 = c .before .before in let b6 = b2 .before .before .before .before in let b10 = b6 .before .before .before .before in let b15 = b10 .before .before .before .before .before in
-    unfold line blanked in writing.then (b15 .before .before .before .before .word .ensures)
-    (writing.then (b15 .blank-number .ensures) (writing.then (b10 .word2 .ensures) (writing.then (b6 .blank-number2 .ensures) (b2 .byte .ensures))))))
+    (λ c. unfold line blanked in writing.then (c .before .before .before .before .before .before .before .before .before .before .before .numbered .ensures) (writing.then (c .before .before .before .before .before .before .numbered2 .ensures) (c .before .before .byte .ensures))))

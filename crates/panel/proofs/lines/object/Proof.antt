@@ -14,13 +14,7 @@ object-spec =
     (λ c. search needs)
     (λ c. search needs)
     (λ c. search needs)
-    (λ c. search needs)
-    (λ c. search needs)
-    (λ c. search needs)
     (λ c κs. search needs)
-    (λ c. search needs)
-    (λ c. search needs)
-    (λ c. search needs)
     (λ c. search needs)
     (λ c. search needs)
     (λ c. search needs)
@@ -30,5 +24,5 @@ object-spec =
     (λ c κs. search needs)
     (λ c κs. search needs)
     (λ c. search needs)
-    (λ c. let b2 = c .before .before in let b4 = b2 .before .before in let b8 = b4 .before .before .before .before in let a = b8 .before .before .before .before .before .before .before .args in
-    writing.as-bytes (following.object-is (a .file .now) (a .table .now) (a .row) _ _ (b8 .part .ensures) (b4 .part2 .ensures)) (b2 .object-words .ensures)))
+    (λ c. let b2 = c .before .before in let b4 = b2 .before .before in let b7 = b4 .before .before .before in let a = b7 .before .before .before .before .before .before .args in
+    writing.as-bytes (following.object-is (a .file .now) (a .table .now) (a .row) _ _ (b7 .part .ensures) (b4 .part2 .ensures)) (b2 .object-words .ensures)))

@@ -3,7 +3,7 @@ use Prim.Native.Nat.{_+_, _*_, _≤_}
 use native.Mathlib.Omega.{arith}
 use lib.ListN.{length}
 use Rattle.meaning.specs.Columns.{objectWidth, componentWidth}
-use Rattle.panel.specs.Lines.{countAt, counted, blobLines, objectLine, objectLines}
+use Rattle.panel.specs.Lines.{counted, objectLines}
 use Rattle.put.proofs.PiecesInTurn as writing
 use Rattle.panel.proofs.LinesInTurn as following
 use Rattle.panel.proofs.Sound as rows
@@ -28,38 +28,22 @@ objects-of-spec =
     (λ c. search needs)
     (λ c. search needs)
     (λ c. search needs)
-    (λ c. search needs)
-    (λ c. search needs)
-    (λ c. search needs)
-    (λ c. search needs)
-    (λ c. search needs)
-    (λ c. search needs)
     (λ c κs. search needs)
+    (λ c κs. let b6 = c .before .before .before .before .before .before in let b7 = b6 .before in let l = b7 .loop in
+    omega (arith, rows.counted-next (b7 .before .before .before .before .args .table .now) (l .left) (l .row) (b6 .loop-test .taken), l .inv .1))
+    (λ c. let b9 = c .before .before .before .before .before .before .before .before .before in let b10 = b9 .before in let l = b10 .loop in let b14 = b10 .before .before .before .before in
+    omega (arith, rows.counted-next (b14 .args .table .now) (l .left) (l .row) (b9 .loop-test .taken), l .inv .1, b14 .good))
+    (λ c. let b9 = c .before .before .before .before .before .before .before .before .before in let b10 = b9 .before in let l = b10 .loop in let b14 = b10 .before .before .before .before in
+    omega (arith, rows.counted-next (b14 .args .table .now) (l .left) (l .row) (b9 .loop-test .taken), l .inv .1, b14 .good))
+    (λ c. let b9 = c .before .before .before .before .before .before .before .before .before in let b10 = b9 .before in
+    omega (arith, b10 .loop .inv .0, b9 .loop-test, b10 .before .before .before .before .good))
     (λ c. search needs)
     (λ c. search needs)
-    (λ c. search needs)
-    (λ c. search needs)
-    (λ c. search needs)
-    (λ c. search needs)
-    (λ c κs. let b10 = c .before .before .before .before .before .before .before .before .before .before in let b11 = b10 .before in let l = b11 .loop in let a = b11 .before .before .before .before .args in
-    omega (arith, rows.counted-next (a .table .now) (l .left) (l .row) (b10 .loop-test .taken)))
-    (λ c. let b13 = c .before .before .before .before .before .before .before .before .before .before .before .before .before in let b14 = b13 .before in let l = b14 .loop in
-    let a = b14 .before .before .before .before .args in
-    omega (arith, rows.counted-next (a .table .now) (l .left) (l .row) (b13 .loop-test .taken)))
-    (λ c. let b13 = c .before .before .before .before .before .before .before .before .before .before .before .before .before in let b14 = b13 .before in let l = b14 .loop in
-    let a = b14 .before .before .before .before .args in
-    omega (arith, rows.counted-next (a .table .now) (l .left) (l .row) (b13 .loop-test .taken)))
-    (λ c. search needs)
-    (λ c. search needs)
-    (λ c. search needs)
-    (λ c. let b2 = c .before .before in let b8 = b2 .before .before .before .before .before .before in let b13 = b8 .before .before .before .before .before in let b14 = b13 .before in let l = b14 .loop in
-    let a = b14 .before .before .before .before .args in (
-      search needs,
-      omega (arith, rows.counted-next (a .table .now) (l .left) (l .row) (b13 .loop-test .taken)),
-      writing.rest-less ((l .inv .2))
-          (following.objects-next (a .file .now) (a .table .now) (more (a .summary) (a .file .now) (a .table .now)) (l .left) (l .row) (l .from) (b13 .loop-test .taken))
-          (writing.then (writing.as-bytes (rows.lent (a .file .now) (a .table .now) (λ f t. objectLine f t (l .row))) (b8 .object .ensures))
-          (writing.as-bytes (rows.lent (a .file .now) (a .table .now) (λ f t. blobLines f t (more (a .summary) f t) (countAt (a .table .now) (l .row)) (l .from))) (b2 .blobs .ensures))),
+    (λ c. let b2 = c .before .before in let b6 = b2 .before .before .before .before in let b9 = b6 .before .before .before in let b10 = b9 .before in let l = b10 .loop in let a = b10 .before .before .before .before .args in (
+      omega (arith, l .inv .0, b9 .loop-test),
+      omega (arith, rows.counted-next (a .table .now) (l .left) (l .row) (b9 .loop-test .taken), l .inv .1),
+      writing.rest-less (l .inv .2) (following.objects-next (a .file .now) (a .table .now) (more (a .summary) (a .file .now) (a .table .now)) (l .left) (l .row) (l .from) (b9 .loop-test .taken))
+          (writing.then (b6 .object .ensures) (b2 .blobs .ensures)),
     ))
     (λ c κs. search needs)
     (λ c. let b2 = c .before .before in let l = b2 .loop in let a = b2 .before .before .before .before .args in

@@ -1,26 +1,19 @@
--- `panel::refused` meets its contract: a law for each branch. Assumes nothing.
-use Rattle.put.proofs.PiecesInTurn as writing
+-- `panel::lines::refused` meets its contract: one piece after the other. Assumes nothing.
 use Rattle.meaning.specs.Listing.{line, blanked}
+use Rattle.put.proofs.PiecesInTurn as writing
+use mathlib.Core.Path.{refl}
 use borrow.Author.Needs.{needs}
 use Rattle.panel.proofs.lines.refused.Statement.{statement}
 use Rattle.panel.proofs.lines.refused.Tie as tie
-use Rattle.panel.proofs.lines.refused.Reads as reads
-use Rattle.panel.proofs.lines.refused.Lts as lts
-use Rattle.put.proofs.blank_number.Reads as blank-number-reads
-use Rattle.put.proofs.byte.Reads as byte-reads
-use Rattle.put.proofs.word.Reads as word-reads
 
 pub refused-spec : {M : Type 1} → statement M
 refused-spec =
     tie.close
     (tie.spec
+    (λ c. refl)
+    (λ c κs. tt)
+    (λ c κs. tt)
+    (λ c κs. tt)
+    (λ c κs. tt)
     (λ c. search needs)
-    (λ c κs. search needs)
-    (λ c κs. search needs)
-    (λ c κs. search needs)
-    (λ c κs. search needs)
-    (λ c κs. search needs)
-    (λ c. search needs)
-    (λ c. let b2 = c .before .before in let b6 = b2 .before .before .before .before in let b10 = b6 .before .before .before .before in let b14 = b10 .before .before .before .before in
-    unfold line blanked in writing.then ((b14 .before .before .before .before .word .ensures))
-    (writing.then ((b14 .blank-number .ensures)) (writing.then ((b10 .blank-number2 .ensures)) (writing.then ((b6 .blank-number3 .ensures)) ((b2 .byte .ensures)))))))
+    (λ c. unfold line blanked in writing.then (c .before .before .before .before .before .before .before .before .before .before .before .before .before .before .numbered .ensures) (writing.then (c .before .before .before .before .before .before .before .before .before .before .blank-number .ensures) (writing.then (c .before .before .before .before .before .before .blank-number2 .ensures) (c .before .before .byte .ensures)))))
