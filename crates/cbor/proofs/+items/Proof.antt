@@ -58,78 +58,138 @@ pub +items-spec : {M : Type 1} → statement M
     (λ c. search needs)
     (λ c. search needs)
     (λ c. search needs)
+    (λ c κs. (c .before .before .before .pre .1))
+    (λ c. let a = (c .before .before .before .before .args) in (c .too-deep .ensures) ∙ ap (λ x. code (rest (a .mode) (a .count) 0 x)) (part-to-end (a .s .now) 0) ∙ ap (λ d. code (rest (a .mode) (a .count) d (a .s .now))) (sym
+    (c .before .before .if1 .taken)))
+    (λ c. let a = (c .before .before .args) in (
+      omega (arith, (c .if1)),
+      omega arith,
+      omega (arith, (c .before .before .fits)),
+      (λ h. omega (arith, (c .before .before .pre .1) h)),
+      sym (shift-zero (rest (a .mode) (a .count) (a .left)
+          (a .s .now))),
+    ))
+    (λ c. let a = (c .before .before .before .before .before .args) in let l = (c .before .before .loop) in loops.due-missing (a .mode) (a .count) (a .left) (a .s .now) (omega (
+      arith,
+      (c .before .before .before .before .before .good),
+    )) (l .at) (l .due) (l .inv .4) (c .before .loop-test .taken) (c .if2 .taken))
+    (λ c. (c .before .if2 .left))
+    (λ c κs. omega (arith, (c .before .before .if2), (c .before .before .before .before .before .before .before .good)))
+    (λ c. let a = (c .before .before .before .before .before .before .before .before .args) in let l = (c .before .before .before .before .before .loop) in (c .broken .ensures) ∙ loops.due-breaks (a .mode) (a .count) (a .left)
+    (a .s .now) (omega (arith, (c .before .before .before .before .before .before .before .before .good))) (l .at) (l .due) (l .inv .4) (c .before .before .before .before .loop-test .taken) (c .before .before .before .if2 .left)
+    (c .before .if3 .taken))
+    (λ c. omega (arith, (c .before .before .before .before .if2)))
+    (λ c. omega (arith, (c .before .before .before .before .if2)))
+    (λ c. omega (arith, (c .before .before .before .before .if2)))
     (λ c κs. search needs)
-    (λ c. let a = (c .before .before .before .before .args) in let s = a .s .now in let z : 0 ≡ a .left = omega arith in (c .too-deep .ensures) ∙ ap (λ x. code (rest (a .mode) (a .count) 0 x)) (part-to-end s 0) ∙ ap (λ d. code (rest (a .mode) (a .count) d s)) z)
-    (λ c. let a = (c .before .before .args) in (omega arith, omega arith, omega arith, (λ h. omega (arith, (c .before .before .pre .1) h)), sym (shift-zero (rest (a .mode) (a .count) (a .left) (a .s .now)))))
-    (λ c. let l = c .before .before .loop in let a′ = c .before .before .before .before .before .args in
-    let a = (a′) in let s = a .s .now in let at = (l .at) in let n = (l .due) in let i = (l .inv) in loops.due-missing (a .mode) (a .count) (a .left) s (omega arith) at n (i .4) (omega arith)
-    (omega arith))
-    (λ c. search needs)
+    (λ c. omega (arith, (c .before .before .before .before .before .before .if2)))
+    (λ c. let a = (c .before .before .before .before .before .before .before .before .before .before .before .before .before .args) in let l =
+    (c .before .before .before .before .before .before .before .before .before .before .loop) in loops.head-refused (a .mode) (a .count) (a .left) (a .s .now) (omega (
+      arith,
+      (c .before .before .before .before .before .before .before .before .before .before .before .before .before .good),
+    )) (l .at) (l .due) (l .inv .4)
+    (c .before .before .before .before .before .before .before .before .before .loop-test .taken) (l .inv .0) (c .before .before .before .before .before .before .before .before .if2 .left)
+    (c .before .before .before .before .before .before .if3 .left) (c .before .before .holder .result) (subst (λ x. HolderIs x (c .before .before .holder .result)) (part-to-end (a .s .now) (l .at))
+    (c .before .before .holder .ensures)) (loops.holds-others (getD (a .s .now) (l .at) 0) (c .before .before .before .before .before .if4 .taken) (c .before .before .before .before .if5 .taken)) (c .if6 .taken))
+    (λ c. omega (
+      arith,
+      (c .before .if6),
+      (c .before .before .before .before .before .before .before .before .before .if2),
+      (c .before .before .before .before .before .before .before .before .before .before .before .before .before .before .good),
+    ))
+    (λ c. omega (arith, (c .before .if6), (c .before .before .before .before .before .before .before .before .before .if2)))
+    (λ c. omega (arith, (c .before .if6), (c .before .before .before .before .before .before .before .before .before .if2)))
+    (λ c. omega (arith, (c .before .if6), (c .before .before .before .before .before .before .before .before .before .if2)))
+    (λ c. omega (arith, (c .before .before .before .before .before .before .before .before .before .before .before .before .loop .inv .0)))
     (λ c κs. search needs)
-    (λ c. let l = c .before .before .before .before .before .loop in let a′ = c .before .before .before .before .before .before .before .before .args in
-    let a = (a′) in let s = a .s .now in let at = (l .at) in let n = (l .due) in let i = (l .inv) in (c .broken .ensures) ∙ loops.due-breaks (a .mode) (a .count) (a .left) s (omega arith) at n (i .4)
-    (omega arith) (omega arith) (omega arith))
-    (λ c. search needs)
-    (λ c. search needs)
-    (λ c. search needs)
+    (λ c. omega (arith, (c .before .before .before .if6), (c .before .before .before .before .before .before .before .before .before .before .before .if2)))
+    (λ c. let a = (c .before .before .before .before .before .before .before .before .before .before .before .before .before .before .before .before .before .args) in let l =
+    (c .before .before .before .before .before .before .before .before .before .before .before .before .before .before .loop) in loops.holder-stops (a .mode) (a .count) (a .left) (a .s .now) (omega (
+      arith,
+      (c .before .before .before .before .before .before .before .before .before .before .before .before .before .before .before .before .before .good),
+    )) (l .at) (l .due) (l .inv .4)
+    (c .before .before .before .before .before .before .before .before .before .before .before .before .before .loop-test .taken) (l .inv .0)
+    (c .before .before .before .before .before .before .before .before .before .before .before .before .if2 .left) (c .before .before .before .before .before .before .before .before .before .before .if3 .left)
+    (c .before .before .before .before .before .before .holder .result) (subst (λ x. HolderIs x (c .before .before .before .before .before .before .holder .result)) (part-to-end (a .s .now) (l .at))
+    (c .before .before .before .before .before .before .holder .ensures)) (loops.holds-others (getD (a .s .now) (l .at) 0) (c .before .before .before .before .before .before .before .before .before .if4 .taken)
+    (c .before .before .before .before .before .before .before .before .if5 .taken)) (c .before .before .before .before .if6 .left) (c .before .items .result) ((c .before .items .ensures) ∙ ap (λ x. code (rest
+    (c .before .before .before .before .before .before .holder .result .mode) (c .before .before .before .before .before .before .holder .result .count) (a .left - 1) x)) (part-to-end (a .s .now) (l .at +
+    (c .before .before .before .before .before .before .holder .result .size)))) (c .if7 .taken))
+    (λ c. omega (
+      arith,
+      (c .if7),
+      (c .before .before .before .before .if6),
+      (c .before .before .before .before .before .before .before .before .before .before .before .before .if2),
+      (c .before .before .before .before .before .before .before .before .before .before .before .before .before .before .before .before .before .good),
+    ))
+    (λ c. omega (arith, (c .before .before .before .before .before .before .before .before .before .before .before .before .before .loop-test)))
+    (λ c. let a = (c .before .before .before .before .before .before .before .before .before .before .before .before .before .before .before .before .before .args) in let l =
+    (c .before .before .before .before .before .before .before .before .before .before .before .before .before .before .loop) in let t = loops.holder-passes (a .mode) (a .count) (a .left) (a .s .now) (omega (
+      arith,
+      (c .before .before .before .before .before .before .before .before .before .before .before .before .before .before .before .before .before .good),
+    )) (l .at) (l .due) (l .inv .4)
+    (c .before .before .before .before .before .before .before .before .before .before .before .before .before .loop-test .taken) (l .inv .0)
+    (c .before .before .before .before .before .before .before .before .before .before .before .before .if2 .left) (c .before .before .before .before .before .before .before .before .before .before .if3 .left)
+    (c .before .before .before .before .before .before .holder .result) (subst (λ x. HolderIs x (c .before .before .before .before .before .before .holder .result)) (part-to-end (a .s .now) (l .at))
+    (c .before .before .before .before .before .before .holder .ensures)) (loops.holds-others (getD (a .s .now) (l .at) 0) (c .before .before .before .before .before .before .before .before .before .if4 .taken)
+    (c .before .before .before .before .before .before .before .before .if5 .taken)) (c .before .before .before .before .if6 .left) (c .before .items .result) ((c .before .items .ensures) ∙ ap (λ x. code (rest
+    (c .before .before .before .before .before .before .holder .result .mode) (c .before .before .before .before .before .before .holder .result .count) (a .left - 1) x)) (part-to-end (a .s .now) (l .at +
+    (c .before .before .before .before .before .before .holder .result .size)))) (c .if7 .left) in omega (arith, t .further-on, t .within))
+    (λ c. let a = (c .before .before .before .before .before .before .before .before .before .before .before .before .before .before .before .before .before .args) in let l =
+    (c .before .before .before .before .before .before .before .before .before .before .before .before .before .before .loop) in let t = loops.holder-passes (a .mode) (a .count) (a .left) (a .s .now) (omega (
+      arith,
+      (c .before .before .before .before .before .before .before .before .before .before .before .before .before .before .before .before .before .good),
+    )) (l .at) (l .due) (l .inv .4)
+    (c .before .before .before .before .before .before .before .before .before .before .before .before .before .loop-test .taken) (l .inv .0)
+    (c .before .before .before .before .before .before .before .before .before .before .before .before .if2 .left) (c .before .before .before .before .before .before .before .before .before .before .if3 .left)
+    (c .before .before .before .before .before .before .holder .result) (subst (λ x. HolderIs x (c .before .before .before .before .before .before .holder .result)) (part-to-end (a .s .now) (l .at))
+    (c .before .before .before .before .before .before .holder .ensures)) (loops.holds-others (getD (a .s .now) (l .at) 0) (c .before .before .before .before .before .before .before .before .before .if4 .taken)
+    (c .before .before .before .before .before .before .before .before .if5 .taken)) (c .before .before .before .before .if6 .left) (c .before .items .result) ((c .before .items .ensures) ∙ ap (λ x. code (rest
+    (c .before .before .before .before .before .before .holder .result .mode) (c .before .before .before .before .before .before .holder .result .count) (a .left - 1) x)) (part-to-end (a .s .now) (l .at +
+    (c .before .before .before .before .before .before .holder .result .size)))) (c .if7 .left) in (
+      l .inv .0,
+      t .within,
+      omega (arith, l .inv .2),
+      (λ h. omega (
+        arith,
+        l .inv .3 h,
+        t .further-on,
+        (c .before .before .before .before .before .before .before .before .before .before .before .before .before .loop-test),
+      )),
+      t .then,
+    ))
+    (λ c. omega (arith, (c .before .before .before .if2)))
+    (λ c. omega (arith, (c .before .before .before .if2)))
+    (λ c. omega (arith, (c .before .before .before .if2)))
     (λ c κs. search needs)
-    (λ c. search needs)
-    (λ c. let l = c .before .before .before .before .before .before .before .before .before .before .loop in
-    let a′ = c .before .before .before .before .before .before .before .before .before .before .before .before .before .args in
-    let a = (a′) in let s = a .s .now in let at = (l .at) in let n = (l .due) in let i = (l .inv) in loops.head-refused (a .mode) (a .count) (a .left) s (omega arith) at n (i .4) (omega arith) (i .0)
-    (omega arith) (λ e. omega arith) ((c .before .before .holder .result)) (subst (λ x. HolderIs x ((c .before .before .holder .result))) (part-to-end s at) ((c .before .before .holder .ensures)))
-    (loops.holds-others (getD s at 0) (omega arith) (omega arith)) (omega arith))
-    (λ c. search needs)
-    (λ c. search needs)
-    (λ c. search needs)
-    (λ c. search needs)
-    (λ c. search needs)
-    (λ c κs. search needs)
-    (λ c. search needs)
-    (λ c. let l = c .before .before .before .before .before .before .before .before .before .before .before .before .before .before .loop in
-    let a′ = c .before .before .before .before .before .before .before .before .before .before .before .before .before .before .before .before .before .args in
-    let a = (a′) in let s = a .s .now in let at = (l .at) in let n = (l .due) in let i = (l .inv) in loops.holder-stops (a .mode) (a .count) (a .left) s (omega arith) at n (i .4) (omega arith) (i .0)
-    (omega arith) (λ e. omega arith) ((c .before .before .before .before .before .before .holder .result))
-    (subst (λ x. HolderIs x ((c .before .before .before .before .before .before .holder .result))) (part-to-end s at) ((c .before .before .before .before .before .before .holder .ensures)))
-    (loops.holds-others (getD s at 0) (omega arith) (omega arith)) (omega arith) ((c .before .items .result))
-    ((c .before .items .ensures) ∙ ap (λ x. code (rest ((c .before .before .before .before .before .before .holder .result .mode)) ((c .before .before .before .before .before .before .holder .result .count)) (a .left - 1) x)) (part-to-end s (at + (c .before .before .before .before .before .before .holder .result .size))))
-    (omega arith))
-    (λ c. search needs)
-    (λ c. search needs)
-    (λ c. let l = c .before .before .before .before .before .before .before .before .before .before .before .before .before .before .loop in
-    let a′ = c .before .before .before .before .before .before .before .before .before .before .before .before .before .before .before .before .before .args in
-    let a = (a′) in let s = a .s .now in let at = (l .at) in let n = (l .due) in let i = (l .inv) in let t = loops.holder-passes (a .mode) (a .count) (a .left) s (omega arith) at n (i .4) (omega arith)
-    (i .0) (omega arith) (λ e. omega arith) ((c .before .before .before .before .before .before .holder .result))
-    (subst (λ x. HolderIs x ((c .before .before .before .before .before .before .holder .result))) (part-to-end s at) ((c .before .before .before .before .before .before .holder .ensures)))
-    (loops.holds-others (getD s at 0) (omega arith) (omega arith)) (omega arith) ((c .before .items .result))
-    ((c .before .items .ensures) ∙ ap (λ x. code (rest ((c .before .before .before .before .before .before .holder .result .mode)) ((c .before .before .before .before .before .before .holder .result .count)) (a .left - 1) x)) (part-to-end s (at + (c .before .before .before .before .before .before .holder .result .size))))
-    (omega arith) in omega (arith, t .further-on, t .within))
-    (λ c. let l = c .before .before .before .before .before .before .before .before .before .before .before .before .before .before .loop in
-    let a′ = c .before .before .before .before .before .before .before .before .before .before .before .before .before .before .before .before .before .args in
-    let a = (a′) in let s = a .s .now in let at = (l .at) in let n = (l .due) in let i = (l .inv) in let t = loops.holder-passes (a .mode) (a .count) (a .left) s (omega arith) at n (i .4) (omega arith)
-    (i .0) (omega arith) (λ e. omega arith) ((c .before .before .before .before .before .before .holder .result))
-    (subst (λ x. HolderIs x ((c .before .before .before .before .before .before .holder .result))) (part-to-end s at) ((c .before .before .before .before .before .before .holder .ensures)))
-    (loops.holds-others (getD s at 0) (omega arith) (omega arith)) (omega arith) ((c .before .items .result))
-    ((c .before .items .ensures) ∙ ap (λ x. code (rest ((c .before .before .before .before .before .before .holder .result .mode)) ((c .before .before .before .before .before .before .holder .result .count)) (a .left - 1) x)) (part-to-end s (at + (c .before .before .before .before .before .before .holder .result .size))))
-    (omega arith) in (i .0, t .within, omega arith, (λ h. omega (arith, i .3 h, t .further-on)), t .then))
-    (λ c. search needs)
-    (λ c. search needs)
-    (λ c. search needs)
-    (λ c κs. search needs)
-    (λ c. search needs)
-    (λ c. let l = c .before .before .before .before .before .before .before .before .loop in let a′ = c .before .before .before .before .before .before .before .before .before .before .before .args in
-    let a = (a′) in let s = a .s .now in let at = (l .at) in let n = (l .due) in let i = (l .inv) in loops.plain-stops (a .mode) (a .count) (a .left) s (omega arith) at n (i .4) (omega arith) (i .0)
-    (omega arith) (λ e. omega arith) ((c .before .plain .result)) (subst (λ x. PlainIs x ((c .before .plain .result))) (part-to-end s at) ((c .before .plain .ensures)))
-    (loops.holds-none (getD s at 0) (λ x y. ⊎-elim (λ w. omega arith) (λ w. omega arith) ((c .before .before .before .if4 .came)))) (omega arith))
-    (λ c. search needs)
-    (λ c. search needs)
-    (λ c. let l = c .before .before .before .before .before .before .before .before .loop in let a′ = c .before .before .before .before .before .before .before .before .before .before .before .args in
-    let a = (a′) in let s = a .s .now in let at = (l .at) in let n = (l .due) in let i = (l .inv) in let t = loops.plain-passes (a .mode) (a .count) (a .left) s (omega arith) at n (i .4) (omega arith)
-    (i .0) (omega arith) (λ e. omega arith) ((c .before .plain .result)) (subst (λ x. PlainIs x ((c .before .plain .result))) (part-to-end s at) ((c .before .plain .ensures)))
-    (loops.holds-none (getD s at 0) (λ x y. ⊎-elim (λ w. omega arith) (λ w. omega arith) ((c .before .before .before .if4 .came)))) (omega arith) in omega (arith, t .further-on, t .within))
-    (λ c. let l = c .before .before .before .before .before .before .before .before .loop in let a′ = c .before .before .before .before .before .before .before .before .before .before .before .args in
-    let a = (a′) in let s = a .s .now in let at = (l .at) in let n = (l .due) in let i = (l .inv) in let t = loops.plain-passes (a .mode) (a .count) (a .left) s (omega arith) at n (i .4) (omega arith)
-    (i .0) (omega arith) (λ e. omega arith) ((c .before .plain .result)) (subst (λ x. PlainIs x ((c .before .plain .result))) (part-to-end s at) ((c .before .plain .ensures)))
-    (loops.holds-none (getD s at 0) (λ x y. ⊎-elim (λ w. omega arith) (λ w. omega arith) ((c .before .before .before .if4 .came)))) (omega arith) in (i .0, t .within, omega arith, (λ h. omega (arith, i .3 h, t .further-on)), t .then))
-    (λ c. let l = c .before .loop in let a′ = c .before .before .before .before .args in
-    let a = (a′) in let s = a .s .now in let at = (l .at) in let n = (l .due) in let i = (l .inv) in loops.all-passed (a .mode) (a .count) (a .left) s (omega arith) at n (i .1) (i .3) (i .4) (omega arith))
+    (λ c. omega (arith, (c .before .before .before .before .before .if2)))
+    (λ c. let a = (c .before .before .before .before .before .before .before .before .before .before .before .args) in let l = (c .before .before .before .before .before .before .before .before .loop) in loops.plain-stops (a .mode)
+    (a .count) (a .left) (a .s .now) (omega (arith, (c .before .before .before .before .before .before .before .before .before .before .before .good))) (l .at) (l .due) (l .inv .4)
+    (c .before .before .before .before .before .before .before .loop-test .taken) (l .inv .0) (c .before .before .before .before .before .before .if2 .left) (c .before .before .before .before .if3 .left) (c .before .plain .result)
+    (subst (λ x. PlainIs x (c .before .plain .result)) (part-to-end (a .s .now) (l .at)) (c .before .plain .ensures)) (loops.holds-none (getD (a .s .now) (l .at) 0) (λ x y. ⊎-elim (λ w. omega (arith, x, w)) (λ w. omega (arith, y, w))
+    (c .before .before .before .if4 .came))) (c .if8 .taken))
+    (λ c. omega (arith, (c .if8), (c .before .before .before .before .before .before .if2), (c .before .before .before .before .before .before .before .before .before .before .before .good)))
+    (λ c. omega (arith, (c .before .before .before .before .before .before .before .loop-test)))
+    (λ c. let a = (c .before .before .before .before .before .before .before .before .before .before .before .args) in let l = (c .before .before .before .before .before .before .before .before .loop) in let t = loops.plain-passes
+    (a .mode) (a .count) (a .left) (a .s .now) (omega (arith, (c .before .before .before .before .before .before .before .before .before .before .before .good))) (l .at) (l .due) (l .inv .4)
+    (c .before .before .before .before .before .before .before .loop-test .taken) (l .inv .0) (c .before .before .before .before .before .before .if2 .left) (c .before .before .before .before .if3 .left) (c .before .plain .result)
+    (subst (λ x. PlainIs x (c .before .plain .result)) (part-to-end (a .s .now) (l .at)) (c .before .plain .ensures)) (loops.holds-none (getD (a .s .now) (l .at) 0) (λ x y. ⊎-elim (λ w. omega (arith, x, w)) (λ w. omega (arith, y, w))
+    (c .before .before .before .if4 .came))) (c .if8 .left) in omega (arith, t .further-on, t .within))
+    (λ c. let a = (c .before .before .before .before .before .before .before .before .before .before .before .args) in let l = (c .before .before .before .before .before .before .before .before .loop) in let t = loops.plain-passes
+    (a .mode) (a .count) (a .left) (a .s .now) (omega (arith, (c .before .before .before .before .before .before .before .before .before .before .before .good))) (l .at) (l .due) (l .inv .4)
+    (c .before .before .before .before .before .before .before .loop-test .taken) (l .inv .0) (c .before .before .before .before .before .before .if2 .left) (c .before .before .before .before .if3 .left) (c .before .plain .result)
+    (subst (λ x. PlainIs x (c .before .plain .result)) (part-to-end (a .s .now) (l .at)) (c .before .plain .ensures)) (loops.holds-none (getD (a .s .now) (l .at) 0) (λ x y. ⊎-elim (λ w. omega (arith, x, w)) (λ w. omega (arith, y, w))
+    (c .before .before .before .if4 .came))) (c .if8 .left) in (
+      l .inv .0,
+      t .within,
+      omega (arith, l .inv .2),
+      (λ h. omega (
+        arith,
+        l .inv .3 h,
+        t .further-on,
+        (c .before .before .before .before .before .before .before .loop-test),
+      )),
+      t .then,
+    ))
+    (λ c. let a = (c .before .before .before .before .args) in let l = (c .before .loop) in loops.all-passed (a .mode) (a .count) (a .left) (a .s .now) (omega (arith, (c .before .before .before .before .good))) (l .at) (l .due)
+    (l .inv .1) (l .inv .3) (l .inv .4) (omega (arith, (c .loop-test))))

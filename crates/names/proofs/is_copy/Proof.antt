@@ -1,6 +1,7 @@
 -- `names::is_copy` meets its contract. Assumes nothing.
 use Prim.Native.Nat.{ℕ, _-_, _≤_}
-use mathlib.Core.Path.{_≡_}
+use mathlib.Core.Bool.{Bool, cond}
+use mathlib.Core.Path.{_≡_, ap}
 use native.Mathlib.Omega.{arith}
 use borrow.Author.Needs.{needs}
 use Rattle.names.proofs.ListedNames as listed
@@ -20,30 +21,30 @@ is-copy-spec =
     (tie.spec
     Inv-loop
     μ-loop
-    (λ c. search needs)
-    (λ c. search needs)
-    (λ c. search needs)
-    (λ c. search needs)
-    (λ c. search needs)
-    (λ c. search needs)
-    (λ c. search needs)
-    (λ c. search needs)
-    (λ c. search needs)
-    (λ c. search needs)
+    (λ c. omega arith)
+    (λ c. omega arith)
+    (λ c. omega arith)
+    (λ c. omega arith)
+    (λ c. omega arith)
+    (λ c. omega arith)
+    (λ c. omega arith)
+    (λ c. omega arith)
+    (λ c. omega arith)
+    (λ c. omega arith)
     (λ c κs. search needs)
-    (λ c. search needs)
-    (λ c. search needs)
-    (λ c. search needs)
-    (λ c. search needs)
-    (λ c. search needs)
-    (λ c. search needs)
-    (λ c. search needs)
-    (λ c. search needs)
-    (λ c. search needs)
+    (λ c. omega arith)
+    (λ c. omega arith)
+    (λ c. omega arith)
+    (λ c. omega arith)
+    (λ c. omega arith)
+    (λ c. omega arith)
+    (λ c. omega arith)
+    (λ c. omega arith)
+    (λ c. omega arith)
     (λ c κs. search needs)
     (λ c κs. search needs)
-    (λ c. λ _. listed.copy-found (rw parts.from-wholes at (c .before .before .before .before .before .before .name-of .ensures)) (rw parts.from-wholes at (c .before .before .name-of2 .ensures)) (c .before .same .ensures) (c .if1 .taken) (omega arith))
+    (λ c. λ _. listed.copy-found (rw parts.from-wholes at (c .before .before .before .before .before .before .name-of .ensures)) (rw parts.from-wholes at (c .before .before .name-of2 .ensures)) (c .before .same .ensures) (c .if1 .taken) (c .before .before .before .before .before .before .before .before .before .before .loop-test .taken))
     (λ c. search needs)
-    (λ c. search needs)
-    (λ c. search needs)
-    (λ c. λ q. let z : _≡_ {A = ℕ} 0 1 = cc in absurd (omega arith)))
+    (λ c. omega (arith, c .before .before .before .before .before .before .before .before .before .before .loop-test))
+    (λ c. omega (arith, c .before .before .before .before .before .before .before .before .before .before .loop-test))
+    (λ c. λ q. let z : _≡_ {A = ℕ} 0 1 = ap (λ (b : Bool). cond b 1 0) q in absurd (omega (arith, z))))

@@ -55,55 +55,55 @@ pub +pass-spec : {M : Type 1} → statement M
     (λ c. search needs)
     (λ c. search needs)
     (λ c. let c3 = c .before .before .before in let a = c3 .before .before .before .args in
-    items.begins (a .left) (a .s .now) _ (omega arith) (items.told (Begins (a .left)) (a .s .now) 0 (c3 .begin .ensures) (c .before .begun2 .given .1)))
+    items.begins (a .left) (a .s .now) _ (omega (arith, c3 .before .before .before .good)) (items.told (Begins (a .left)) (a .s .now) 0 (c3 .begin .ensures) (c .before .begun2 .given .1)))
     (λ c. items.missing (c .before .before .loop .inv) (c .before .loop-test .taken) (c .if1 .taken))
-    (λ c. search needs)
-    (λ c κs. search needs)
-    (λ c. search needs)
+    (λ c. c .before .if1 .left)
+    (λ c κs. omega (arith, c .before .before .if1, c .before .before .before .before .before .before .before .before .before .before .before .good))
+    (λ c. omega (arith, c .before .before .before .before .if1))
     (λ c. let c2 = c .before .before in let c5 = c2 .before .before .before in
-    items.break-stops (c5 .before .loop .inv) (c5 .loop-test .taken) (omega arith) (c2 .if2 .taken) _ (c .before .broken .ensures) (c .if3 .taken))
+    items.break-stops (c5 .before .loop .inv) (c5 .loop-test .taken) (c2 .before .before .if1 .left) (c2 .if2 .taken) _ (c .before .broken .ensures) (c .if3 .taken))
     (λ c. let c2 = c .before .before in let c5 = c2 .before .before .before in
-    items.break-passes (c5 .before .loop .inv) (c5 .loop-test .taken) (omega arith) (c2 .if2 .taken) _ (c .before .broken .ensures) (omega arith))
-    (λ c. search needs)
-    (λ c. search needs)
-    (λ c. search needs)
-    (λ c. search needs)
+    items.break-passes (c5 .before .loop .inv) (c5 .loop-test .taken) (c2 .before .before .if1 .left) (c2 .if2 .taken) _ (c .before .broken .ensures) (c .if3 .left))
+    (λ c. omega (arith, c .before .before .if1))
+    (λ c. omega (arith, c .before .before .if1))
+    (λ c. omega (arith, c .before .before .if1))
+    (λ c. omega (arith, c .before .before .before .before .before .loop .inv .level))
     (λ c κs. search needs)
-    (λ c. search needs)
+    (λ c. omega (arith, c .before .before .before .before .if1))
     (λ c. let c1 = c .before in let c3 = c1 .before .before in let c6 = c3 .before .before .before in let l = c6 .before .loop in
     let a = c6 .before .before .before .before .before .before .before .before .args in
-    let p = items.item-passes (l .inv) (c6 .loop-test .taken) (omega arith) (c3 .if2 .left) _ (items.told (Light (a .left - 1)) (a .s .now) (l .at) (c1 .light .ensures) refl (omega (arith, length-drop (l .at) (a .s .now), c .if4 .taken))) in
-    omega (arith, p .next .going .within))
-    (λ c. search needs)
+    let p = items.item-passes (l .inv) (c6 .loop-test .taken) (c3 .before .before .if1 .left) (c3 .if2 .left) _ (items.told (Light (a .left - 1)) (a .s .now) (l .at) (c1 .light .ensures) refl (omega (arith, length-drop (l .at) (a .s .now), c .if4 .taken))) in
+    omega (arith, p .next .going .within, l .inv .room))
+    (λ c. omega (arith, c .before .before .before .before .before .before .loop-test))
     (λ c. let c1 = c .before in let c3 = c1 .before .before in let c6 = c3 .before .before .before in let l = c6 .before .loop in
     let a = c6 .before .before .before .before .before .before .before .before .args in
-    let p = items.item-passes (l .inv) (c6 .loop-test .taken) (omega arith) (c3 .if2 .left) _ (items.told (Light (a .left - 1)) (a .s .now) (l .at) (c1 .light .ensures) refl (omega (arith, length-drop (l .at) (a .s .now), c .if4 .taken))) in
+    let p = items.item-passes (l .inv) (c6 .loop-test .taken) (c3 .before .before .if1 .left) (c3 .if2 .left) _ (items.told (Light (a .left - 1)) (a .s .now) (l .at) (c1 .light .ensures) refl (omega (arith, length-drop (l .at) (a .s .now), c .if4 .taken))) in
     omega (arith, p .further-on, p .next .going .within))
     (λ c. let c1 = c .before in let c3 = c1 .before .before in let c6 = c3 .before .before .before in let l = c6 .before .loop in
     let a = c6 .before .before .before .before .before .before .before .before .args in
-    let p = items.item-passes (l .inv) (c6 .loop-test .taken) (omega arith) (c3 .if2 .left) _ (items.told (Light (a .left - 1)) (a .s .now) (l .at) (c1 .light .ensures) refl (omega (arith, length-drop (l .at) (a .s .now), c .if4 .taken))) in
+    let p = items.item-passes (l .inv) (c6 .loop-test .taken) (c3 .before .before .if1 .left) (c3 .if2 .left) _ (items.told (Light (a .left - 1)) (a .s .now) (l .at) (c1 .light .ensures) refl (omega (arith, length-drop (l .at) (a .s .now), c .if4 .taken))) in
     p .next)
-    (λ c. search needs)
-    (λ c. search needs)
-    (λ c. search needs)
-    (λ c. search needs)
+    (λ c. omega (arith, c .before .before .before .before .before .if1))
+    (λ c. omega (arith, c .before .before .before .before .before .if1))
+    (λ c. omega (arith, c .before .before .before .before .before .if1))
+    (λ c. omega (arith, c .before .before .before .before .before .before .before .before .loop .inv .level))
     (λ c κs. let c8 = c .before .before .before .before .before .before .before .before in (omega (arith, c8 .loop .inv .level, c8 .before .before .before .before .before .before .before .pre .0), tt))
     (λ c. search needs)
     (λ c. let c3 = c .before .before .before in let c8 = c3 .before .before .before .before .before in let c11 = c8 .before .before .before in let l = c11 .before .loop in
     let a = c11 .before .before .before .before .before .before .before .before .args in
-    let p = items.item-passes (l .inv) (c11 .loop-test .taken) (omega arith) (c8 .if2 .left) _ (items.told (Reaches (a .left - 1)) (a .s .now) (l .at) (c3 .pass .ensures) (c .before .next .given .1)) in
-    omega (arith, p .next .going .within))
-    (λ c. search needs)
+    let p = items.item-passes (l .inv) (c11 .loop-test .taken) (c8 .before .before .if1 .left) (c8 .if2 .left) _ (items.told (Reaches (a .left - 1)) (a .s .now) (l .at) (c3 .pass .ensures) (c .before .next .given .1)) in
+    omega (arith, p .next .going .within, l .inv .room))
+    (λ c. omega (arith, c .before .before .before .before .before .before .before .before .before .before .before .loop-test))
     (λ c. let c3 = c .before .before .before in let c8 = c3 .before .before .before .before .before in let c11 = c8 .before .before .before in let l = c11 .before .loop in
     let a = c11 .before .before .before .before .before .before .before .before .args in
-    let p = items.item-passes (l .inv) (c11 .loop-test .taken) (omega arith) (c8 .if2 .left) _ (items.told (Reaches (a .left - 1)) (a .s .now) (l .at) (c3 .pass .ensures) (c .before .next .given .1)) in
+    let p = items.item-passes (l .inv) (c11 .loop-test .taken) (c8 .before .before .if1 .left) (c8 .if2 .left) _ (items.told (Reaches (a .left - 1)) (a .s .now) (l .at) (c3 .pass .ensures) (c .before .next .given .1)) in
     omega (arith, p .further-on, p .next .going .within))
     (λ c. let c3 = c .before .before .before in let c8 = c3 .before .before .before .before .before in let c11 = c8 .before .before .before in let l = c11 .before .loop in
     let a = c11 .before .before .before .before .before .before .before .before .args in
-    items.item-passes (l .inv) (c11 .loop-test .taken) (omega arith) (c8 .if2 .left) _ (items.told (Reaches (a .left - 1)) (a .s .now) (l .at) (c3 .pass .ensures) (c .before .next .given .1)) .next)
+    items.item-passes (l .inv) (c11 .loop-test .taken) (c8 .before .before .if1 .left) (c8 .if2 .left) _ (items.told (Reaches (a .left - 1)) (a .s .now) (l .at) (c3 .pass .ensures) (c .before .next .given .1)) .next)
     (λ c. search needs)
     (λ c. let c3 = c .before .before .before in let c8 = c3 .before .before .before .before .before in let c11 = c8 .before .before .before in let l = c11 .before .loop in
     let a = c11 .before .before .before .before .before .before .before .before .args in
-    items.item-stops (l .inv) (c11 .loop-test .taken) (omega arith) (c8 .if2 .left) (items.told (Reaches (a .left - 1)) (a .s .now) (l .at) (c3 .pass .ensures) (c .before .next2 .given .1)))
+    items.item-stops (l .inv) (c11 .loop-test .taken) (c8 .before .before .if1 .left) (c8 .if2 .left) (items.told (Reaches (a .left - 1)) (a .s .now) (l .at) (c3 .pass .ensures) (c .before .next2 .given .1)))
     (λ c. let c3 = c .before .before .before in let a = c3 .before .before .before .args in items.told (Begins (a .left)) (a .s .now) 0 (c3 .begin .ensures) (c .before .begun .given .1))
-    (λ c. items.all-passed (c .before .loop .inv) (omega arith))
+    (λ c. items.all-passed (c .before .loop .inv) (omega (arith, c .loop-test)))
