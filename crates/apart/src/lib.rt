@@ -56,7 +56,7 @@ fn run(x: &[u8], y: &[u8], n: usize) -> usize
     requires { ⌜ Both (now x) (now y) n ⌝ }
     ensures { λ r. ⌜ Run (now (x .entry)) (now (y .entry)) n r ⌝ }
 {
-    let mut i = run_of_blocks(&x[0..], &y[0..], n);
+    let mut i = run_of_blocks(x, y, n);
     while i < n {
         if x[i] != y[i] {
             return i;
@@ -90,7 +90,7 @@ fn compared(x: &[u8], y: &[u8], n: usize, more: usize) -> Apart
     requires { ⌜ Rest (now x) (now y) n more ⌝ }
     ensures { λ r. ⌜ r ≡ told (now (x .entry)) (now (y .entry)) ⌝ }
 {
-    let at = run(&x[0..], &y[0..], n);
+    let at = run(x, y, n);
     if n <= at {
         if more == 0 {
             return Apart {
@@ -99,7 +99,7 @@ fn compared(x: &[u8], y: &[u8], n: usize, more: usize) -> Apart
             };
         }
     }
-    let count = differing(&x[0..], &y[0..], n, at);
+    let count = differing(x, y, n, at);
     Apart {
         position: at as u64,
         count: count + more as u64,
@@ -110,7 +110,7 @@ pub fn of_bytes(x: &[u8], y: &[u8]) -> Apart
     ensures { λ r. ⌜ r ≡ told (now (x .entry)) (now (y .entry)) ⌝ }
 {
     if x.len() < y.len() {
-        return compared(&x[0..], &y[0..], x.len(), y.len() - x.len());
+        return compared(x, y, x.len(), y.len() - x.len());
     }
-    compared(&x[0..], &y[0..], y.len(), x.len() - y.len())
+    compared(x, y, y.len(), x.len() - y.len())
 }

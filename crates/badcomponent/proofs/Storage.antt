@@ -1,13 +1,11 @@
 -- A component's dtype and type, a branch each. Slices are lent whole.
-use Prim.Native.Nat.{ℕ, suc, _<_}
+use Prim.Native.Nat.{ℕ, suc}
 use mathlib.Core.List.{List, _++_}
-use mathlib.Core.Bool.{Bool, true, false, cond}
 use mathlib.Core.Option.{Option, none, some}
-use mathlib.Core.Path.{_≡_, refl, ap, sym, _∙_, subst}
+use mathlib.Core.Path.{_≡_, refl, ap, sym, _∙_}
 use native.Mathlib.Omega.{arith}
 use lib.ListN.{length, getD}
 use borrow.Author.Tests.{eq-eqb, ne-eqb}
-use borrow.Rule.Slice.PartAt.{part-to-end}
 use Rattle.meaning.specs.Tree.{Node, noteOf}
 use Rattle.meaning.specs.Check.{Check, pass, refuse, fault, required, optional}
 use Rattle.meaning.specs.Kind.{present}
@@ -15,14 +13,12 @@ use Rattle.meaning.specs.Layouts.{Layout}
 use Rattle.meaning.specs.Judge.{orElse, aDtype, aType}
 use Rattle.walk.specs.Reading.{Ends}
 use Rattle.fields.specs.Slots.{Holds}
-use Rattle.fields.proofs.Texts.{Here}
 use Rattle.component.specs.declared.value.Coded.{Coded}
 use Rattle.component.specs.declared.value.Coded.the-variants.{No as NoCode, Yes as Code}
 use Rattle.component.specs.declared.value.Spot.{Spot as Typed}
 use Rattle.component.specs.declared.value.Spot.the-variants.{No as NoSpot, Yes as At}
 use Rattle.component.specs.Value.{leftWord, codeOf, DtypeAt}
 use Rattle.component.specs.Value as value
-use Rattle.component.specs.Verdict.{Fields, Found}
 use Rattle.component.proofs.Pieces.{refused-so, passed-so}
 use Rattle.explained.specs.Step as steps
 use Rattle.explained.specs.Step.{Step, first, given}
@@ -79,18 +75,18 @@ module _ (L : Layout) (above : Option ℕ) (t : Node Ends) (whole : ℕ) (is : w
           value-passes (λ u. one-dtype u L) (agree-dtype L) _ x k h ∙ rw h (missing-not t whole is _ (some k) k refl ∙ ap (λ (i : ℕ). first (g i)) z)
       go (refuse m i j) h f = absurd (let y = rw h at f in let z : _≡_ {A = ℕ} 0 1 = cc in omega arith)
 
-module _ (L : Layout) (above : Option ℕ) (s : List ℕ) (start : ℕ) (p : List ℕ) (whole : ℕ) (r : Spot) (r₁ : Coded) (h₁ : DtypeAt L above (Here s 0) (getD p 0 0) r₁) where
+module _ (L : Layout) (above : Option ℕ) (s : List ℕ) (start : ℕ) (p : List ℕ) (whole : ℕ) (r : Spot) (r₁ : Coded) (h₁ : DtypeAt L above s (getD p 0 0) r₁) where
   dtype-is : (q : Coded) → r₁ ≡ q → DtypeAt L above s (getD p 0 0) q
-  dtype-is q e = subst (λ u. DtypeAt L above u (getD p 0 0) q) (part-to-end s 0) (rw e at h₁)
+  dtype-is q e = rw e at h₁
 
   pub no-dtype : (n : ℕ) → r₁ ≡ NoCode n → (left : ℕ) → left ≡ eitherOf (getD p 0 0) whole → r ≡ spot n left → ValuesAre L above s start p whole r
   unfolding valueSteps
   no-dtype n e left k x d f found t is =
       x ∙ ap (spot n) k ∙ no-code L above t whole is _ d s (getD p 0 0) (f .dtype) (found .dtype) n (dtype-is (NoCode n) e d (f .dtype) (found .dtype))
 
-  module _ (code : ℕ) (e₁ : r₁ ≡ Code code) (r₂ : Typed) (h₂ : value.Typed (Here s 0) (getD p 1 0) code r₂) where
+  module _ (code : ℕ) (e₁ : r₁ ≡ Code code) (r₂ : Typed) (h₂ : value.Typed s (getD p 1 0) code r₂) where
     type-is : (q : Typed) → r₂ ≡ q → value.Typed s (getD p 1 0) code q
-    type-is q e = subst (λ u. value.Typed u (getD p 1 0) code q) (part-to-end s 0) (rw e at h₂)
+    type-is q e = rw e at h₂
 
     pub no-type : (n : ℕ) → r₂ ≡ NoSpot n → r ≡ spot n (getD p 1 0) → ValuesAre L above s start p whole r
     unfolding valueSteps
@@ -99,10 +95,9 @@ module _ (L : Layout) (above : Option ℕ) (s : List ℕ) (start : ℕ) (p : Lis
         (refused-so leftWord (optional (aType code) (present (f .type))) n (type-is (NoSpot n) e d (f .type) (found .type)))
         ∙ ap shown (sym (some-code L above t whole is _ (f .dtype) code (dtype-is (Code code) e₁ d (f .dtype) (found .dtype))))
 
-    pub then-extent : (g : ℕ) → r₂ ≡ At g → ExtentIs (Here s 0) start (Here p 0) r → ValuesAre L above s start p whole r
+    pub then-extent : (g : ℕ) → r₂ ≡ At g → ExtentIs s start p r → ValuesAre L above s start p whole r
     unfolding valueSteps
     then-extent g e h d f found t is =
-        let k : ExtentIs s start p r = subst (λ u. ExtentIs s start u r) (part-to-end p 0) (subst (λ u. ExtentIs u start (Here p 0) r) (part-to-end s 0) h) in
-        k d f found
+        h d f found
         ∙ ap shown (sym (some-code L above t whole is _ (f .dtype) code (dtype-is (Code code) e₁ d (f .dtype) (found .dtype))
         ∙ option-passes (λ u. one-type u code) (agree-type code) _ (present (f .type)) _ (passed-so leftWord (optional (aType code) (present (f .type))) g (type-is (At g) e d (f .type) (found .type)) .is)))

@@ -2,15 +2,13 @@
 use Prim.Native.Nat.{ℕ, suc, _+_, _%_}
 use mathlib.Core.List.{List, _++_}
 use mathlib.Core.Bool.{Bool, true, false, _&&_}
-use mathlib.Core.Option.{Option, none, some}
-use mathlib.Core.Path.{_≡_, refl, ap, sym, _∙_, subst}
+use mathlib.Core.Path.{_≡_, refl, ap, sym, _∙_}
 use native.Mathlib.Omega.{arith}
 use lib.ListN.{length, getD}
 use lib.Dec.{eqb, leb}
-use borrow.Rule.Slice.PartAt.{part-to-end}
 use Rattle.meaning.specs.Tree.{Node, nothing, noteOf}
 use Rattle.meaning.specs.Check as checks
-use Rattle.meaning.specs.Check.{Check, pass, fault, optional}
+use Rattle.meaning.specs.Check.{pass, optional}
 use Rattle.meaning.specs.Refusal.{ALIGN, BOUNDS}
 use Rattle.meaning.specs.Limit.{alignment}
 use Rattle.meaning.specs.Kind.{aNumber, aText, present}
@@ -19,7 +17,6 @@ use Rattle.lengths.specs.Place.{placed, number}
 use Rattle.walk.specs.Reading.{Ends}
 use Rattle.walk.specs.declared.Numeral.{Numeral}
 use Rattle.walk.specs.declared.Numeral.the-variants.{NoNumber, Number}
-use Rattle.fields.proofs.Texts.{Here}
 use Rattle.component.specs.declared.value.Fine.{Fine}
 use Rattle.component.specs.declared.value.Fine.the-variants.{No as Bad, Yes as Good}
 use Rattle.component.specs.declared.value.Spot.{Spot as Typed}
@@ -59,9 +56,9 @@ module _ (start o l left n : ℕ) (is : n ≡ number (placed start o l)) (r : Sp
 
 -- ---------------------------------------------------------------- uncompressed length, encoding, digest
 
-module _ (s : List ℕ) (start : ℕ) (p : List ℕ) (o l : ℕ) (r : Spot) (r₁ : Fine) (h₁ : Unpacked (Here s 0) (getD p 4 0) r₁) where
+module _ (s : List ℕ) (start : ℕ) (p : List ℕ) (o l : ℕ) (r : Spot) (r₁ : Fine) (h₁ : Unpacked s (getD p 4 0) r₁) where
   unpacked-is : (q : Fine) → r₁ ≡ q → Unpacked s (getD p 4 0) q
-  unpacked-is q e = subst (λ u. Unpacked u (getD p 4 0) q) (part-to-end s 0) (rw e at h₁)
+  unpacked-is q e = rw e at h₁
 
   pub no-unpacked : (n : ℕ) → r₁ ≡ Bad n → r ≡ spot n (getD p 4 0) → ExtrasAre s start p o l r
   unfolding extraSteps
@@ -69,12 +66,12 @@ module _ (s : List ℕ) (start : ℕ) (p : List ℕ) (o l : ℕ) (r : Spot) (r�
       x ∙ option-stops one-number agree-number _ (getD p 4 0) (present (f .unpacked)) (present-left _ (f .unpacked) (held-left (suc d) s _ (f .unpacked) (found .unpacked))) n 0 0
       (refused-so nothing (optional aNumber (present (f .unpacked))) n (unpacked-is (Bad n) e d (f .unpacked) (found .unpacked)))
 
-  module _ (e₁ : r₁ ≡ Good) (r₂ : Fine) (h₂ : Encoded (Here s 0) (getD p 5 0) r₂) where
+  module _ (e₁ : r₁ ≡ Good) (r₂ : Fine) (h₂ : Encoded s (getD p 5 0) r₂) where
     past-unpacked : (d : ℕ) (f : Fields) → Found d s p f → Passed nothing (optional aNumber (present (f .unpacked))) tt
     past-unpacked d f found = passed-so nothing (optional aNumber (present (f .unpacked))) tt (unpacked-is Good e₁ d (f .unpacked) (found .unpacked))
 
     encoded-is : (q : Fine) → r₂ ≡ q → Encoded s (getD p 5 0) q
-    encoded-is q e = subst (λ u. Encoded u (getD p 5 0) q) (part-to-end s 0) (rw e at h₂)
+    encoded-is q e = rw e at h₂
 
     pub no-encoding : (n : ℕ) → r₂ ≡ Bad n → r ≡ spot n (getD p 5 0) → ExtrasAre s start p o l r
     unfolding extraSteps
@@ -83,12 +80,12 @@ module _ (s : List ℕ) (start : ℕ) (p : List ℕ) (o l : ℕ) (r : Spot) (r�
         (refused-so nothing (optional raw (f .encoding)) n (encoded-is (Bad n) e d (f .encoding) (found .encoding)))
         ∙ ap shown (sym (option-passes one-number agree-number _ (present (f .unpacked)) _ (past-unpacked d f found .is)))
 
-    module _ (e₂ : r₂ ≡ Good) (r₃ : Typed) (h₃ : Digested (Here s 0) (getD p 6 0) r₃) where
+    module _ (e₂ : r₂ ≡ Good) (r₃ : Typed) (h₃ : Digested s (getD p 6 0) r₃) where
       past-encoding : (d : ℕ) (f : Fields) → Found d s p f → Passed nothing (optional raw (f .encoding)) tt
       past-encoding d f found = passed-so nothing (optional raw (f .encoding)) tt (encoded-is Good e₂ d (f .encoding) (found .encoding))
 
       digested-is : (q : Typed) → r₃ ≡ q → Digested s (getD p 6 0) q
-      digested-is q e = subst (λ u. Digested u (getD p 6 0) q) (part-to-end s 0) (rw e at h₃)
+      digested-is q e = rw e at h₃
 
       pub no-digest : (n : ℕ) → r₃ ≡ NoSpot n → r ≡ spot n (getD p 6 0) → ExtrasAre s start p o l r
       unfolding extraSteps
@@ -112,26 +109,25 @@ module _ (s : List ℕ) (start : ℕ) (p : List ℕ) (o l : ℕ) (r : Spot) (r�
 number-passes : (t : Node Ends) (x : ℕ) → aNumber t ≡ pass x → (g : ℕ → List (Step Ends)) → first (numberSteps t ++ steps._>>=_ (given (aNumber t)) g) ≡ first (g x)
 number-passes t x e g = value-passes one-number agree-number _ t x e ∙ ap (λ m. first (steps._>>=_ (given m) g)) e
 
-module _ (s : List ℕ) (start : ℕ) (p : List ℕ) (r : Spot) (r₁ : Numeral) (h₁ : NumberAt (Here s 0) (getD p 2 0) r₁) where
-  number-is : (i : ℕ) (r q : Numeral) → NumberAt (Here s 0) i r → r ≡ q → NumberAt s i q
-  number-is i r q h e = subst (λ u. NumberAt u i q) (part-to-end s 0) (rw e at h)
+module _ (s : List ℕ) (start : ℕ) (p : List ℕ) (r : Spot) (r₁ : Numeral) (h₁ : NumberAt s (getD p 2 0) r₁) where
+  number-is : (i : ℕ) (r q : Numeral) → NumberAt s i r → r ≡ q → NumberAt s i q
+  number-is i r q h e = rw e at h
 
   pub no-offset : r₁ ≡ NoNumber → r ≡ spot 8 (getD p 2 0) → ExtentIs s start p r
   unfolding extentSteps
   no-offset e x d f found =
       x ∙ value-stops one-number agree-number _ (getD p 2 0) (f .offset) (found .offset .left-is) 8 0 0 (number-is (getD p 2 0) r₁ NoNumber h₁ e d (f .offset) (found .offset))
 
-  module _ (o : ℕ) (e₁ : r₁ ≡ Number o) (r₂ : Numeral) (h₂ : NumberAt (Here s 0) (getD p 3 0) r₂) where
+  module _ (o : ℕ) (e₁ : r₁ ≡ Number o) (r₂ : Numeral) (h₂ : NumberAt s (getD p 3 0) r₂) where
     pub no-length : r₂ ≡ NoNumber → r ≡ spot 8 (getD p 3 0) → ExtentIs s start p r
     unfolding extentSteps
     no-length e x d f found =
         x ∙ value-stops one-number agree-number _ (getD p 3 0) (f .length) (found .length .left-is) 8 0 0 (number-is (getD p 3 0) r₂ NoNumber h₂ e d (f .length) (found .length))
         ∙ ap shown (sym (number-passes (f .offset) o (number-is (getD p 2 0) r₁ (Number o) h₁ e₁ d (f .offset) (found .offset)) _))
 
-    pub then-extras : (l : ℕ) → r₂ ≡ Number l → ExtrasAre (Here s 0) start (Here p 0) o l r → ExtentIs s start p r
+    pub then-extras : (l : ℕ) → r₂ ≡ Number l → ExtrasAre s start p o l r → ExtentIs s start p r
     unfolding extentSteps
     then-extras l e h d f found =
-        let k : ExtrasAre s start p o l r = subst (λ u. ExtrasAre s start u o l r) (part-to-end p 0) (subst (λ u. ExtrasAre u start (Here p 0) o l r) (part-to-end s 0) h) in
-        k d f found
+        h d f found
         ∙ ap shown (sym (number-passes (f .offset) o (number-is (getD p 2 0) r₁ (Number o) h₁ e₁ d (f .offset) (found .offset)) _
         ∙ number-passes (f .length) l (number-is (getD p 3 0) r₂ (Number l) h₂ e d (f .length) (found .length)) _))

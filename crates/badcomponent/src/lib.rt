@@ -38,11 +38,11 @@ fn extras(s: &[u8], start: u64, p: &[usize], o: u64, l: u64) -> Spot
     requires { ⌜ length (now p) ≡ 10 ⌝ }
     ensures { λ r. ⌜ is.ExtrasAre (now (s .entry)) start (now (p .entry)) o l r ⌝ }
 {
-    match unpacked(&s[0..], p[4]) {
+    match unpacked(s, p[4]) {
         Fine::No(n) => at(n, p[4]),
-        Fine::Yes => match encoded(&s[0..], p[5]) {
+        Fine::Yes => match encoded(s, p[5]) {
             Fine::No(n) => at(n, p[5]),
-            Fine::Yes => match digested(&s[0..], p[6]) {
+            Fine::Yes => match digested(s, p[6]) {
                 Typed::No(n) => at(n, p[6]),
                 Typed::Yes(_) => blob(start, o, l, p[2]),
             },
@@ -55,11 +55,11 @@ fn extent(s: &[u8], start: u64, p: &[usize]) -> Spot
     requires { ⌜ length (now p) ≡ 10 ⌝ }
     ensures { λ r. ⌜ is.ExtentIs (now (s .entry)) start (now (p .entry)) r ⌝ }
 {
-    match number_at(&s[0..], p[2]) {
+    match number_at(s, p[2]) {
         Numeral::NoNumber => at(8, p[2]),
-        Numeral::Number(o) => match number_at(&s[0..], p[3]) {
+        Numeral::Number(o) => match number_at(s, p[3]) {
             Numeral::NoNumber => at(8, p[3]),
-            Numeral::Number(l) => extras(&s[0..], start, &p[0..], o, l),
+            Numeral::Number(l) => extras(s, start, p, o, l),
         },
     }
 }
@@ -79,11 +79,11 @@ fn values(layout: u64, above: u64, s: &[u8], start: u64, p: &[usize], whole: usi
     requires { ⌜ length (now p) ≡ 10 ⌝ }
     ensures { λ r. ⌜ is.ValuesAre (layoutOf layout) (given above) (now (s .entry)) start (now (p .entry)) whole r ⌝ }
 {
-    match dtype_at(layout, &s[0..], p[0], above) {
+    match dtype_at(layout, s, p[0], above) {
         Coded::No(n) => at(n, either(p[0], whole)),
-        Coded::Yes(code) => match typed(&s[0..], p[1], code) {
+        Coded::Yes(code) => match typed(s, p[1], code) {
             Typed::No(n) => at(n, p[1]),
-            Typed::Yes(_) => extent(&s[0..], start, &p[0..]),
+            Typed::Yes(_) => extent(s, start, p),
         },
     }
 }

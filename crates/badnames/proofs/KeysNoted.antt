@@ -117,10 +117,10 @@ module _ {tested : Bool} {levels mode count at due key text : ℕ} {s left₀ le
 module _ (s : List ℕ) (from levels n : ℕ) (left size : List ℕ) where
   -- the names as they are lent
   abbrev pub lent : ℕ → List ℕ
-  lent = name (Here s from) (Here left 0) (Here size 0)
+  lent = name (Here s from) left size
 
   lent-are : lent ≡ name (drop from s) left size
-  lent-are = rw (part-to-end s from, part-to-end left 0, part-to-end size 0) refl
+  lent-are = rw (part-to-end s from) refl
 
   module _ {k : ℕ} (c : Leading lent n k) where
     leading : Leading (name (drop from s) left size) n k
@@ -129,10 +129,10 @@ module _ (s : List ℕ) (from levels n : ℕ) (left size : List ℕ) where
     pub all-differ : k ≡ n → {r : Spot} → r ≡ spot 0 0 → Repeated s from levels n left size r
     all-differ e is ps names t q reads kt = is ∙ no-copy (name (drop from s) left size) n ps names (subst (Leading (name (drop from s) left size) n) e leading)
 
-    pub a-second : (k ≡ n → ⊥) → (e : Places) → EntryIs levels (Here s 0) k e → {r : Spot} → r ≡ spot TWICE (e .key) → Repeated s from levels n left size r
+    pub a-second : (k ≡ n → ⊥) → (e : Places) → EntryIs levels s k e → {r : Spot} → r ≡ spot TWICE (e .key) → Repeated s from levels n left size r
     unfolding inTable aMapping asMapping
     a-second o e h is ps names t q reads kt =
-        let f : e ≡ inTable k (aMapping t) = subst (λ u. EntryIs levels u k e) (part-to-end s 0) h t q reads in
+        let f : e ≡ inTable k (aMapping t) = h t q reads in
         let g : e ≡ leftBoth (nth k ps) = f ∙ (rw kt refl) in
         is ∙ ap (λ (x : Places). spot TWICE (x .key)) g ∙ sym (a-copy (name (drop from s) left size) n ps names k leading (let l = leading .most in omega (arith, l, o)))
 
@@ -195,15 +195,14 @@ module _ (s : List ℕ) (from levels n : ℕ) (keys : Keys) (left size : List �
               let x = refused (sameNameSteps [] (map namedAnyway ps)) (TWICE unless distinct (map (λ m. m .name .letters) (map namedAnyway ps))) (agree-same-names (map namedAnyway ps)) TWICE 0 0 (rw e refl) in
               absurd (other (sym (by (x .this) (f ∙ x .shown)) ∙ x .number))
 
-      pub few-judged : {r : Spot} → keys .tally .count ≤ length left → Repeated (Here s 0) from levels (keys .tally .count) (Here left 0) (Here size 0) r → Judged s from levels n keys left size r
+      pub few-judged : {r : Spot} → keys .tally .count ≤ length left → Repeated s from levels (keys .tally .count) left size r → Judged s from levels n keys left size r
       few-judged {r} l repeated ps h t q reads kt by =
           let c = h .known .tallied .counted in
           let z : min (length ps) (length left) ≡ keys .tally .count = omega (arith, c, l) in
           let m = length-map ps lettersOf in
           let names : listed (name (drop from s) left size) 0 (keys .tally .count) ≡ map lettersOf ps =
           (rw z at (h .known .tallied .listed-are)) ∙ take-all (length left) (map lettersOf ps) (omega (arith, c, l, m)) in
-          let a : Repeated s from levels (keys .tally .count) left size r = rw (part-to-end s 0, part-to-end left 0, part-to-end size 0) at repeated in
-          a ps names t q reads kt ∙ sym (ap shown (few-counted good t ps kt h by l))
+          repeated ps names t q reads kt ∙ sym (ap shown (few-counted good t ps kt h by l))
 
 -- ---------------------------------------------------------------- the whole
 
@@ -214,10 +213,9 @@ module _ (s : List ℕ) (x : Opening) (h : MapIs (Here s 0) x) (levels limit n :
       is ∙ sym ((rw (opens.opening s x h NotOpen e levels t q reads) refl) ∙ ap (λ (e : Ends). spot KIND (length (e .start))) (note-of (suc levels) s t q reads))
 
   pub of-map : (mode count from : ℕ) → x ≡ Opened mode count from → {tested : Bool} → tested ≡ eqb n TEXT → (keys : Keys) (left size : List ℕ) → length left ≡ limit
-      → Walked tested levels mode count (Here s from) left size keys → Judged (Here s 0) from levels n keys (Here left 0) (Here size 0) r → NamesAt levels s limit n r
+      → Walked tested levels mode count (Here s from) left size keys → Judged s from levels n keys left size r → NamesAt levels s limit n r
   of-map mode count from is {tested} asked keys left size room walked judged t q reads =
       let m = opens.opened s x h mode count from is .trees levels t q reads in
       let w : Kept (eqb n TEXT) (drop from s) left size keys (m .pairs) =
       subst (λ b. Kept b (drop from s) left size keys (m .pairs)) asked (subst (λ u. Walked tested levels mode count u left size keys) (part-to-end s from) walked (m .pairs) (m .last) (m .due)) in
-      let a : Judged s from levels n keys left size r = rw (part-to-end s 0, part-to-end left 0, part-to-end size 0) at judged in
-      subst (λ i. Tells n (first (nameSteps i t)) r) room (a (m .pairs) w t q reads (m .kind-is))
+      subst (λ i. Tells n (first (nameSteps i t)) r) room (judged (m .pairs) w t q reads (m .kind-is))

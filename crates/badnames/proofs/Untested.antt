@@ -4,7 +4,6 @@ use mathlib.Core.List.{List, [], _∷_, _++_}
 use mathlib.Core.Bool.{Bool, true, false}
 use mathlib.Core.Path.{_≡_, refl, sym, subst}
 use lib.ListN.{length, take, drop}
-use borrow.Rule.Slice.PartAt.{part-to-end}
 use Rattle.meaning.specs.Tree.{Pair}
 use Rattle.meaning.specs.Text.{utf8}
 use Rattle.walk.specs.Reading.{Ends, Reads}
@@ -65,11 +64,10 @@ module _ (s : List ℕ) (t : Tally) (left size : List ℕ) where
   as-put b c h = rw (b, c) h
 
   module _ {tested : Bool} {t′ : Tally} {left′ size′ : List ℕ} where
-    pub by-test : tested ≡ true → Noted (Here s 0) t left size t′ left′ size′ → NotedIf tested s t left size t′ left′ size′
+    pub by-test : tested ≡ true → Noted s t left size t′ left′ size′ → NotedIf tested s t left size t′ left′ size′
     by-test e h =
-        let k : Noted s t left size t′ left′ size′ = subst (λ u. Noted u t left size t′ left′ size′) (part-to-end s 0) h in
         subst (λ b. NotedIf b s t left size t′ left′ size′) (sym e)
-        (k .0, λ m at within is done d p r x y. known-whole (k .1 m at within is done d p r x (whole-known y)))
+        (h .0, λ m at within is done d p r x y. known-whole (h .1 m at within is done d p r x (whole-known y)))
 
-    pub untested : tested ≡ false → NotedIf false (Here s 0) t left size t′ left′ size′ → NotedIf tested s t left size t′ left′ size′
-    untested e h = subst (λ b. NotedIf b s t left size t′ left′ size′) (sym e) (subst (λ u. NotedIf false u t left size t′ left′ size′) (part-to-end s 0) h)
+    pub untested : tested ≡ false → NotedIf false s t left size t′ left′ size′ → NotedIf tested s t left size t′ left′ size′
+    untested e h = subst (λ b. NotedIf b s t left size t′ left′ size′) (sym e) h

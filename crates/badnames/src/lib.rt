@@ -63,9 +63,9 @@ fn noted(s: &[u8], t: Tally, tested: bool, left: &mut [usize], size: &mut [usize
     ensures { λ r. ⌜ is.NotedIf tested (now (s .entry)) t (now (left .entry)) (now (size .entry)) r (now (left .exit)) (now (size .exit)) ⌝ }
 {
     if tested {
-        return naming::note(&s[0..], t, left, size);
+        return naming::note(s, t, left, size);
     }
-    unread(&s[0..], t, left, size)
+    unread(s, t, left, size)
 }
 
 // Entries that begin s, counted as `walk::map` says, whose keys and values have `levels` levels left. Their names are noted in left and size.
@@ -132,11 +132,11 @@ fn repeated(
     requires { ⌜ (from ≤ length (now s)) × (n ≤ length (now ix)) × (n ≤ 65536) ⌝ }
     ensures { λ r. ⌜ is.Repeated (now (s .entry)) from levels n (now (left .entry)) (now (size .entry)) r ⌝ }
 {
-    let k = names::leading(&s[from..], &left[0..], &size[0..], n, ix);
+    let k = names::leading(&s[from..], left, size, n, ix);
     if k == n {
         return at(0, 0);
     }
-    let e = entry::entry(&s[0..], levels, k);
+    let e = entry::entry(s, levels, k);
     at(11, e.key)
 }
 
@@ -167,7 +167,7 @@ fn judged(
     if n != numbers::TWICE {
         return at(0, 0);
     }
-    repeated(&s[0..], from, levels, count, &left[0..], &size[0..], ix)
+    repeated(s, from, levels, count, left, size, ix)
 }
 
 // The map that begins s, whose keys and values have `levels` levels left. It may have as many names as left, size and ix have room for.
@@ -188,7 +188,7 @@ pub fn named(
         Opening::NotOpen => at(8, s.len()),
         Opening::Opened(mode, count, from) => {
             let keys = entries(&s[from..], levels, mode, count, tested, left, size);
-            judged(&s[0..], from, levels, n, keys, &left[0..], &size[0..], ix)
+            judged(s, from, levels, n, keys, left, size, ix)
         }
     }
 }

@@ -5,17 +5,15 @@ use mathlib.Core.Bool.{Bool, true, false, cond}
 use mathlib.Core.Option.{Option, none, some}
 use mathlib.Core.Path.{_≡_, refl, ap, sym, _∙_, subst}
 use native.Mathlib.Omega.{arith}
-use lib.ListN.{length, getD}
+use lib.ListN.{getD}
 use lib.Dec.{ltb}
 use borrow.Author.Tests.{ltb-true}
-use borrow.Rule.Slice.PartAt.{part-to-end}
-use Rattle.meaning.specs.Tree.{Node, noteOf}
+use Rattle.meaning.specs.Tree.{Node}
 use Rattle.meaning.specs.Check.{Check, pass, refuse, optional}
 use Rattle.meaning.specs.Model.{Word}
 use Rattle.meaning.specs.Layouts.{layoutOf}
 use Rattle.meaning.specs.Judge.{aDtype}
 use Rattle.walk.specs.Reading.{Ends}
-use Rattle.walk.proofs.Passed.{Here}
 use Rattle.component.specs.Value as value
 use Rattle.object.specs.Verdict.{Fields, Standing}
 use Rattle.explained.specs.Step.{Step, first}
@@ -26,7 +24,7 @@ use Rattle.badvalues.specs.Steps.{Alone, Known}
 use Rattle.badvalues.specs.declared.Valued.{Valued}
 use Rattle.badvalues.specs.declared.Valued.the-variants.{Odd, Sound}
 use Rattle.badparts.specs.declared.Owned.{Owned}
-use Rattle.badparts.specs.Parts.{owned, ownedBy, partSteps, Fits, WithinIs}
+use Rattle.badparts.specs.Parts.{owned, partSteps, Fits, WithinIs}
 use Rattle.badobject.specs.Owner.{ownedOf, restSteps, ValuesAre}
 use Rattle.badobject.proofs.Missing.{alone-owned}
 
@@ -60,21 +58,17 @@ fits-so layout s p f code st e = record {
     none-so none h e = let z : none ≡ value.given code = cc in sym z
     none-so (some d) h e = absurd (let z : _≡_ {A = ℕ} 0 1 = cc in omega arith)
 
-module _ (layout : ℕ) (s : List ℕ) (start : ℕ) (p : List ℕ) (n c : ℕ) (v : Valued) (h : values.ValuesAre layout (Here s 0) (Here p 0) v) (r : Owned) where
-  whole : values.ValuesAre layout s p v
-  whole = subst (λ u. values.ValuesAre layout s u v) (part-to-end p 0) (subst (λ u. values.ValuesAre layout u (Here p 0) v) (part-to-end s 0) h)
-
+module _ (layout : ℕ) (s : List ℕ) (start : ℕ) (p : List ℕ) (n c : ℕ) (v : Valued) (h : values.ValuesAre layout s p v) (r : Owned) where
   abbrev next : Fields → Option ℕ → List ℕ → Word Ends → List (Step Ends)
   next f d l m = partSteps (layoutOf layout) start (f .shape) (f .components) d l m
 
   pub odd : (k left : ℕ) → v ≡ Odd k left → (z : Spot) → z ≡ spot k left → r ≡ owned z 0 → ValuesAre layout s start p n c r
   unfolding ownedOf
   odd k left e z i j f st x b nn cc′ =
-      let a : Alone k left (first (restSteps layout start f)) = subst (λ u. values.Answered (layoutOf layout) f (next f) u) e (whole f st (next f)) in
+      let a : Alone k left (first (restSteps layout start f)) = subst (λ u. values.Answered (layoutOf layout) f (next f) u) e (h f st (next f)) in
       j ∙ ap (λ (u : Spot). owned u 0) i ∙ alone-owned k left (first (restSteps layout start f)) a ∙ ap ownedOf b
 
-  pub sound : (code format : ℕ) → v ≡ Sound code format → WithinIs layout format code (Here s 0) start (getD p 1 0) (getD p 4 0) n c r → ValuesAre layout s start p n c r
+  pub sound : (code format : ℕ) → v ≡ Sound code format → WithinIs layout format code s start (getD p 1 0) (getD p 4 0) n c r → ValuesAre layout s start p n c r
   sound code format e w f st x b i j =
-      let k : Known (layoutOf layout) f code format (next f) = subst (λ u. values.Answered (layoutOf layout) f (next f) u) e (whole f st (next f)) in
-      let u : WithinIs layout format code s start (getD p 1 0) (getD p 4 0) n c r = subst (λ u. WithinIs layout format code u start (getD p 1 0) (getD p 4 0) n c r) (part-to-end s 0) w in
-      u (f .shape) (f .components) (k .word) (k .shape) (st .shape .left-is) (st .components) (k .format-is) (fits-so layout s p f code st (k .code-is)) x (sym (k .goes-on) ∙ b) i j
+      let k : Known (layoutOf layout) f code format (next f) = subst (λ u. values.Answered (layoutOf layout) f (next f) u) e (h f st (next f)) in
+      w (f .shape) (f .components) (k .word) (k .shape) (st .shape .left-is) (st .components) (k .format-is) (fits-so layout s p f code st (k .code-is)) x (sym (k .goes-on) ∙ b) i j

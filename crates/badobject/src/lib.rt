@@ -36,13 +36,13 @@ fn values(layout: u64, s: &[u8], start: u64, p: &[usize], n: u64, c: usize) -> O
     requires { ⌜ length (now p) ≡ 8 ⌝ }
     ensures { λ r. ⌜ is.ValuesAre layout (now (s .entry)) start (now (p .entry)) n c r ⌝ }
 {
-    match badvalues::values(layout, &s[0..], &p[0..]) {
+    match badvalues::values(layout, s, p) {
         Valued::Odd(k, left) => told(spot::at(k, left), 0),
         Valued::Sound(code, format) => badparts::within(
             layout,
             format,
             code,
-            &s[0..],
+            s,
             start,
             p[1],
             p[4],

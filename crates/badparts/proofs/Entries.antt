@@ -39,9 +39,9 @@ spelt-noted t w e = go (kind t) refl e
     go null h e = absurd (let z : _≡_ {A = ℕ} 0 1 = cc in omega arith)
     go another h e = absurd (let z : _≡_ {A = ℕ} 0 1 = cc in omega arith)
 
-module _ (s : List ℕ) (c : ℕ) (e : Places) (h : EntryIs 28 (Here s 0) c e) where
+module _ (s : List ℕ) (c : ℕ) (e : Places) (h : EntryIs 28 s c e) where
   found : (t : Node Ends) (q : List ℕ) → Reads 29 s t q → (ns : List (Named Ends)) → names componentLimit t ≡ pass ns → (n : Named Ends) → At c n 0 ns → EntryAt 28 s n e
-  found t q r ns k n at = named-entry 28 s t q r componentLimit ns k c n at e (subst (λ u. EntryIs 28 u c e) (part-to-end s 0) h)
+  found t q r ns k n at = named-entry 28 s t q r componentLimit ns k c n at e (h)
 
   key-is : (n : Named Ends) → EntryAt 28 s n e → e .key ≡ keyOf n
   key-is n x = x .key-stands .left-is ∙ sym (ap (λ (i : Ends). length (i .start)) (spelt-noted (x .key) (n .name) (x .spells)))

@@ -66,11 +66,11 @@ listed L start above t cs e = go (names componentLimit t) refl e
 
 -- ---------------------------------------------------------------- whose fault ROLE is
 
-module _ (layout format code : ℕ) (s : List ℕ) (start : ℕ) (found : Found) (rows : List ℕ) (h : ComponentsAre (offered layout format code) (Here s 0) start found rows) where
+module _ (layout format code : ℕ) (s : List ℕ) (start : ℕ) (found : Found) (rows : List ℕ) (h : ComponentsAre (offered layout format code) s start found rows) where
   found-is : (t : Node Ends) (f : Word Ends) (cs : List (Component Ends)) → Passing layout format code s start t f cs → FoundIs (pass cs) found rows
   found-is t f cs p =
       subst (λ k. FoundIs k found rows) (p .pass-so)
-      (h t (p .rest) (subst (λ u. Reads 29 u t (p .rest)) (sym (part-to-end s 0)) (p .reads)) (f .letters) (p .format-is) (p .fits .tensor))
+      (h t (p .rest) (p .reads) (f .letters) (p .format-is) (p .fits .tensor))
 
   same-list : {cs ds : List (Component Ends)} → _≡_ {A = Check (List (Component Ends))} (pass cs) (pass ds) → ds ≡ cs
   same-list {cs} {ds} e = let z : cs ≡ ds = cc in sym z
@@ -143,7 +143,7 @@ module _ (layout format code : ℕ) (s : List ℕ) (start c : ℕ) (r : Owned) w
       go false e false f = let l = ltb-false n 23 f in omega (arith, l, b)
 
   -- its length
-  pub length-shows : (n : ℕ) → (n ≡ 21 → ⊥) → (n ≡ 22 → ⊥) → LengthIs layout (Here s 0) c r → (a : ℕ) → RuledIs layout format code s start a n c r
+  pub length-shows : (n : ℕ) → (n ≡ 21 → ⊥) → (n ≡ 22 → ⊥) → LengthIs layout s c r → (a : ℕ) → RuledIs layout format code s start a n c r
   unfolding ownedBy
   length-shows n no21 no22 h a t f cs p shape left dims x l y =
       let i = rule-is t f cs p shape dims n x y in
@@ -151,15 +151,14 @@ module _ (layout format code : ℕ) (s : List ℕ) (start c : ℕ) (r : Owned) w
       let is : x .number ≡ 23 = q ∙ three n l (let z : n ≤ 23 = omega (arith, m, q) in z) no21 no22 in
       let w = i .length is in
       let o = owner t f cs p shape dims n x y (w .2) in
-      let v : LengthIs layout s c r = subst (λ u. LengthIs layout u c r) (part-to-end s 0) h in
       let place : x .place ≡ lengthNote (layoutOf layout) (o .0) = w .0 ∙ ap (λ (j : ℕ). getD (map (lengthNote (layoutOf layout)) (ns t f cs p)) j (noteOf t)) (y .component) ∙ got (lengthNote (layoutOf layout)) (noteOf t) (ns t f cs p) c (o .0) (o .1) in
-      v t (p .rest) (p .reads) (ns t f cs p) (list t f cs p .are) (o .0) (o .1)
+      h t (p .rest) (p .reads) (ns t f cs p) (list t f cs p .are) (o .0) (o .1)
       ∙ owns 23 x is (lengthNote (layoutOf layout) (o .0)) place (some (o .0 .name)) (named-so t f cs p shape dims n x y (o .0) (o .1) (w .1))
 
   -- ROLE, by whose fault it is
-  module _ (b : Bool) (hb : BlameIs layout format code (Here s 0) start b) where
+  module _ (b : Bool) (hb : BlameIs layout format code s start b) where
     blamed-is : (t : Node Ends) (f : Word Ends) (cs : List (Component Ends)) → Passing layout format code s start t f cs → b ≡ blames format (map part cs)
-    blamed-is t f cs p = hb t f cs (record { rest = p .rest; reads = subst (λ u. Reads 29 u t (p .rest)) (sym (part-to-end s 0)) (p .reads); format-is = p .format-is; fits = p .fits; pass-so = passed p })
+    blamed-is t f cs p = hb t f cs (record { rest = p .rest; reads = p .reads; format-is = p .format-is; fits = p .fits; pass-so = passed p })
       where
         passed : Passing layout format code s start t f cs → componentsOf (layoutOf layout) start (inherited (f .letters) (value.given code)) t ≡ pass cs
         passed p = p .pass-so
@@ -171,15 +170,14 @@ module _ (layout format code : ℕ) (s : List ℕ) (start c : ℕ) (r : Owned) w
         (ap (λ (i : ℕ). blames i (map part cs)) (sym (p .format-is)) ∙ sym (blamed-is t f cs p))
         (ruled.role-shows (layoutOf layout) (noteOf shape) (noteOf t) dims (ns t f cs p) (map part cs) x (y .number) (f .letters) (breaks-so t f cs p shape dims 22 x y))
 
-    pub index-shows : b ≡ true → ValueIs (Here s 0) c r → RoleIs layout format code s start c r
+    pub index-shows : b ≡ true → ValueIs s c r → RoleIs layout format code s start c r
     unfolding ownedBy
     index-shows e h t f cs p shape dims x y =
         let w : ruled.Shows (layoutOf layout) (noteOf shape) (noteOf t) dims (ns t f cs p) (map part cs) x true x =
         subst (λ (i : Bool). ruled.Shows (layoutOf layout) (noteOf shape) (noteOf t) dims (ns t f cs p) (map part cs) x i x) e (shows t f cs p shape dims x y) in
         let o = owner t f cs p shape dims 22 x y (w .2) in
-        let v : ValueIs s c r = subst (λ u. ValueIs u c r) (part-to-end s 0) h in
         let place : x .place ≡ noteOf (o .0 .value) = w .0 ∙ ap (λ (j : ℕ). getD (map (λ n. noteOf (n .value)) (ns t f cs p)) j (noteOf t)) (y .component) ∙ got (λ n. noteOf (n .value)) (noteOf t) (ns t f cs p) c (o .0) (o .1) in
-        v t (p .rest) (p .reads) (ns t f cs p) (list t f cs p .are) (o .0) (o .1)
+        h t (p .rest) (p .reads) (ns t f cs p) (list t f cs p .are) (o .0) (o .1)
         ∙ owns 22 x (y .number) (noteOf (o .0 .value)) place (some (o .0 .name)) (named-so t f cs p shape dims 22 x y (o .0) (o .1) (w .1))
 
     pub map-shows : b ≡ false → (z : Spot) → z ≡ spot 22 (length s) → r ≡ owned z 0 → RoleIs layout format code s start c r
@@ -189,10 +187,9 @@ module _ (layout format code : ℕ) (s : List ℕ) (start c : ℕ) (r : Owned) w
         subst (λ (i : Bool). ruled.Shows (layoutOf layout) (noteOf shape) (noteOf t) dims (ns t f cs p) (map part cs) x i x) e (shows t f cs p shape dims x y) in
         k ∙ ap (λ (u : Spot). owned u 0) (i ∙ ap (spot 22) (sym (whole-is t (p .rest) (p .reads)))) ∙ owns 22 x (y .number) (noteOf t) (w .0) none (w .1)
 
-  pub role-ruled : (n : ℕ) → n ≡ 22 → RoleIs layout format code (Here s 0) start c r → (a : ℕ) → RuledIs layout format code s start a n c r
+  pub role-ruled : (n : ℕ) → n ≡ 22 → RoleIs layout format code s start c r → (a : ℕ) → RuledIs layout format code s start a n c r
   role-ruled n is h a t f cs p shape left dims x l y =
-      let v : RoleIs layout format code s start c r = subst (λ u. RoleIs layout format code u start c r) (part-to-end s 0) h in
-      v t f cs p shape dims x (record { breaks = y .breaks; number = y .number ∙ is; component = y .component })
+      h t f cs p shape dims x (record { breaks = y .breaks; number = y .number ∙ is; component = y .component })
 
 -- ---------------------------------------------------------------- names, components, rules
 

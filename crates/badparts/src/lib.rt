@@ -27,21 +27,14 @@ fn names(s: &[u8], n: u64) -> Spot
     let mut left = [0usize; 16];
     let mut size = [0usize; 16];
     let mut ix = [0u16; 16];
-    badnames::named(
-        &s[0..],
-        numbers::IN_COMPONENTS,
-        n,
-        &mut left,
-        &mut size,
-        &mut ix,
-    )
+    badnames::named(s, numbers::IN_COMPONENTS, n, &mut left, &mut size, &mut ix)
 }
 
 // What breaks in component c of the map that begins s, whose object has the code `code`.
 fn inside(layout: u64, code: u64, s: &[u8], start: u64, c: usize) -> Owned
     ensures { λ r. ⌜ is.InsideIs layout code (now (s .entry)) start c r ⌝ }
 {
-    let e = entry::entry(&s[0..], numbers::IN_COMPONENTS, c);
+    let e = entry::entry(s, numbers::IN_COMPONENTS, c);
     let v = place_of(s.len(), e.value);
     told(badcomponent::component(layout, code, &s[v..], start), e.key)
 }
@@ -50,7 +43,7 @@ fn inside(layout: u64, code: u64, s: &[u8], start: u64, c: usize) -> Owned
 fn at_value(s: &[u8], c: usize) -> Owned
     ensures { λ r. ⌜ is.ValueIs (now (s .entry)) c r ⌝ }
 {
-    let e = entry::entry(&s[0..], numbers::IN_COMPONENTS, c);
+    let e = entry::entry(s, numbers::IN_COMPONENTS, c);
     told(spot::at(22, e.value), e.key)
 }
 
@@ -58,7 +51,7 @@ fn at_value(s: &[u8], c: usize) -> Owned
 fn at_length(layout: u64, s: &[u8], c: usize) -> Owned
     ensures { λ r. ⌜ is.LengthIs layout (now (s .entry)) c r ⌝ }
 {
-    let e = entry::entry(&s[0..], numbers::IN_COMPONENTS, c);
+    let e = entry::entry(s, numbers::IN_COMPONENTS, c);
     let v = place_of(s.len(), e.value);
     told(
         spot::at(23, badcomponent::length_at(layout, &s[v..])),
@@ -78,16 +71,7 @@ fn to_blame(layout: u64, format: u64, code: u64, s: &[u8], start: u64) -> bool
         row: 0,
         from: 0,
     };
-    let w = components::components(
-        layout,
-        format,
-        code,
-        &s[0..],
-        start,
-        to,
-        &mut rows,
-        &mut none,
-    );
+    let w = components::components(layout, format, code, s, start, to, &mut rows, &mut none);
     let found = w.found;
     match found {
         Found::No(_, _) => false,
@@ -105,8 +89,8 @@ fn to_blame(layout: u64, format: u64, code: u64, s: &[u8], start: u64) -> bool
 fn role(layout: u64, format: u64, code: u64, s: &[u8], start: u64, c: usize) -> Owned
     ensures { λ r. ⌜ is.RoleIs layout format code (now (s .entry)) start c r ⌝ }
 {
-    if to_blame(layout, format, code, &s[0..], start) {
-        return at_value(&s[0..], c);
+    if to_blame(layout, format, code, s, start) {
+        return at_value(s, c);
     }
     told(spot::at(22, s.len()), 0)
 }
@@ -128,9 +112,9 @@ fn ruled(
         return told(spot::at(21, a), 0);
     }
     if n == numbers::ROLE {
-        return role(layout, format, code, &s[0..], start, c);
+        return role(layout, format, code, s, start, c);
     }
-    at_length(layout, &s[0..], c)
+    at_length(layout, s, c)
 }
 
 // Of an object that is refused with number n for component c, its values up to its attributes sound: its shape has `a` bytes of s left, its components b.

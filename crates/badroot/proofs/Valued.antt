@@ -1,8 +1,8 @@
 -- The version, the attributes and the objects of a root, a branch each.
-use Prim.Native.Nat.{ℕ, suc, _-_, _≤_, _<_}
-use mathlib.Core.List.{List, [], _∷_, _++_}
+use Prim.Native.Nat.{ℕ, suc, _-_, _<_}
+use mathlib.Core.List.{List, _++_}
 use mathlib.Core.Bool.{Bool, true, false, cond}
-use mathlib.Core.Option.{Option, none, some}
+use mathlib.Core.Option.{Option, some}
 use mathlib.Core.Path.{_≡_, refl, ap, sym, _∙_, subst}
 use native.Mathlib.Omega.{arith}
 use lib.ListN.{length, getD, drop}
@@ -13,7 +13,7 @@ use Rattle.meaning.specs.Refusal.{KIND, MISSING, VERSION, MAJOR}
 use Rattle.meaning.specs.Limit.{objectLimit}
 use Rattle.meaning.specs.Version.{versionShape, majorOne}
 use Rattle.meaning.specs.Kind.{aWord}
-use Rattle.meaning.specs.Layouts.{Layout, slot}
+use Rattle.meaning.specs.Layouts.{Layout}
 use Rattle.meaning.specs.Field.{isSome, field}
 use Rattle.meaning.specs.Judge.{attributesOf, aVersion}
 use Rattle.walk.specs.Reading.{Ends, Reads}
@@ -22,13 +22,12 @@ use Rattle.walk.specs.declared.Letters.{Letters}
 use Rattle.walk.specs.declared.Letters.the-variants.{NoText, Text}
 use Rattle.walk.proofs.Passed.{Here}
 use Rattle.walk.proofs.ReadSays.{note-of}
-use Rattle.fields.specs.Slots.{Stands, Holds}
 use Rattle.fields.specs.Attributes.{AttributesAt}
 use Rattle.fields.proofs.Stands.{Item, hold-none, hold-some}
 use Rattle.fields.proofs.Texts.{no-word, word, letters}
 use Rattle.explained.specs.Fields.{root, versionOf, attributesOn, objectsField}
-use Rattle.explained.specs.Step.{Step, _at_unless_, _>>=_, first, given}
-use Rattle.explained.specs.Order.{mappingSteps, wordSteps, versionSteps, missing, nameSteps}
+use Rattle.explained.specs.Step.{_at_unless_, _>>=_, first, given}
+use Rattle.explained.specs.Order.{wordSteps, versionSteps, missing, nameSteps}
 use Rattle.explained.proofs.Parts.{agree-attributes, agree-version}
 use Rattle.badfields.specs.Fields.{spotOf}
 use Rattle.badfields.proofs.Firsts.{Each, no-more, and-so, each-++, each-found, Numbered, shown-here, shown-past}
@@ -73,18 +72,18 @@ version-numbered t = each-++ (numbered KIND (noteOf t) _ (omega arith)) (each-fo
 
 -- ---------------------------------------------------------------- attributes, objects
 
--- the objects are lent whole, with room for `limit` names
-pub names-whole : (s : List ℕ) {limit n : ℕ} {r : Spot} → limit ≡ objectLimit → NamesAt 30 (Here s 0) limit n r → NamesAt 30 s objectLimit n r
-names-whole s {limit} {n} {r} e h = subst (λ i. NamesAt 30 s i n r) e (subst (λ u. NamesAt 30 u limit n r) (part-to-end s 0) h)
+-- the objects, with room for `limit` names
+pub names-limited : (s : List ℕ) {limit n : ℕ} {r : Spot} → limit ≡ objectLimit → NamesAt 30 s limit n r → NamesAt 30 s objectLimit n r
+names-limited s {limit} {n} {r} e h = subst (λ i. NamesAt 30 s i n r) e h
 
 found-first : (t : Node Ends) (v : Option (Node Ends)) (o : Node Ends) → v ≡ some o → first (missing t v ++ (v >>= nameSteps objectLimit)) ≡ first (nameSteps objectLimit o)
 unfolding missing isSome
 found-first t v o e = rw e refl
 
-module _ (s p : List ℕ) (whole n : ℕ) (b : Bool) (asked : AttributesAt (Here s 0) (getD p 1 0) b) where
+module _ (s p : List ℕ) (whole n : ℕ) (b : Bool) (asked : AttributesAt s (getD p 1 0) b) where
   module _ (L : Layout) (ps : List (Pair Ends)) (stood : Stood L s p ps) where
     attributes-are : optional attributesOf (field (attributesOn L root) ps) ≡ cond b (pass (field (attributesOn L root) ps)) (fault KIND)
-    attributes-are = subst (λ u. AttributesAt u (getD p 1 0) b) (part-to-end s 0) asked 30 (field (attributesOn L root) ps) (stood 1 (omega arith))
+    attributes-are = asked 30 (field (attributesOn L root) ps) (stood 1 (omega arith))
 
     past-attributes : b ≡ true → (t : Node Ends) → first (laterSteps L t ps) ≡ first (missing t (field (objectsField L) ps) ++ (field (objectsField L) ps >>= nameSteps objectLimit))
     unfolding laterSteps
@@ -134,8 +133,7 @@ module _ (s p : List ℕ) (whole n : ℕ) where
     version-breaks broken L t ps w stood by =
         shown-here (versionSteps (item L ps stood .item)) r (version-shown L ps stood) (laterSteps L t ps) broken ∙ ap shown (sym (values-first L ps stood t))
 
-    pub version-passes : {x : Spot} → r .number ≡ 0 → LaterIs (Here s 0) (Here p 0) whole n x → ValuesIs s p whole n x
+    pub version-passes : {x : Spot} → r .number ≡ 0 → LaterIs s p whole n x → ValuesIs s p whole n x
     version-passes {x} fine later L t ps w stood =
-        let a : LaterIs s p whole n x = rw (part-to-end s 0, part-to-end p 0) at later in
         let past = shown-past (versionSteps (item L ps stood .item)) r (version-shown L ps stood) (version-numbered (item L ps stood .item)) fine (laterSteps L t ps) in
-        subst (λ f. Tells n f x) (sym (values-first L ps stood t ∙ past)) (a L t ps w stood)
+        subst (λ f. Tells n f x) (sym (values-first L ps stood t ∙ past)) (later L t ps w stood)

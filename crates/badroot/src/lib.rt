@@ -45,14 +45,7 @@ fn names(s: &[u8], n: u64) -> Spot
     let mut left = [0usize; 1024];
     let mut size = [0usize; 1024];
     let mut ix = [0u16; 1024];
-    badnames::named(
-        &s[0..],
-        numbers::IN_OBJECTS,
-        n,
-        &mut left,
-        &mut size,
-        &mut ix,
-    )
+    badnames::named(s, numbers::IN_OBJECTS, n, &mut left, &mut size, &mut ix)
 }
 
 // Attributes, objects and their names, of a root that has `whole` bytes left. Its entries begin s, and p has the places of its fields.
@@ -60,7 +53,7 @@ fn later(s: &[u8], p: &[usize], whole: usize, n: u64) -> Spot
     requires { ⌜ 3 ≤ length (now p) ⌝ }
     ensures { λ r. ⌜ is.LaterIs (now (s .entry)) (now (p .entry)) whole n r ⌝ }
 {
-    if !fields::attributes(&s[0..], p[1]) {
+    if !fields::attributes(s, p[1]) {
         return at(8, p[1]);
     }
     if p[2] == 0 {
@@ -83,7 +76,7 @@ fn values(s: &[u8], p: &[usize], whole: usize, n: u64) -> Spot
     if r.number != 0 {
         return r;
     }
-    later(&s[0..], &p[0..], whole, n)
+    later(s, p, whole, n)
 }
 
 // The root that begins s.

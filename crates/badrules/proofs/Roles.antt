@@ -1,22 +1,19 @@
 -- A branch of the functions each.
 use Prim.Native.Nat.{ℕ}
 use mathlib.Core.List.{List}
-use mathlib.Core.Bool.{Bool, true, false, cond, not}
+use mathlib.Core.Bool.{Bool, true, false, not}
 use mathlib.Core.Path.{_≡_, refl, ap, sym, _∙_}
-use native.Mathlib.Omega.{arith}
 use lib.Dec.{eqb}
-use borrow.Author.Tests.{eq-eqb, ne-eqb, eqb-true, eqb-false}
-use borrow.Rule.Slice.PartAt.{part-to-end}
-use Rattle.walk.proofs.Passed.{Here}
+use borrow.Author.Tests.{eq-eqb, ne-eqb}
 use Rattle.meaning.specs.Format.{Part, plain}
 use Rattle.formats.specs.Parts.{flag, partRows, roleName, RoleIs}
 use Rattle.formats.specs.declared.Filled.{Filled}
 use Rattle.formats.specs.declared.Filled.the-variants.{Absent, At}
 use Rattle.badrules.specs.Blame.{notPlain, there, odd, ofCsr, blames}
 
-module _ (parts n : List ℕ) (r : Filled) (h : (cs : List Part) → Here parts 0 ≡ partRows cs → RoleIs n cs r) where
+module _ (parts n : List ℕ) (r : Filled) (h : (cs : List Part) → parts ≡ partRows cs → RoleIs n cs r) where
   is : (q : Filled) → r ≡ q → (cs : List Part) → parts ≡ partRows cs → RoleIs n cs q
-  is q e cs k = rw e at h cs (part-to-end parts 0 ∙ k)
+  is q e cs k = rw e at h cs k
 
   pub not-there : r ≡ Absent → (cs : List Part) → parts ≡ partRows cs → false ≡ there n cs
   unfolding there
@@ -41,10 +38,10 @@ module _ (parts n : List ℕ) (r : Filled) (h : (cs : List Part) → Here parts 
 
 module _ (parts : List ℕ) where
   abbrev Tells : (List Part → Bool) → Bool → Type 0
-  Tells f b = (cs : List Part) → Here parts 0 ≡ partRows cs → b ≡ f cs
+  Tells f b = (cs : List Part) → parts ≡ partRows cs → b ≡ f cs
 
   told : (f : List Part → Bool) (b : Bool) → Tells f b → (cs : List Part) → parts ≡ partRows cs → b ≡ f cs
-  told f b h cs k = h cs (part-to-end parts 0 ∙ k)
+  told f b h cs k = h cs k
 
   module _ (a : Bool) (ha : Tells (odd (roleName 2)) a) where
     pub odd-indices : a ≡ true → (cs : List Part) → parts ≡ partRows cs → true ≡ ofCsr cs

@@ -13,7 +13,7 @@ fn there(parts: &[u64], code: u64) -> bool
     requires { ⌜ code < 8 ⌝ }
     ensures { λ r. ⌜ ((cs : List Part) → now (parts .entry) ≡ partRows cs → r ≡ is.there (roleName code) cs) ⌝ }
 {
-    match role_of(&parts[0..], code) {
+    match role_of(parts, code) {
         Filled::Absent => false,
         Filled::At(_, _, _, _) => true,
     }
@@ -24,7 +24,7 @@ fn odd(parts: &[u64], code: u64) -> bool
     requires { ⌜ code < 8 ⌝ }
     ensures { λ r. ⌜ ((cs : List Part) → now (parts .entry) ≡ partRows cs → r ≡ is.odd (roleName code) cs) ⌝ }
 {
-    match role_of(&parts[0..], code) {
+    match role_of(parts, code) {
         Filled::Absent => false,
         Filled::At(_, _, plain, _) => plain != 1,
     }
@@ -34,11 +34,11 @@ fn odd(parts: &[u64], code: u64) -> bool
 fn of_csr(parts: &[u64]) -> bool
     ensures { λ r. ⌜ ((cs : List Part) → now (parts .entry) ≡ partRows cs → r ≡ is.ofCsr cs) ⌝ }
 {
-    if odd(&parts[0..], 2) {
+    if odd(parts, 2) {
         return true;
     }
-    if there(&parts[0..], 2) {
-        return odd(&parts[0..], 3);
+    if there(parts, 2) {
+        return odd(parts, 3);
     }
     false
 }
@@ -47,12 +47,12 @@ fn of_csr(parts: &[u64]) -> bool
 pub fn blames(format: u64, parts: &[u64]) -> bool
     ensures { λ r. ⌜ ((cs : List Part) → now (parts .entry) ≡ partRows cs → r ≡ is.blames format cs) ⌝ }
 {
-    if there(&parts[0..], 1) {
+    if there(parts, 1) {
         if format == 1 {
-            return of_csr(&parts[0..]);
+            return of_csr(parts);
         }
         if format == 2 {
-            return odd(&parts[0..], 4);
+            return odd(parts, 4);
         }
         return false;
     }

@@ -2,20 +2,19 @@
 use Prim.Native.Nat.{ℕ, _-_}
 use mathlib.Core.List.{List, _++_}
 use mathlib.Core.Bool.{Bool, true, false, cond}
-use mathlib.Core.Option.{Option, none, some}
+use mathlib.Core.Option.{Option}
 use mathlib.Core.Path.{_≡_, refl, ap, sym, _∙_, subst}
-use native.Mathlib.Omega.{arith}
 use lib.ListN.{length, getD, drop}
 use borrow.Rule.Slice.PartAt.{part-to-end}
 use Rattle.meaning.specs.Tree.{Node}
-use Rattle.meaning.specs.Check.{Check, pass, refuse, fault, optional}
+use Rattle.meaning.specs.Check.{pass, fault, optional}
 use Rattle.meaning.specs.Kind.{aText}
 use Rattle.meaning.specs.Layouts.{layoutOf}
 use Rattle.meaning.specs.Judge.{aDtype, attributesOf, shapeOf}
 use Rattle.meaning.specs.Model.{Word}
 use Rattle.walk.specs.Reading.{Ends, Reads}
 use Rattle.walk.proofs.Passed.{Here}
-use Rattle.fields.specs.Slots.{Stands, Holds}
+use Rattle.fields.specs.Slots.{Stands}
 use Rattle.fields.specs.Attributes.{AttributesAt}
 use Rattle.component.specs.Value as value
 use Rattle.component.proofs.Pieces.{refused-so, passed-so}
@@ -25,7 +24,7 @@ use Rattle.object.specs.declared.place.Coded.the-variants.{No as NoCode, Yes as
 use Rattle.object.specs.Verdict.{Fields, Standing}
 use Rattle.explained.specs.Step as steps
 use Rattle.explained.specs.Step.{Step, first, given}
-use Rattle.explained.specs.Order.{textSteps, mappingSteps, dtypeSteps, shapeSteps}
+use Rattle.explained.specs.Order.{mappingSteps, shapeSteps}
 use Rattle.explained.proofs.Parts.{agree-text, agree-attributes, agree-dtype, agree-shapeOf}
 use Rattle.spot.specs.Shown.{shown}
 use Rattle.spot.specs.declared.Spot.{Spot}
@@ -39,17 +38,17 @@ use Rattle.badvalues.proofs.Alone.{numbered, spot-alone, passes-so, val
 
 -- ---------------------------------------------------------------- format and attributes
 
-module _ (s : List ℕ) (a b code : ℕ) (r₁ : Coded) (h₁ : FormatAt (Here s 0) a r₁) where
+module _ (s : List ℕ) (a b code : ℕ) (r₁ : Coded) (h₁ : FormatAt s a r₁) where
   format-is : (q : Coded) → r₁ ≡ q → FormatAt s a q
-  format-is q e = subst (λ u. FormatAt u a q) (part-to-end s 0) (rw e at h₁)
+  format-is q e = rw e at h₁
 
   pub no-format : (n : ℕ) → r₁ ≡ NoCode n → DescribedIs s a b code (Odd n a)
   unfolding describedSteps
   no-format n e x y hx hy next = value-alone one-text agree-text _ a x (hx .left-is) n 0 0 (refused-so formatCode (aText x) n (format-is (NoCode n) e 28 x hx))
 
-  module _ (m : ℕ) (e₁ : r₁ ≡ Code m) (ok : Bool) (h₂ : AttributesAt (Here s 0) b ok) where
+  module _ (m : ℕ) (e₁ : r₁ ≡ Code m) (ok : Bool) (h₂ : AttributesAt s b ok) where
     attributes-are : AttributesAt s b ok
-    attributes-are = subst (λ u. AttributesAt u b ok) (part-to-end s 0) h₂
+    attributes-are = h₂
 
     past-format : (x : Node Ends) (y : Option (Node Ends)) (hx : Stands 29 s a x) (next : Word Ends → List (Step Ends))
         → (w : Word Ends) × (aText x ≡ pass w) × (m ≡ formatCode w) × (first (describedSteps x y next) ≡ first (steps._>>=_ y mappingSteps ++ next w))
@@ -73,9 +72,9 @@ module _ (s : List ℕ) (a b code : ℕ) (r₁ : Coded) (h₁ : FormatAt (Here s
 
 -- ---------------------------------------------------------------- dtype and shape
 
-module _ (layout : ℕ) (s p : List ℕ) (r₁ : Coded) (h₁ : TensorAt (layoutOf layout) (Here s 0) (getD p 0 0) r₁) where
+module _ (layout : ℕ) (s p : List ℕ) (r₁ : Coded) (h₁ : TensorAt (layoutOf layout) s (getD p 0 0) r₁) where
   tensor-is : (q : Coded) → r₁ ≡ q → TensorAt (layoutOf layout) s (getD p 0 0) q
-  tensor-is q e = subst (λ u. TensorAt (layoutOf layout) u (getD p 0 0) q) (part-to-end s 0) (rw e at h₁)
+  tensor-is q e = rw e at h₁
 
   pub no-dtype : (n : ℕ) → r₁ ≡ NoCode n → ValuesAre layout s p (Odd n (getD p 0 0))
   unfolding valueSteps
@@ -102,9 +101,9 @@ module _ (layout : ℕ) (s p : List ℕ) (r₁ : Coded) (h₁ : TensorAt (layout
         let y = spot-alone (shapeSteps (f .shape)) (shape-plain (f .shape)) z (shape-shown f st) n (steps._>>=_ (given (shapeOf (f .shape))) (λ s. describedSteps (f .format) (f .attributes) (next _ s))) in
         record { this = y .this; is = past-dtype f st next _ (tensor-is (Code code) e₁ 28 (f .dtype) (st .dtype)) ∙ y .is; number = y .number; place = y .place; owner = y .owner }
 
-    module _ (n : z .number ≡ 0) (r : Valued) (h₃ : DescribedIs (Here s 0) (getD p 2 0) (getD p 3 0) code r) where
+    module _ (n : z .number ≡ 0) (r : Valued) (h₃ : DescribedIs s (getD p 2 0) (getD p 3 0) code r) where
       described-is : DescribedIs s (getD p 2 0) (getD p 3 0) code r
-      described-is = subst (λ u. DescribedIs u (getD p 2 0) (getD p 3 0) code r) (part-to-end s 0) h₃
+      described-is = h₃
 
       -- the shape passes
       dims : (f : Fields) → Standing layout s p f → (l : List ℕ) × (shapeOf (f .shape) ≡ pass l)

@@ -18,10 +18,10 @@ pub enum Valued {
 fn described(s: &[u8], a: usize, b: usize, code: u64) -> Valued
     ensures { λ r. ⌜ is.DescribedIs (now (s .entry)) a b code r ⌝ }
 {
-    match format_at(&s[0..], a) {
+    match format_at(s, a) {
         Coded::No(n) => Valued::Odd(n, a),
         Coded::Yes(format) => {
-            if fields::attributes(&s[0..], b) {
+            if fields::attributes(s, b) {
                 return Valued::Sound(code, format);
             }
             Valued::Odd(numbers::KIND, b)
@@ -34,7 +34,7 @@ pub fn values(layout: u64, s: &[u8], p: &[usize]) -> Valued
     requires { ⌜ length (now p) ≡ 8 ⌝ }
     ensures { λ r. ⌜ is.ValuesAre layout (now (s .entry)) (now (p .entry)) r ⌝ }
 {
-    match tensor_at(layout, &s[0..], p[0]) {
+    match tensor_at(layout, s, p[0]) {
         Coded::No(n) => Valued::Odd(n, p[0]),
         Coded::Yes(code) => {
             let from = place_of(s.len(), p[1]);
@@ -42,7 +42,7 @@ pub fn values(layout: u64, s: &[u8], p: &[usize]) -> Valued
             if z.number != 0 {
                 return Valued::Odd(z.number, z.left);
             }
-            described(&s[0..], p[2], p[3], code)
+            described(s, p[2], p[3], code)
         }
     }
 }

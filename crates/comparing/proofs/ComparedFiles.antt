@@ -26,7 +26,7 @@ use Rattle.reader.specs.declared.Verdict.{Verdict}
 use Rattle.reader.specs.Verdict.{verdict}
 use Rattle.shown.proofs.AcceptedFile.{refusals-of-reading}
 use Rattle.shown.proofs.AfterReading.{read-accepts, read-zero}
-use Rattle.put.specs.Wrote.{most, capped, Wrote}
+use Rattle.put.specs.Wrote.{most, capped}
 use Rattle.put.proofs.PiecesInTurn.{capped-low}
 use Rattle.changes.specs.Changes.{Entry, flat, entry, changes, changeNumbers, across, object, ofObject, ifAbsent, olds, news}
 use Rattle.parts.proofs.Turns.{across-same}
@@ -67,20 +67,10 @@ module _ (ns xs : List ℕ) (k : ℕ) (few : length ns < most) (counted : k ≡ 
       by [] l = refl
       by (a ∷ ms) l = absurd (omega arith)
 
--- ---- whole parts
+-- ---- parts
 
 abbrev W : List ℕ → List ℕ
 W s = take (length s - 0) (drop 0 s)
-
-module _ (first a : List ℕ) (m : ℕ) (second b : List ℕ) (n : ℕ) where
-  pub lent-tables : Table a m → Table b n → Table (W a) m × Table (W b) n
-  lent-tables s t = rw (whole a, whole b) (s, t)
-
-  abbrev pub Lent : List ℕ → List ℕ → ℕ → Type 0
-  Lent xs ys r = Wrote (is.numbersOf (W first) (W a) m (W second) (W b) n) 0 xs ys r
-
-  pub lent-wrote : {xs ys : List ℕ} {r : ℕ} → Lent xs ys r → Wrote (is.numbersOf first a m second b n) 0 xs ys r
-  lent-wrote w = rw (whole first, whole a, whole second, whole b) at w
 
 -- the first's part ends, and the second's begins, at `room`
 module _ (first second work : List ℕ) (room m n : ℕ) (l : room ≤ length work) where
@@ -96,9 +86,9 @@ module _ (first second work : List ℕ) (room m n : ℕ) (l : room ≤ length wo
   pub lent-parts : Table (take room work) m → Table (drop room work) n → Table front-part m × Table back-part n
   lent-parts s t = rw (front-is, part-to-end work room) (s, t)
 
-  pub lent-answered : {c : Changes} (list : List ℕ) {list′ : List ℕ} → Answered (is.numbersOf (W first) front-part m (W second) back-part n) c list list′
+  pub lent-answered : {c : Changes} (list : List ℕ) {list′ : List ℕ} → Answered (is.numbersOf first front-part m second back-part n) c list list′
       → Answered (is.numbersOf first (take room work) m second (drop room work) n) c list list′
-  lent-answered list w = rw (whole first, whole second, front-is, part-to-end work room) at w
+  lent-answered list w = rw (front-is, part-to-end work room) at w
 
 -- ---- a refusal
 

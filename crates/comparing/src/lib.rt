@@ -22,7 +22,7 @@ pub struct Changes {
 fn refusal(layout: u64, first: &[u8], other: u64, second: &[u8]) -> Changes
     ensures { λ r. ⌜ r ≡ is.refusedBy (reading (layoutOf layout) (now (first .entry))) (reading (layoutOf other) (now (second .entry))) ⌝ }
 {
-    let v = reader::accept_as(layout, &first[0..]);
+    let v = reader::accept_as(layout, first);
     if v.number != 0 {
         return Changes {
             number: v.number,
@@ -32,7 +32,7 @@ fn refusal(layout: u64, first: &[u8], other: u64, second: &[u8]) -> Changes
             entries: 0,
         };
     }
-    let w = reader::accept_as(other, &second[0..]);
+    let w = reader::accept_as(other, second);
     if w.number != 0 {
         return Changes {
             number: w.number,
@@ -66,15 +66,7 @@ fn compared(
     ensures written { λ r. ⌜ now (list .exit) ≡ is.listAfter (is.numbersOf (now (first .entry)) (now (a .entry)) m (now (second .entry)) (now (b .entry)) n) (now (list .entry)) ⌝ }
 {
     let mut scrap = [0u64; 1];
-    let k = models::of_tables(
-        &first[0..],
-        &a[0..],
-        m,
-        &second[0..],
-        &b[0..],
-        n,
-        &mut scrap,
-    );
+    let k = models::of_tables(first, a, m, second, b, n, &mut scrap);
     let entries = k as u64 / 8;
     if list.len() < k {
         return Changes {
@@ -86,7 +78,7 @@ fn compared(
         };
     }
     if 0 < k {
-        models::of_tables(&first[0..], &a[0..], m, &second[0..], &b[0..], n, list);
+        models::of_tables(first, a, m, second, b, n, list);
     }
     Changes {
         number: 0,
@@ -111,15 +103,7 @@ fn beside(
     ensures answer { λ r. ⌜ r ≡ is.fitting (is.numbersOf (now (first .entry)) (take room (now (work .entry))) m (now (second .entry)) (drop room (now (work .entry))) n) (length (now (list .entry))) ⌝ }
     ensures written { λ r. ⌜ now (list .exit) ≡ is.listAfter (is.numbersOf (now (first .entry)) (take room (now (work .entry))) m (now (second .entry)) (drop room (now (work .entry))) n) (now (list .entry)) ⌝ }
 {
-    compared(
-        &first[0..],
-        &work[0..room],
-        m,
-        &second[0..],
-        &work[room..],
-        n,
-        list,
-    )
+    compared(first, &work[0..room], m, second, &work[room..], n, list)
 }
 
 // Two files, lent whole, the first of `layout`, the second of `other`, with room for the rows of both.

@@ -14,7 +14,7 @@ use Rattle.meaning.specs.Text.{same}
 use Rattle.meaning.specs.Columns.{typeColumn, typeLengthColumn, dtypeColumn, offsetColumn, lengthColumn, rankColumn, shapeColumn, formatColumn, formatLengthColumn}
 use Rattle.meaning.specs.Asked.{askedComponent, presentAt}
 use Rattle.meaning.specs.Described.{DescribedComponent, describedComponent}
-use Rattle.text.proofs.SameIsEqual.{ne-same, whole}
+use Rattle.text.proofs.SameIsEqual.{ne-same}
 use Rattle.changes.specs.Changes.{bit, otherDtype, otherType, otherBytes, countApart}
 use Rattle.apart.specs.Positions as apart
 use Rattle.apart.specs.declared.Apart.{Apart}
@@ -63,26 +63,25 @@ module _ (first a : List ℕ) (p : ℕ) (second b : List ℕ) (q : ℕ) where
   second-absent h k = rw (type-some first a p h, type-none second b q k)
 
   pub both-there : false ≡ none-there first a p → false ≡ none-there second b q → {x y : List ℕ}
-      → x ≡ take (getD a (p + typeLengthColumn) 0) (drop (getD a (p + typeColumn) 0) (take (length first - 0) (drop 0 first)))
-      → y ≡ take (getD b (q + typeLengthColumn) 0) (drop (getD b (q + typeColumn) 0) (take (length second - 0) (drop 0 second)))
+      → x ≡ take (getD a (p + typeLengthColumn) 0) (drop (getD a (p + typeColumn) 0) first)
+      → y ≡ take (getD b (q + typeLengthColumn) 0) (drop (getD b (q + typeColumn) 0) second)
       → {t : Bool} → t ≡ same x y → not t ≡ otherType c d
-  both-there h k e f g = ap not (g ∙ ap₂ same e f) ∙ (rw (type-some first a p h, type-some second b q k, whole first, whole second))
+  both-there h k e f g = ap not (g ∙ ap₂ same e f) ∙ (rw (type-some first a p h, type-some second b q k))
 
   -- ---- all of a component
 
   pub differences-are : {u v w : ℕ} {x y : List ℕ} {s : Apart} → u ≡ bit 8 (not (eqb (getD a (p + dtypeColumn) 0) (getD b (q + dtypeColumn) 0)))
-      → v ≡ bit 16 (otherType (partAt (take (length first - 0) (drop 0 first)) (take (length a - 0) (drop 0 a)) p) (partAt (take (length second - 0) (drop 0 second)) (take (length b - 0) (drop 0 b)) q))
-      → x ≡ take (getD a (p + lengthColumn) 0) (drop (getD a (p + offsetColumn) 0) (take (length first - 0) (drop 0 first)))
-      → y ≡ take (getD b (q + lengthColumn) 0) (drop (getD b (q + offsetColumn) 0) (take (length second - 0) (drop 0 second)))
+      → v ≡ bit 16 (otherType (partAt first a p) (partAt second b q))
+      → x ≡ take (getD a (p + lengthColumn) 0) (drop (getD a (p + offsetColumn) 0) first)
+      → y ≡ take (getD b (q + lengthColumn) 0) (drop (getD b (q + offsetColumn) 0) second)
       → s ≡ apart.told x y → w ≡ bit 32 (not (eqb (s .count) 0)) → record { dtype = u; kind = v; bytes = w; position = s .position; count = s .count } ≡ told c d
   differences-are {u} {v} {w} {x} {y} {s} hu hv ex ey es hw =
-      let fx : x ≡ c .blob = ex ∙ ap (λ l. take (getD a (p + lengthColumn) 0) (drop (getD a (p + offsetColumn) 0) l)) (whole first) ∙ sym (blob-at first a p) in
-      let fy : y ≡ d .blob = ey ∙ ap (λ l. take (getD b (q + lengthColumn) 0) (drop (getD b (q + offsetColumn) 0) l)) (whole second) ∙ sym (blob-at second b q) in
+      let fx : x ≡ c .blob = ex ∙ sym (blob-at first a p) in
+      let fy : y ≡ d .blob = ey ∙ sym (blob-at second b q) in
       let z : s ≡ apart.told (c .blob) (d .blob) = es ∙ ap₂ apart.told fx fy in
       let du : u ≡ bit 8 (otherDtype c d) = hu ∙ sym (ap₂ (λ i j. bit 8 (not (eqb i j))) (dtype-at first a p) (dtype-at second b q)) in
-      let dv : v ≡ bit 16 (otherType c d) = rw (whole first, whole second, whole a, whole b) at hv in
       let dw : w ≡ bit 32 (otherBytes c d) = hw ∙ ap (λ (r : Apart). bit 32 (not (eqb (r .count) 0))) z ∙ flipped (countApart (c .blob) (d .blob)) ∙ count-tells (c .blob) (d .blob) 32 in
-      rw (du, dv, dw, z)
+      rw (du, hv, dw, z)
     where
       flipped : (n : ℕ) → bit 32 (not (eqb n 0)) ≡ cond (eqb n 0) 0 32
       flipped n = by (eqb n 0)
@@ -113,9 +112,9 @@ unfolding shapeAt
 shape-is a p n e = let z : p + shapeColumn + n - (p + shapeColumn) ≡ getD a (p + rankColumn) 0 = omega (arith, e) in rw z
 
 module _ (first a : List ℕ) (p : ℕ) (second b : List ℕ) (q : ℕ) {s t x y : List ℕ} {u v : Bool}
-    (hs : s ≡ shapeAt (take (length a - 0) (drop 0 a)) p) (ht : t ≡ shapeAt (take (length b - 0) (drop 0 b)) q) (hu : u ≡ same s t)
-    (hx : x ≡ take (getD a (p + formatLengthColumn) 0) (drop (getD a (p + formatColumn) 0) (take (length first - 0) (drop 0 first))))
-    (hy : y ≡ take (getD b (q + formatLengthColumn) 0) (drop (getD b (q + formatColumn) 0) (take (length second - 0) (drop 0 second)))) (hv : v ≡ same x y) where
+    (hs : s ≡ shapeAt a p) (ht : t ≡ shapeAt b q) (hu : u ≡ same s t)
+    (hx : x ≡ take (getD a (p + formatLengthColumn) 0) (drop (getD a (p + formatColumn) 0) first))
+    (hy : y ≡ take (getD b (q + formatLengthColumn) 0) (drop (getD b (q + formatColumn) 0) second)) (hv : v ≡ same x y) where
   pub own-is : bit 1 (not u) + bit 2 (not v) ≡ ownWhat (shapeAt a p) (formatAt first a p) (shapeAt b q) (formatAt second b q)
   unfolding formatAt
-  own-is = rw (hu, hv, hs, ht, hx, hy, whole a, whole b, whole first, whole second)
+  own-is = rw (hu, hv, hs, ht, hx, hy)

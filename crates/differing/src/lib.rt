@@ -47,10 +47,7 @@ fn other_type(first: &[u8], a: &[u64], p: usize, second: &[u8], b: &[u64], q: us
     if absent(y, n) {
         return true;
     }
-    if text::same(
-        view::part(&first[0..], x, m),
-        view::part(&second[0..], y, n),
-    ) {
+    if text::same(view::part(first, x, m), view::part(second, y, n)) {
         return false;
     }
     true
@@ -81,13 +78,10 @@ pub fn of_parts(
     ensures { λ r. ⌜ r ≡ told (partAt (now (first .entry)) (now (a .entry)) p) (partAt (now (second .entry)) (now (b .entry)) q) ⌝ }
 {
     let dtype = flag(8, unequal(a[p + DTYPE], b[q + DTYPE]));
-    let kind = flag(
-        16,
-        other_type(&first[0..], &a[0..], p, &second[0..], &b[0..], q),
-    );
+    let kind = flag(16, other_type(first, a, p, second, b, q));
     let s = apart::of_bytes(
-        view::part(&first[0..], a[p + OFFSET], a[p + LENGTH]),
-        view::part(&second[0..], b[q + OFFSET], b[q + LENGTH]),
+        view::part(first, a[p + OFFSET], a[p + LENGTH]),
+        view::part(second, b[q + OFFSET], b[q + LENGTH]),
     );
     let bytes = flag(32, unequal(s.count, 0));
     Differences {
@@ -130,9 +124,9 @@ pub fn of_objects(first: &[u8], a: &[u64], p: usize, second: &[u8], b: &[u64], q
     requires { ⌜ Ranked (now a) p × Ranked (now b) q ⌝ }
     ensures { λ r. ⌜ (r ≡ ownWhat (shapeAt (now (a .entry)) p) (formatAt (now (first .entry)) (now (a .entry)) p) (shapeAt (now (b .entry)) q) (formatAt (now (second .entry)) (now (b .entry)) q)) × (r ≤ 3) ⌝ }
 {
-    let x = view::part(&first[0..], a[p + FORMAT], a[p + FORMAT_LENGTH]);
-    let y = view::part(&second[0..], b[q + FORMAT], b[q + FORMAT_LENGTH]);
-    if same_numbers(shape(&a[0..], p), shape(&b[0..], q)) {
+    let x = view::part(first, a[p + FORMAT], a[p + FORMAT_LENGTH]);
+    let y = view::part(second, b[q + FORMAT], b[q + FORMAT_LENGTH]);
+    if same_numbers(shape(a, p), shape(b, q)) {
         if text::same(x, y) {
             return 0;
         }

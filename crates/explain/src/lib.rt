@@ -33,7 +33,7 @@ fn inside(
     let e = entry::entry(&m[from..], numbers::IN_OBJECTS, o as usize);
     let v = place_of(m.len(), e.value);
     let w = badobject::object(layout, &m[v..], start, n, c as usize);
-    pointed(&m[0..], end, n, o, c, e.key, w.key, w.spot.left)
+    pointed(m, end, n, o, c, e.key, w.key, w.spot.left)
 }
 
 // Another object than the first, or another component: such a refusal is none of the root's.
@@ -51,15 +51,15 @@ fn judged(layout: u64, m: &[u8], start: u64, end: usize, n: u64, o: u64, c: u64)
     ensures { λ r. ⌜ is.JudgedIs (layoutOf layout) (now (m .entry)) start end n o c r ⌝ }
 {
     if beyond(o, c) {
-        let objects = badroot::objects(layout, &m[0..]);
-        return inside(layout, &m[0..], start, end, n, o, c, objects);
+        let objects = badroot::objects(layout, m);
+        return inside(layout, m, start, end, n, o, c, objects);
     }
-    let r = badroot::root(layout, &m[0..], n);
+    let r = badroot::root(layout, m, n);
     let spot = r.spot;
     if spot.number == 0 {
-        return inside(layout, &m[0..], start, end, n, o, c, r.objects);
+        return inside(layout, m, start, end, n, o, c, r.objects);
     }
-    pointed(&m[0..], end, n, o, c, 0, 0, spot.left)
+    pointed(m, end, n, o, c, 0, 0, spot.left)
 }
 
 // A manifest that is refused: as it is read, or for what it says. The number tells which: the reading refuses with CBOR or DEEP only, the judgement with neither.
@@ -67,12 +67,12 @@ fn refused(layout: u64, m: &[u8], start: u64, end: usize, n: u64, o: u64, c: u64
     ensures { λ r. ⌜ is.RefusedIs (layoutOf layout) (now (m .entry)) start end n o c r ⌝ }
 {
     if n == numbers::CBOR {
-        return unread::unread(n, &m[0..], end);
+        return unread::unread(n, m, end);
     }
     if n == numbers::DEEP {
-        return unread::unread(n, &m[0..], end);
+        return unread::unread(n, m, end);
     }
-    judged(layout, &m[0..], start, end, n, o, c)
+    judged(layout, m, start, end, n, o, c)
 }
 
 // A file that is sound, with so many objects and components, to a table of `room` numbers.
@@ -102,8 +102,8 @@ fn sound(objects: usize, components: usize, room: u64) -> Explanation
 fn manifest(layout: u64, m: &[u8], start: u64, end: usize, room: u64) -> Explanation
     ensures { λ r. ⌜ is.ManifestIs (layoutOf layout) (now (m .entry)) start end room r ⌝ }
 {
-    match reader::manifest(layout, &m[0..], start) {
-        Told::No(n, o, c) => refused(layout, &m[0..], start, end, n, o, c),
+    match reader::manifest(layout, m, start) {
+        Told::No(n, o, c) => refused(layout, m, start, end, n, o, c),
         Told::Yes(objects, components, _, _) => sound(objects, components, room),
     }
 }
@@ -112,8 +112,8 @@ fn manifest(layout: u64, m: &[u8], start: u64, end: usize, room: u64) -> Explana
 pub fn explain(layout: u64, file: &[u8], room: u64) -> Explanation
     ensures { λ r. ⌜ is.ExplainedIs layout (now (file .entry)) room r ⌝ }
 {
-    match frame::frame(layout, &file[0..]) {
-        Framed::No(n) => unread::framed(layout, n, &file[0..]),
+    match frame::frame(layout, file) {
+        Framed::No(n) => unread::framed(layout, n, file),
         Framed::At(start, size) => {
             let end = start + size;
             manifest(layout, &file[start..end], start as u64, end, room)
@@ -126,6 +126,6 @@ pub fn say(layout: u64, file: &[u8], room: u64, text: &mut [u8]) -> Listed
     ensures answer { λ r. ⌜ r ≡ told (pass (sentence (layoutOf layout) (now (file .entry)) room)) (length (now (text .entry))) ⌝ }
     ensures written { λ r. ⌜ now (text .exit) ≡ textAfter (pass (sentence (layoutOf layout) (now (file .entry)) room)) (now (text .entry)) ⌝ }
 {
-    let e = explain(layout, &file[0..], room);
+    let e = explain(layout, file, room);
     sentence::say(layout, file, e, text)
 }

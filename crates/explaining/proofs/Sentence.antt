@@ -3,18 +3,13 @@ use Prim.Native.Nat.{ℕ, _+_, _≤_}
 use mathlib.Core.List.{List}
 use mathlib.Core.Path.{_≡_, sym, ap, subst}
 use lib.ListN.{length}
-use borrow.Rule.Slice.PartAt.{part-to-end}
 use Rattle.meaning.specs.Layouts.{layoutOf}
-use Rattle.fields.proofs.Texts.{Here}
 use Rattle.explained.specs.Sentence.{said, sentence}
 use Rattle.sentence.specs.declared.Explanation.{Explanation}
 use Rattle.explaining.specs.Judged as is
 use Rattle.explaining.proofs.Inside.{inside-the-file}
 
-module _ (layout : ℕ) (file : List ℕ) (room : ℕ) (e : Explanation) (asked : is.ExplainedIs layout (Here file 0) room e) where
-  explained : is.ExplainedIs layout file room e
-  explained = subst (λ u. is.ExplainedIs layout u room e) (part-to-end file 0) asked
-
+module _ (layout : ℕ) (file : List ℕ) (room : ℕ) (e : Explanation) (explained : is.ExplainedIs layout file room e) where
   pub in-range : e .place + e .length ≤ length file
   in-range = subst (λ x. x .place .place + x .place .size ≤ length file) (sym explained) (inside-the-file layout file room)
 

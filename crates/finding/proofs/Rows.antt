@@ -1,16 +1,13 @@
 -- A component's row that was found lies in the table, and its finding is what its view shows.
-use Prim.Native.Nat.{ℕ, _+_, _*_, _-_, _%_, _≤_, _<_}
+use Prim.Native.Nat.{ℕ, _+_, _*_, _-_, _%_, _≤_}
 use native.Mathlib.Omega.{arith}
-use mathlib.Core.Bool.{Bool, true, false, cond, _&&_}
+use mathlib.Core.Bool.{Bool, true, false, _&&_}
 use mathlib.Core.List.{List}
 use mathlib.Core.Path.{_≡_, refl, sym, ap, _∙_, subst}
 use lib.ListN.{length, take, drop, getD}
 use lib.Dec.{eqb, leb, ltb}
-use borrow.Rule.Slice.PartAt.{part-to-end}
-use borrow.Author.Tests.{leb-true, eq-eqb, ne-eqb}
+use borrow.Author.Tests.{leb-true, ne-eqb}
 use Rattle.meaning.specs.Columns.{objectWidth, componentWidth, dtypeColumn, typeColumn, typeLengthColumn, offsetColumn, lengthColumn}
-use Rattle.meaning.specs.Check.{Check, pass, refuse, _>>=_, _>>_, _unless_}
-use Rattle.meaning.specs.Read.{Span}
 use Rattle.meaning.specs.Types.{f32}
 use Rattle.meaning.specs.View.{viewed}
 use Rattle.meaning.proofs.Tests.{both-right}
@@ -20,10 +17,6 @@ use Rattle.finding.specs.Finding.{finding, shown}
 use Rattle.finding.specs.Table.{due, undue, atRow, told, found}
 use Rattle.finding.specs.declared.Shown.{Shown}
 use Rattle.finding.specs.declared.table.Found.{Found}
-
--- the part of s from the beginning on, as it is lent
-abbrev Whole : List ℕ → List ℕ
-Whole s = take (length s - 0) (drop 0 s)
 
 twenty-six : _≡_ {A = ℕ} 26 0 → ⊥
 twenty-six e = omega (arith, e)
@@ -49,16 +42,14 @@ module _ (table : List ℕ) (row : ℕ) where
   by-length e f g = rw (e, f, g) refl
 
 module _ (file table : List ℕ) (row : ℕ) where
-  pub not-due : due (Whole table) row ≡ false → undue ≡ atRow file table row
+  pub not-due : due table row ≡ false → undue ≡ atRow file table row
   unfolding atRow
-  not-due e = let z : due table row ≡ false = ap (λ (t : List ℕ). due t row) (sym (part-to-end table 0)) ∙ e in rw z refl
+  not-due e = rw e refl
 
-  pub is-due : (bytes : List ℕ) (r : Shown) → due (Whole table) row ≡ true
-      → bytes ≡ take (getD table (row + lengthColumn) 0) (drop (getD table (row + offsetColumn) 0) (Whole file)) → r ≡ shown (finding bytes) → r ≡ atRow file table row
+  pub is-due : (bytes : List ℕ) (r : Shown) → due table row ≡ true
+      → bytes ≡ take (getD table (row + lengthColumn) 0) (drop (getD table (row + offsetColumn) 0) file) → r ≡ shown (finding bytes) → r ≡ atRow file table row
   unfolding atRow
-  is-due bytes r e b f =
-      let z : due table row ≡ true = ap (λ (t : List ℕ). due t row) (sym (part-to-end table 0)) ∙ e in
-      f ∙ ap (λ (s : List ℕ). shown (finding s)) (b ∙ ap (λ (s : List ℕ). take (getD table (row + lengthColumn) 0) (drop (getD table (row + offsetColumn) 0) s)) (part-to-end file 0)) ∙ rw z refl
+  is-due bytes r e b f = f ∙ ap (λ (s : List ℕ). shown (finding s)) b ∙ rw e refl
 
 -- ---- by the index
 
@@ -93,14 +84,6 @@ module _ (file table : List ℕ) (objects components index : ℕ) where
   told-is : Told file table objects components index (view.told (viewed file table objects components index))
   told-is = by (ltb index components && leb (row + componentWidth) (length table)) (leb (place + size) (length file)) refl refl
 
--- asked of the two lists lent whole
 pub asked : (file table : List ℕ) (objects components index : ℕ) (r : Extent)
-    → r ≡ view.told (viewed (Whole file) (Whole table) objects components index) → Told file table objects components index r
-asked file table objects components index r e =
-    subst (Told file table objects components index)
-    (sym (e ∙ ap (λ (s : List ℕ). view.told (viewed s (Whole table) objects components index)) (part-to-end file 0)
-    ∙ ap (λ (s : List ℕ). view.told (viewed file s objects components index)) (part-to-end table 0)))
-    (told-is file table objects components index)
-
-pub lent-row : (file table : List ℕ) (row : ℕ) (r : Shown) → r ≡ atRow (Whole file) (Whole table) row → r ≡ atRow file table row
-lent-row file table row r e = e ∙ ap (λ (s : List ℕ). atRow s (Whole table) row) (part-to-end file 0) ∙ ap (λ (s : List ℕ). atRow file s row) (part-to-end table 0)
+    → r ≡ view.told (viewed file table objects components index) → Told file table objects components index r
+asked file table objects components index r e = subst (Told file table objects components index) (sym e) (told-is file table objects components index)

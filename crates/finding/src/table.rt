@@ -44,8 +44,8 @@ pub fn at_row(file: &[u8], table: &[u64], row: usize) -> Shown
     requires { ⌜ row + componentWidth ≤ length (now table) ⌝ }
     ensures { λ r. ⌜ r ≡ is.atRow (now (file .entry)) (now (table .entry)) row ⌝ }
 {
-    if due(&table[0..], row) {
-        let bytes = view::part(&file[0..], table[row + OFFSET], table[row + LENGTH]);
+    if due(table, row) {
+        let bytes = view::part(file, table[row + OFFSET], table[row + LENGTH]);
         return finding_of(bytes);
     }
     Shown {
@@ -59,10 +59,10 @@ pub fn at_row(file: &[u8], table: &[u64], row: usize) -> Shown
 pub fn find_in(file: &[u8], table: &[u64], objects: u64, components: u64, index: u64) -> Found
     ensures { λ r. ⌜ r ≡ is.found (now (file .entry)) (now (table .entry)) objects components index ⌝ }
 {
-    let r = view::range(&file[0..], &table[0..], objects, components, index);
+    let r = view::range(file, table, objects, components, index);
     if r.number == 0 {
         let row = columns::OBJECT_64 * objects + columns::COMPONENT_64 * index;
-        let s = at_row(&file[0..], &table[0..], row as usize);
+        let s = at_row(file, table, row as usize);
         return Found {
             number: 0,
             finding: s.finding,

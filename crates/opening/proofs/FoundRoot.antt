@@ -6,14 +6,12 @@ use mathlib.Core.Bool.{false}
 use mathlib.Core.Path.{_≡_, refl, sym, ap, ap₂, _∙_, subst}
 use lib.ListN.{length, take, drop, length-drop}
 use lib.Seq.{length-take-le, take-all, take-take, take-add, drop-drop, drop-at}
-use borrow.Rule.Slice.PartAt.{part-to-end}
 use Rattle.meaning.specs.Check.{Check, pass, refuse}
 use Rattle.meaning.specs.Notes.{mapCheck}
 use Rattle.meaning.specs.Layouts.{Layout, layoutOf, slot}
 use Rattle.meaning.specs.Frame.{frame}
 use Rattle.cbor.specs.Ending.{FAULT, code, itemEnd}
 use Rattle.walk.specs.Reading.{Ends, leftAt, Reads}
-use Rattle.walk.proofs.Passed.{Here}
 use Rattle.fields.specs.Slots.{Holds}
 use Rattle.frame.specs.FrameAnswer.{told}
 use Rattle.frame.specs.declared.Framed.{Framed}
@@ -37,7 +35,7 @@ use Rattle.opening.proofs.RootNames.{Parts, passedModel}
 
 -- ---- the walk over the manifest s, lent whole, ended at e
 
-module _ (L : Layout) (end start : ℕ) (s : List ℕ) (e : ℕ) (ended : e ≡ code (itemEnd 32 (Here s 0))) where
+module _ (L : Layout) (end start : ℕ) (s : List ℕ) (e : ℕ) (ended : e ≡ code (itemEnd 32 s)) where
   pub a-fault : length s < e → FAULT ≤ e
   a-fault l = filling.faulty end s e ended l .high
 
@@ -47,13 +45,13 @@ module _ (L : Layout) (end start : ℕ) (s : List ℕ) (e : ℕ) (ended : e ≡ 
   pub left-over : length s < FAULT → e < length s → manifestSifted L end start s ≡ refuse 6 0 0
   left-over room l = rw (filling.left-over end s e ended room l) refl
 
-  module _ (room : length s < FAULT) (l : length s ≡ e) (u : Judged) (says : WholeIs false L (Here s 0) 0 u) where
+  module _ (room : length s < FAULT) (l : length s ≡ e) (u : Judged) (says : WholeIs false L s 0 u) where
     abbrev f : Filling end s
     f = filling.filling end s e ended room l
 
     verdict : (v : Judged) → u ≡ v → v ≡ judged (mapCheck (passedModel L 0) (opened L (f .tree)))
     verdict v same =
-        subst (λ m. WholeIs false L m 0 v) (part-to-end s 0) (subst (WholeIs false L (Here s 0) 0) same says) (f .tree) (f .rest) (f .reads)
+        subst (WholeIs false L s 0) same says (f .tree) (f .rest) (f .reads)
         ∙ ap judged (naming.by-names L 0 (f .tree))
 
     pub names-refuse : (n o c : ℕ) → u ≡ No n o c → manifestSifted L end start s ≡ refuse n o c
@@ -66,7 +64,7 @@ module _ (L : Layout) (end start : ℕ) (s : List ℕ) (e : ℕ) (ended : e ≡ 
             let a : n′ ≡ n = cc in let b : o′ ≡ o = cc in let d : c′ ≡ c = cc in
             rw (f .is, naming.opened-spanned L end (f .tree), h, a, b, d) refl
 
-    pub names-pass : (x y left at : ℕ) → u ≡ Yes x y left → ObjectsAt L (Here s 0) at → Opens L end start s left at
+    pub names-pass : (x y left at : ℕ) → u ≡ Yes x y left → ObjectsAt L s at → Opens L end start s left at
     names-pass x y left at same stand = go (opened L (f .tree)) refl
       where
         go : (k : Check (Opened Ends)) → opened L (f .tree) ≡ k → Opens L end start s left at
@@ -85,22 +83,22 @@ module _ (L : Layout) (end start : ℕ) (s : List ℕ) (e : ℕ) (ended : e ≡ 
                   (naming.field-holds s room (f .tree) (f .rest) (f .reads) (parts .pairs) (parts .kind-is) (slot 1 (L .root)) (p .attributes) (sym (parts .attributes-are)));
               objects-hold =
                   subst (Holds 31 s at) (parts .objects-there)
-                  (subst (λ m. ObjectsAt L m at) (part-to-end s 0) stand (f .tree) (f .rest) (f .reads) (parts .pairs) (parts .kind-is));
+                  (stand (f .tree) (f .rest) (f .reads) (parts .pairs) (parts .kind-is));
             }
 
 -- ---- the manifest m, which begins at `start`
 
-module _ (layout start : ℕ) (m : List ℕ) (x : Told) (h : (end start : ℕ) → NamesAre (layoutOf layout) end start (Here m 0) x) where
+module _ (layout start : ℕ) (m : List ℕ) (x : Told) (h : (end start : ℕ) → NamesAre (layoutOf layout) end start m x) where
   abbrev end : ℕ
   end = start + length m
 
   there : (y : Told) → x ≡ y → NamesAre (layoutOf layout) end start m y
-  there y e = subst (NamesAre (layoutOf layout) end start m) e (subst (λ u. NamesAre (layoutOf layout) end start u x) (part-to-end m 0) (h end start))
+  there y e = subst (NamesAre (layoutOf layout) end start m) e (h end start)
 
   pub refuses : (n o c : ℕ) → x ≡ names-are.No n o c → FoundIs (manifestSifted (layoutOf layout) end start m) layout start end (behind start m) (found.No n o c)
   refuses n o c e = record { case = there (names-are.No n o c) e }
 
-  module _ (left at : ℕ) (e : x ≡ names-are.Yes left at) (p : ℕ) (here : p ≡ length m - at) (s : Span) (attributes : AttributesIs (Here m 0) left end s) where
+  module _ (left at : ℕ) (e : x ≡ names-are.Yes left at) (p : ℕ) (here : p ≡ length m - at) (s : Span) (attributes : AttributesIs m left end s) where
     abbrev o : Opens (layoutOf layout) end start m left at
     o = there (names-are.Yes left at) e
 
@@ -126,7 +124,7 @@ module _ (layout start : ℕ) (m : List ℕ) (x : Told) (h : (end start : ℕ) �
         names-are = o .names-are;
         kept-are = naming.kept-spanned (layoutOf layout) start end (o .opening .named);
         dropped-are = naming.dropped-spanned (layoutOf layout) start end 0 (o .opening .named);
-        attributes-are = subst (λ u. AttributesIs u left end s) (part-to-end m 0) attributes (o .opening .attributes) (o .attributes-hold);
+        attributes-are = attributes (o .opening .attributes) (o .attributes-hold);
         ordered = (omega arith, omega (arith, here), omega arith);
       };
     }
@@ -147,7 +145,7 @@ part-of-part l start size first end a b c d =
     ∙ ap (drop i) (take-add i n s) ∙ drop-at (take i s) (take n (drop i s)) i (length-take-le i s g)
     ∙ ap (take n) (drop-drop i start l ∙ ap (λ (k : ℕ). drop k l) f)
 
-module _ (layout : ℕ) (file : List ℕ) (r : Framed) (asked : frame (layoutOf layout) (Here file 0) ≡ told r) where
+module _ (layout : ℕ) (file : List ℕ) (r : Framed) (asked : frame (layoutOf layout) file ≡ told r) where
   pub no-frame : (n : ℕ) → r ≡ frames-are.No n → FoundIs (sifted (layoutOf layout) file) layout 0 (length file) (between file) (found.No n 0 0)
   unfolding sifted
   no-frame n e = record { case = rw (framed layout file r asked (frames-are.No n) e) refl }

@@ -4,7 +4,6 @@ use native.Mathlib.Omega.{arith}
 use mathlib.Core.List.{List, [], _∷_}
 use mathlib.Core.Path.{_≡_, refl, sym, ap, _∙_}
 use lib.ListN.{length, length-drop}
-use borrow.Rule.Slice.PartAt.{part-to-end}
 use Rattle.meaning.specs.Tree.{Node, mapP}
 use Rattle.meaning.specs.Check.{Check, pass, refuse, fault}
 use Rattle.meaning.specs.Refusal.{CBOR}
@@ -15,7 +14,6 @@ use Rattle.cbor.specs.Ending.{took, FAULT, code, ending, itemEnd}
 use Rattle.cbor.proofs.Ends.{is-took, fine-ending}
 use Rattle.cbor.proofs.Agree.{annotations-change-no-ending, rest-follows}
 use Rattle.walk.specs.Reading.{Ends, ends, Reads}
-use Rattle.walk.proofs.Passed.{Here}
 use Rattle.table.specs.Spans.{spanOf}
 
 abbrev closing : Outcome (Node Span) → Check (Node Span)
@@ -48,16 +46,13 @@ pub record Faulty (end : ℕ) (s : List ℕ) (e : ℕ) : Type 0 where
   pub is : checked (manifest (spanTo end) s) ≡ refuse (e - FAULT) 0 0
 
 -- the walk over s, lent whole, ended at e
-module _ (end : ℕ) (s : List ℕ) (e : ℕ) (ended : e ≡ code (itemEnd 32 (Here s 0))) where
-  here : e ≡ code (itemEnd 32 s)
-  here = ended ∙ ap (λ u. code (itemEnd 32 u)) (part-to-end s 0)
-
+module _ (end : ℕ) (s : List ℕ) (e : ℕ) (ended : e ≡ code (itemEnd 32 s)) where
   read-so : (o : Outcome (Node Ends)) → item ends 32 s ≡ o → checked (manifest (spanTo end) s) ≡ closing (mapOut (mapP (spanOf end)) o)
   unfolding manifest
   read-so o e = ap closing (item-follows (spanOf end) ends 32 s ∙ ap (mapOut (mapP (spanOf end))) e)
 
   ended-so : (o : Outcome (Node Ends)) → item ends 32 s ≡ o → e ≡ code (ending s o)
-  ended-so o h = here ∙ ap code (sym (annotations-change-no-ending ends 32 s) ∙ ap (ending s) h)
+  ended-so o h = ended ∙ ap code (sym (annotations-change-no-ending ends 32 s) ∙ ap (ending s) h)
 
   pub faulty : length s < e → Faulty end s e
   faulty l = go (item ends 32 s) refl
@@ -84,7 +79,7 @@ module _ (end : ℕ) (s : List ℕ) (e : ℕ) (ended : e ≡ code (itemEnd 32 (H
       where
         go : (o : Outcome (Node Ends)) → item ends 32 s ≡ o → Filling end s
         go (got t r) h =
-            let z : itemEnd 32 s ≡ took e = is-took s room e (itemEnd 32 s) (fine-ending s (item noNote 32 s)) here (omega arith) in
+            let z : itemEnd 32 s ≡ took e = is-took s room e (itemEnd 32 s) (fine-ending s (item noNote 32 s)) ended (omega arith) in
             let y : length r ≡ 0 = ap length (rest-follows ends 32 s t r e h z) ∙ length-drop e s ∙ omega arith in
             record { tree = t; rest = r; reads = h; is = read-so (got t r) h ∙ closed-passes (mapP (spanOf end) t) r y }
         go (refused n q) h = let z : e ≡ FAULT + n = ended-so (refused n q) h in absurd (omega arith)

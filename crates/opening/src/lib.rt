@@ -29,7 +29,7 @@ pub enum Found {
 fn names(layout: u64, m: &[u8]) -> Told
     ensures { λ r. ⌜ ((end start : ℕ) → is.NamesAre (layoutOf layout) end start (now (m .entry)) r) ⌝ }
 {
-    let w = root::opened(layout, &m[0..]);
+    let w = root::opened(layout, m);
     let e = w.end;
     if m.len() < e {
         return Told::No((e - FAULT) as u64, 0, 0);
@@ -49,12 +49,12 @@ fn manifest(layout: u64, m: &[u8], start: usize) -> Found
     requires { ⌜ start + length (now m) < FAULT ⌝ }
     ensures { λ r. ⌜ is.FoundIs (is.manifestSifted (layoutOf layout) (start + length (now (m .entry))) start (now (m .entry))) layout start (start + length (now (m .entry))) (is.behind start (now (m .entry))) r ⌝ }
 {
-    match names(layout, &m[0..]) {
+    match names(layout, m) {
         Told::No(n, o, c) => Found::No(n, o, c),
         Told::Yes(left, at) => {
             let end = start + m.len();
             let first = start + place_of(m.len(), at);
-            let a = attributes(&m[0..], left, end);
+            let a = attributes(m, left, end);
             Found::Yes(start, end, first, a.place, a.size)
         }
     }
@@ -64,7 +64,7 @@ fn manifest(layout: u64, m: &[u8], start: usize) -> Found
 pub fn file(layout: u64, file: &[u8]) -> Found
     ensures { λ r. ⌜ is.FoundIs (sifted (layoutOf layout) (now (file .entry))) layout 0 (length (now (file .entry))) (is.between (now (file .entry))) r ⌝ }
 {
-    match frame::frame(layout, &file[0..]) {
+    match frame::frame(layout, file) {
         Framed::No(n) => Found::No(n, 0, 0),
         Framed::At(start, size) => {
             let end = start + size;

@@ -223,9 +223,9 @@ module _ (layout start : ℕ) (m : List ℕ) (before : List ℕ) where
 
 -- ---------------------------------------------------------------- as the code has it
 
-module _ (layout : ℕ) (last : Bool) (start : ℕ) (m before : List ℕ) (x : Told) (h : (end : ℕ) → ManifestIs (layoutOf layout) end start (Here m 0) x) where
+module _ (layout : ℕ) (last : Bool) (start : ℕ) (m before : List ℕ) (x : Told) (h : (end : ℕ) → ManifestIs (layoutOf layout) end start m x) where
   told-there : (y : Told) → x ≡ y → ManifestIs (layoutOf layout) (start + length m) start m y
-  told-there y e = subst (ManifestIs (layoutOf layout) (start + length m) start m) e (subst (λ u. ManifestIs (layoutOf layout) (start + length m) start u x) (part-to-end m 0) (h (start + length m)))
+  told-there y e = subst (ManifestIs (layoutOf layout) (start + length m) start m) e (h (start + length m))
 
   pub filled-not : (n o c : ℕ) → x ≡ No n o c → (r : Answer) → r ≡ refused n o c → Filled (layoutOf layout) last start m before r before
   filled-not n o c e r is = subst (λ r. Filled (layoutOf layout) last start m before r before) (sym is) (manifest-refuses layout start m before last n o c (told-there (No n o c) e))
@@ -236,14 +236,13 @@ module _ (layout : ℕ) (last : Bool) (start : ℕ) (m before : List ℕ) (x : T
 
     pub filled-so : length m < FAULT → true ≡ leb (objectWidth * objects + componentWidth * components) (length before)
         → (first : ℕ) → first ≡ ahead last (length before) (objectWidth * objects + componentWidth * components) → (place : ℕ) → place ≡ length m - at → (after : List ℕ)
-        → Written layout (Here m place) start (start + length m) (objectWidth * objects) (lentPart first before) after → (s : Span) → AttributesIs (Here m 0) left (start + length m) s
+        → Written layout (Here m place) start (start + length m) (objectWidth * objects) (lentPart first before) after → (s : Span) → AttributesIs m left (start + length m) s
         → Filled (layoutOf layout) last start m before (read objects components start s) (lentBack first before after)
     filled-so room f first ahead-is place here after w s a =
-        written layout start m before objects components left at (told-there (Yes objects components left at) e) room f last first ahead-is place here after w s
-        (subst (λ u. AttributesIs u left (start + length m) s) (part-to-end m 0) a)
+        written layout start m before objects components left at (told-there (Yes objects components left at) e) room f last first ahead-is place here after w s a
 
 -- from the frame on
-module _ (layout : ℕ) (last : Bool) (file before : List ℕ) (r : Framed) (asked : frame (layoutOf layout) (Here file 0) ≡ framed-told r) where
+module _ (layout : ℕ) (last : Bool) (file before : List ℕ) (r : Framed) (asked : frame (layoutOf layout) file ≡ framed-told r) where
   pub no-frame-read : (n : ℕ) → r ≡ NoFrame n → (a : Answer) → a ≡ refused n 0 0 → (a ≡ answered (readInto (layoutOf layout) file (length before))) × (before ≡ placed last before (readInto (layoutOf layout) file (length before)))
   unfolding readInto reading answer placed
   no-frame-read n e a is = let z = framed layout file r asked (NoFrame n) e in (is ∙ (rw z refl), rw z refl)

@@ -7,8 +7,7 @@ use mathlib.Core.Path.{_≡_, refl, sym, ap, _∙_}
 use lib.ListN.{length, take, drop}
 use lib.Dec.{leb}
 use borrow.Author.Tests.{leb-true}
-use borrow.Rule.Slice.PartAt.{part-to-end}
-use Rattle.meaning.specs.Check.{pass, refuse, _>>=_, _>>_, _unless_}
+use Rattle.meaning.specs.Check.{pass, refuse, _>>_, _unless_}
 use Rattle.meaning.specs.Text.{same}
 use Rattle.meaning.specs.Refusal.{SHORT, HEADER, FOOTER, BIG, FIT}
 use Rattle.meaning.specs.Limit.{manifestLimit}
@@ -18,7 +17,6 @@ use Rattle.frame.specs.FrameAnswer.{told}
 use Rattle.frame.proofs.Frames.{size-back}
 use Rattle.frame.specs.declared.Framed.{Framed}
 use Rattle.frame.specs.declared.Framed.the-variants.{No, At}
-use Rattle.fields.proofs.Texts.{Here}
 use Rattle.reader.specs.Verdict.{refusal, verdict, manifestReading, Accepted}
 
 -- 0 is 1.2.0
@@ -58,9 +56,9 @@ module _ (layout : ℕ) (file : List ℕ) where
           let b = size-back layout in
           omega arith
 
-  module _ (r : Framed) (asked : frame L (Here file 0) ≡ told r) where
+  module _ (r : Framed) (asked : frame L file ≡ told r) where
     pub framed : (q : Framed) → r ≡ q → frame L file ≡ told q
-    framed q e = ap (frame L) (sym (part-to-end file 0)) ∙ asked ∙ ap told e
+    framed q e = asked ∙ ap told e
 
     pub no-frame : (number : ℕ) → r ≡ No number → refusal number 0 0 ≡ verdict (reading L file)
     unfolding reading

@@ -5,7 +5,6 @@ use native.Mathlib.Omega.{arith}
 use mathlib.Core.List.{List, [], _∷_}
 use mathlib.Core.Path.{_≡_, refl, sym, ap, _∙_, subst}
 use lib.ListN.{length, length-drop}
-use borrow.Rule.Slice.PartAt.{part-to-end}
 use Rattle.meaning.specs.Tree.{Node, mapP}
 use Rattle.meaning.specs.Check.{Check, pass, refuse, fault, _>>=_}
 use Rattle.meaning.specs.Refusal.{CBOR}
@@ -21,7 +20,6 @@ use Rattle.cbor.specs.Ending.{took, FAULT, code, ending, itemEnd}
 use Rattle.cbor.proofs.Ends.{is-took, fine-ending}
 use Rattle.cbor.proofs.Agree.{annotations-change-no-ending, rest-follows}
 use Rattle.walk.specs.Reading.{Ends, ends, Reads}
-use Rattle.fields.proofs.Texts.{Here}
 use Rattle.root.specs.declared.Judged.{Judged}
 use Rattle.root.specs.declared.Judged.the-variants.{No, Yes}
 use Rattle.root.specs.Verdict.{judged, RootIs, ObjectsAt}
@@ -59,12 +57,9 @@ module _ (L : Layout) (end start : ℕ) where
     read-so o e = ap closing (item-follows spans ends 32 s ∙ ap (mapOut (mapP spans)) e)
 
     -- the walk over s, lent whole, ended at e
-    module _ (e : ℕ) (asked : e ≡ code (itemEnd 32 (Here s 0))) where
-      is : e ≡ code (itemEnd 32 s)
-      is = asked ∙ ap (λ u. code (itemEnd 32 u)) (part-to-end s 0)
-
+    module _ (e : ℕ) (asked : e ≡ code (itemEnd 32 s)) where
       ended-so : (o : Outcome (Node Ends)) → item ends 32 s ≡ o → e ≡ code (ending s o)
-      ended-so o h = is ∙ ap code (sym (annotations-change-no-ending ends 32 s) ∙ ap (ending s) h)
+      ended-so o h = asked ∙ ap code (sym (annotations-change-no-ending ends 32 s) ∙ ap (ending s) h)
 
       pub a-fault : length s < e → FAULT ≤ e
       a-fault l = go (item ends 32 s) refl
@@ -107,7 +102,7 @@ module _ (L : Layout) (end start : ℕ) where
             where
               go : (o : Outcome (Node Ends)) → item ends 32 s ≡ o → Filling
               go (got t r) h =
-                  let z : itemEnd 32 s ≡ took e = is-took s room e (itemEnd 32 s) (fine-ending s (item noNote 32 s)) is (omega arith) in
+                  let z : itemEnd 32 s ≡ took e = is-took s room e (itemEnd 32 s) (fine-ending s (item noNote 32 s)) asked (omega arith) in
                   let y : length r ≡ 0 = ap length (rest-follows ends 32 s t r e h z) ∙ length-drop e s ∙ omega arith in
                   record {
                     tree = t;
@@ -117,9 +112,9 @@ module _ (L : Layout) (end start : ℕ) where
                   }
               go (refused n q) h = let z : e ≡ FAULT + n = ended-so (refused n q) h in absurd (omega arith)
 
-          module _ (u : Judged) (told : RootIs L (Here s 0) start u) where
+          module _ (u : Judged) (told : RootIs L s start u) where
             root : (v : Judged) → u ≡ v → v ≡ judged (judge L start (filling .tree))
-            root v same = subst (λ m. RootIs L m start v) (part-to-end s 0) (subst (RootIs L (Here s 0) start) same told) (filling .tree) (filling .rest) (filling .reads)
+            root v same = subst (RootIs L s start) same told (filling .tree) (filling .rest) (filling .reads)
 
             pub root-refuses : (n o c : ℕ) → u ≡ No n o c → manifestReading L end start s ≡ refuse n o c
             root-refuses n o c same = go (judge L start (filling .tree)) refl
@@ -131,7 +126,7 @@ module _ (L : Layout) (end start : ℕ) where
                     let a : n′ ≡ n = cc in let b : o′ ≡ o = cc in let d : c′ ≡ c = cc in
                     filling .is ∙ (rw (h, a, b, d) refl)
 
-            pub root-accepts : (objects components left at : ℕ) → u ≡ Yes objects components left → ObjectsAt L (Here s 0) at → Accepted L end start s objects components left at
+            pub root-accepts : (objects components left at : ℕ) → u ≡ Yes objects components left → ObjectsAt L s at → Accepted L end start s objects components left at
             root-accepts objects components left at same stand = go (judge L start (filling .tree)) refl
               where
                 go : (k : Check (Model Ends)) → judge L start (filling .tree) ≡ k → Accepted L end start s objects components left at
@@ -148,5 +143,5 @@ module _ (L : Layout) (end start : ℕ) where
                       objects-are = cc;
                       components-are = cc;
                       attributes-left = cc;
-                      objects-at = subst (λ m. ObjectsAt L m at) (part-to-end s 0) stand;
+                      objects-at = stand;
                     }

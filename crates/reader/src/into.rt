@@ -54,7 +54,7 @@ fn fits(room: usize, objects: usize, components: usize) -> bool
 pub fn attributes(m: &[u8], left: usize, end: usize) -> Span
     ensures { λ r. ⌜ is.AttributesIs (now (m .entry)) left end r ⌝ }
 {
-    item_at(&m[0..], left, numbers::IN_ROOT, end)
+    item_at(m, left, numbers::IN_ROOT, end)
 }
 
 // The numbers of a table that stand before the rows of so many objects and components: none, or where the rows are its last all that they don't need.
@@ -73,7 +73,7 @@ fn fill(layout: u64, m: &[u8], start: usize, last: bool, t: &mut [u64]) -> Answe
     requires { ⌜ start + length (now m) < FAULT ⌝ }
     ensures { λ r. ⌜ is.Filled (layoutOf layout) last start (now (m .entry)) (now (t .entry)) r (now (t .exit)) ⌝ }
 {
-    match manifest(layout, &m[0..], start as u64) {
+    match manifest(layout, m, start as u64) {
         Told::No(n, o, c) => refused(n, o, c),
         Told::Yes(objects, components, left, at) => {
             if !fits(t.len(), objects, components) {
@@ -90,7 +90,7 @@ fn fill(layout: u64, m: &[u8], start: usize, last: bool, t: &mut [u64]) -> Answe
                 columns::OBJECT * objects,
                 &mut t[first..],
             );
-            let a = attributes(&m[0..], left, end);
+            let a = attributes(m, left, end);
             Answer {
                 number: 0,
                 object: 0,
@@ -109,7 +109,7 @@ fn fill(layout: u64, m: &[u8], start: usize, last: bool, t: &mut [u64]) -> Answe
 fn place(layout: u64, file: &[u8], last: bool, t: &mut [u64]) -> Answer
     ensures { λ r. ⌜ (r ≡ is.answered (readInto (layoutOf layout) (now (file .entry)) (length (now (t .entry))))) × (now (t .exit) ≡ is.placed last (now (t .entry)) (readInto (layoutOf layout) (now (file .entry)) (length (now (t .entry))))) ⌝ }
 {
-    match frame::frame(layout, &file[0..]) {
+    match frame::frame(layout, file) {
         Framed::No(n) => refused(n, 0, 0),
         Framed::At(start, size) => {
             let end = start + size;

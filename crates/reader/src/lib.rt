@@ -40,7 +40,7 @@ pub enum Told {
 pub fn manifest(layout: u64, m: &[u8], start: u64) -> Told
     ensures { λ r. ⌜ ((end : ℕ) → is.ManifestIs (layoutOf layout) end start (now (m .entry)) r) ⌝ }
 {
-    let w = root::root(layout, &m[0..], start);
+    let w = root::root(layout, m, start);
     let e = w.end;
     if m.len() < e {
         return Told::No((e - FAULT) as u64, 0, 0);
@@ -59,7 +59,7 @@ pub fn manifest(layout: u64, m: &[u8], start: u64) -> Told
 pub fn accept_as(layout: u64, file: &[u8]) -> Verdict
     ensures { λ r. ⌜ r ≡ is.verdict (reading (layoutOf layout) (now (file .entry))) ⌝ }
 {
-    match frame::frame(layout, &file[0..]) {
+    match frame::frame(layout, file) {
         Framed::No(n) => refusal(n, 0, 0),
         Framed::At(start, size) => {
             let end = start + size;

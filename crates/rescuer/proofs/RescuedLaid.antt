@@ -9,7 +9,6 @@ use lib.ListN.{length, drop, length-map, replicate}
 use lib.Seq.{sets, sets-eq, length-sets}
 use lib.Dec.{leb}
 use borrow.Author.Tests.{le-leb, lt-leb, leb-true}
-use borrow.Rule.Slice.PartAt.{part-to-end}
 use Rattle.meaning.specs.Limit.{objectLimit}
 use Rattle.meaning.specs.Columns.{objectWidth, componentWidth}
 use Rattle.meaning.specs.Check.{Check, pass}
@@ -20,7 +19,6 @@ use Rattle.meaning.specs.Rows.{rows, objectRows, componentRows, componentCount,
 use Rattle.meaning.specs.Described.{Described, describedBy}
 use Rattle.meaning.specs.Write.{written, outputAfter}
 use Rattle.walk.specs.Reading.{Ends}
-use Rattle.walk.proofs.Passed.{Here}
 use Rattle.naming.proofs.NamesJudged.{few-names}
 use Rattle.frame.proofs.Frames.{size-back}
 use Rattle.table.proofs.Runs.{sets-append}
@@ -203,13 +201,13 @@ module _ {layout : ℕ} {file : List ℕ} {start end first place size k j c long
           ∙ sets-eq (entries ds) list 0 (omega (arith, width, drops, n)) ∙ ap (λ (i : ℕ). entries ds ++ drop i list) (zero-add (length (entries ds)) ∙ width) ∙ rw well refl
 
       -- the writer's answer is the rescued file
-      pub output-is : {r : Written} {after : List ℕ} → Answered (written (Here t 0) k c (record { place = place; size = size }) file (length out)) r out after
+      pub output-is : {r : Written} {after : List ℕ} → Answered (written t k c (record { place = place; size = size }) file (length out)) r out after
           → after ≡ rescueOutput out (rescue (layoutOf layout) file (length table) (length list) (length out))
       unfolding rescueOutput outputAfter
       output-is w =
           let T : List ℕ = rows m ++ drop (roomFor m) table in
-          let wrote : written (Here t 0) k c (record { place = place; size = size }) file (length out) ≡ pass (plainFile d) =
-          ap (λ (u : List ℕ). written u k c (record { place = place; size = size }) file (length out)) (part-to-end t 0 ∙ table-is)
+          let wrote : written t k c (record { place = place; size = size }) file (length out) ≡ pass (plainFile d) =
+          ap (λ (u : List ℕ). written u k c (record { place = place; size = size }) file (length out)) table-is
           ∙ ap₂ (λ (u v : ℕ). written T u v (record { place = place; size = size }) file (length out)) (y .kept-are) (y .components-are)
           ∙ ap (λ (s : Span). written T (length (m .objects)) (componentCount (m .objects)) s file (length out)) (y .opens .attributes-are)
           ∙ kept-rows (layoutOf layout) (size-back layout) file (y .held) (y .opens .sift) (y .opens .is) (drop (roomFor m) table) (length out) ∙ y .writes (length out) (room .bytes) in

@@ -78,15 +78,7 @@ fn lay(
         rows,
         list,
     );
-    writer::write(
-        &rows[0..],
-        kept as u64,
-        components as u64,
-        place,
-        size,
-        file,
-        out,
-    );
+    writer::write(rows, kept as u64, components as u64, place, size, file, out);
 }
 
 // The kept objects' rows fit the lent ones, the dropped ones the list, and the rescued file the output.

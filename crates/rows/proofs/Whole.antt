@@ -1,15 +1,16 @@
 -- All rows together, test by test.
-use Prim.Native.Nat.{ℕ, _+_, _*_, _≤_}
+use Prim.Native.Nat.{ℕ, _+_, _-_, _*_, _≤_}
 use mathlib.Core.List.{List}
 use mathlib.Core.Bool.{Bool, true, false, _&&_}
-use mathlib.Core.Path.{_≡_, refl}
-use lib.ListN.{length}
+use mathlib.Core.Path.{_≡_, refl, ap}
+use lib.ListN.{length, take, drop}
+use borrow.Rule.Slice.PartAt.{part-to-end}
 use lib.Dec.{leb}
 use borrow.Author.Tests.{leb-true}
 use Rattle.meaning.specs.Columns.{objectWidth, componentWidth}
 use Rattle.meaning.specs.Text.{same, all}
 use Rattle.meaning.specs.Read.{Span}
-use Rattle.meaning.specs.Asked.{AskedObject, AskedComponent, eachRow, askedObject, asked}
+use Rattle.meaning.specs.Asked.{AskedObject, AskedComponent, eachRow, askedObject, askedComponent, asked}
 use Rattle.meaning.specs.Sound.{owners, attributesSound, objectSound, componentSound, askedSound, rowsSound}
 use Rattle.meaning.proofs.Tests.{both-left, both-right}
 use Rattle.rows.specs.Placed.{componentsAt}
@@ -24,6 +25,19 @@ module _ (buffer rows : List ℕ) (objects components : ℕ) (attributes : Span)
 
   abbrev verdict : Bool
   verdict = rowsSound buffer rows objects components attributes
+
+  -- components are lent from their first row on
+  abbrev lent : List AskedComponent
+  lent = eachRow askedComponent componentWidth components (take (length rows - objectWidth * objects) (drop (objectWidth * objects) rows))
+
+  lent-is : lent ≡ Cs
+  lent-is = ap (eachRow askedComponent componentWidth components) (part-to-end rows (objectWidth * objects))
+
+  pub lent-order : same (owners 0 Os) (ownersIn lent) ≡ same (owners 0 Os) (ownersIn Cs)
+  lent-order = ap (λ cs. same (owners 0 Os) (ownersIn cs)) lent-is
+
+  pub lent-components : all (componentSound buffer) lent ≡ all (componentSound buffer) Cs
+  lent-components = ap (all (componentSound buffer)) lent-is
 
   pub not-held : leb (objectWidth * objects + componentWidth * components) (length rows) ≡ false → false ≡ verdict
   unfolding rowsSound

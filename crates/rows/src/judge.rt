@@ -44,7 +44,7 @@ fn a_map(s: &[u8], levels: u64) -> bool
     if cbor::major_of(s[0]) != 5 {
         return false;
     }
-    let end = cbor::skip(&s[0..], levels);
+    let end = cbor::skip(s, levels);
     if end == s.len() {
         return true;
     }
@@ -82,7 +82,7 @@ fn object(buffer: &[u8], row: &[u64]) -> bool
         return false;
     }
     attributes(
-        &buffer[0..],
+        buffer,
         row[ATTRIBUTES],
         row[ATTRIBUTES_LENGTH],
         numbers::IN_OBJECT,
@@ -97,7 +97,7 @@ pub fn objects(buffer: &[u8], rows: &[u64], n: u64) -> bool
     let mut at = 0;
     let mut left = n;
     while 0 < left {
-        if object(&buffer[0..], &rows[at..]) {
+        if object(buffer, &rows[at..]) {
             at += columns::OBJECT;
             left -= 1;
             continue;
@@ -136,7 +136,7 @@ pub fn components(buffer: &[u8], rows: &[u64], n: u64) -> bool
     let mut at = 0;
     let mut left = n;
     while 0 < left {
-        if component(&buffer[0..], &rows[at..]) {
+        if component(buffer, &rows[at..]) {
             at += columns::COMPONENT;
             left -= 1;
             continue;

@@ -31,14 +31,14 @@ pub fn sound(
         return false;
     }
     let first = (columns::OBJECT_64 * objects) as usize;
-    if !owned::in_order(&rows[0..], &rows[first..], objects, components) {
+    if !owned::in_order(rows, &rows[first..], objects, components) {
         return false;
     }
-    if !judge::attributes(&buffer[0..], place, size, numbers::IN_ROOT) {
+    if !judge::attributes(buffer, place, size, numbers::IN_ROOT) {
         return false;
     }
-    if !judge::objects(&buffer[0..], &rows[0..], objects) {
+    if !judge::objects(buffer, rows, objects) {
         return false;
     }
-    judge::components(&buffer[0..], &rows[first..], components)
+    judge::components(buffer, &rows[first..], components)
 }

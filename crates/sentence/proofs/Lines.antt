@@ -53,14 +53,14 @@ module _ (L : Layout) (file : List ℕ) (e : Explanation) where
       go true = refl
       go false = refl
 
-  pub whole-line : (again : List ℕ) → again ≡ file →
+  pub whole-line :
       ascii "refused" ++ ((32 ∷ decimal (e .number)) ++ ((32 ∷ []) ++ (reason L (e .number)
-      ++ (named (ascii "; object") (take (e .objectsize) (drop (e .objectname) again)) (e .objectname) (e .objectsize)
+      ++ (named (ascii "; object") (take (e .objectsize) (drop (e .objectname) file)) (e .objectname) (e .objectsize)
       ++ (named (ascii "; component") (take (e .componentsize) (drop (e .componentname) file)) (e .componentname) (e .componentsize)
       ++ (bounds (e .number) (e .place) (e .length) (e .room) ++ 10 ∷ []))))))
       ≡ refused L file e
   unfolding refusedLine where′
-  whole-line again h = rw (h, belongs-named "; object" (e .objectname) (e .objectsize), belongs-named "; component" (e .componentname) (e .componentsize))
+  whole-line = rw (belongs-named "; object" (e .objectname) (e .objectsize), belongs-named "; component" (e .componentname) (e .componentsize))
 
   pub is-accepted : e .number ≡ 0 → ascii "accepted" ++ 10 ∷ [] ≡ said L file (explanation e)
   unfolding said

@@ -147,7 +147,7 @@ fn refused(layout: u64, file: &[u8], e: Explanation, out: &mut [u8]) -> usize
     let b = blank_number(out, a, e.number);
     let c = byte(out, b, 32);
     let d = because(layout, e.number, out, c);
-    let object = part(&file[0..], e.objectname, e.objectsize);
+    let object = part(file, e.objectname, e.objectsize);
     let f = belongs(b"; object", object, e.objectname, e.objectsize, out, d);
     let component = part(file, e.componentname, e.componentsize);
     let g = belongs(
@@ -180,7 +180,7 @@ pub fn say(layout: u64, file: &[u8], e: Explanation, text: &mut [u8]) -> Listed
     ensures written { λ r. ⌜ now (text .exit) ≡ textAfter (pass (said (layoutOf layout) (now (file .entry)) (is.explanation e))) (now (text .entry)) ⌝ }
 {
     let mut scrap = [0u8; 1];
-    let n = line(layout, &file[0..], e, &mut scrap);
+    let n = line(layout, file, e, &mut scrap);
     if text.len() < n {
         return Listed {
             number: numbers::ROOM,

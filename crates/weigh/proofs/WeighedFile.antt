@@ -5,7 +5,6 @@ use mathlib.Core.List.{List, [], _∷_}
 use mathlib.Core.Path.{_≡_, refl, sym, ap, _∙_, subst}
 use lib.ListN.{length, take, drop, length-map, length-drop}
 use lib.Seq.{length-take-le}
-use borrow.Rule.Slice.PartAt.{part-to-end}
 use Rattle.meaning.specs.Limit.{manifestLimit, endLimit}
 use Rattle.meaning.specs.Check.{refuse}
 use Rattle.meaning.specs.Model.{Object}
@@ -30,7 +29,6 @@ use Rattle.reader.proofs.Frames.{framed, inside, manifest-read}
 use Rattle.reader.proofs.Answers.{parts, objects-read, attributes-hold}
 use Rattle.window.specs.Summed.{InWindow, spans, Measured}
 use Rattle.weigh.specs.declared.Weighed.{Weighed}
-use Rattle.weigh.specs.declared.Weighed.the-variants as weighed
 use Rattle.weigh.specs.Weighed.{Weighs, WeighedIs}
 
 unmapped-in-window : (end : ℕ) (os : List (Object Ends)) → Every InWindow (spans end os) → Every InWindow os
@@ -40,16 +38,16 @@ unmapped-in-window end (o ∷ os) (w, ws) =
 
 -- ---- the manifest, lent whole
 
-module _ (layout start : ℕ) (m : List ℕ) (p n from : ℕ) (before : List ℕ) (x : Told) (h : (end : ℕ) → ManifestIs (layoutOf layout) end start (Here m 0) x) where
+module _ (layout start : ℕ) (m : List ℕ) (p n from : ℕ) (before : List ℕ) (x : Told) (h : (end : ℕ) → ManifestIs (layoutOf layout) end start m x) where
   there : (y : Told) → x ≡ y → ManifestIs (layoutOf layout) (start + length m) start m y
-  there y e = subst (ManifestIs (layoutOf layout) (start + length m) start m) e (subst (λ u. ManifestIs (layoutOf layout) (start + length m) start u x) (part-to-end m 0) (h (start + length m)))
+  there y e = subst (ManifestIs (layoutOf layout) (start + length m) start m) e (h (start + length m))
 
   pub refuses : (k o c : ℕ) → x ≡ No k o c → manifestReading (layoutOf layout) (start + length m) start m ≡ refuse k o c
   refuses k o c e = there (No k o c) e
 
   module _ (objects components left at : ℕ) (e : x ≡ Yes objects components left at) (room : length m < FAULT) (place : ℕ) (here : place ≡ length m - at)
       (q k : ℕ) (after : List ℕ) (measured : Measured layout start (start + length m) p n from (Here m place) before q k after) (small : (q ≤ suc endLimit) × (k ≤ suc manifestLimit))
-      (s : Span) (attributes : AttributesIs (Here m 0) left (start + length m) s) where
+      (s : Span) (attributes : AttributesIs m left (start + length m) s) where
     abbrev a : Accepted (layoutOf layout) (start + length m) start m objects components left at
     a = there (Yes objects components left at) e
 
@@ -63,7 +61,7 @@ module _ (layout start : ℕ) (m : List ℕ) (p n from : ℕ) (before : List ℕ
       objects-are = a .objects-are ∙ sym (length-map (a .model .objects) (mapObject (spanOf end)));
       components-are = a .components-are ∙ sym (count-mapped end (a .model .objects));
       attributes-are =
-          subst (λ u. AttributesIs u left end s) (part-to-end m 0) attributes (a .model .attributes) (attributes-hold layout start m [] objects components left at a room);
+          attributes (a .model .attributes) (attributes-hold layout start m [] objects components left at a room);
       sums = λ w.
           let o = objects-read layout start m [] objects components left at a room place here in
           let sum = measured (parts layout start m [] objects components left at a room .objects) (o .0) (o .1) (a .model .objects) (parts layout start m [] objects components left at a room .objects-judged)
@@ -75,7 +73,7 @@ module _ (layout start : ℕ) (m : List ℕ) (p n from : ℕ) (before : List ℕ
 
 -- ---- from the frame on
 
-module _ (layout : ℕ) (file : List ℕ) (r : Framed) (asked : frame (layoutOf layout) (Here file 0) ≡ told r) where
+module _ (layout : ℕ) (file : List ℕ) (r : Framed) (asked : frame (layoutOf layout) file ≡ told r) where
   pub no-frame : (n : ℕ) → r ≡ frames-are.No n → reading (layoutOf layout) file ≡ refuse n 0 0
   unfolding reading
   no-frame n e = rw (framed layout file r asked (frames-are.No n) e) refl

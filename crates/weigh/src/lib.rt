@@ -33,7 +33,7 @@ fn manifest(
     requires { ⌜ (first ≤ suc endLimit) × (before ≤ suc manifestLimit) ⌝ }
     ensures { λ r. ⌜ WeighedIs (manifestReading (layoutOf layout) (start + length (now (m .entry))) start (now (m .entry))) first before from (now (names .entry)) r (now (names .exit)) ⌝ }
 {
-    match reader::manifest(layout, &m[0..], start as u64) {
+    match reader::manifest(layout, m, start as u64) {
         Told::No(n, o, c) => Weighed::No(n, o, c),
         Told::Yes(objects, components, left, at) => {
             let end = start + m.len();
@@ -48,7 +48,7 @@ fn manifest(
                 from,
                 names,
             );
-            let a = attributes(&m[0..], left, end);
+            let a = attributes(m, left, end);
             Weighed::Yes(
                 objects as u64,
                 components as u64,
@@ -73,7 +73,7 @@ pub fn file(
     requires { ⌜ (first ≤ suc endLimit) × (before ≤ suc manifestLimit) ⌝ }
     ensures { λ r. ⌜ WeighedIs (reading (layoutOf layout) (now (file .entry))) first before from (now (names .entry)) r (now (names .exit)) ⌝ }
 {
-    match frame::frame(layout, &file[0..]) {
+    match frame::frame(layout, file) {
         Framed::No(n) => Weighed::No(n, 0, 0),
         Framed::At(start, size) => {
             let end = start + size;

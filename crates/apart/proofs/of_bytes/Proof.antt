@@ -4,33 +4,20 @@ use native.Mathlib.Omega.{arith}
 use Rattle.apart.proofs.Counts as counting
 use Rattle.apart.proofs.of_bytes.Statement.{statement}
 use Rattle.apart.proofs.of_bytes.Tie as tie
-use Rattle.text.proofs.SameIsEqual.{whole}
 
 pub of-bytes-spec : {M : Type 1} → statement M
 of-bytes-spec =
     tie.close
     (tie.spec
     (λ c. search needs)
-    (λ c. search needs)
-    (λ c. search needs)
-    (λ c. search needs)
-    (λ c. search needs)
-    (λ c. search needs)
+    (λ c κs.
+    let at5 = c .before .before .before in
+    (counting.rest-first (at5 .args .x .now) (at5 .args .y .now) (omega arith)))
+    (λ c. let a = c .before .before .before .before .args in
+    ((c .compared .ensures)))
     (λ c. search needs)
     (λ c κs.
-    let at5 = c .before .before .before .before .before in
-    rw (whole (at5 .args .x .now), whole (at5 .args .y .now)) (counting.rest-first (at5 .args .x .now) (at5 .args .y .now) (omega arith)))
-    (λ c. let a = c .before .before .before .before .before .before .args in
-    rw (whole ((a .x .now)), whole ((a .y .now))) at ((c .compared .ensures)))
-    (λ c. search needs)
-    (λ c. search needs)
-    (λ c. search needs)
-    (λ c. search needs)
-    (λ c. search needs)
-    (λ c. search needs)
-    (λ c. search needs)
-    (λ c κs.
-    let at5 = c .before .before .before .before .before in
-    rw (whole (at5 .args .x .now), whole (at5 .args .y .now)) (counting.rest-second (at5 .args .x .now) (at5 .args .y .now) (omega arith)))
-    (λ c. let a = c .before .before .before .before .before .before .args in
-    rw (whole ((a .x .now)), whole ((a .y .now))) at ((c .compared2 .ensures))))
+    let at5 = c .before .before .before in
+    (counting.rest-second (at5 .args .x .now) (at5 .args .y .now) (omega arith)))
+    (λ c. let a = c .before .before .before .before .args in
+    ((c .compared2 .ensures))))

@@ -6,7 +6,6 @@ use Rattle.apart.proofs.Counts as counting
 use Rattle.apart.proofs.run.Statement.{statement}
 use Rattle.apart.proofs.run.Tie as tie
 use Rattle.apart.specs.Positions.{Passed}
-use Rattle.text.proofs.SameIsEqual.{whole}
 
 abbrev Inv-loop : tie.InvT-loop
 Inv-loop x y n i₀ i = Passed x y n i
@@ -20,21 +19,15 @@ run-spec =
     (tie.spec
     Inv-loop
     μ-loop
-    (λ c. search needs)
-    (λ c. search needs)
-    (λ c. search needs)
-    (λ c. search needs)
-    (λ c. search needs)
-    (λ c. search needs)
-    (λ c κs. let b4 = c .before .before .before .before in let a = b4 .args in
-    rw (whole ((a .x .now)), whole ((a .y .now))) ((b4 .pre)))
-    (λ c. let a = c .before .before .before .before .before .args in
-    rw (whole ((a .x .now)), whole ((a .y .now))) at ((c .run-of-blocks .ensures)))
-    (λ c. omega (arith, (c .before .before .before .before .before .before .before .before .pre .first)))
-    (λ c. omega (arith, (c .before .before .before .before .before .before .before .before .before .pre .second)))
+    (λ c κs. let b4 = c .before .before in let a = b4 .args in
+    ((b4 .pre)))
+    (λ c. let a = c .before .before .before .args in
+    ((c .run-of-blocks .ensures)))
+    (λ c. omega (arith, (c .before .before .before .before .before .before .pre .first)))
+    (λ c. omega (arith, (c .before .before .before .before .before .before .before .pre .second)))
     (λ c. record { passed = c .before .before .before .before .loop .inv; stops = λ l. (c .if1 .taken) })
     (λ c. search needs)
     (λ c. search needs)
-    (λ c. let b4 = c .before .before .before .before in let l = b4 .loop in let a = b4 .before .before .before .before .before .before .args in
+    (λ c. let b4 = c .before .before .before .before in let l = b4 .loop in let a = b4 .before .before .before .before .args in
     record { most = omega arith; agree = counting.agree-one ((a .x .now)) ((a .y .now)) ((l .i)) ((l .inv .agree)) (omega arith) })
     (λ c. record { passed = c .before .loop .inv; stops = λ l. absurd (omega arith) }))

@@ -3,10 +3,6 @@ use Rattle.badnames.proofs.KeysNoted as noting
 use borrow.Author.Needs.{needs}
 use Rattle.badnames.proofs.judged.Statement.{statement}
 use Rattle.badnames.proofs.judged.Tie as tie
-use Rattle.badnames.proofs.judged.Reads as reads
-use Rattle.badnames.proofs.judged.Lts as lts
-use Rattle.badnames.proofs.repeated.Reads as repeated-reads
-use Rattle.spot.proofs.at.Reads as at-reads
 
 pub judged-spec : {M : Type 1} → statement M
 judged-spec =
@@ -24,16 +20,7 @@ judged-spec =
     (λ c κs. search needs)
     (λ c. let i = c .before in let b = i .before .before in let o = b .before in let a = o .before .before .before .before .before .args in
     noting.once-judged _ (a .from) _ (a .n) _ _ _ (o .if1 .left) (b .if2 .left) (omega arith) (i .if4 .taken) (c .at4 .ensures))
-    (λ c. search needs)
-    (λ c. search needs)
-    (λ c. search needs)
-    (λ c. search needs)
-    (λ c. search needs)
-    (λ c. search needs)
-    (λ c. search needs)
-    (λ c. search needs)
-    (λ c. search needs)
     (λ c κs. search needs)
     (λ c. search needs)
-    (λ c. let r = c .before .before in let b = r .before .before .before .before .before .before .before in let o = b .before in let a = o .before .before .before .before .before .args in
+    (λ c. let r = c .before .before in let b = r .before .before .before .before in let o = b .before in let a = o .before .before .before .before .before .args in
     noting.few-judged _ (a .from) _ (a .n) _ _ _ (o .if1 .left) (b .if2 .left) (omega arith) (r .repeated .ensures)))

@@ -4,9 +4,6 @@ use Prim.Native.Nat.{ℕ}
 use borrow.Author.Needs.{needs}
 use Rattle.badroot.proofs.names.Statement.{statement}
 use Rattle.badroot.proofs.names.Tie as tie
-use Rattle.badroot.proofs.names.Reads as reads
-use Rattle.badroot.proofs.names.Lts as lts
-use Rattle.badnames.proofs.named.Reads as named-reads
 
 pub names-spec : {M : Type 1} → statement M
 names-spec =
@@ -15,8 +12,5 @@ names-spec =
     (λ c. search needs)
     (λ c. search needs)
     (λ c. search needs)
-    (λ c. search needs)
-    (λ c. search needs)
-    (λ c. search needs)
     (λ c κs. search needs)
-    (λ c. valued.names-whole ((c .before .before .before .before .before .before .before .before .before .args .s .now)) (length-replicate {A = ℕ} 1024 0) ((c .before .before .before .named .ensures))))
+    (λ c. valued.names-limited ((c .before .before .before .before .before .before .before .before .args .s .now)) (length-replicate {A = ℕ} 1024 0) ((c .before .before .before .named .ensures))))

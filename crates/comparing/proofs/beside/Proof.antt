@@ -1,11 +1,8 @@
--- `comparing::beside` meets its contract: parts of the room are its first and its last numbers.
+-- `comparing::beside` meets its contract: a law for each way out. Assumes nothing.
 use Rattle.comparing.proofs.ComparedFiles as answering
 use borrow.Author.Needs.{needs}
 use Rattle.comparing.proofs.beside.Statement.{statement}
 use Rattle.comparing.proofs.beside.Tie as tie
-use Rattle.comparing.proofs.beside.Reads as reads
-use Rattle.comparing.proofs.beside.Lts as lts
-use Rattle.comparing.proofs.compared.Reads as compared-reads
 
 pub beside-spec : {M : Type 1} → statement M
 beside-spec =
@@ -18,14 +15,8 @@ beside-spec =
     (λ c. search needs)
     (λ c. search needs)
     (λ c. search needs)
+    (λ c κs. let b7 = c .before .before .before .before .before .before .before in
+    answering.lent-parts (b7 .args .first .now) (b7 .args .second .now) (b7 .args .work .now) (b7 .args .room) (b7 .args .m) (b7 .args .n) (b7 .pre .0) (b7 .pre .1) (b7 .pre .2))
     (λ c. search needs)
-    (λ c. search needs)
-    (λ c. search needs)
-    (λ c. search needs)
-    (λ c. search needs)
-    (λ c. search needs)
-    (λ c κs. let b9 = c .before .before .before .before .before .before .before .before .before in let a = b9 .args in
-    answering.lent-parts ((a .first .now)) ((a .second .now)) ((a .work .now)) ((a .room)) ((a .m)) ((a .n)) ((b9 .pre .0)) ((b9 .pre .1)) ((b9 .pre .2)))
-    (λ c. search needs)
-    (λ c. let b2 = c .before .before in let b12 = b2 .before .before .before .before .before .before .before .before .before .before in let a = b12 .args in
-    answering.lent-answered ((a .first .now)) ((a .second .now)) ((a .work .now)) ((a .room)) ((a .m)) ((a .n)) ((b12 .pre .0)) ((a .list .now)) ((b2 .compared .ensures))))
+    (λ c. let b10 = c .before .before .before .before .before .before .before .before .before .before in
+    answering.lent-answered (b10 .args .first .now) (b10 .args .second .now) (b10 .args .work .now) (b10 .args .room) (b10 .args .m) (b10 .args .n) (b10 .pre .0) (b10 .args .list .now) (c .before .before .compared .ensures)))

@@ -11,21 +11,12 @@ pub refused-spec : {M : Type 1} → statement M
 refused-spec =
     tie.close
     (tie.spec
-    (λ c. search needs)
-    (λ c. search needs)
-    (λ c. search needs)
+    (λ c κs. search needs)
+    (λ c. let a = c .before .before .before .args in
+    answers.by-its-bytes (layoutOf (a .layout)) (a .m .now) (a .start) (a .end) (a .n) (a .o) (a .c) _ (size-back (a .layout)) (omega arith) (c .unread .ensures))
     (λ c κs. search needs)
     (λ c. let a = c .before .before .before .before .args in
-    answers.by-its-bytes (layoutOf (a .layout)) (a .m .now) (a .start) (a .end) (a .n) (a .o) (a .c) _ (size-back (a .layout)) (omega arith) (c .unread .ensures))
-    (λ c. search needs)
-    (λ c. search needs)
-    (λ c. search needs)
-    (λ c κs. search needs)
-    (λ c. let a = c .before .before .before .before .before .args in
     answers.by-its-bytes (layoutOf (a .layout)) (a .m .now) (a .start) (a .end) (a .n) (a .o) (a .c) _ (size-back (a .layout)) (omega arith) (c .unread2 .ensures))
-    (λ c. search needs)
-    (λ c. search needs)
-    (λ c. search needs)
     (λ c κs. search needs)
-    (λ c. let a = c .before .before .before .before .before .args in
+    (λ c. let a = c .before .before .before .before .args in
     answers.by-its-tree (layoutOf (a .layout)) (a .m .now) (a .start) (a .end) (a .n) (a .o) (a .c) _ (size-back (a .layout)) (omega arith) (omega arith) (c .judged .ensures)))

@@ -9,4 +9,10 @@ use Rattle.explain.proofs.sound.Tie as tie
 
 pub sound-spec : {M : Type 1} → statement M
 sound-spec =
-    tie.close (tie.spec (λ c. search needs) (λ c. search needs) (λ c. search needs) (λ c. unfold explanation optionalSpan in answers.too-little ((c .before .args .objects)) ((c .before .args .components)) ((c .before .args .room)) (omega arith)) (λ c κs. search needs) (λ c. answers.enough ((c .before .before .args .objects)) ((c .before .before .args .components)) ((c .before .before .args .room)) (omega arith) _ ((c .alone .ensures))))
+    tie.close (tie.spec
+    (λ c. search needs)
+    (λ c. search needs)
+    (λ c. search needs)
+    (λ c. unfold explanation optionalSpan in answers.too-little ((c .before .args .objects)) ((c .before .args .components)) ((c .before .args .room)) (omega arith))
+    (λ c κs. search needs)
+    (λ c. answers.enough ((c .before .before .args .objects)) ((c .before .before .args .components)) ((c .before .before .args .room)) (omega arith) _ ((c .alone .ensures))))

@@ -6,22 +6,16 @@ use native.Mathlib.Omega.{arith}
 use borrow.Author.Needs.{needs}
 use Rattle.opening.proofs.names.Statement.{statement}
 use Rattle.opening.proofs.names.Tie as tie
-use Rattle.opening.proofs.names.Reads as reads
-use Rattle.opening.proofs.names.Lts as lts
-use Rattle.root.proofs.opened.Reads as opened-reads
 
 pub names-spec : {M : Type 1} → statement M
 names-spec =
     tie.close
     (tie.spec
-    (λ c. search needs)
-    (λ c. search needs)
-    (λ c. search needs)
     (λ c κs. search needs)
-    (λ c. let a = (c .before .before .before .before .args) in finding.a-fault (layoutOf (a .layout)) 0 0 (a .m .now) _ ((c .before .opened .ensures .0)) ((c .if1 .taken)))
-    (λ c. let a = (c .before .before .before .before .args) in λ (end start : ℕ). finding.malformed (layoutOf (a .layout)) end start (a .m .now) _ ((c .before .opened .ensures .0)) ((c .if1 .taken)))
-    (λ c. let a = (c .before .before .before .before .before .args) in λ (end start : ℕ). finding.left-over (layoutOf (a .layout)) end start (a .m .now) _ ((c .before .before .opened .ensures .0)) (omega arith) ((c .if2 .taken)))
+    (λ c. let a = (c .before .before .before .args) in finding.a-fault (layoutOf (a .layout)) 0 0 (a .m .now) _ ((c .before .opened .ensures .0)) ((c .if1 .taken)))
+    (λ c. let a = (c .before .before .before .args) in λ (end start : ℕ). finding.malformed (layoutOf (a .layout)) end start (a .m .now) _ ((c .before .opened .ensures .0)) ((c .if1 .taken)))
+    (λ c. let a = (c .before .before .before .before .args) in λ (end start : ℕ). finding.left-over (layoutOf (a .layout)) end start (a .m .now) _ ((c .before .before .opened .ensures .0)) (omega arith) ((c .if2 .taken)))
     (λ c. search needs)
     (λ c. search needs)
-    (λ c. let a = (c .before .before .before .before .before .before .before .before .args) in let w = (c .before .before .before .before .before .opened) in λ (end start : ℕ). finding.names-refuse (layoutOf (a .layout)) end start (a .m .now) _ (w .ensures .0) (omega arith) (omega arith) _ (w .ensures .1) _ _ _ ((c .before .v .given .1)))
-    (λ c. let a = (c .before .before .before .before .before .before .before .before .args) in let w = (c .before .before .before .before .before .opened) in λ (end start : ℕ). finding.names-pass (layoutOf (a .layout)) end start (a .m .now) _ (w .ensures .0) (omega arith) (omega arith) _ (w .ensures .1) _ _ _ _ ((c .before .v2 .given .1)) (w .ensures .2)))
+    (λ c. let a = (c .before .before .before .before .before .before .before .args) in let w = (c .before .before .before .before .before .opened) in λ (end start : ℕ). finding.names-refuse (layoutOf (a .layout)) end start (a .m .now) _ (w .ensures .0) (omega arith) (omega arith) _ (w .ensures .1) _ _ _ ((c .before .v .given .1)))
+    (λ c. let a = (c .before .before .before .before .before .before .before .args) in let w = (c .before .before .before .before .before .opened) in λ (end start : ℕ). finding.names-pass (layoutOf (a .layout)) end start (a .m .now) _ (w .ensures .0) (omega arith) (omega arith) _ (w .ensures .1) _ _ _ _ ((c .before .v2 .given .1)) (w .ensures .2)))

@@ -9,4 +9,6 @@ use Rattle.reader.proofs.accept.Statement.{statement}
 use Rattle.reader.proofs.accept.Tie as tie
 
 pub accept-spec : {M : Type 1} → statement M
-accept-spec = tie.close (tie.spec (λ c κs. search needs) (λ c. (c .accept-as .ensures) ∙ ap (λ (L : Layout). verdict (reading L (c .before .before .args .file .now))) at-zero))
+accept-spec = tie.close (tie.spec
+    (λ c κs. search needs)
+    (λ c. (c .accept-as .ensures) ∙ ap (λ (L : Layout). verdict (reading L (c .before .before .args .file .now))) at-zero))

@@ -4,10 +4,6 @@ use mathlib.Core.Path.{refl}
 use borrow.Author.Needs.{needs}
 use Rattle.rescuer.proofs.lay.Statement.{statement}
 use Rattle.rescuer.proofs.lay.Tie as tie
-use Rattle.rescuer.proofs.lay.Reads as reads
-use Rattle.rescuer.proofs.lay.Lts as lts
-use Rattle.sieve.proofs.sift.Reads as sift-reads
-use Rattle.writer.proofs.write.Reads as write-reads
 
 pub lay-spec : {M : Type 1} → statement M
 lay-spec =
@@ -18,15 +14,12 @@ lay-spec =
     (λ c. search needs)
     (λ c. search needs)
     (λ c κs. search needs)
-    (λ c. search needs)
-    (λ c. search needs)
-    (λ c. search needs)
     (λ c κs. search needs)
     (λ c. search needs)
     (λ c. search needs)
     (λ c. search needs)
     (λ c.
-    let s = c .before .before .before .before .before .before .before .before .before .before in
+    let s = c .before .before .before .before .before .before .before .before .before in
     let p = s .before .before .before .before .before .before .before .before .pre in
     let h = s .sift .ensures .0 in
     (laying.output-is (p .0) (p .1) refl h (c .before .before .write .ensures .0), (laying.list-is (p .0) (p .1) refl h, laying.still-long (p .0) (p .1) refl h))))

@@ -3,8 +3,6 @@ use Rattle.finding.proofs.Rows as rows
 use borrow.Author.Needs.{needs}
 use Rattle.finding.proofs.table.due.Statement.{statement}
 use Rattle.finding.proofs.table.due.Tie as tie
-use Rattle.finding.proofs.table.due.Reads as reads
-use Rattle.finding.proofs.table.due.Lts as lts
 
 pub due-spec : {M : Type 1} → statement M
 due-spec =

@@ -8,4 +8,10 @@ use Rattle.reader.proofs.into.ahead.Tie as tie
 pub ahead-spec : {M : Type 1} → statement M
 unfolding ahead
 ahead-spec =
-    tie.close (tie.spec (λ c. search needs) (λ c. search needs) (λ c. search needs) (λ c. search needs) (λ c. answers.ahead-last _ _ _ (c .if1 .taken)) (λ c. search needs))
+    tie.close (tie.spec
+    (λ c. search needs)
+    (λ c. search needs)
+    (λ c. search needs)
+    (λ c. search needs)
+    (λ c. answers.ahead-last _ _ _ (c .if1 .taken))
+    (λ c. search needs))

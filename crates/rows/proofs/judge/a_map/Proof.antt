@@ -1,11 +1,6 @@
 -- `rows::judge::a_map` meets its contract: a law for each branch.
-use borrow.Rule.Slice.PartAt.{part-to-end}
 use native.Mathlib.Omega.{arith}
-use mathlib.Core.Path.{ap, sym, _∙_}
-use mathlib.Core.List.{List}
-use Prim.Native.Nat.{ℕ}
-use Rattle.cbor.specs.Ending.{code, ending}
-use Rattle.meaning.specs.Read.{item, noNote}
+use mathlib.Core.Path.{sym, _∙_}
 use Rattle.rows.proofs.Judged as law
 use borrow.Author.Needs.{needs}
 use Rattle.rows.proofs.judge.a_map.Statement.{statement}
@@ -20,17 +15,14 @@ a-map-spec =
     (λ c κs. search needs)
     (λ c. let b3 = c .before .before .before in let a = b3 .before .before .args in
     law.other-no-map ((a .levels)) ((a .s .now)) ((b3 .if1 .left)) (λ e. (c .if2 .taken) ((c .before .major-of .ensures) ∙ e)))
-    (λ c. search needs)
-    (λ c. search needs)
-    (λ c. search needs)
     (λ c κs. search needs)
-    (λ c. let a = c .before .before .before .before .before .before .before .before .args in
-    law.map-fills ((a .levels)) ((a .s .now)) ((c .before .before .before .before .before .before .if1 .left))
-    (sym ((c .before .before .before .before .major-of .ensures)) ∙ (c .before .before .before .if2 .left))
-    (let g = ((c .before .before .before .before .before .before .before .before .good)) in omega arith) ((c .before .skip .result))
-    ((c .before .skip .ensures) ∙ ap (λ (s : List ℕ). code (ending s (item noNote ((a .levels)) s))) (part-to-end ((a .s .now)) 0)) ((c .if3 .taken)))
-    (λ c. let a = c .before .before .before .before .before .before .before .before .args in
-    law.by-deep ((a .levels)) ((a .s .now)) ((c .before .before .before .before .before .before .if1 .left))
-    (sym ((c .before .before .before .before .major-of .ensures)) ∙ (c .before .before .before .if2 .left))
-    (let g = ((c .before .before .before .before .before .before .before .before .good)) in omega arith) ((c .before .skip .result))
-    ((c .before .skip .ensures) ∙ ap (λ (s : List ℕ). code (ending s (item noNote ((a .levels)) s))) (part-to-end ((a .s .now)) 0)) ((c .if3 .left))))
+    (λ c. let a = c .before .before .before .before .before .before .before .args in
+    law.map-fills ((a .levels)) ((a .s .now)) ((c .before .before .before .before .before .if1 .left))
+    (sym ((c .before .before .before .major-of .ensures)) ∙ (c .before .before .if2 .left))
+    (let g = ((c .before .before .before .before .before .before .before .good)) in omega arith) ((c .before .skip .result))
+    ((c .before .skip .ensures)) ((c .if3 .taken)))
+    (λ c. let a = c .before .before .before .before .before .before .before .args in
+    law.by-deep ((a .levels)) ((a .s .now)) ((c .before .before .before .before .before .if1 .left))
+    (sym ((c .before .before .before .major-of .ensures)) ∙ (c .before .before .if2 .left))
+    (let g = ((c .before .before .before .before .before .before .before .good)) in omega arith) ((c .before .skip .result))
+    ((c .before .skip .ensures)) ((c .if3 .left))))

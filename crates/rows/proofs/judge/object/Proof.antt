@@ -1,12 +1,6 @@
 -- `rows::judge::object` meets its contract: a law for each branch.
-use borrow.Rule.Slice.PartAt.{part-to-end}
 use borrow.Author.Tests.{not-true, not-false}
-use mathlib.Core.Path.{ap, sym, _∙_}
-use lib.ListN.{getD}
-use mathlib.Core.List.{List}
-use Prim.Native.Nat.{ℕ}
-use Rattle.meaning.specs.Columns.{attributesColumn, attributesLengthColumn}
-use Rattle.meaning.specs.Sound.{attributesSound}
+use mathlib.Core.Path.{sym, _∙_}
 use Rattle.rows.proofs.Judged as law
 use borrow.Author.Needs.{needs}
 use Rattle.rows.proofs.judge.object.Statement.{statement}
@@ -32,19 +26,7 @@ object-spec =
     (sym ((c .before .inside2 .ensures)) ∙ not-true _ ((c .if3 .taken))))
     (λ c. search needs)
     (λ c. search needs)
-    (λ c. search needs)
-    (λ c. search needs)
-    (λ c. search needs)
     (λ c κs. search needs)
-    (λ c. (c .attributes .ensures) ∙ ap (λ (b : List ℕ). attributesSound b 29
-    (record {
-      place = getD ((c .before .before .before .before .before .before .before .before .before .before .before .before .before .before .before .before .args .row .now)) attributesColumn 0;
-      size = getD
-          ((c .before .before .before .before .before .before .before .before .before .before .before .before .before .before .before .before .args .row .now)) attributesLengthColumn 0;
-    }))
-    (part-to-end ((c .before .before .before .before .before .before .before .before .before .before .before .before .before .before .before .before .args .buffer .now)) 0) ∙ law.object-attributes
-    ((c .before .before .before .before .before .before .before .before .before .before .before .before .before .before .before .before .args .buffer .now))
-    ((c .before .before .before .before .before .before .before .before .before .before .before .before .before .before .before .before .args .row .now))
-    (sym ((c .before .before .before .before .before .before .before .before .before .before .before .inside .ensures)) ∙ not-false _
-    ((c .before .before .before .before .before .before .before .before .before .before .if1 .left))) ((c .before .before .before .before .before .before .before .before .if2 .left))
-    (sym ((c .before .before .before .before .before .inside2 .ensures)) ∙ not-false _ ((c .before .before .before .before .if3 .left)))))
+    (λ c. let b3 = c .before .before .before in let b4 = b3 .before in let b7 = b4 .before .before .before in let b9 = b7 .before .before in let b10 = b9 .before in
+    let a = b10 .before .before .before .before .before .args in
+    (c .attributes .ensures) ∙ law.object-attributes ((a .buffer .now)) ((a .row .now)) (sym ((b10 .inside .ensures)) ∙ not-false _ ((b9 .if1 .left))) ((b7 .if2 .left)) (sym ((b4 .inside2 .ensures)) ∙ not-false _ ((b3 .if3 .left)))))

@@ -1,9 +1,10 @@
 -- `rows::judge::objects` meets its contract: the invariant says what the rows that are left give.
 use Rattle.meaning.specs.Columns.{objectWidth}
-use Rattle.rows.proofs.Lent.{lent-both}
-use mathlib.Core.Path.{_≡_, refl, sym, _∙_}
+use borrow.Rule.Slice.PartAt.{part-to-end}
+use mathlib.Core.List.{List}
+use mathlib.Core.Path.{_≡_, refl, ap, sym, _∙_}
 use lib.ListN.{length, drop}
-use Prim.Native.Nat.{_+_, _*_, _≤_}
+use Prim.Native.Nat.{ℕ, _+_, _*_, _≤_}
 use Rattle.meaning.specs.Sound.{objectSound}
 use Rattle.meaning.specs.Asked.{eachRow, askedObject}
 use Rattle.meaning.specs.Text.{all}
@@ -29,17 +30,14 @@ objects-spec =
     (λ c. search needs)
     (λ c. search needs)
     (λ c. search needs)
-    (λ c. search needs)
-    (λ c. search needs)
-    (λ c. search needs)
     (λ c κs. search needs)
     (λ c. search needs)
     (λ c. search needs)
     (λ c. search needs)
-    (λ c. let b4 = c .before .before .before .before in let b5 = b4 .before in let l = b5 .loop in let a = b5 .before .before .before .args in
-    (search needs, (l .inv .1) ∙ law.all-go (objectSound ((a .buffer .now))) askedObject objectWidth ((l .left)) ((l .at)) ((a .rows .now)) ((b4 .loop-test .taken)) (sym (lent-both ((a .buffer .now)) ((a .rows .now)) ((l .at)) (λ b r. objectSound b (askedObject r))) ∙ sym ((c .before .object .ensures)) ∙ (c .if1 .taken))))
-    (λ c. let b4 = c .before .before .before .before in let b5 = b4 .before in let l = b5 .loop in let a = b5 .before .before .before .args in
+    (λ c. let b3 = c .before .before .before in let b4 = b3 .before in let l = b4 .loop in let a = b4 .before .before .before .args in
+    (search needs, (l .inv .1) ∙ law.all-go (objectSound ((a .buffer .now))) askedObject objectWidth ((l .left)) ((l .at)) ((a .rows .now)) ((b3 .loop-test .taken)) (sym (ap (λ (r : List ℕ). objectSound ((a .buffer .now)) (askedObject r)) (part-to-end ((a .rows .now)) ((l .at)))) ∙ sym ((c .before .object .ensures)) ∙ (c .if1 .taken))))
+    (λ c. let b3 = c .before .before .before in let b4 = b3 .before in let l = b4 .loop in let a = b4 .before .before .before .args in
     sym
-    ((l .inv .1) ∙ law.all-stop (objectSound ((a .buffer .now))) askedObject objectWidth ((l .left)) ((l .at)) ((a .rows .now)) ((b4 .loop-test .taken)) (sym (lent-both ((a .buffer .now)) ((a .rows .now)) ((l .at)) (λ b r. objectSound b (askedObject r))) ∙ sym ((c .before .object .ensures)) ∙ (c .if1 .left))))
+    ((l .inv .1) ∙ law.all-stop (objectSound ((a .buffer .now))) askedObject objectWidth ((l .left)) ((l .at)) ((a .rows .now)) ((b3 .loop-test .taken)) (sym (ap (λ (r : List ℕ). objectSound ((a .buffer .now)) (askedObject r)) (part-to-end ((a .rows .now)) ((l .at)))) ∙ sym ((c .before .object .ensures)) ∙ (c .if1 .left))))
     (λ c. let l = c .before .loop in let a = c .before .before .before .before .args in
     sym ((l .inv .1) ∙ law.all-of-none (objectSound ((a .buffer .now))) askedObject objectWidth ((l .left)) ((l .at)) ((a .rows .now)) ((c .loop-test .left)))))
