@@ -21,4 +21,7 @@ bytes-line-spec =
     (λ c κs. tt)
     (λ c κs. tt)
     (λ c. search needs)
-    (λ c. unfold line blanked bytesLine in writing.then (c .before .before .before .before .before .before .before .before .before .before .before .before .before .before .before .before .before .before .before .before .before .numbered .ensures) (writing.then (c .before .before .before .before .before .before .before .before .before .before .before .before .before .before .before .before .numbered2 .ensures) (writing.then (c .before .before .before .before .before .before .before .before .before .before .before .numbered3 .ensures) (writing.then (c .before .before .before .before .before .before .numbered4 .ensures) (c .before .before .byte .ensures))))))
+    (λ c. unfold line blanked bytesLine in writing.then (c .before .before .before .before .before .before .before .before .before .before .before .before .before .before .before .before .before .before .before .before .before .numbered .ensures)
+    (writing.then (c .before .before .before .before .before .before .before .before .before .before .before .before .before .before .before .before .numbered2 .ensures)
+    (writing.then (c .before .before .before .before .before .before .before .before .before .before .before .numbered3 .ensures)
+    (writing.then (c .before .before .before .before .before .before .numbered4 .ensures) (c .before .before .byte .ensures))))))
