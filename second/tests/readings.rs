@@ -1,6 +1,7 @@
 //! The decided readings of document 01, one test each; the item's number stands in its comment.
 //! The writer's items are in `readings_writer.rs`.
 
+#[path = "common/mod.rs"]
 mod common;
 
 #[path = "readings/acceptance.rs"]

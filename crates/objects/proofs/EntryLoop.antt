@@ -1,40 +1,36 @@
 -- A turn of the loop over the entries of the `objects` map: what was noted of the pairs passed, and of one more.
-use Prim.Native.Nat.{ℕ, _+_, _≤_}
+use Prim.Native.Nat.{ℕ, _+_, _-_, _≤_}
 use native.Mathlib.Omega.{arith}
-use mathlib.Core.List.{List, [], _∷_, _++_}
+use mathlib.Core.List.{List, []}
 use mathlib.Core.Bool.{Bool, true, false}
-use mathlib.Core.Path.{_≡_, refl, sym, subst}
-use lib.ListN.{length, drop}
+use mathlib.Core.Path.{_≡_, refl, _∙_}
+use lib.ListN.{length}
 use borrow.Rule.Slice.PartAt.{part-to-end}
+use Rattle.meaning.specs.Columns.{objectWidth}
 use Rattle.meaning.specs.Tree.{Pair}
 use Rattle.meaning.specs.Rows.{componentCount}
 use Rattle.meaning.specs.Layouts.{Layout, layoutOf}
-use Rattle.walk.specs.Reading.{Ends, Reads}
+use Rattle.cbor.specs.Ending.{code, itemEnd}
+use Rattle.walk.specs.Reading.{Ends}
+use Rattle.walk.specs.Places.{EntryIs}
+use Rattle.walk.specs.declared.Entry.{Entry}
+use Rattle.walk.specs.declared.Entry.the-variants.{Value}
+use Rattle.walk.proofs.Passed as passed
 use Rattle.walk.proofs.Passed.{Here, Passed}
 use Rattle.naming.specs.NotedNames.{tally, Noted}
 use Rattle.naming.specs.declared.Tally.{Tally}
 use Rattle.naming.proofs.NameNoted.{none-noted}
-use Rattle.table.specs.Objects.{ObjectsLaid}
+use Rattle.table.specs.Objects.{WholePut, ObjectsLaid}
+use Rattle.table.proofs.ObjectLoop.{one-more-laid}
 use Rattle.object.specs.declared.Judged.{Judged}
 use Rattle.objects.specs.declared.First.{First}
 use Rattle.objects.specs.declared.First.the-variants.{Fine}
-use Rattle.objects.specs.Firsts.{entries, OneIs, Keeps, Kept}
+use Rattle.objects.specs.Firsts.{entries, OneIs, Beyond, Keeps, Kept}
+use Rattle.objects.proofs.Laying.{onward}
 
 pub none-kept : (deep : Bool) (L : Layout) (start : ℕ) (s left size : List ℕ) → length size ≡ length left → Kept deep L start s (tally 0 false false) left size (Fine 0) []
 unfolding entries componentCount
 none-kept deep L start s left size e = record { named = none-noted s left size e; judged = record { found = []; passed = refl; few = omega arith; totals = λ l. refl } }
-
-module _ (deep : Bool) (L : Layout) (start : ℕ) (s : List ℕ) (at k : ℕ) (inside : at + k ≤ length s) (names names′ : Tally) (left left′ size size′ : List ℕ) (first first′ : First) (v : Judged)
-    (judged : OneIs deep L (Here s (at + k)) start v) (keeps : Keeps v (names .count) first first′) (noted : Noted (Here s at) names left size names′ left′ size′) where
-  pub one-more-kept : (done : List (Pair Ends)) (p : Pair Ends) (q r : List ℕ) → Reads 30 (drop at s) (p .key) q → Reads 30 (drop (at + k) s) (p .value) r
-      → Kept deep L start s names left size first done → Kept deep L start s names′ left′ size′ first′ (done ++ p ∷ [])
-  one-more-kept done p q r key value kept =
-      let a : Reads 30 (Here s at) (p .key) q = subst (λ u. Reads 30 u (p .key) q) (sym (part-to-end s at)) key in
-      let b : Reads 30 (Here s (at + k)) (p .value) r = subst (λ u. Reads 30 u (p .value) r) (sym (part-to-end s (at + k))) value in
-      record {
-        named = noted .1 s at (omega arith) (part-to-end s at) done 29 p q a (kept .named);
-        judged = keeps deep L start done p (Here s (at + k)) r b judged (kept .named .counted) (kept .judged);
-      }
 
 -- what was noted of the pairs passed, and the table
 pub record SoFar (deep : Bool) (layout start end from : ℕ) (s : List ℕ) (names : Tally) (left size : List ℕ) (first : First) (before : List ℕ) (row next : ℕ) (t : List ℕ) (done : List (Pair Ends)) : Type 0 where
@@ -47,3 +43,28 @@ pub record Looping (deep : Bool) (layout start end from mode count : ℕ) (s bef
   pub slots : length left ≡ length left₀
   pub room : length rows ≡ 64
   pub long : length t ≡ length before
+
+-- a turn, in the code's terms: the value at `at + k`, which takes e bytes, is judged as v
+module _ {deep : Bool} {layout start end from mode count : ℕ} {s before : List ℕ} {at n : ℕ} {names : Tally} {left₀ left size : List ℕ} {first : First} {rows : List ℕ} {row next : ℕ} {t : List ℕ}
+    (w : Looping deep layout start end from mode count s before at n names left₀ left size first rows row next t) {x : Entry} (h : EntryIs 30 mode n (Here s at) x) {k : ℕ} (is : x ≡ Value k)
+    {e : ℕ} (ended : e ≡ code (itemEnd 30 (Here s (at + k)))) (l : e ≤ length s - (at + k)) where
+  pub loops-on : {v : Judged} → OneIs deep (layoutOf layout) (Here s (at + k)) start v
+      → {t′ : List ℕ} → (deep ≡ true → WholePut layout (Here s at) (Here s (at + k)) start end (names .count) row next t t′) → length t′ ≡ length t
+      → {rows′ : List ℕ} → length rows′ ≡ length rows → {first′ : First} → Keeps v (names .count) first first′
+      → {row′ : ℕ} → (row + objectWidth ≤ length t′ → row′ ≡ row + objectWidth) → {next′ : ℕ} → Beyond v next (length t′) next′
+      → {names′ : Tally} {left′ size′ : List ℕ} → Noted (Here s at) names left size names′ left′ size′
+      → Looping deep layout start end from mode count s before (at + k + e) (n - 2) names′ left₀ left′ size′ first′ rows′ row′ next′ t′
+  loops-on judged put same room keeps further beyond noted =
+      let inside = passed.value-inside (w .walking) h is in
+      record {
+        walking = passed.one-more-lent (w .walking) h is ended l (λ done p key value so. record {
+          kept = record {
+            named = noted .1 s at (omega (arith, inside)) (part-to-end s at) done 29 p _ key (so .kept .named);
+            judged = keeps deep (layoutOf layout) start done p _ _ value judged (so .kept .named .counted) (so .kept .judged);
+          };
+          laid = λ d. one-more-laid layout start (Here s at) (Here s (at + k)) (w .long) (put d) same further (onward layout start (Here s (at + k)) next d judged beyond) p key value (so .kept .named .counted) (so .laid d);
+        });
+        slots = noted .0 ∙ w .slots;
+        room = room ∙ w .room;
+        long = same ∙ w .long;
+      }

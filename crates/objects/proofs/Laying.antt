@@ -43,10 +43,10 @@ module _ (v : Judged) (from room : ℕ) where
       subst (λ i. from + componentWidth * i ≤ room → r ≡ from + componentWidth * i) same h fits
 
 -- the verdict on an object says how many rows its components have
-pub onward : (layout start : ℕ) (c : List ℕ) (deep : Bool) → deep ≡ true → (v : Judged) → OneIs deep (layoutOf layout) c start v → (next room next′ : ℕ) → Beyond v next room next′
+pub onward : (layout start : ℕ) (c : List ℕ) (next : ℕ) {deep : Bool} → deep ≡ true → {v : Judged} → OneIs deep (layoutOf layout) c start v → {room next′ : ℕ} → Beyond v next room next′
     → Onward layout start c next room next′
 unfolding judging
-onward layout start c true d v one next room next′ beyond t q r w o passes fits =
+onward layout start c next {deep = true} d one beyond t q r w o passes fits =
     let n : Named Ends = record { name = w; value = t } in
     beyond _ (one t q r w ∙ ap object.judged passes) (few-in-judging true (layoutOf layout) start n o passes) fits
-onward layout start c false d v one next room next′ beyond t q r w o passes fits = absurd (let z : _≡_ {A = ℕ} 0 1 = cc in omega arith)
+onward layout start c next {deep = false} d one beyond t q r w o passes fits = absurd (let z : _≡_ {A = ℕ} 0 1 = cc in omega arith)

@@ -1,5 +1,5 @@
 -- One object more, judged for itself: what is kept and dropped, the sums, the table and the list are those of one verdict more.
-use Prim.Native.Nat.{ℕ, suc, _+_, _*_, _≤_, _<_}
+use Prim.Native.Nat.{ℕ, suc, _+_, _-_, _*_, _≤_, _<_}
 use native.Mathlib.Nat.{zero-add}
 use native.Mathlib.Omega.{arith}
 use mathlib.Core.List.{List, [], _∷_, _++_, map, append-nil, append-assoc}
@@ -23,11 +23,15 @@ use Rattle.meaning.specs.Rows.{objectRow, objectRows, rowsOf, componentRows, co
 use Rattle.meaning.proofs.Checks.{pass-same}
 use Rattle.meaning.proofs.Lengths.{object-length, objects-length, components-length, count-snoc}
 use Rattle.meaning.specs.Every.{Every}
+use Rattle.cbor.specs.Ending.{code, itemEnd}
 use Rattle.walk.specs.Reading.{Ends, Reads}
-use Rattle.walk.specs.Places.{MapIs}
+use Rattle.walk.specs.Places.{MapIs, EntryIs}
 use Rattle.walk.specs.declared.Opening.{Opening}
 use Rattle.walk.specs.declared.Opening.the-variants.{NotOpen, Opened}
+use Rattle.walk.specs.declared.Entry.{Entry}
+use Rattle.walk.specs.declared.Entry.the-variants.{Value}
 use Rattle.walk.proofs.Opens as opens
+use Rattle.walk.proofs.Passed as walked
 use Rattle.walk.proofs.Passed.{Here, Passed}
 use Rattle.naming.proofs.NameNoted.{map-snoc}
 use Rattle.object.specs.Verdict.{ObjectIs, judged}
@@ -229,18 +233,17 @@ none-sieved layout start end fill from t list ks e few =
       lists = λ f room. refl;
     })
 
-module _ (layout start end : ℕ) (fill : Bool) (from : ℕ) (before list₀ s : List ℕ) (place k : ℕ) (have : Sieve) (t list : List ℕ) (z : Sieve) (t′ list′ : List ℕ) (same-t : length t ≡ length before) (same-list : length list ≡ length list₀)
-    (steps : Steps layout (Here s place) (Here s (place + k)) start end fill from have t list z t′ list′) where
-  pub one-more-sieved : (done : List (Pair Ends)) (x : Pair Ends) (u r : List ℕ) → Reads 30 (drop place s) (x .key) u → Reads 30 (drop (place + k) s) (x .value) r
+-- one more object, whose key begins s and whose value begins c
+module _ (layout start : ℕ) (s c : List ℕ) {end : ℕ} {fill : Bool} {from : ℕ} {before list₀ : List ℕ} {have : Sieve} {t list : List ℕ} {z : Sieve} {t′ list′ : List ℕ} (same-t : length t ≡ length before) (same-list : length list ≡ length list₀)
+    (steps : Steps layout s c start end fill from have t list z t′ list′) where
+  one-more-sieved : {done : List (Pair Ends)} (x : Pair Ends) {u r : List ℕ} → Reads 30 s (x .key) u → Reads 30 c (x .value) r
       → Sieved layout start end fill from before list₀ have t list done → Sieved layout start end fill from before list₀ z t′ list′ (done ++ x ∷ [])
-  one-more-sieved done x u r key value sieved ks e few =
+  one-more-sieved {done} x {u} {r} key value sieved ks e few =
       let l = entering.last-entered (own layout start) done x ks e in
       let size : length ks ≡ length (l .front) + 1 = ap length (l .are) ∙ length-append (l .front) (l .last ∷ []) in
-      let a : Reads 30 (Here s place) (x .key) u = subst (λ v. Reads 30 v (x .key) u) (sym (part-to-end s place)) key in
-      let b : Reads 30 (Here s (place + k)) (x .value) r = subst (λ v. Reads 30 v (x .value) r) (sym (part-to-end s (place + k))) value in
       let own-is : object (layoutOf layout) start (l .name) ≡ l .last = pass-same (l .last-is) in
       let old = sieved (l .front) (l .before) (omega (arith, few, size)) in
-      let new = steps x 29 u r a b (l .name) (l .name-is) before list₀ (l .front) same-t same-list (omega (arith, few, size)) old in
+      let new = steps x 29 u r key value (l .name) (l .name-is) before list₀ (l .front) same-t same-list (omega (arith, few, size)) old in
       subst (SieveOf end fill from before list₀ z t′ list′) (ap (λ (q : Check (Object Ends)). l .front ++ q ∷ []) own-is ∙ sym (l .are)) new
 
 -- ---- the loop
@@ -251,6 +254,18 @@ pub record Looping (layout start end mode count : ℕ) (fill : Bool) (from : ℕ
   pub long : length t ≡ length before
   pub listed : length list ≡ length list₀
   pub bounded : Bounded have
+
+-- a turn, in the code's terms: the value at `at + k` takes e bytes
+module _ {layout start end mode count : ℕ} {fill : Bool} {from : ℕ} {s before list₀ : List ℕ} {at due : ℕ} {have : Sieve} {t list : List ℕ} (w : Looping layout start end mode count fill from s before list₀ at due have t list)
+    {x : Entry} (h : EntryIs 30 mode due (Here s at) x) {k : ℕ} (is : x ≡ Value k) {e : ℕ} (ended : e ≡ code (itemEnd 30 (Here s (at + k)))) (l : e ≤ length s - (at + k)) where
+  pub loops-on : {z : Sieve} {t′ list′ : List ℕ} → Steps layout (Here s at) (Here s (at + k)) start end fill from have t list z t′ list′ → Bounded z → length t′ ≡ length t → length list′ ≡ length list
+      → Looping layout start end mode count fill from s before list₀ (at + k + e) (due - 2) z t′ list′
+  loops-on steps bounded long listed = record {
+    walking = walked.one-more-lent (w .walking) h is ended l (λ done x key value so. one-more-sieved layout start (Here s at) (Here s (at + k)) (w .long) (w .listed) steps x key value so);
+    long = long ∙ w .long;
+    listed = listed ∙ w .listed;
+    bounded = bounded;
+  }
 
 -- ---------------------------------------------------------------- the whole map, lent whole to `walk::map`, which answered x
 

@@ -2,7 +2,7 @@
 use Prim.Native.Nat.{ℕ, _+_, _≤_, _<_}
 use native.Mathlib.Omega.{arith}
 use mathlib.Core.List.{List, [], _∷_}
-use mathlib.Core.Path.{_≡_, refl, ap, ap₂, sym, _∙_, subst}
+use mathlib.Core.Path.{_≡_, refl, ap, sym, _∙_, subst}
 use lib.ListN.{length}
 use lib.Seq.{sets}
 use borrow.Rule.Slice.PartAt.{part-to-end}
@@ -26,7 +26,7 @@ use Rattle.component.specs.Value.{leftWord, given}
 use Rattle.component.specs.Verdict.{judged}
 use Rattle.component.specs.declared.Judged.{Judged}
 use Rattle.component.specs.declared.Judged.the-variants.{No, Yes}
-use Rattle.table.specs.Stored.{RoleIs, storedAs}
+use Rattle.table.specs.Stored.{StorageIs, storedAs}
 use Rattle.table.proofs.Storage.{withCode, stored-so}
 use Rattle.table.proofs.Lettered.{named-so, type-at, digest-at, entered-so}
 use Rattle.fields.proofs.Texts.{Here}
@@ -104,23 +104,23 @@ module _ (layout format : ℕ) (s c : List ℕ) (room : length c < FAULT) (v : J
       absurd (let z : _≡_ {A = ℕ} 0 1 = cc in omega arith)
 
   pub a-row : (code t o l g : ℕ) → v ≡ Yes code t o l g → (x y z w : Span) → SpeltIs (Here s 0) end x → SpeltAt (Here c 0) t end y → SpeltAt (Here c 0) g end z → WholeFrom (Here c 0) size end w
-      → (called : ℕ) → RoleIs (Here s 0) called → (kept : ℕ) → kept ≡ storedAs layout format called code
+      → (kept : ℕ) → StorageIs layout format s code kept
       → after ≡ sets before i (twelve (spanned x) kept (spanned y) o l (spanned z) owner (spanned w)) → RowPut layout format s c v size end owner i before after
   unfolding componentRow
-  a-row code t o l g e x y z w sx sy sz sw called role kept stored put above start says p d q r key value sized n name f fm has k passes =
+  a-row code t o l g e x y z w sx sy sz sw kept stored put above start says p d q r key value sized n name f fm has k passes =
       let so = named-pair p n name in
       let A = inherited f (given above) (n .name .letters) in
       let own = own-of layout format above start n f fm has k passes in
       let is : component (layoutOf layout) start A (record { name = n .name; value = p .value }) ≡ pass k = ap (component (layoutOf layout) start A) (sym (so .is)) ∙ passes in
       let j : Yes code t o l g ≡ judged (pass (own .own)) = sym e ∙ says (p .value) r value (n .name) ∙ ap judged (ap (component (layoutOf layout) start (given above)) (sym (so .is)) ∙ own .is) in
-      let called-is : called ≡ position roleNames (n .name .letters) =
-      subst (λ u. RoleIs u called) (part-to-end s 0) role d (p .key) q key ∙ ap (λ w. position roleNames (w .letters)) (so .anyway) in
+      let kept-is : kept ≡ storedAs layout format (position roleNames (n .name .letters)) code =
+      stored d (p .key) q key ∙ ap (λ w. storedAs layout format (position roleNames (w .letters)) code) (so .anyway) in
       let own-code : code ≡ own .own .dtype = cc in
       let own-type : leftWord (own .own .type) ≡ t = cc in
       let own-offset : o ≡ own .own .offset = cc in
       let own-length : l ≡ own .own .length = cc in
       let own-digest : leftWord (own .own .digest) ≡ g = cc in
-      let code-is : kept ≡ k .dtype = stored ∙ ap₂ (storedAs layout format) called-is own-code ∙ ap (λ (c : Component Ends). c .dtype) (own .recoded) in
+      let code-is : kept ≡ k .dtype = kept-is ∙ ap (storedAs layout format (position roleNames (n .name .letters))) own-code ∙ ap (λ (c : Component Ends). c .dtype) (own .recoded) in
       let type-is : leftWord (k .type) ≡ t = ap (λ (c : Component Ends). leftWord (c .type)) (sym (own .recoded)) ∙ own-type in
       let offset-is : o ≡ k .offset = own-offset ∙ ap (λ (c : Component Ends). c .offset) (own .recoded) in
       let length-is : l ≡ k .length = own-length ∙ ap (λ (c : Component Ends). c .length) (own .recoded) in

@@ -90,12 +90,13 @@ unfolding objectRows componentRows componentCount
 none-laid layout start end from before os h low room =
     let z = entering.none-entered (entry layout start) os h in subst (Laid end from before 0 from before) (sym z) (record { row-is = refl; next-is = omega arith; after-is = refl })
 
-module _ (layout start end from : ℕ) (before s : List ℕ) (place k n row row′ next next′ : ℕ) (after after′ : List ℕ) (kept : length after ≡ length before)
-    (put : WholePut layout (Here s place) (Here s (place + k)) start end n row next after after′) (room : ℕ) (roomy : room ≡ length after′) (kept′ : length after′ ≡ length after)
-    (further : row + objectWidth ≤ room → row′ ≡ row + objectWidth) (onward : Onward layout start (Here s (place + k)) next room next′) where
-  pub one-more-laid : (done : List (Pair Ends)) (p : Pair Ends) (q r : List ℕ) → Reads 30 (drop place s) (p .key) q → Reads 30 (drop (place + k) s) (p .value) r
+-- the key begins s and the value begins c
+module _ (layout start : ℕ) (s c : List ℕ) {end from n row row′ next next′ : ℕ} {before after after′ : List ℕ} (same : length after ≡ length before)
+    (put : WholePut layout s c start end n row next after after′) (same′ : length after′ ≡ length after)
+    (further : row + objectWidth ≤ length after′ → row′ ≡ row + objectWidth) (onward : Onward layout start c next (length after′) next′) where
+  pub one-more-laid : {done : List (Pair Ends)} (p : Pair Ends) {q r : List ℕ} → Reads 30 s (p .key) q → Reads 30 c (p .value) r
       → n ≡ length done → ObjectsLaid layout start end from before row next after done → ObjectsLaid layout start end from before row′ next′ after′ (done ++ p ∷ [])
-  one-more-laid done p q r key value counted laid os h low fits =
+  one-more-laid {done} p {q} {r} key value counted laid os h low fits =
       let l = entering.last-entered (entry layout start) done p os h in
       let size : length os ≡ length (l .front) + 1 = ap length (l .are) ∙ length-append (l .front) (l .last ∷ []) in
       let many : componentCount os ≡ componentCount (l .front) + length (l .last .components) = ap componentCount (l .are) ∙ count-snoc (l .front) (l .last) in
@@ -104,13 +105,11 @@ module _ (layout start end from : ℕ) (before s : List ℕ) (place k n row row�
       let old = laid (l .front) (l .before) (omega arith) (omega arith) in
       let there = old .row-is in
       let then = old .next-is in
-      let a : Reads 30 (Here s place) (p .key) q = subst (λ u. Reads 30 u (p .key) q) (sym (part-to-end s place)) key in
-      let b : Reads 30 (Here s (place + k)) (p .value) r = subst (λ u. Reads 30 u (p .value) r) (sym (part-to-end s (place + k))) value in
       let passes = in-object (length done) (object (layoutOf layout) start (l .name)) (l .last) (l .last-is) in
-      let whole = put p 29 q r a b (l .name) (l .name-is) (l .last) passes (omega arith) (omega arith) in
+      let whole = put p 29 q r key value (l .name) (l .name-is) (l .last) passes (omega arith) (omega arith) in
       let on : row′ ≡ row + objectWidth = further (omega arith) in
       let next-so : next′ ≡ next + componentWidth * length (l .last .components) =
-      onward (p .value) r b (l .name .name) (l .last) (ap (object (layoutOf layout) start) (sym (named-pair p (l .name) (l .name-is) .is)) ∙ passes) (omega arith) in
+      onward (p .value) r value (l .name .name) (l .last) (ap (object (layoutOf layout) start) (sym (named-pair p (l .name) (l .name-is) .is)) ∙ passes) (omega arith) in
       let O = objectIn end (l .last) in
       let A = objectsIn end (l .front) in
       let B = componentsIn end (l .front) in

@@ -3,7 +3,7 @@ use Prim.Native.Nat.{ℕ, suc, _+_, _*_, _≤_}
 use native.Mathlib.Omega.{arith}
 use mathlib.Core.List.{List, [], _∷_, _++_, map, append-nil, append-assoc}
 use mathlib.Core.Path.{_≡_, refl, ap, ap₂, sym, _∙_, subst}
-use lib.ListN.{length, drop, length-append}
+use lib.ListN.{length, length-append}
 use lib.Seq.{sets}
 use borrow.Rule.Slice.PartAt.{part-to-end}
 use Rattle.meaning.specs.Columns.{componentWidth}
@@ -69,22 +69,21 @@ unfolding rowsOf
 none-rowed g start end owner from before f fm has cs h room =
     let z = entering.none-entered (entry (layoutOf (g .layout)) (inherited f (given (g .code))) start) cs h in subst (Laid end owner from before from before) (sym z) (record { next-is = omega arith; after-is = refl })
 
-module _ (g : Given) (start end owner from : ℕ) (before : List ℕ) (s : List ℕ) (at k : ℕ) (next next′ : ℕ) (after after′ : List ℕ) (kept : length after ≡ length before) (v : Judged)
-    (judged : ComponentIs (layoutOf (g .layout)) (given (g .code)) (Here s (at + k)) start v) (size : ℕ) (took : size ≡ code (itemEnd 28 (Here s (at + k)))) (put : RowPut (g .layout) (g .format) (Here s at) (Here s (at + k)) v size end owner next after after′) (room : ℕ) (roomy : room ≡ length after′) (kept′ : length after′ ≡ length after)
-    (further : next + componentWidth ≤ room → next′ ≡ next + componentWidth) where
-  pub one-more-rowed : (done : List (Pair Ends)) (p : Pair Ends) (q r : List ℕ) → Reads 28 (drop at s) (p .key) q → Reads 28 (drop (at + k) s) (p .value) r
+-- the key begins s and the value, judged as v, begins c
+module _ (g : Given) (start : ℕ) (s c : List ℕ) {end owner from next next′ : ℕ} {before after after′ : List ℕ} (same : length after ≡ length before) {v : Judged} (judged : ComponentIs (layoutOf (g .layout)) (given (g .code)) c start v)
+    {size : ℕ} (took : size ≡ code (itemEnd 28 c)) (put : RowPut (g .layout) (g .format) s c v size end owner next after after′) (same′ : length after′ ≡ length after)
+    (further : next + componentWidth ≤ length after′ → next′ ≡ next + componentWidth) where
+  pub one-more-rowed : {done : List (Pair Ends)} (p : Pair Ends) {q r : List ℕ} → Reads 28 s (p .key) q → Reads 28 c (p .value) r
       → Rowed g start end owner from before next after done → Rowed g start end owner from before next′ after′ (done ++ p ∷ [])
   unfolding entry
-  one-more-rowed done p q r key value rowed f fm has cs h fits =
+  one-more-rowed {done} p {q} {r} key value rowed f fm has cs h fits =
       let above = inherited f (given (g .code)) in
       let l = entering.last-entered (entry (layoutOf (g .layout)) above start) done p cs h in
       let size : length cs ≡ length (l .front) + 1 = ap length (l .are) ∙ length-append (l .front) (l .last ∷ []) in
       let old = rowed f fm has (l .front) (l .before) (omega arith) in
       let there = old .next-is in
-      let a : Reads 28 (Here s at) (p .key) q = subst (λ u. Reads 28 u (p .key) q) (sym (part-to-end s at)) key in
-      let b : Reads 28 (Here s (at + k)) (p .value) r = subst (λ u. Reads 28 u (p .value) r) (sym (part-to-end s (at + k))) value in
       let row : after′ ≡ sets after next (rowIn end owner (l .last)) =
-      put (g .code) start judged p 27 q r a b (subst (SizeIs (p .value)) (sym took) (item-size 28 (Here s (at + k)) (p .value) r b)) (l .name) (l .name-is) f fm has (l .last)
+      put (g .code) start judged p 27 q r key value (subst (SizeIs (p .value)) (sym took) (item-size 28 c (p .value) r value)) (l .name) (l .name-is) f fm has (l .last)
       (in-component (length done) (component (layoutOf (g .layout)) start (above (l .name .name .letters)) (l .name)) (l .last) (l .last-is)) in
       let on : next′ ≡ next + componentWidth = further (omega arith) in
       record {

@@ -20,3 +20,7 @@ indexed format role = eqb format 1 && (eqb role 2 || eqb role 3) || eqb format 2
 -- the code of a component that was judged with this one: in layout 1.0 an index role is u64, whatever its object's dtype
 unfoldable pub storedAs : ℕ → ℕ → ℕ → ℕ → ℕ
 storedAs layout format role code = cond (eqb layout 1 && indexed format role) 8 code
+
+-- of a component whose key begins s
+abbrev pub StorageIs : ℕ → ℕ → List ℕ → ℕ → ℕ → Type 0
+StorageIs layout format s code r = Whatever s λ d t q. r ≡ storedAs layout format (position roleNames (wordOr (noteOf t) (kind t) .letters)) code

@@ -5,8 +5,7 @@ use crate::span::Span;
 use crate::span::spelt;
 use crate::span::spelt_at;
 use crate::span::whole_from;
-use crate::stored::role;
-use crate::stored::stored;
+use crate::stored::storage;
 use component::Judged;
 ghost use mathlib.Core.Path.{_≡_};
 ghost use lib.Seq.{sets};
@@ -69,7 +68,7 @@ pub fn put_row(
             let typed = spelt_at(&c[0..], kind, end);
             let digested = spelt_at(&c[0..], digest, end);
             let entry = whole_from(&c[0..], size, end);
-            let kept = stored(layout, format, role(&s[0..]), code);
+            let kept = storage(layout, format, s, code);
             put_twelve(
                 t,
                 i,

@@ -122,6 +122,15 @@ module _ {d mode count : ℕ} {s : List ℕ} where
                   holds = step (w .done) (pairOf (key .tree) (value .tree)) (w .few) keyed valued (w .holds);
                 }
 
+            -- the same, where the step speaks of the parts that begin at the key and at the value as they are lent
+            pub one-more-lent : {Q : List (Pair Ends) → Type 0}
+                → ((done : List (Pair Ends)) (p : Pair Ends) → Reads d (Here s at) (p .key) (drop (at + k) s) → Reads d (Here s (at + k)) (p .value) (drop (at + k + e) s) → P done → Q (done ++ p ∷ []))
+                → Passed d mode count s (at + k + e) (n - 2) Q
+            one-more-lent step = one-more (λ done p few key value.
+                step done p
+                (subst (λ u. Reads d u (p .key) (drop (at + k) s)) (sym (part-to-end s at)) key)
+                (subst (λ u. Reads d u (p .value) (drop (at + k + e) s)) (sym (part-to-end s (at + k))) value))
+
 -- ---------------------------------------------------------------- where what is kept is a fold over the pairs passed
 
 pub foldl-snoc : {A S : Type 0} (f : S → A → S) (z : S) (xs : List A) (x : A) → foldl f z (xs ++ x ∷ []) ≡ f (foldl f z xs) x

@@ -68,21 +68,20 @@ window-holds end o t t′ long w is =
       is = is ∙ ap (λ (i : ℕ). sets (sets t 0 A) i B) seam ∙ sym (laying.sets-append A B t 0) ∙ sets-eq (A ++ B) t 0 fits ∙ append-assoc A B (drop (0 + length (A ++ B)) t);
     }
 
-module _ (layout start end p n from : ℕ) (before s : List ℕ) (place k q j next : ℕ) (after : List ℕ) (t t′ : List ℕ) (long : 208 ≤ length t)
-    (put : WholePut layout (Here s place) (Here s (place + k)) start end 0 0 objectWidth t t′) (q′ j′ : ℕ) (sum : Added t′ q j q′ j′)
-    (after′ : List ℕ) (named : after′ ≡ sets after next (getD t′ 0 0 ∷ getD t′ 1 0 ∷ [])) (next′ : ℕ) (further : next + 2 ≤ length before → next′ ≡ next + 2) where
-  pub one-more-summed : (done : List (Pair Ends)) (x : Pair Ends) (u r : List ℕ) → Reads 30 (drop place s) (x .key) u → Reads 30 (drop (place + k) s) (x .value) r
+-- one more object, whose key begins s and whose value begins c
+module _ (layout start : ℕ) (s c t : List ℕ) {end p n from q j next : ℕ} {before after t′ : List ℕ} (long : 208 ≤ length t) (put : WholePut layout s c start end 0 0 objectWidth t t′)
+    {q′ j′ : ℕ} (sum : Added t′ q j q′ j′) {after′ : List ℕ} (named : after′ ≡ sets after next (getD t′ 0 0 ∷ getD t′ 1 0 ∷ []))
+    {next′ : ℕ} (further : next + 2 ≤ length before → next′ ≡ next + 2) where
+  one-more-summed : {done : List (Pair Ends)} (x : Pair Ends) {u r : List ℕ} → Reads 30 s (x .key) u → Reads 30 c (x .value) r
       → Summed layout start end p n from before q j next after done → Summed layout start end p n from before q′ j′ next′ after′ (done ++ x ∷ [])
   unfolding namePairs
-  one-more-summed done x u r key value summed os e w =
+  one-more-summed {done} x {u} {r} key value summed os e w =
       let l = entering.last-entered (entry layout start) done x os e in
       let w′ : Every InWindow (l .front ++ l .last ∷ []) = subst (Every InWindow) (l .are) w in
       let own : InWindow (l .last) = snoc.every-last InWindow (l .front) (l .last) w′ in
       let old = summed (l .front) (l .before) (snoc.every-front InWindow (l .front) (l .last) w′) in
-      let a : Reads 30 (Here s place) (x .key) u = subst (λ v. Reads 30 v (x .key) u) (sym (part-to-end s place)) key in
-      let b : Reads 30 (Here s (place + k)) (x .value) r = subst (λ v. Reads 30 v (x .value) r) (sym (part-to-end s (place + k))) value in
       let few = own .count in
-      let whole = put x 29 u r a b (l .name) (l .name-is) (l .last) (in-object (length done) (object (layoutOf layout) start (l .name)) (l .last) (l .last-is)) (omega arith) (omega (arith, long, few)) in
+      let whole = put x 29 u r key value (l .name) (l .name-is) (l .last) (in-object (length done) (object (layoutOf layout) start (l .name)) (l .last) (l .last-is)) (omega arith) (omega (arith, long, few)) in
       let O : Object Span = mapObject (spanOf end) (l .last) in
       let held : Holds t′ O = window-holds end (l .last) t t′ long own whole in
       let seen : InWindow O = mapped-in-window end (l .last) own in
@@ -122,6 +121,26 @@ module _ {layout start end mode count p n from : ℕ} {s before : List ℕ} {pla
   pub none-read : {k : ℕ} → x ≡ Value k → {e : ℕ} → e ≡ code (itemEnd 30 (Here s (place + k))) → length s - (place + k) < e → {q′ j′ : ℕ} {after′ : List ℕ}
       → AllSummed layout start end mode count p n from s before q′ j′ after′
   none-read is ended l = record { next = next; are = walked.no-pairs w h is ended l _ }
+
+-- a turn, in the code's terms: the value at `at + k` takes e bytes, and its rows are left in t′
+module _ {layout start end mode count p n from : ℕ} {s before : List ℕ} {at due place total next : ℕ} {names rows t : List ℕ}
+    (w : Looping layout start end mode count p n from s before at due place total next names rows t) {x : Entry} (h : EntryIs 30 mode due (Here s at) x) {k : ℕ} (is : x ≡ Value k)
+    {e : ℕ} (ended : e ≡ code (itemEnd 30 (Here s (at + k)))) (l : e ≤ length s - (at + k)) where
+  pub loops-on : {t′ : List ℕ} → WholePut layout (Here s at) (Here s (at + k)) start end 0 0 objectWidth t t′ → length t′ ≡ length t → {rows′ : List ℕ} → length rows′ ≡ length rows
+      → {place′ total′ : ℕ} → Added t′ place total place′ total′ × (place′ ≤ suc endLimit) × (total′ ≤ suc manifestLimit)
+      → {names′ : List ℕ} → names′ ≡ sets names next (getD t′ 0 0 ∷ getD t′ 1 0 ∷ []) → length names′ ≡ length names → {next′ : ℕ} → (next + 2 ≤ length names′ → next′ ≡ next + 2)
+      → Looping layout start end mode count p n from s before (at + k + e) (due - 2) place′ total′ next′ names′ rows′ t′
+  loops-on put window room sum {names′} named long further =
+      let long-so : length names′ ≡ length before = long ∙ w .long in
+      let wide = w .window in
+      record {
+        walking = walked.one-more-lent (w .walking) h is ended l (λ done x key value so.
+            one-more-summed layout start (Here s at) (Here s (at + k)) t (omega (arith, wide)) put (sum .0) named (λ h. further (omega (arith, h, long-so))) x key value so);
+        long = long-so;
+        small = (sum .1, sum .2);
+        window = window ∙ w .window;
+        room = room ∙ w .room;
+      }
 
 -- ---------------------------------------------------------------- the whole map, lent whole to `walk::map`, which answered x
 

@@ -1,8 +1,6 @@
 //! What changed between two files, against the second program: pairs of files of both layouts, the second the first with small edits, another file, or the same, sound and damaged, with
 //! rooms for the rows and for the list that are ample, exact and one short: answer, list, numbers that must stay, and a working room that ends as zeros.
 
-#![forbid(unsafe_code)]
-
 use against::tally::{rounds, seed, Tally};
 use second::changes::{self, ENTRY};
 use second::generate::{FilePair, Generator};

@@ -1,8 +1,6 @@
 //! Two engines that share a table, against the second program: histories of calls of both, over files of many sizes in both layouts, with files that fill what is free exactly or miss it by
 //! a row, states spoiled from outside, wrong lengths and engines that don't exist. After every call the answers, the texts and every number that is shared are held against each other.
 
-#![forbid(unsafe_code)]
-
 use against::tally::{rounds, seed, Tally};
 use second::columns::{COMPONENT_ROW, OBJECT_ROW};
 use second::engines::{Answered, Call, History, SHARED, TABLE};

@@ -2,8 +2,6 @@
 //! changed, of two faults at once, of names with every byte, and of files at their limits; for a table of no room, of one number short, exact and ample, and a text that is exact,
 //! one short and longer. Number, object and component are the reader's; names and spans lie in the file; no name makes a line or a part of one; and a repair moves the answer on.
 
-#![forbid(unsafe_code)]
-
 #[path = "../../tests/readings/explaining.rs"]
 mod readings;
 

@@ -1,8 +1,6 @@
 //! Whole files: what the box calls, and the verdict with its indices, against the second program and against 01's own answers.
 //! The seed is fixed; `SEED=n` takes another, `SEED=random` one by the clock. Each test prints how often each answer occurred.
 
-#![forbid(unsafe_code)]
-
 use against::tally::{hex, seed, Tally};
 use against::Verdict;
 use second::appendix;

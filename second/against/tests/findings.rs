@@ -1,7 +1,5 @@
 //! Findings, the account of a file's bytes, and the decimal text of an f32: the calls against the second program, and against what the C library prints.
 
-#![forbid(unsafe_code)]
-
 use against::tally::{rounds, seed, Tally};
 use against::{beside, Bytes, Found, Panelled};
 use second::generate::{nth_file, nth_file_as};

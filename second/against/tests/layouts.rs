@@ -1,8 +1,6 @@
 //! Files of layout 1.0 (document 001, Req 05): the calls that take a layout against the second program, 001's own examples, files read in the other layout, and
 //! imported rows through the writer. The seed is fixed; `SEED=n` takes another. Each test prints how often each answer occurred.
 
-#![forbid(unsafe_code)]
-
 #[path = "../../tests/readings/first_layout.rs"]
 mod first_layout;
 

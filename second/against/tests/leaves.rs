@@ -1,8 +1,6 @@
 //! Each proved leaf against the second program, or plain Rust, on generated and mutated inputs.
 //! The seed is fixed; `SEED=n` takes another. Each test prints how often each answer occurred.
 
-#![forbid(unsafe_code)]
-
 use against::tally::{hex, rounds, seed, yes_or_no, Tally};
 use second::cbor::{skip_item, DEPTH};
 use second::frame::MAGIC;

@@ -1,8 +1,6 @@
 //! Merging two files, against the second program: pairs of both layouts, sound and not, with names that are shared and names that aren't, attributes on either side, both or none, and
 //! rooms that are exact, one short or none; then the limits of both files together. Answer, bytes, bytes that must stay, and the lent rows, which end as zeros.
 
-#![forbid(unsafe_code)]
-
 use against::tally::{rounds, seed, Tally};
 use second::cases::NO_OBJECTS;
 use second::compose::{component, data, dense, named, object, root, with};

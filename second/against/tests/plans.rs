@@ -1,8 +1,6 @@
 //! The planned writer against the second program: plans that rise, fall or lie in any order, sound and spoiled, under every kind of ceiling, over sound and unsound rows, with every kind
 //! of room: answer, bytes, and bytes that must stay; then the file read back, each blob at its planned offset.
 
-#![forbid(unsafe_code)]
-
 use against::beside;
 use against::tally::{rounds, seed, Tally};
 use second::columns;

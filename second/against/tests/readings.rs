@@ -1,7 +1,5 @@
 //! The decided readings of document 01, as the acceptance check answers them.
 
-#![forbid(unsafe_code)]
-
 #[path = "../../tests/readings/acceptance.rs"]
 mod acceptance;
 

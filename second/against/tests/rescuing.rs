@@ -1,8 +1,6 @@
 //! Rescuing what is sound, against the second program: files of both layouts of which some objects have faults of their own, files that fail before their objects' names, every refusal of an object in every
 //! place, all dropped, none, and the writer's limits; with rooms that are ample, exact, one short or none. Answer, list, bytes, what must stay of both, and the lent rows, which end as zeros.
 
-#![forbid(unsafe_code)]
-
 use against::tally::{rounds, seed, Tally};
 use second::compose::{component, data, dense, named, object, root, with};
 use second::encode::Item;

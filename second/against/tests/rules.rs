@@ -1,8 +1,6 @@
 //! The proved types, lengths, formats and frame against the second program, or exact sums in plain Rust.
 //! The seed is fixed; `SEED=n` takes another. Each test prints how often each answer occurred.
 
-#![forbid(unsafe_code)]
-
 use against::tally::{hex, rounds, seed, yes_or_no, Tally};
 use against::{Place, Ruling};
 use second::frame::SIZE_LIMIT;

@@ -2,8 +2,6 @@
 //! What the library answers for the one is held against what it answers for the other, tables column by column. The seed is fixed; `SEED=n` takes another. Each test
 //! prints how often each answer occurred.
 
-#![forbid(unsafe_code)]
-
 use against::beside;
 use against::tally::{hex, rounds, seed, Tally};
 use against::{Answer, Verdict};

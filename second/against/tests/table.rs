@@ -1,7 +1,5 @@
 //! Tables, views and listings: the calls for C against the second program, on generated and damaged files, with every kind of room and with hostile tables.
 
-#![forbid(unsafe_code)]
-
 use against::beside;
 use against::tally::{seed, Tally};
 use against::Extent;

@@ -1,7 +1,5 @@
 //! The writer against the second program on sound and unsound rows, with every kind of room: answer, bytes, and bytes that must stay; then the file read back.
 
-#![forbid(unsafe_code)]
-
 use against::beside;
 use against::tally::{seed, Tally};
 use second::generate::Generator;

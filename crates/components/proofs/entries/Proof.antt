@@ -134,16 +134,5 @@ entries-spec =
     ))
     (λ c. let b5 = c .before .before .before .before .before in let b9 = b5 .before .before .before .before in let b12 = b9 .before .before .before in let b18 = b12 .before .before .before .before .before .before in
     let b22 = b18 .before .before .before .before in let b24 = b22 .before .before in let b27 = b24 .before .before .before in let b29 = b27 .before .before in let b31 = b29 .before .before in
-    let b37 = b31 .before .before .before .before .before .before in let a = b37 .args in let l = b31 .loop in record {
-      walking = walked.one-more (l .inv .walking) (b29 .past-key .ensures) (b27 .k .given .1) (b24 .component .ensures .0) (b22 .if2 .left) (λ done p few key value so. record {
-        kept = looping.one-more-kept (offered (a .layout) (a .format) (a .code)) (a .start)
-            (a .s .now) (l .at) _ (walked.value-inside (l .inv .walking) (b29 .past-key .ensures) (b27 .k .given .1)) _ _ _ _ _ _ _ _ _ _ _
-            (b24 .component .ensures .1) ((b18 .keep .ensures .1) _) (b5 .note .ensures) done p _ _ key value (so .kept);
-        rowed = rowing.one-more-rowed (offered (a .layout) (a .format) (a .code)) (a .start) (a .to .end) (a .to .owner)
-            (a .to .from) _ (a .s .now) (l .at) _ _ _ _ _ (l .inv .long) _ (b24 .component .ensures .1) _ (b24 .component .ensures .0) (b12 .put-row .ensures) _ refl (b12 .put-row .kept .1 .1 .1 .1 .1 .1 .1 .1 .1 .0)
-            (b9 .ahead .ensures) done p _ _ key value (so .rowed);
-      });
-      slots = (b5 .note .ensures .0) ∙ (l .inv .slots);
-      room = b18 .keep .ensures .0;
-      long = (b12 .put-row .kept .1 .1 .1 .1 .1 .1 .1 .1 .1 .0) ∙ (l .inv .long);
-    }))
+    looping.loops-on (b31 .loop .inv) (b29 .past-key .ensures) (b27 .k .given .1) (b24 .component .ensures .0) (b22 .if2 .left) (b24 .component .ensures .1) (b18 .keep .ensures .0) ((b18 .keep .ensures .1) _)
+    (b12 .put-row .ensures) (b12 .put-row .kept .1 .1 .1 .1 .1 .1 .1 .1 .1 .0) (b9 .ahead .ensures) (b5 .note .ensures)))

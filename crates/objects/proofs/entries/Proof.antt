@@ -4,10 +4,8 @@ use native.Mathlib.Omega.{arith}
 use mathlib.Core.Path.{refl, _∙_}
 use lib.ListN.{length}
 use Rattle.walk.proofs.Passed as walked
-use Rattle.objects.proofs.Laying as laying
 use Rattle.objects.proofs.EntryLoop as looping
 use Rattle.table.proofs.ObjectLoop as objecting
-use Rattle.meaning.specs.Layouts.{layoutOf}
 use borrow.Author.Needs.{needs}
 use Rattle.objects.proofs.entries.Statement.{statement}
 use Rattle.objects.proofs.entries.Tie as tie
@@ -118,16 +116,5 @@ entries-spec =
     ))
     (λ c. let b5 = c .before .before .before .before .before in let b9 = b5 .before .before .before .before in let b10 = b9 .before in let b11 = b10 .before in let b12 = b11 .before in
     let b17 = b12 .before .before .before .before .before in let b23 = b17 .before .before .before .before .before .before in let b25 = b23 .before .before in let b27 = b25 .before .before in
-    let b32 = b27 .before .before .before .before .before in let a = b32 .args in let l = b27 .loop in record {
-      walking = walked.one-more (l .inv .walking) (b25 .past-key .ensures) (b23 .k .given .1) (b17 .one .ensures .0) (b12 .if2 .left) (λ done p few key value so. record {
-        kept = looping.one-more-kept (a .deep) (layoutOf (a .layout)) (a .start) (a .s .now) (l .at) _
-            (walked.value-inside (l .inv .walking) (b25 .past-key .ensures) (b23 .k .given .1)) _ _ _ _ _ _ _ _ _ (b17 .one .ensures .1) (b11 .keep .ensures)
-            (b5 .note .ensures) done p _ _ key value (so .kept);
-        laid = λ d. objecting.one-more-laid (a .layout) (a .start) (a .end) (a .from) _ (a .s .now) (l .at) _ _ _ _ _ _ _ _ (l .inv .long) ((b17 .one .ensures .2) d) _ refl
-            (b17 .one .kept .1 .1 .1 .1 .1 .1 .1 .0) (b10 .ahead .ensures) (laying.onward (a .layout) (a .start) _ (a .deep) d _ (b17 .one .ensures .1) _ _ _ (b9 .beyond .ensures)) done p _ _ key value (so .kept .named .counted)
-            (so .laid d);
-      });
-      slots = (b5 .note .ensures .0) ∙ (l .inv .slots);
-      room = (b17 .one .kept .1 .1 .1 .1 .1 .1 .0) ∙ (l .inv .room);
-      long = (b17 .one .kept .1 .1 .1 .1 .1 .1 .1 .0) ∙ (l .inv .long);
-    }))
+    looping.loops-on (b27 .loop .inv) (b25 .past-key .ensures) (b23 .k .given .1) (b17 .one .ensures .0) (b12 .if2 .left) (b17 .one .ensures .1) (b17 .one .ensures .2) (b17 .one .kept .1 .1 .1 .1 .1 .1 .1 .0)
+    (b17 .one .kept .1 .1 .1 .1 .1 .1 .0) (b11 .keep .ensures) (b10 .ahead .ensures) (b9 .beyond .ensures) (b5 .note .ensures)))

@@ -71,10 +71,5 @@ each-spec =
     let l = b16 .loop in
     omega (arith, walked.value-inside (l .inv .walking) (b14 .past-key .ensures) (b12 .k .given .1), walked.goes-on (l .inv .walking) (b14 .past-key .ensures) (b12 .k .given .1) (b6 .step .ensures .0) (c .if1 .left)))
     (λ c. let b6 = c .before .before .before .before .before .before in let b12 = b6 .before .before .before .before .before .before in let b14 = b12 .before .before in let b16 = b14 .before .before in
-    let b20 = b16 .before .before .before .before in let l = b16 .loop in let a = b20 .args in record {
-      walking = walked.one-more (l .inv .walking) (b14 .past-key .ensures) (b12 .k .given .1) (b6 .step .ensures .0) (c .if1 .left) (λ done x few key value kept. sieving.one-more-sieved (a .layout) (a .start) (a .end) (a .fill) (a .from) (a .t .now) (a .list .now) (a .s .now) (l .at) _ (l .have) (l .t)
-          (l .list) _ _ _ (l .inv .long) (l .inv .listed) (b6 .step .ensures .1 .0) done x _ _ key value kept);
-      long = (b6 .step .kept .1 .1 .1 .1 .1 .1 .1 .1 .0) ∙ (l .inv .long);
-      listed = (b6 .step .kept .1 .1 .1 .1 .1 .1 .1 .1 .1 .0) ∙ (l .inv .listed);
-      bounded = b6 .step .ensures .1 .1;
-    }))
+    sieving.loops-on (b16 .loop .inv) (b14 .past-key .ensures) (b12 .k .given .1) (b6 .step .ensures .0) (c .if1 .left) (b6 .step .ensures .1 .0) (b6 .step .ensures .1 .1)
+    (b6 .step .kept .1 .1 .1 .1 .1 .1 .1 .1 .0) (b6 .step .kept .1 .1 .1 .1 .1 .1 .1 .1 .1 .0)))

@@ -80,16 +80,6 @@ each-spec =
       walked.goes-on (l .inv .walking) (b20 .past-key .ensures) (b18 .k .given .1) (b12 .object .ensures .0) (b8 .if1 .left),
     ))
     (λ c. let b4 = c .before .before .before .before in let b6 = b4 .before .before in let b8 = b6 .before .before in let b12 = b8 .before .before .before .before in
-    let b18 = b12 .before .before .before .before .before .before in let b20 = b18 .before .before in let b22 = b20 .before .before in let b25 = b22 .before .before .before in let a = b25 .args in let l = b22 .loop in record {
-      walking = walked.one-more (l .inv .walking) (b20 .past-key .ensures) (b18 .k .given .1) (b12 .object .ensures .0) (b8 .if1 .left)
-          (λ done x few key value kept. summing.one-more-summed (a .layout) (a .start) (a .end) (a .first) (a .before) (a .from) (a .names .now) (a .s .now) (l .at) _ _ _ (l .next) (l .names) (l .t) _ (let y = (l .inv .window) in omega (arith, y)) (b12 .object .ensures .2) _ _ (b6 .add .ensures .0) _ (b4 .two .ensures) _ (λ h. (c .before .ahead .ensures) (let y = (l .inv .long) in let z = (b4 .two .kept .0) in omega (
-            arith,
-            h,
-            y,
-            z,
-          ))) done x _ _ key value kept);
-      long = (b4 .two .kept .0) ∙ (l .inv .long);
-      small = b6 .add .ensures .1;
-      window = (b12 .object .kept .1 .1 .1 .1 .1 .1 .0) ∙ (l .inv .window);
-      room = (b12 .object .kept .1 .1 .1 .1 .1 .0) ∙ (l .inv .room);
-    }))
+    let b18 = b12 .before .before .before .before .before .before in let b20 = b18 .before .before in let b22 = b20 .before .before in
+    summing.loops-on (b22 .loop .inv) (b20 .past-key .ensures) (b18 .k .given .1) (b12 .object .ensures .0) (b8 .if1 .left) (b12 .object .ensures .2) (b12 .object .kept .1 .1 .1 .1 .1 .1 .0)
+    (b12 .object .kept .1 .1 .1 .1 .1 .0) (b6 .add .ensures .0, b6 .add .ensures .1 .0, b6 .add .ensures .1 .1) (b4 .two .ensures) (b4 .two .kept .0) (c .before .ahead .ensures)))
