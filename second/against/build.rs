@@ -14,6 +14,11 @@ fn main() {
     }
     println!("cargo:rerun-if-env-changed=ROUTE");
     println!("cargo:rustc-check-cfg=cfg(served)");
+    println!("cargo:rerun-if-env-changed=WHOLE");
+    println!("cargo:rustc-check-cfg=cfg(whole)");
+    if var("WHOLE").as_deref() == Ok("1") {
+        println!("cargo:rustc-cfg=whole");
+    }
     let linked = var("CARGO_CFG_TARGET_ARCH").expect("cargo names the processor") == "x86_64";
     if linked && var("ROUTE").as_deref() != Ok("server") {
         println!("cargo:rustc-link-search=native={built}");

@@ -37,8 +37,8 @@ module _ (s : List ℕ) (l : Letters) (h : TextIs (Here s 0) l) where
     unfolding aText
     format-other y d t q r = rw (word s l h at n e d t q r) (rw (← is, y) refl)
 
-pub shape-there : (s : List ℕ) (left at : ℕ) → at ≡ length s - left → (dims : List ℕ) (r : Shaped) → ShapeRead 28 (Here s at) dims r → ShapeAt s left dims r
-shape-there s left at is dims r h = record {
+pub shape-there : (s : List ℕ) (left at : ℕ) → at ≡ length s - left → (before dims : List ℕ) (r : Shaped) → ShapeRead 28 (Here s at) before dims r → ShapeAt s left dims r
+shape-there s left at is before dims r h = record {
   room = h .room;
   items = λ t x. h .trees t (x .rest) (subst (λ u. Reads 29 u t (x .rest)) (sym (part-to-end s at ∙ ap (λ (i : ℕ). drop i s) is)) (x .reads));
 }

@@ -32,7 +32,7 @@ use Rattle.table.specs.declared.Place.{Place}
 use Rattle.meaning.proofs.Checks.{pass-same}
 use Rattle.table.proofs.Runs as laying
 use Rattle.table.proofs.ComponentRow.{named-pair}
-use Rattle.table.proofs.ObjectRow.{object-length}
+use Rattle.meaning.proofs.Lengths.{object-length}
 use Rattle.table.proofs.ObjectPasses.{Made, fieldsOf, made, described, gives}
 use Rattle.components.specs.declared.Found.{Found}
 use Rattle.object.specs.declared.Judged.{Judged}

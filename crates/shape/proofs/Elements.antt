@@ -4,7 +4,7 @@ use native.Mathlib.Omega.{arith}
 use mathlib.Core.List.{List, [], _∷_, _++_, append-assoc, append-nil}
 use mathlib.Core.Bool.{Bool, true, false}
 use mathlib.Core.Path.{_≡_, refl, ap, sym, _∙_, subst}
-use lib.ListN.{length, take, drop, length-append}
+use lib.ListN.{length, getD, take, drop, length-append}
 use lib.Seq.{drop-drop, take-suc-set}
 use lib.Dec.{leb}
 use borrow.Author.Tests.{lt-ltb, le-leb, lt-leb}
@@ -28,7 +28,7 @@ use Rattle.walk.specs.declared.Numeral.the-variants.{NoNumber, Number}
 use Rattle.walk.proofs.Lists.{none-read, past-node}
 use Rattle.meaning.specs.Judge.{shapeOf}
 use Rattle.walk.specs.Put.{put}
-use Rattle.walk.proofs.Puts.{length-put}
+use Rattle.walk.proofs.Puts.{length-put, put-other}
 use Rattle.walk.proofs.Found.{number-read}
 use Rattle.shape.specs.Shape.{ShapeRead}
 use Rattle.shape.specs.declared.Shaped.the-variants.{No, Yes}
@@ -57,10 +57,11 @@ pub record Standing (d mode due : ℕ) (s dims : List ℕ) (rank : ℕ) (verdict
   pub rest : Rest d mode due s dims rank verdict found items
 
 -- the loop's invariant
-pub record Passing (d mode count : ℕ) (s dims : List ℕ) (at rank : ℕ) : Type 0 where
+pub record Passing (d mode count : ℕ) (s before dims : List ℕ) (at rank : ℕ) : Type 0 where
   pub within : at ≤ length s
   pub few : rank ≤ at
   pub room : length dims ≡ rankLimit
+  pub others : (j : ℕ) → rank ≤ j → getD dims j 0 ≡ getD before j 0
   pub trees : (t : Node Ends) (r : List ℕ) → Reads (suc d) s t r → Standing d mode (count - rank) (drop at s) dims rank (shapeOf t)
 
 -- ---------------------------------------------------------------- one element
@@ -98,15 +99,18 @@ module _ {d mode due : ℕ} {s dims : List ℕ} {rank : ℕ} {verdict : Check (L
 
 -- ---------------------------------------------------------------- as the code passes them
 
+refused : {n rank : ℕ} → No n ≡ Yes rank → ⊥
+refused e = let z : _≡_ {A = ℕ} 0 1 = cc in omega arith
+
 abbrev From : List ℕ → ℕ → List ℕ
 From s at = take (length s - at) (drop at s)
 
 module _ {d : ℕ} {s dims : List ℕ} (room : length dims ≡ rankLimit) {v : Opening} (h : ListIs (From s 0) v) where
-  pub no-list : v ≡ NotOpen → ShapeRead d s dims (No 8)
+  pub no-list : v ≡ NotOpen → ShapeRead d s dims dims (No 8)
   unfolding shapeOf
-  no-list e = let k : ListIs s NotOpen = rw (part-to-end s 0, e) at h in record { room = room; trees = λ t r x. rw (k d t r x) refl }
+  no-list e = let k : ListIs s NotOpen = rw (part-to-end s 0, e) at h in record { room = room; others = λ _ z. absurd (refused z); trees = λ t r x. rw (k d t r x) refl }
 
-  pub begins : {mode count size : ℕ} → v ≡ Opened mode count size → Passing d mode count s dims size 0
+  pub begins : {mode count size : ℕ} → v ≡ Opened mode count size → Passing d mode count s dims dims size 0
   unfolding shapeOf kinds.aList kinds.asList
   begins {mode} {count} {size} e =
       let k : ListIs s (Opened mode count size) = rw (part-to-end s 0, e) at h in
@@ -114,13 +118,14 @@ module _ {d : ℕ} {s dims : List ℕ} (room : length dims ≡ rankLimit) {v : O
         within = k .within;
         few = omega arith;
         room = room;
+        others = λ j l. refl;
         trees = λ t r x.
             let l = k .trees d t r x in
             let z : count - 0 ≡ count = omega arith in
             record { found = []; items = l .items; rest = record { last = l .last; due = rw z (l .due); many = refl; noted = λ _. refl; verdict-is = rw (l .kind-is) refl } };
       }
 
-module _ {d mode count : ℕ} {s dims : List ℕ} {at rank : ℕ} (p : Passing d mode count s dims at rank) where
+module _ {d mode count : ℕ} {s before dims : List ℕ} {at rank : ℕ} (p : Passing d mode count s before dims at rank) where
   module _ (short : length s < FAULT) {k : ℕ} (is-k : k ≡ code (itemEnd d (From s at))) where
     ends-so : k ≡ code (itemEnd d (drop at s))
     ends-so = is-k ∙ ap (λ u. code (itemEnd d u)) (part-to-end s at)
@@ -143,11 +148,11 @@ module _ {d mode count : ℕ} {s dims : List ℕ} {at rank : ℕ} (p : Passing d
           go [] z y = f t (p .trees t r e .found) y
           go (x ∷ xs) z y = absurd (let z : _≡_ {A = ℕ} 0 1 = cc in omega arith)
 
-      pub many-dimensions : rankLimit < rank → ShapeRead d s dims (No 15)
-      many-dimensions l = record { room = p .room; trees = at-the-end _ λ t found y. too-many y l }
+      pub many-dimensions : rankLimit < rank → ShapeRead d s before dims (No 15)
+      many-dimensions l = record { room = p .room; others = λ _ z. absurd (refused z); trees = at-the-end _ λ t found y. too-many y l }
 
-      pub dimensions-are : rank ≤ rankLimit → ShapeRead d s dims (Yes rank)
-      dimensions-are l = record { room = p .room; trees = at-the-end _ λ t found y. (not-too-many y l, l) }
+      pub dimensions-are : rank ≤ rankLimit → ShapeRead d s before dims (Yes rank)
+      dimensions-are l = record { room = p .room; others = λ r z j h. p .others j (let y : rank ≡ r = cc in omega (arith, y, h)); trees = at-the-end _ λ t found y. (not-too-many y l, l) }
 
     module _ (on : more ≡ true) where
       at-the-next : (v : Numeral) → NumberIs (From s at) v → (P : Node Ends → Type 0) → ((t : Node Ends) (found : List ℕ) (x : Node Ends) (xs : List (Node Ends)) → aNumber x ≡ numeral v → Here t found (x ∷ xs) → P t)
@@ -161,24 +166,25 @@ module _ {d mode count : ℕ} {s dims : List ℕ} {at rank : ℕ} (p : Passing d
               f t (p .trees t r e .found) x xs (number-read d (drop at s) v (subst (λ u. NumberIs u v) (part-to-end s at) is-v) x (c .0) (c .1)) y
 
       module _ {v : Numeral} (is-v : NumberIs (From s at) v) where
-        pub no-number : v ≡ NoNumber → ShapeRead d s dims (No 8)
-        no-number e = record { room = p .room; trees = at-the-next v is-v _ λ t found x xs z y. not-a-number y (z ∙ ap numeral e) }
+        pub no-number : v ≡ NoNumber → ShapeRead d s before dims (No 8)
+        no-number e = record { room = p .room; others = λ _ z. absurd (refused z); trees = at-the-next v is-v _ λ t found x xs z y. not-a-number y (z ∙ ap numeral e) }
 
         module _ (short : length s < FAULT) {n : ℕ} (is-n : v ≡ Number n) {k : ℕ} (is-k : k ≡ code (itemEnd d (From s at))) {noted : List ℕ} (is-noted : noted ≡ put dims rank n) where
           still-room : length noted ≡ rankLimit
           still-room = ap length is-noted ∙ length-put dims rank n ∙ p .room
 
           -- no element of a tree is refused
-          pub no-end : length s - at < k → ShapeRead d s noted (No 8)
+          pub no-end : length s - at < k → ShapeRead d s before noted (No 8)
           no-end l =
               let f = loops.fails (item noNote d) (item-exact d) (item-hungry d) s short at (p .within) k (ends-so short is-k) l in
               record {
                 room = still-room;
+                others = λ _ z. absurd (refused z);
                 trees = at-the-next v is-v _ λ t found x xs z y.
                     absurd (let z : true ≡ false = none-read d (f .number) (drop at s) (x ∷ xs) (y .last) (f .is-fault) (y .due .chain) in let z : _≡_ {A = ℕ} 0 1 = cc in omega arith);
               }
 
-          pub goes-on : k ≤ length s - at → Passing d mode count s noted (at + k) (rank + 1)
+          pub goes-on : k ≤ length s - at → Passing d mode count s before noted (at + k) (rank + 1)
           goes-on l =
               let w = p .within in let m = p .few in let o = takes-a-byte short is-k l in
               let e = loops.passes (item noNote d) (item-exact d) (item-hungry d) s short at (p .within) k (ends-so short is-k) l in
@@ -187,6 +193,7 @@ module _ {d mode count : ℕ} {s dims : List ℕ} {at rank : ℕ} (p : Passing d
                 within = omega arith;
                 few = omega arith;
                 room = still-room;
+                others = λ j h. ap (λ (l : List ℕ). getD l j 0) is-noted ∙ put-other dims rank j n (λ z. omega (arith, z, h)) ∙ p .others j (omega (arith, h));
                 trees = at-the-next v is-v _ λ t found x xs q y. record {
                   found = found ++ n ∷ [];
                   items = xs;

@@ -2,7 +2,7 @@
 use Prim.Native.Nat.{ℕ, suc, _≤_}
 use mathlib.Core.List.{List}
 use mathlib.Core.Path.{_≡_}
-use lib.ListN.{length, take}
+use lib.ListN.{length, getD, take}
 use Rattle.meaning.specs.Tree.{Node}
 use Rattle.meaning.specs.Check.{Check, pass, fault}
 use Rattle.meaning.specs.Limit.{rankLimit}
@@ -15,7 +15,8 @@ abbrev pub ShapeIs : List ℕ → Shaped → Check (List ℕ) → Type 0
 ShapeIs dims (No n) c = c ≡ fault n
 ShapeIs dims (Yes rank) c = (c ≡ pass (take rank dims)) × (rank ≤ rankLimit)
 
--- of whatever is read at s, its elements where d levels are left
-pub record ShapeRead (d : ℕ) (s dims : List ℕ) (answer : Shaped) : Type 0 where
+-- of whatever is read at s, its elements where d levels are left; the dimensions were put over `before`, and none beyond them
+pub record ShapeRead (d : ℕ) (s before dims : List ℕ) (answer : Shaped) : Type 0 where
   pub room : length dims ≡ rankLimit
+  pub others : (rank : ℕ) → answer ≡ Yes rank → (j : ℕ) → rank ≤ j → getD dims j 0 ≡ getD before j 0
   pub trees : (t : Node Ends) (r : List ℕ) → Reads (suc d) s t r → ShapeIs dims answer (shapeOf t)

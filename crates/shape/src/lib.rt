@@ -25,7 +25,7 @@ fn put(a: &mut [u64], i: usize, x: u64)
 // The shape that begins s, whose elements stand where `left` levels are left: its dimensions are put into dims.
 pub fn shape(s: &[u8], left: u64, dims: &mut [u64]) -> Shaped
     requires { ⌜ length (now dims) ≡ 8 ⌝ }
-    ensures { λ r. ⌜ spec.ShapeRead left (now (s .entry)) (now (dims .exit)) r ⌝ }
+    ensures { λ r. ⌜ spec.ShapeRead left (now (s .entry)) (now (dims .entry)) (now (dims .exit)) r ⌝ }
 {
     let Opening::Opened(mode, count, size) = walk::list(&s[0..]) else {
         return Shaped::No(numbers::KIND);

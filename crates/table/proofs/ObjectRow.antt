@@ -1,14 +1,13 @@
--- The row of an object: its dimensions, unused ones cleared, and its sixteen numbers.
+-- The row of an object: its dimensions, unused ones 0, and its sixteen numbers.
 use Prim.Native.Nat.{ℕ, zero, suc, _+_, _-_, _≤_, _<_}
 use native.Mathlib.Omega.{arith}
 use mathlib.Core.List.{List, [], _∷_, _++_, map}
 use mathlib.Core.Logic.{⊎-elim}
 use mathlib.Core.Option.{some}
 use mathlib.Core.Path.{_≡_, refl, ap, ap₂, sym, _∙_, subst}
-use lib.ListN.{length, getD, take, drop, set, replicate, length-map, length-append, length-replicate}
-use lib.Seq.{sets, getD-take, getD-set-same, getD-set-other, length-take-le}
+use lib.ListN.{length, getD, take, drop, set, replicate, length-map, getD-replicate}
+use lib.Seq.{sets, getD-take, length-take-le}
 use borrow.Rule.Slice.PartAt.{part-to-end}
-use Rattle.meaning.specs.Columns.{objectWidth}
 use Rattle.meaning.specs.Tree.{Node, mapP}
 use Rattle.meaning.specs.Check.{pass, fault}
 use Rattle.meaning.specs.Read as read
@@ -18,7 +17,7 @@ use Rattle.meaning.specs.Notes.{mapOption, mapComponent}
 use Rattle.meaning.specs.Judge.{shapeOf}
 use Rattle.meaning.specs.Rows.{objectRow, dimensions, optionalSpan, attributesSpan}
 use Rattle.meaning.proofs.Checks.{pass-same}
-use Rattle.endian.proofs.Which.{eq-or}
+use Rattle.endian.proofs.Which.{lt-or}
 use Rattle.walk.specs.Reading.{Ends, Reads}
 use Rattle.shape.specs.Shape.{ShapeRead, ShapeIs}
 use Rattle.shape.specs.declared.Shaped.{Shaped}
@@ -27,7 +26,7 @@ use Rattle.fields.specs.Slots.{Stands}
 use Rattle.fields.proofs.Texts.{Here}
 use Rattle.table.specs.declared.span.Span.{Span}
 use Rattle.table.specs.Spans.{spanOf, spanned, spanOfWord, SpeltIs, SpeltAt, ItemIs}
-use Rattle.table.specs.Object.{Cleared, eight, DimensionsAt, sixteen, objectIn, ObjectPut}
+use Rattle.table.specs.Object.{eight, DimensionsAt, sixteen, objectIn, ObjectPut}
 use Rattle.table.proofs.Runs as laying
 use Rattle.table.proofs.ComponentRow as rows
 
@@ -38,22 +37,6 @@ past-taken zero l k h = refl
 past-taken (suc rank) [] k h = refl
 past-taken (suc rank) (x ∷ l) zero h = absurd (omega arith)
 past-taken (suc rank) (x ∷ l) (suc k) h = past-taken rank l k (omega arith)
-
-module _ (rank : ℕ) (d₀ : List ℕ) where
-  -- cleared up to k
-  abbrev pub ClearedTo : ℕ → List ℕ → Type 0
-  ClearedTo k d = (j : ℕ) → j < k → j < length d₀ → getD d j 0 ≡ getD (take rank d₀) j 0
-
-  pub clear-starts : ClearedTo rank d₀
-  clear-starts j l m = sym (getD-take rank d₀ j 0 l)
-
-  pub one-cleared : (k : ℕ) (d : List ℕ) → rank ≤ k → length d ≡ length d₀ → ClearedTo k d → ClearedTo (k + 1) (set d k 0)
-  one-cleared k d r e h j l m = ⊎-elim
-      (λ z. ap (λ j. getD (set d k 0) j 0) z ∙ getD-set-same d k 0 0 (omega arith) ∙ sym (past-taken rank d₀ k r) ∙ ap (λ j. getD (take rank d₀) j 0) (sym z))
-      (λ z. getD-set-other d k j 0 0 z ∙ h j (omega arith) m) (eq-or j k)
-
-  pub all-cleared : (k : ℕ) (d : List ℕ) → length d ≡ length d₀ → length d ≤ k → ClearedTo k d → Cleared rank d₀ d
-  all-cleared k d e l h = record { at = λ j m. h j (omega arith) m }
 
 eight-of : (s : List ℕ) → length s ≤ rankLimit → eight s ≡ dimensions s
 unfolding dimensions
@@ -74,7 +57,7 @@ eight-same d e h =
 
 -- ---------------------------------------------------------------- the shape where it stands
 
-module _ (m : List ℕ) (left at : ℕ) (is : at ≡ length m - left) (d₁ : List ℕ) (r : Shaped) (h : ShapeRead 28 (Here m at) d₁ r) where
+module _ (m : List ℕ) (left at : ℕ) (is : at ≡ length m - left) (d₀ d₁ : List ℕ) (r : Shaped) (h : ShapeRead 28 (Here m at) d₀ d₁ r) where
   said : (t : Node Ends) → Stands 29 m left t → (x : Shaped) → r ≡ x → ShapeIs d₁ x (shapeOf t)
   said t st x e =
       let u : drop (length m - left) m ≡ Here m at = ap (λ (i : ℕ). drop i m) (sym is) ∙ sym (part-to-end m at) in
@@ -83,16 +66,22 @@ module _ (m : List ℕ) (left at : ℕ) (is : at ≡ length m - left) (d₁ : Li
   pub no-shape : (n : ℕ) → r ≡ No n → (d : List ℕ) (rank : ℕ) → DimensionsAt m left d rank
   no-shape n e d rank = record { are = λ t st s k. absurd (let z : pass s ≡ fault n = sym k ∙ said t st (No n) e in let y : _≡_ {A = ℕ} 0 1 = cc in omega arith) }
 
-  pub a-shape : (rank : ℕ) → r ≡ Yes rank → (d₂ : List ℕ) → Cleared rank d₁ d₂ → DimensionsAt m left d₂ rank
-  a-shape rank e d₂ cleared = record {
+  pub a-shape : (rank : ℕ) → r ≡ Yes rank → d₀ ≡ replicate 8 0 → DimensionsAt m left d₁ rank
+  a-shape rank e zeros = record {
     are = λ t st s k.
         let z = said t st (Yes rank) e in
         let same : take rank d₁ ≡ s = pass-same (sym (z .0) ∙ k) in
         let few = z .1 in
         let room = h .room in
         let size : length s ≡ rank = ap length (sym same) ∙ length-take-le rank d₁ (omega arith) in
-        (sym size, eight-same d₂ (take rank d₁) (λ j l. cleared .at j (omega arith)) ∙ ap eight same ∙ eight-of s (omega arith));
+        (sym size, eight-same d₁ (take rank d₁) (λ j l. ⊎-elim (taken j) (beyond j l) (lt-or j rank)) ∙ ap eight same ∙ eight-of s (omega arith));
   }
+    where
+      taken : (j : ℕ) → j < rank → getD d₁ j 0 ≡ getD (take rank d₁) j 0
+      taken j l = sym (getD-take rank d₁ j 0 l)
+
+      beyond : (j : ℕ) → j < 8 → rank ≤ j → getD d₁ j 0 ≡ getD (take rank d₁) j 0
+      beyond j m l = h .others rank e j l ∙ ap (λ (d : List ℕ). getD d j 0) zeros ∙ getD-replicate 8 j 0 0 m ∙ sym (past-taken rank d₁ j l)
 
 -- ---------------------------------------------------------------- sixteen numbers
 
@@ -127,14 +116,3 @@ module _ (s m p : List ℕ) (count end i : ℕ) (before : List ℕ) where
       ∙ ap (λ u. sixteen (spanOfWord end (o .name)) (length (o .shape)) (dimensions (o .shape)) u (spanned z) count) b
       ∙ ap₂ (λ u n. sixteen (spanOfWord end (o .name)) (length (o .shape)) (dimensions (o .shape)) (spanOfWord end (o .format)) u n) c g in
       put ∙ ap (sets before i) same
-
--- ---------------------------------------------------------------- how long it is
-
-dimensions-length : (s : List ℕ) → length (dimensions s) ≡ 8
-unfolding dimensions
-dimensions-length s = length-take-le 8 (s ++ replicate 8 0) (let a = length-append s (replicate 8 0) in let b = length-replicate {A = ℕ} 8 0 in omega arith)
-
-pub object-length : (o : Object read.Span) → length (objectRow o) ≡ objectWidth
-unfolding objectRow
-object-length o =
-    ap (λ n. suc (suc (suc n))) (length-append (dimensions (o .shape)) _ ∙ ap (λ n. n + 5) (dimensions-length (o .shape)))

@@ -1,9 +1,9 @@
 -- The row of an object, put into the table when its map has been passed over.
-use Prim.Native.Nat.{ℕ, suc, _<_}
+use Prim.Native.Nat.{ℕ, suc}
 use mathlib.Core.List.{List, [], _∷_, _++_}
 use mathlib.Core.Option.{some}
 use mathlib.Core.Path.{_≡_}
-use lib.ListN.{length, getD, take}
+use lib.ListN.{length, getD}
 use lib.Seq.{sets}
 use Rattle.meaning.specs.Tree.{Node}
 use Rattle.meaning.specs.Check.{pass}
@@ -20,10 +20,6 @@ use Rattle.fields.specs.Slots.{Stands, Holds}
 use Rattle.table.specs.Spans.{spanOf}
 
 -- ---------------------------------------------------------------- dimensions
-
--- the first `rank` stay, the others are 0
-pub record Cleared (rank : ℕ) (before after : List ℕ) : Type 0 where
-  pub at : (j : ℕ) → j < length before → getD after j 0 ≡ getD (take rank before) j 0
 
 abbrev pub eight : List ℕ → List ℕ
 eight d = getD d 0 0 ∷ getD d 1 0 ∷ getD d 2 0 ∷ getD d 3 0 ∷ getD d 4 0 ∷ getD d 5 0 ∷ getD d 6 0 ∷ getD d 7 0 ∷ []

@@ -8,7 +8,7 @@ use crate::span::spelt_at;
 use fields::place_of;
 use shape::Shaped;
 ghost use mathlib.Core.Path.{_≡_};
-ghost use lib.ListN.{length};
+ghost use lib.ListN.{length, replicate};
 ghost use lib.Seq.{sets};
 ghost use Rattle.table.specs.Spans.{spanned};
 ghost use Rattle.table.specs.Object as is;
@@ -18,29 +18,15 @@ const THIRD: usize = columns::SHAPE + 2;
 
 const EIGHTH: usize = columns::SHAPE + 7;
 
-// Unused dimensions are 0.
-fn clear(d: &mut [u64], rank: usize)
-    ensures { λ r. ⌜ is.Cleared rank (now (d .entry)) (now (d .exit)) ⌝ }
-{
-    let mut k = rank;
-    while k < d.len() {
-        d[k] = 0;
-        k += 1;
-    }
-}
-
-// The shape, where `left` bytes are left: its dimensions are put into d, and their number is answered.
+// The shape, where `left` bytes are left: its dimensions are put over zeros, and their number is answered.
 fn dimensions_at(m: &[u8], left: usize, d: &mut [u64]) -> usize
-    requires { ⌜ length (now d) ≡ 8 ⌝ }
+    requires { ⌜ now d ≡ replicate 8 0 ⌝ }
     ensures { λ r. ⌜ is.DimensionsAt (now (m .entry)) left (now (d .exit)) r ⌝ }
 {
     let at = place_of(m.len(), left);
     match shape::shape(&m[at..], numbers::IN_SHAPE, d) {
         Shaped::No(_) => 0,
-        Shaped::Yes(rank) => {
-            clear(d, rank);
-            rank
-        }
+        Shaped::Yes(rank) => rank,
     }
 }
 

@@ -18,12 +18,21 @@ pub fn seed() -> u64 {
     *SEED
 }
 
-/// How many inputs a leaf is compared on: a call that a server answers takes ten times as long, and such a comparison makes do with a quarter.
-pub const fn rounds(linked: u64) -> u64 {
-    if cfg!(served) {
-        linked / 4
+/// On how many of so many inputs a comparison is run: on half, or on all where it is built with `WHOLE=1`.
+pub const fn inputs(most: u64) -> u64 {
+    if cfg!(whole) {
+        most
     } else {
-        linked
+        most / 2
+    }
+}
+
+/// The same of a comparison that makes do with a quarter where a server answers: such a call takes ten times as long.
+pub const fn rounds(most: u64) -> u64 {
+    if cfg!(served) {
+        most / 4
+    } else {
+        inputs(most)
     }
 }
 

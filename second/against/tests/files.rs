@@ -1,7 +1,7 @@
 //! Whole files: what the box calls, and the verdict with its indices, against the second program and against 01's own answers.
 //! The seed is fixed; `SEED=n` takes another, `SEED=random` one by the clock. Each test prints how often each answer occurred.
 
-use against::tally::{hex, seed, Tally};
+use against::tally::{hex, inputs, seed, Tally};
 use against::Verdict;
 use second::appendix;
 use second::cases::{self, Case};
@@ -13,7 +13,7 @@ use std::fs;
 use std::path::Path;
 use std::thread;
 
-const FILES: u64 = 600_000;
+const FILES: u64 = inputs(600_000);
 const THREADS: u64 = 2;
 /// The number that says layout 1.2.0; tests/layouts.rs asks with others.
 const CURRENT: u64 = 0;

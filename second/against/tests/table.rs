@@ -1,12 +1,12 @@
 //! Tables, views and listings: the calls for C against the second program, on generated and damaged files, with every kind of room and with hostile tables.
 
 use against::beside;
-use against::tally::{seed, Tally};
+use against::tally::{inputs, seed, Tally};
 use against::Extent;
 use second::generate::nth_file;
 use second::{columns, listing, view};
 
-const FILES: u64 = 200_000;
+const FILES: u64 = inputs(200_000);
 /// Room for every file that is accepted.
 const AMPLE: usize = columns::MOST;
 /// Room for nearly every generated file: lent to each that is refused, and must come back as it was.

@@ -1,11 +1,11 @@
 //! The writer against the second program on sound and unsound rows, with every kind of room: answer, bytes, and bytes that must stay; then the file read back.
 
 use against::beside;
-use against::tally::{seed, Tally};
+use against::tally::{inputs, seed, Tally};
 use second::generate::Generator;
 use second::{columns, rows};
 
-const SETS: u64 = 100_000;
+const SETS: u64 = inputs(100_000);
 /// Room for every file that is written here: the largest manifest, and what stands around it.
 const AMPLE: usize = (1 << 24) + (1 << 20);
 /// Room for nearly every file that is written here, lent where a set is refused: the output must come back as it was.

@@ -8,7 +8,7 @@ use Rattle.shape.proofs.shape.Statement.{statement}
 use Rattle.shape.proofs.shape.Tie as tie
 
 abbrev Inv-loop : tie.InvT-loop
-Inv-loop s left dims₀ mode count size at₀ rank₀ dims at rank = Passing left mode count s dims at rank
+Inv-loop s left dims₀ mode count size at₀ rank₀ dims at rank = Passing left mode count s dims₀ dims at rank
 
 abbrev μ-loop : tie.MeasureT-loop
 μ-loop s left dims₀ mode count size at₀ rank₀ dims at rank = length s - at

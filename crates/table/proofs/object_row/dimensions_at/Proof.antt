@@ -15,10 +15,9 @@ dimensions-at-spec =
     (λ c κs. search needs)
     (λ c. search needs)
     (λ c. search needs)
-    (λ c κs. search needs)
     (λ c. search needs)
     (λ c. let b4 = c .before .before .before .before in let b7 = b4 .before .before .before in let a = b7 .before .before .before .args in
-    rows.no-shape ((a .m .now)) ((a .left)) _ ((b7 .place-of .ensures)) _ _ ((b4 .shape .ensures)) _ ((c .enum-told .given .1)) _ _)
+    rows.no-shape (a .m .now) (a .left) _ (b7 .place-of .ensures) _ _ _ (b4 .shape .ensures) _ (c .enum-told .given .1) _ _)
     (λ c. search needs)
-    (λ c. let b2 = c .before .before in let b5 = b2 .before .before .before in let b9 = b5 .before .before .before .before in let b12 = b9 .before .before .before in let a = b12 .before .before .before .args in
-    rows.a-shape ((a .m .now)) ((a .left)) _ ((b12 .place-of .ensures)) _ _ ((b9 .shape .ensures)) _ ((b5 .rank .given .1)) _ ((b2 .clear .ensures))))
+    (λ c. let b5 = c .before .before .before .before .before in let b8 = b5 .before .before .before in let b11 = b8 .before .before .before in let a = b11 .args in
+    rows.a-shape (a .m .now) (a .left) _ (b8 .place-of .ensures) _ _ _ (b5 .shape .ensures) _ (c .before .rank .given .1) (b11 .pre)))
