@@ -22,14 +22,15 @@ use Rattle.root.specs.Verdict.{judged, WholeIs, ObjectsAt}
 use Rattle.table.specs.declared.span.Span.{Span}
 use Rattle.reader.specs.Answer.{AttributesIs}
 use Rattle.reader.proofs.Frames.{framed, inside}
+use Rattle.reader.proofs.ItemFills as filling
+use Rattle.reader.proofs.ItemFills.{Filling}
+use Rattle.reader.proofs.RootParts.{attributesAt, field-holds}
 use Rattle.rescuing.specs.Sift.{Opened, opened, Sifted, sift, sifted}
 use Rattle.opening.specs.declared.Told.{Told}
 use Rattle.opening.specs.declared.Told.the-variants as names-are
 use Rattle.opening.specs.declared.Found.{Found}
 use Rattle.opening.specs.declared.Found.the-variants as found
 use Rattle.opening.specs.Opened.{manifestSifted, spanned, Opens, NamesAre, OpensAt, behind, between, FoundIs}
-use Rattle.opening.proofs.ItemFills as filling
-use Rattle.opening.proofs.ItemFills.{Filling}
 use Rattle.opening.proofs.RootNames as naming
 use Rattle.opening.proofs.RootNames.{Parts, passedModel}
 
@@ -80,7 +81,7 @@ module _ (L : Layout) (end start : ℕ) (s : List ℕ) (e : ℕ) (ended : e ≡ 
               is = rw (f .is, naming.opened-spanned L end (f .tree), h) refl;
               attributes-hold =
                   subst (λ l. Holds 31 s l (p .attributes)) (sym left-is)
-                  (naming.field-holds s room (f .tree) (f .rest) (f .reads) (parts .pairs) (parts .kind-is) (slot 1 (L .root)) (p .attributes) (sym (parts .attributes-are)));
+                  (field-holds s room (f .tree) (f .rest) (f .reads) (parts .pairs) (parts .kind-is) (slot attributesAt (L .root)) (p .attributes) (sym (parts .attributes-are)));
               objects-hold =
                   subst (Holds 31 s at) (parts .objects-there)
                   (stand (f .tree) (f .rest) (f .reads) (parts .pairs) (parts .kind-is));

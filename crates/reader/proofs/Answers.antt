@@ -3,7 +3,7 @@ use Prim.Native.Nat.{ℕ, _+_, _-_, _*_, _≤_, _<_}
 use native.Mathlib.Omega.{arith}
 use mathlib.Core.List.{List, _++_, append-nil}
 use mathlib.Core.Bool.{Bool, true, false}
-use mathlib.Core.Option.{Option, none, some}
+use mathlib.Core.Option.{some}
 use mathlib.Core.Path.{_≡_, refl, sym, ap, ap₂, _∙_, subst}
 use lib.ListN.{length, take, drop, length-map, length-drop, drop-of-length-le}
 use lib.Seq.{length-take-le}
@@ -11,30 +11,22 @@ use lib.Dec.{leb}
 use borrow.Author.Tests.{leb-true}
 use borrow.Rule.Slice.PartAt.{part-to-end}
 use Rattle.meaning.specs.Columns.{objectWidth, componentWidth}
-use Rattle.meaning.specs.Tree.{Node, Pair, noteOf, mapP}
+use Rattle.meaning.specs.Tree.{Node, Pair, mapP}
 use Rattle.meaning.specs.Read as spans
-use Rattle.meaning.specs.Check.{Check, pass, refuse, _>>=_, _unless_, required, optional}
-use Rattle.meaning.specs.Text.{all}
-use Rattle.meaning.specs.Refusal.{KEY, TWICE}
-use Rattle.meaning.specs.Model.{Model, RootFields}
+use Rattle.meaning.specs.Check.{Check, pass, refuse, _>>=_}
+use Rattle.meaning.specs.Model.{Model}
 use Rattle.meaning.specs.Notes.{mapOption, mapModel, mapObject}
-use Rattle.meaning.specs.Kind.{kind, mapping, aMapping, asMapping}
+use Rattle.meaning.specs.Kind.{kind, mapping}
 use Rattle.meaning.specs.Field as field
-use Rattle.meaning.specs.Layouts.{Layout, slot, somes, objectsAt, layoutOf}
-use Rattle.meaning.specs.Field.{rootFields, isSome, keyOf, count}
-use Rattle.meaning.specs.Judge.{judge, aVersion, attributesOf, objectsOf}
+use Rattle.meaning.specs.Layouts.{Layout, slot, objectsAt, layoutOf}
+use Rattle.meaning.specs.Judge.{judge, objectsOf}
 use Rattle.meaning.specs.Frame.{Reading, frame, reading}
 use Rattle.meaning.specs.Rows.{attributesSpan, rows, roomFor, roomy, answer, tableAfter, readInto}
-use Rattle.meaning.proofs.Checks.{pass-same, required-some, passed-on, passed}
-use Rattle.meaning.proofs.KindIs.{table-kind, attributes-stay}
+use Rattle.meaning.proofs.Checks.{pass-same, passed}
 use Rattle.cbor.specs.Ending.{FAULT}
-use Rattle.walk.specs.Reading.{Ends, Reads, leftAt}
+use Rattle.walk.specs.Reading.{Ends, Reads}
 use Rattle.walk.proofs.Passed.{Here}
-use Rattle.walk.proofs.Chains.{ate}
-use Rattle.walk.proofs.ReadSays.{note-of}
 use Rattle.fields.specs.Slots.{Holds}
-use Rattle.fields.proofs.Stands.{field-found-stands, holds-whole}
-use Rattle.table.proofs.Lettered.{pairs-chained}
 use Rattle.table.specs.Spans.{spanOf}
 use Rattle.table.specs.Objects.{Written}
 use Rattle.table.specs.declared.span.Span.{Span}
@@ -48,12 +40,9 @@ use Rattle.reader.specs.declared.into.Answer.{Answer}
 use Rattle.reader.specs.Verdict.{manifestReading, Accepted, ManifestIs}
 use Rattle.reader.specs.Answer.{refused, read, answered, AttributesIs, ahead, laidOver, placed, Filled}
 use Rattle.reader.proofs.Frames.{framed, inside, manifest-read}
+use Rattle.reader.proofs.RootParts.{attributesAt, rooted, field-holds}
 
 -- ---------------------------------------------------------------- what an accepted root is made of
-
--- the place of the attributes in a root's list
-abbrev attributesAt : ℕ
-attributesAt = 1
 
 pub record Parts (L : Layout) (start : ℕ) (t : Node Ends) (m : Model Ends) : Type 0 where
   pub pairs : List (Pair Ends)
@@ -64,38 +53,19 @@ pub record Parts (L : Layout) (start : ℕ) (t : Node Ends) (m : Model Ends) : T
   pub attributes-are : m .attributes ≡ field.field (slot attributesAt (L .root)) pairs
 
 parts-of : (L : Layout) (start : ℕ) (t : Node Ends) (m : Model Ends) → judge L start t ≡ pass m → Parts L start t m
-unfolding judge rootFields field.fields aMapping
+unfolding judge
 parts-of L start t m e =
-    let root = passed (rootFields (L .root) t) _ m e in
-    let version = passed (required (root .value .version)) _ m (root .then) in
-    let attributes = passed (optional attributesOf (root .value .attributes)) _ m (passed-on (aVersion (version .value)) _ m (version .then)) in
-    let objects = passed (required (root .value .objects)) _ m (attributes .then) in
-    let found = passed (objectsOf L start (objects .value)) _ m (objects .then) in
-    let listed = passed (field.fields (L .root) t) _ (root .value) (root .is) in
-    let mapped = passed (asMapping (kind t)) _ (listed .value) (listed .is) in
-    let keyed = passed-on (KEY unless all (λ p. isSome (keyOf p)) (mapped .value)) _ (listed .value) (mapped .then) in
-    let pairs : mapped .value ≡ listed .value = pass-same (passed-on (TWICE unless all (λ n. leb (count n (mapped .value)) 1) (somes (L .root))) _ (listed .value) keyed) in
+    let root = rooted L t (λ a objects. objectsOf L start objects >>= λ os. pass (record { attributes = a; objects = os })) m e in
+    let found = passed (objectsOf L start (root .objects)) _ m (root .then) in
     let whole = pass-same (found .then) in
-    let fields = pass-same (listed .then) in
     record {
-      pairs = listed .value;
-      kind-is = table-kind (kind t) (listed .value) (mapped .is ∙ ap pass pairs);
-      objects = objects .value;
-      objects-there = ap (λ (r : RootFields Ends). r .objects) fields ∙ required-some (root .value .objects) (objects .value) (objects .is);
+      pairs = root .pairs;
+      kind-is = root .kind-is;
+      objects = root .objects;
+      objects-there = root .objects-there;
       objects-judged = found .is ∙ ap pass (ap (λ (m : Model Ends). m .objects) whole);
-      attributes-are = sym (ap (λ (m : Model Ends). m .attributes) whole) ∙ attributes-stay (root .value .attributes) (attributes .value) (attributes .is) ∙ sym (ap (λ (r : RootFields Ends). r .attributes) fields);
+      attributes-are = sym (ap (λ (m : Model Ends). m .attributes) whole);
     }
-
--- a field stands in the bytes of its map
-field-holds : (m : List ℕ) → length m < FAULT → (t : Node Ends) (q : List ℕ) → Reads 32 m t q → (ps : List (Pair Ends)) → kind t ≡ mapping ps → (name : Option (List ℕ)) (o : Option (Node Ends)) → field.field name ps ≡ o → Holds 31 m (leftAt o) o
-field-holds m room t q e ps is name none g = refl
-field-holds m room t q e ps is name (some x) g =
-    let h = pairs-chained 31 m room t q e ps is in
-    let s = field-found-stands 31 (drop (h .at) m) name ps 0 (omega arith) (h .last) (h .chain) x g in
-    let a = ate 31 (drop (length (drop (h .at) m) - length (noteOf x .start)) (drop (h .at) m)) x (s .rest) (s .reads) in
-    let n = ap (λ (e : Ends). length (e .start)) (note-of 31 (drop (length (drop (h .at) m) - length (noteOf x .start)) (drop (h .at) m)) x (s .rest) (s .reads)) in
-    let i = a .some in let j = a .fits in
-    holds-whole 31 m (h .at) (h .within) (length (noteOf x .start)) (some x) (omega arith, s)
 
 -- ---------------------------------------------------------------- the part that is lent to the rows
 

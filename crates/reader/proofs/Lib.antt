@@ -1,3 +1,5 @@
+pub mod ItemFills
 pub mod Manifests
 pub mod Frames
+pub mod RootParts
 pub mod Answers
