@@ -19,8 +19,6 @@ use Rattle.formats.specs.Parts.{partRows}
 use Rattle.naming.specs.NotedNames.{namedAnyway, Tallied}
 use Rattle.naming.specs.declared.Tally.{Tally}
 use Rattle.table.specs.Given.{Given, Whichever, entry}
-use Rattle.table.specs.Row.{RowPut}
-use Rattle.table.specs.declared.Place.{Place}
 use Rattle.components.specs.declared.First.{First}
 use Rattle.components.specs.declared.First.the-variants.{Fine, Fault}
 use Rattle.components.specs.declared.Found.{Found}
@@ -46,13 +44,6 @@ abbrev pub Keeps : Given → List ℕ → List ℕ → Judged → ℕ → First 
 Keeps g s c v j first rows first′ rows′ =
     (start : ℕ) (done : List (Pair Ends)) (p : Pair Ends) (d : ℕ) (q r : List ℕ) → Reads (suc d) s (p .key) q → Reads 28 c (p .value) r → ComponentIs (layoutOf (g .layout)) (given (g .code)) c start v
     → j ≡ length done → FirstsAre g start done first rows → FirstsAre g start (done ++ p ∷ []) first′ rows′
-
--- and its row, put into a table from `next` on; its value takes `size` bytes
-pub record OneMore (g : Given) (start : ℕ) (to : Place) (s c : List ℕ) (j : ℕ) (first : First) (rows : List ℕ) (next : ℕ) (t : List ℕ) (size : ℕ) (first′ : First) (rows′ t′ : List ℕ) : Type 0 where
-  pub verdict : Judged
-  pub judged : ComponentIs (layoutOf (g .layout)) (given (g .code)) c start verdict
-  pub keeps : Keeps g s c verdict j first rows first′ rows′
-  pub put : RowPut (g .layout) (g .format) s c verdict size (to .end) (to .owner) next t t′
 
 abbrev pub FoundIs : Check (List (Component Ends)) → Found → List ℕ → Type 0
 FoundIs k (No n c) rows = (o : ℕ) × (k ≡ refuse n o c)

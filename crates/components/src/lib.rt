@@ -20,7 +20,7 @@ ghost use Rattle.cbor.specs.Ending.{code as ending, itemEnd, rest};
 ghost use Rattle.walk.specs.Places.{Modes};
 ghost use Rattle.table.specs.Given.{offered};
 ghost use Rattle.table.specs.Rows.{AllRowed, RowsPut};
-ghost use Rattle.components.specs.Firsts.{Keeps, OneMore, Walked, Concluded, ComponentsAre};
+ghost use Rattle.components.specs.Firsts.{Keeps, Walked, Concluded, ComponentsAre};
 
 // The first fault among the entries so far: its number and the component.
 pub enum First {
@@ -32,12 +32,6 @@ pub enum First {
 pub enum Found {
     No(u64, usize),
     Yes(usize),
-}
-
-// Where an entry's value ends, as `cbor::skip` answers it, and the first fault with it.
-struct Turn {
-    end: usize,
-    first: First,
 }
 
 // Where the entries end, the tally of their names, and the first fault.
@@ -79,35 +73,6 @@ fn keep(
                 First::Fine
             }
         },
-    }
-}
-
-// The entry number j, whose key begins s and whose value begins c: judged, and its row put, into rows for the judge, into t from `next` on for the reader.
-fn one(
-    layout: u64,
-    format: u64,
-    code: u64,
-    s: &[u8],
-    c: &[u8],
-    start: u64,
-    j: usize,
-    first: First,
-    to: Place,
-    next: usize,
-    rows: &mut [u64],
-    t: &mut [u64],
-) -> Turn
-    requires { ⌜ length (now rows) ≡ 64 ⌝ }
-    ensures { λ r. ⌜ (r .end ≡ ending (itemEnd 28 (now (c .entry)))) × (length (now (rows .exit)) ≡ 64) × OneMore (offered layout format code) start to (now (s .entry)) (now (c .entry)) j first (now (rows .entry)) next (now (t .entry)) (r .end) (r .first) (now (rows .exit)) (now (t .exit)) ⌝ }
-{
-    let w = component::component(layout, code, c, start);
-    let e = w.end;
-    let v = w.verdict;
-    let kept = keep(layout, format, s, c, v, j, first, rows);
-    put_row(layout, format, s, c, v, e, to.end, to.owner, next, t);
-    Turn {
-        end: e,
-        first: kept,
     }
 }
 
@@ -156,20 +121,7 @@ fn entries(
             }
             Entry::Value(k) => {
                 let v = at + k;
-                let w = one(
-                    layout,
-                    format,
-                    code,
-                    &s[at..],
-                    &s[v..],
-                    start,
-                    names.count,
-                    first,
-                    to,
-                    next,
-                    rows,
-                    t,
-                );
+                let w = component::component(layout, code, &s[v..], start);
                 if s.len() - v < w.end {
                     return Run {
                         end: w.end,
@@ -177,7 +129,30 @@ fn entries(
                         first: first,
                     };
                 }
-                first = w.first;
+                let judged = w.verdict;
+                let e = w.end;
+                first = keep(
+                    layout,
+                    format,
+                    &s[at..],
+                    &s[v..],
+                    judged,
+                    names.count,
+                    first,
+                    rows,
+                );
+                put_row(
+                    layout,
+                    format,
+                    &s[at..],
+                    &s[v..],
+                    judged,
+                    e,
+                    to.end,
+                    to.owner,
+                    next,
+                    t,
+                );
                 next = ahead(next, columns::COMPONENT, t.len());
                 names = naming::note(&s[at..], names, left, size);
                 at = v + w.end;

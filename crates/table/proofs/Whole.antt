@@ -41,11 +41,6 @@ from-whole c size end r whole = record {
     same-in : {x y : Node Ends} → _≡_ {A = Option (Node Ends)} (some x) (some y) → x ≡ y
     same-in same = cc
 
--- none
-pub none-there : (d : ℕ) (m : List ℕ) (left end : ℕ) (r : Span) → left ≡ 0 → WholeIs left 0 end r → ItemIs d m left end r
-none-there d m left end r z h none e = h none (sym e) (λ t y. absurd (let x : _≡_ {A = ℕ} 0 1 = cc in omega arith))
-none-there d m left end r z h (some t) (l, x) = absurd (omega (arith, z, l))
-
 -- an item, or none, at a place where it was passed over
 module _ (d : ℕ) (m : List ℕ) (left end size : ℕ) (skipped : size ≡ code (itemEnd d (Here m (length m - left)))) where
   pub item-there : (r : Span) → WholeIs left size end r → ItemIs d m left end r

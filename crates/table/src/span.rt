@@ -47,13 +47,10 @@ fn whole(left: usize, size: usize, end: usize) -> Span
     }
 }
 
-// The whole item that stands where `left` bytes of m are left, with so many levels under it; 0 for none.
+// The whole item that stands where `left` bytes of m are left, with so many levels under it.
 pub fn item_at(m: &[u8], left: usize, depth: u64, end: usize) -> Span
     ensures { λ r. ⌜ is.ItemIs depth (now (m .entry)) left end r ⌝ }
 {
-    if left == 0 {
-        return Span { place: 0, size: 0 };
-    }
     let at = place_of(m.len(), left);
     let size = cbor::skip(&m[at..], depth);
     whole(left, size, end)

@@ -73,43 +73,66 @@ entries-spec =
     (λ c. let b3 = c .before .before .before in let b5 = b3 .before .before in let l = b5 .loop in
     omega (arith, walked.value-inside (l .inv .walking) (b3 .past-key .ensures) (c .before .k .given .1)))
     (λ c. search needs)
-    (λ c. let b2 = c .before .before in let b4 = b2 .before .before in let b6 = b4 .before .before in let l = b6 .loop in
-    omega (arith, walked.value-inside (l .inv .walking) (b4 .past-key .ensures) (b2 .k .given .1)))
-    (λ c. let b2 = c .before .before in let b4 = b2 .before .before in let b6 = b4 .before .before in let l = b6 .loop in
-    omega (arith, walked.value-inside (l .inv .walking) (b4 .past-key .ensures) (b2 .k .given .1)))
-    (λ c. search needs)
-    (λ c κs. let b9 = c .before .before .before .before .before .before .before .before .before in (b9 .loop .inv .room))
-    (λ c. let b10 = c .before .before .before .before .before .before .before .before .before .before in let b12 = b10 .before .before in let b14 = b12 .before .before in let l = b14 .loop in
-    omega (arith, walked.value-inside (l .inv .walking) (b12 .past-key .ensures) (b10 .k .given .1)))
-    (λ c. search needs)
-    (λ c. search needs)
-    (λ c. let b6 = c .before .before .before .before .before .before in let b16 = b6 .before .before .before .before .before .before .before .before .before .before in (b6 .one .ensures .1) ∙ sym (b16 .before .before .before .before .before .before .pre .2))
-    (λ c. let b6 = c .before .before .before .before .before .before in let b16 = b6 .before .before .before .before .before .before .before .before .before .before in (b6 .one .kept .1 .1 .1 .1 .1 .1 .1 .1 .1 .1 .1 .0) ∙ (b16 .loop .inv .long))
-    (λ c. let b6 = c .before .before .before .before .before .before in let b12 = b6 .before .before .before .before .before .before in let b14 = b12 .before .before in let b16 = b14 .before .before in let l = b16 .loop in (
-      walked.value-fails (l .inv .walking) (b14 .past-key .ensures) (b12 .k .given .1) (b6 .one .ensures .0) (c .if2 .taken),
-      (l .inv .slots),
-      (b6 .one .ensures .1),
-      walked.no-pairs (l .inv .walking) (b14 .past-key .ensures) (b12 .k .given .1) (b6 .one .ensures .0) (c .if2 .taken) _,
-      record { next = (l .next); are = walked.no-pairs (l .inv .walking) (b14 .past-key .ensures) (b12 .k .given .1) (b6 .one .ensures .0) (c .if2 .taken) _ },
-    ))
     (λ c κs. search needs)
-    (λ c. let b13 = c .before .before .before .before .before .before .before .before .before .before .before .before .before in let b15 = b13 .before .before in let b17 = b15 .before .before in let l = b17 .loop in
-    omega (arith, walked.value-inside (l .inv .walking) (b15 .past-key .ensures) (b13 .k .given .1)))
-    (λ c. let b13 = c .before .before .before .before .before .before .before .before .before .before .before .before .before in let b15 = b13 .before .before in let b17 = b15 .before .before in let l = b17 .loop in
-    omega (arith, walked.value-inside (l .inv .walking) (b15 .past-key .ensures) (b13 .k .given .1)))
+    (λ c. let b3 = c .before .before .before in let b5 = b3 .before .before in let b7 = b5 .before .before in let l = b7 .loop in
+    omega (arith, walked.value-inside (l .inv .walking) (b5 .past-key .ensures) (b3 .k .given .1)))
     (λ c. search needs)
-    (λ c κs. let b20 = c .before .before .before .before .before .before .before .before .before .before .before .before .before .before .before .before .before .before .before .before in let l = b20 .loop in
+    (λ c. search needs)
+    (λ c. search needs)
+    (λ c. let b9 = c .before .before .before .before .before .before .before .before .before in
+    (b9 .loop .inv .long))
+    (λ c. let b2 = c .before .before in let b5 = b2 .before .before .before in let b7 = b5 .before .before in let b9 = b7 .before .before in let l = b9 .loop in (
+      walked.value-fails (l .inv .walking) (b7 .past-key .ensures) (b5 .k .given .1) (b2 .component .ensures .0) (c .if2 .taken),
+      (l .inv .slots),
+      (l .inv .room),
+      walked.no-pairs (l .inv .walking) (b7 .past-key .ensures) (b5 .k .given .1) (b2 .component .ensures .0) (c .if2 .taken) _,
+      record { next = (l .next); are = walked.no-pairs (l .inv .walking) (b7 .past-key .ensures) (b5 .k .given .1) (b2 .component .ensures .0) (c .if2 .taken) _ },
+    ))
+    (λ c. search needs)
+    (λ c. search needs)
+    (λ c. search needs)
+    (λ c. let b6 = c .before .before .before .before .before .before in let b8 = b6 .before .before in let b10 = b8 .before .before in let l = b10 .loop in
+    omega (arith, walked.value-inside (l .inv .walking) (b8 .past-key .ensures) (b6 .k .given .1)))
+    (λ c. let b6 = c .before .before .before .before .before .before in let b8 = b6 .before .before in let b10 = b8 .before .before in let l = b10 .loop in
+    omega (arith, walked.value-inside (l .inv .walking) (b8 .past-key .ensures) (b6 .k .given .1)))
+    (λ c. search needs)
+    (λ c κs. let b12 = c .before .before .before .before .before .before .before .before .before .before .before .before in
+    (b12 .loop .inv .room))
+    (λ c. search needs)
+    (λ c. search needs)
+    (λ c. search needs)
+    (λ c. let b12 = c .before .before .before .before .before .before .before .before .before .before .before .before in let b14 = b12 .before .before in let b16 = b14 .before .before in
+    let l = b16 .loop in
+    omega (arith, walked.value-inside (l .inv .walking) (b14 .past-key .ensures) (b12 .k .given .1)))
+    (λ c. let b12 = c .before .before .before .before .before .before .before .before .before .before .before .before in let b14 = b12 .before .before in let b16 = b14 .before .before in
+    let l = b16 .loop in
+    omega (arith, walked.value-inside (l .inv .walking) (b14 .past-key .ensures) (b12 .k .given .1)))
+    (λ c. search needs)
+    (λ c κs. search needs)
+    (λ c κs. search needs)
+    (λ c. let b18 = c .before .before .before .before .before .before .before .before .before .before .before .before .before .before .before .before .before .before in let b20 = b18 .before .before in
+    let b22 = b20 .before .before in let l = b22 .loop in
+    omega (arith, walked.value-inside (l .inv .walking) (b20 .past-key .ensures) (b18 .k .given .1)))
+    (λ c. let b18 = c .before .before .before .before .before .before .before .before .before .before .before .before .before .before .before .before .before .before in let b20 = b18 .before .before in
+    let b22 = b20 .before .before in let l = b22 .loop in
+    omega (arith, walked.value-inside (l .inv .walking) (b20 .past-key .ensures) (b18 .k .given .1)))
+    (λ c. search needs)
+    (λ c κs. let b25 = c .before .before .before .before .before .before .before .before .before .before .before .before .before .before .before .before .before .before .before .before .before .before .before .before .before in let l = b25 .loop in
     let x = (l .inv .walking .holds .kept .named .counted) in let y = (l .inv .walking .few) in let z = (l .inv .walking .walking .within) in let d = (l .inv .walking .short) in omega (arith, x, y, z, d))
-    (λ c. let b10 = c .before .before .before .before .before .before .before .before .before .before in let b22 = b10 .before .before .before .before .before .before .before .before .before .before .before .before in let b24 = b22 .before .before in let b26 = b24 .before .before in let l = b26 .loop in
-    let x = walked.value-inside (l .inv .walking) (b24 .past-key .ensures) (b22 .k .given .1) in let y = (b10 .if2 .left) in let d = (l .inv .walking .short) in omega (arith, x, y, d))
-    (λ c. let b16 = c .before .before .before .before .before .before .before .before .before .before .before .before .before .before .before .before in let b22 = b16 .before .before .before .before .before .before in let b24 = b22 .before .before in let b26 = b24 .before .before in let l = b26 .loop in
-    omega (arith, walked.two-due (l .inv .walking) (b24 .past-key .ensures) (b22 .k .given .1) (b16 .one .ensures .0)))
-    (λ c. let b10 = c .before .before .before .before .before .before .before .before .before .before in let b16 = b10 .before .before .before .before .before .before in let b22 = b16 .before .before .before .before .before .before in let b24 = b22 .before .before in let b26 = b24 .before .before in let l = b26 .loop in
+    (λ c. let b22 = c .before .before .before .before .before .before .before .before .before .before .before .before .before .before .before .before .before .before .before .before .before .before in
+    let b27 = b22 .before .before .before .before .before in let b29 = b27 .before .before in let b31 = b29 .before .before in let l = b31 .loop in
+    let x = walked.value-inside (l .inv .walking) (b29 .past-key .ensures) (b27 .k .given .1) in let y = (b22 .if2 .left) in let d = (l .inv .walking .short) in omega arith)
+    (λ c. let b24 = c .before .before .before .before .before .before .before .before .before .before .before .before .before .before .before .before .before .before .before .before .before .before .before .before in
+    let b27 = b24 .before .before .before in let b29 = b27 .before .before in let b31 = b29 .before .before in let l = b31 .loop in
+    omega (arith, walked.two-due (l .inv .walking) (b29 .past-key .ensures) (b27 .k .given .1) (b24 .component .ensures .0)))
+    (λ c. let b22 = c .before .before .before .before .before .before .before .before .before .before .before .before .before .before .before .before .before .before .before .before .before .before in
+    let b24 = b22 .before .before in let b27 = b24 .before .before .before in let b29 = b27 .before .before in let b31 = b29 .before .before in let l = b31 .loop in
     omega (
       arith,
-      walked.value-inside (l .inv .walking) (b24 .past-key .ensures) (b22 .k .given .1),
-      walked.goes-on (l .inv .walking) (b24 .past-key .ensures) (b22 .k .given .1) (b16 .one .ensures .0) (b10 .if2 .left),
+      walked.value-inside (l .inv .walking) (b29 .past-key .ensures) (b27 .k .given .1),
+      walked.goes-on (l .inv .walking) (b29 .past-key .ensures) (b27 .k .given .1) (b24 .component .ensures .0) (b22 .if2 .left),
     ))
-    (λ c. let b5 = c .before .before .before .before .before in let b9 = b5 .before .before .before .before in let b10 = b9 .before in let b16 = b10 .before .before .before .before .before .before in let b22 = b16 .before .before .before .before .before .before in let b24 = b22 .before .before in let b26 = b24 .before .before in
-    looping.loops-on (b26 .loop .inv) (b24 .past-key .ensures) (b22 .k .given .1) (b16 .one .ensures .0) (b10 .if2 .left) (b16 .one .ensures .1) (b16 .one .ensures .2)
-    (b16 .one .kept .1 .1 .1 .1 .1 .1 .1 .1 .1 .1 .1 .0) (b9 .ahead .ensures) (b5 .note .ensures)))
+    (λ c. let b5 = c .before .before .before .before .before in let b9 = b5 .before .before .before .before in let b12 = b9 .before .before .before in let b18 = b12 .before .before .before .before .before .before in
+    let b22 = b18 .before .before .before .before in let b24 = b22 .before .before in let b27 = b24 .before .before .before in let b29 = b27 .before .before in let b31 = b29 .before .before in
+    looping.loops-on (b31 .loop .inv) (b29 .past-key .ensures) (b27 .k .given .1) (b24 .component .ensures .0) (b22 .if2 .left) (b24 .component .ensures .1) (b18 .keep .ensures .0) ((b18 .keep .ensures .1) _)
+    (b12 .put-row .ensures) (b12 .put-row .kept .1 .1 .1 .1 .1 .1 .1 .1 .1 .0) (b9 .ahead .ensures) (b5 .note .ensures)))

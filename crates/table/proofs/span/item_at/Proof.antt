@@ -3,7 +3,6 @@ use Rattle.walk.proofs.Passed.{Here}
 use Rattle.cbor.specs.Ending.{code, itemEnd}
 use mathlib.Core.Path.{ap, _∙_}
 use Rattle.table.proofs.Whole as item
-use Rattle.table.proofs.TextSpan as spelling
 use borrow.Author.Needs.{needs}
 use Rattle.table.proofs.span.item_at.Statement.{statement}
 use Rattle.table.proofs.span.item_at.Tie as tie
@@ -12,13 +11,11 @@ pub item-at-spec : {M : Type 1} → statement M
 item-at-spec =
     tie.close
     (tie.spec
-    (λ c. let a = c .before .before .args in
-    item.none-there (a .depth) (a .m .now) (a .left) (a .end) _ (c .if1 .taken) (spelling.none-whole (a .left) 0 (a .end) (c .if1 .taken)))
     (λ c κs. search needs)
     (λ c. search needs)
     (λ c. search needs)
     (λ c. search needs)
     (λ c κs. search needs)
     (λ c κs. search needs)
-    (λ c. let b3 = c .before .before .before in let a = b3 .before .before .before .args in
+    (λ c. let b3 = c .before .before .before in let a = b3 .before .before .args in
     item.item-there (a .depth) (a .m .now) (a .left) (a .end) _ ((c .before .skip .ensures) ∙ ap (λ i. code (itemEnd (a .depth) (Here (a .m .now) i))) (b3 .place-of .ensures)) _ (c .whole .ensures)))
