@@ -121,7 +121,7 @@ entries-spec =
     let x = (l .inv .walking .holds .kept .named .counted) in let y = (l .inv .walking .few) in let z = (l .inv .walking .walking .within) in let d = (l .inv .walking .short) in omega (arith, x, y, z, d))
     (λ c. let b22 = c .before .before .before .before .before .before .before .before .before .before .before .before .before .before .before .before .before .before .before .before .before .before in
     let b27 = b22 .before .before .before .before .before in let b29 = b27 .before .before in let b31 = b29 .before .before in let l = b31 .loop in
-    let x = walked.value-inside (l .inv .walking) (b29 .past-key .ensures) (b27 .k .given .1) in let y = (b22 .if2 .left) in let d = (l .inv .walking .short) in omega arith)
+    let x = walked.value-inside (l .inv .walking) (b29 .past-key .ensures) (b27 .k .given .1) in let y = (b22 .if2 .left) in let d = (l .inv .walking .short) in omega (arith, x, y, d))
     (λ c. let b24 = c .before .before .before .before .before .before .before .before .before .before .before .before .before .before .before .before .before .before .before .before .before .before .before .before in
     let b27 = b24 .before .before .before in let b29 = b27 .before .before in let b31 = b29 .before .before in let l = b31 .loop in
     omega (arith, walked.two-due (l .inv .walking) (b29 .past-key .ensures) (b27 .k .given .1) (b24 .component .ensures .0)))
