@@ -62,7 +62,7 @@ fn compared(tally: &mut Tally, index: u64, pair: &FilePair, work_room: usize, li
 fn rows_of(pair: &FilePair, table: &mut [u64]) -> usize {
     let one = against::read_as(pair.first_layout, &pair.first, table);
     let other = against::read_as(pair.second_layout, &pair.second, table);
-    let numbers = |a: &against::Answer| 16 * a.objects as usize + 12 * a.components as usize;
+    let numbers = |a: &against::Answer| second::columns::numbers(a.objects as usize, a.components as usize);
     numbers(&one) + numbers(&other)
 }
 

@@ -71,7 +71,7 @@ fn numbers(layout: u64, file: &[u8]) -> usize {
         return 0;
     }
     let read = second::rows::read(&out[..told.length as usize], &mut rows);
-    16 * read.objects as usize + 12 * read.components as usize
+    second::columns::numbers(read.objects as usize, read.components as usize)
 }
 
 #[test]
