@@ -190,8 +190,8 @@ module _ (x y : List ℕ) {n more at : ℕ} (k : Rest x y n more) (run : Run x y
       rw (p, m)
 
 -- the shorter one's positions, and the others
-pub rest-first : (x y : List ℕ) → length x ≤ length y → Rest x y (length x) (length y - length x)
-rest-first x y l = record { both = record { first = omega arith; second = l }; ends = inl refl; sum = omega arith }
+pub rest-first : (x y : List ℕ) → length x < length y → Rest x y (length x) (length y - length x)
+rest-first x y l = record { both = record { first = omega arith; second = omega arith }; ends = inl refl; sum = omega arith }
 
 pub rest-second : (x y : List ℕ) → length y ≤ length x → Rest x y (length y) (length x - length y)
 rest-second x y l = record { both = record { first = l; second = omega arith }; ends = inr refl; sum = omega arith }

@@ -1,5 +1,5 @@
 -- A component from the slots of its entries, a branch each. c is lent whole to `walk::map`, which answered x.
-use Prim.Native.Nat.{ℕ, suc, _+_, _<_}
+use Prim.Native.Nat.{ℕ, _+_, _<_}
 use mathlib.Core.List.{List, _++_}
 use mathlib.Core.Bool.{Bool, true, false, cond, not, _&&_}
 use mathlib.Core.Option.{Option, none, some}
@@ -10,26 +10,23 @@ use lib.Dec.{eqb}
 use borrow.Author.Tests.{eq-eqb, ne-eqb, eqb-true, eqb-false}
 use borrow.Rule.Slice.PartAt.{part-to-end}
 use Rattle.meaning.specs.Tree.{Node, Pair, noteOf}
-use Rattle.meaning.specs.Kind.{kind, mapping, aMapping}
 use Rattle.meaning.specs.Model.{Word, Named}
-use Rattle.meaning.specs.Check.{pass, fault}
 use Rattle.meaning.specs.Field.{field, isSome}
-use Rattle.meaning.specs.Layouts.{Layout, Slots, slot, dtypeAt, layoutOf}
+use Rattle.meaning.specs.Layouts.{Layout, slot, dtypeAt, layoutOf}
 use Rattle.meaning.proofs.Tests.{not-both, both-left, both-right}
-use Rattle.walk.specs.Reading.{Ends, Reads, Chain, Due, foldl}
+use Rattle.walk.specs.Reading.{Ends, Reads}
 use Rattle.walk.specs.Places.{MapIs}
 use Rattle.walk.specs.declared.Opening.{Opening}
 use Rattle.walk.specs.declared.Opening.the-variants.{NotOpen, Opened}
-use Rattle.walk.proofs.ReadSays.{note-of}
 use Rattle.walk.proofs.Passed.{Here}
 use Rattle.walk.proofs.Opens as opens
-use Rattle.fields.specs.Slots.{marks, Holds}
+use Rattle.fields.specs.Slots.{Holds}
 use Rattle.fields.proofs.Stands.{hold-none, Item, hold-some, field-stands}
 use Rattle.component.specs.Verdict.{lacksDtype, Fields, Found}
 use Rattle.component.proofs.Verdicts.{own-dtype, none-left}
 use Rattle.explained.specs.Fields as at
 use Rattle.explained.specs.Step as steps
-use Rattle.explained.specs.Step.{Step, first, given}
+use Rattle.explained.specs.Step.{Step, first}
 use Rattle.explained.specs.Order.{missing, missingIn, componentSteps, lengthNote, lengthIn, noteOr}
 use Rattle.keys.specs.Odd.{slotsAt}
 use Rattle.keys.proofs.Parts.{of-component}
@@ -38,6 +35,8 @@ use Rattle.spot.specs.declared.Spot.{Spot}
 use Rattle.badfields.specs.Fields.{entrySteps, FirstIs}
 use Rattle.badfields.proofs.Firsts.{shown-here, shown-past}
 use Rattle.badfields.proofs.Entries.{entries-numbered}
+use Rattle.badfields.proofs.Opened as opened
+use Rattle.badfields.proofs.Opened.{Met, whole-is}
 use Rattle.badfields.proofs.Maps.{table-is, no-map, map-entries, missing-here, missing-later, missing-not, missing-in-here, missing-in-later, missing-in-not}
 use Rattle.badcomponent.specs.Steps.{lacks, eitherOf, blobSteps, extraSteps, extentSteps, valueSteps, ValuesAre, ComponentIs, LengthIs}
 use Rattle.badcomponent.proofs.Storage.{none-there, one-there}
@@ -58,27 +57,30 @@ module _ (layout : ℕ) (p : List ℕ) where
     unfolding lacks
     lacks-dtype e k = k ∙ (rw (ne-eqb (getD p 2 0) 0 a, ne-eqb (getD p 3 0) 0 e) refl)
 
-pub slots-of : (layout : ℕ) → slotsAt layout 2 ≡ layoutOf layout .component
+slots-of : (layout : ℕ) → slotsAt layout 2 ≡ layoutOf layout .component
 slots-of layout = of-component 2 (λ z. omega (arith, z)) (λ z. omega (arith, z)) layout
 
-pub ten : (layout : ℕ) → length (slotsAt layout 2) + 3 ≡ 10
-ten layout = let e = ap length (slots-of layout) in let k = layoutOf layout .componentPlaces in omega (arith, e, k)
+pub ten-places : (layout : ℕ) → replicate {A = ℕ} 10 0 ≡ replicate (length (slotsAt layout 2) + 3) 0
+ten-places layout = opened.zeros (slotsAt layout 2) (layoutOf layout .component) (slots-of layout) 7 (layoutOf layout .componentPlaces)
 
 both-found : {A : Type 0} (v w : Option A) (a b : A) → v ≡ some a → w ≡ some b → (g : A → A → List (Step Ends)) → first (steps._>>=_ v (λ x. steps._>>=_ w (λ y. g x y))) ≡ first (g a b)
 both-found v w a b e f g = rw (e, f) refl
 
 -- ---------------------------------------------------------------- a map of these pairs
 
-module _ (layout : ℕ) (above : Option ℕ) (start : ℕ) (s : List ℕ) (p : List ℕ) (t : Node Ends) (n : Word Ends) (whole : ℕ) (left : whole ≡ length (noteOf t .start))
-    (ps : List (Pair Ends)) (q : List ℕ) (chain : Chain 27 s ps q) (is : p ≡ foldl (marks (layoutOf layout .component)) (replicate 10 0) ps) (kt : kind t ≡ mapping ps) where
+module _ (layout : ℕ) (above : Option ℕ) (start : ℕ) (s p : List ℕ) (t : Node Ends) (n : Word Ends) (whole : ℕ) (left : whole ≡ length (noteOf t .start))
+    (k : Spot) (m : Met (layoutOf layout .component) 7 27 s p k t) where
   abbrev L : Layout
   L = layoutOf layout
+
+  abbrev ps : List (Pair Ends)
+  ps = m .pairs
 
   abbrev value : ℕ → Option (Node Ends)
   value i = field (slot i (L .component)) ps
 
   stands : (i : ℕ) → i < 7 → Holds 27 s (getD p i 0) (value i)
-  stands = field-stands (L .component) 7 (L .componentPlaces) 27 s ps q chain p is (L .componentApart)
+  stands = field-stands (L .component) 7 (L .componentPlaces) 27 s ps (m .last) (m .chain) p (m .slots) (L .componentApart)
 
   abbrev fieldsOf : Node Ends → Node Ends → Fields
   fieldsOf offset length = record { dtype = value 0; type = value 1; offset = offset; length = length; unpacked = value 4; encoding = value 5; digest = value 6 }
@@ -102,7 +104,7 @@ module _ (layout : ℕ) (above : Option ℕ) (start : ℕ) (s : List ℕ) (p : L
 
   entries-then : first (componentSteps L start above named) ≡ first (entrySteps (L .component) ps ++ rest ps)
   unfolding componentSteps valueSteps extentSteps extraSteps blobSteps
-  entries-then = map-entries (L .component) t ps (table-is t ps kt) rest
+  entries-then = map-entries (L .component) t ps (table-is t ps (m .kind-is)) rest
 
   pub no-dtype-left : lacksDtype layout (getD p 0 0) ≡ true → spot 12 whole ≡ shown (first (rest ps))
   unfolding lacksDtype
@@ -161,24 +163,23 @@ module _ (layout : ℕ) (above : Option ℕ) (start : ℕ) (s : List ℕ) (p : L
                 ∙ both-found (value 2) (value 3) (o .item) (l .item) (o .is) (l .is) _;
           }
 
-  module _ (k : Spot) (ke : k ≡ shown (first (entrySteps (L .component) ps))) where
-    pub entries-stop : (k .number ≡ 0 → ⊥) → k ≡ shown (first (componentSteps L start above named))
-    entries-stop e = shown-here (entrySteps (L .component) ps) k ke (rest ps) e ∙ ap shown (sym entries-then)
+  pub entries-stop : (k .number ≡ 0 → ⊥) → k ≡ shown (first (componentSteps L start above named))
+  entries-stop e = shown-here (entrySteps (L .component) ps) k (m .first-is) (rest ps) e ∙ ap shown (sym entries-then)
 
-    module _ (z : k .number ≡ 0) where
-      past-entries : first (componentSteps L start above named) ≡ first (rest ps)
-      past-entries = entries-then ∙ shown-past (entrySteps (L .component) ps) k ke (entries-numbered (L .component) ps) z (rest ps)
+  module _ (z : k .number ≡ 0) where
+    past-entries : first (componentSteps L start above named) ≡ first (rest ps)
+    past-entries = entries-then ∙ shown-past (entrySteps (L .component) ps) k (m .first-is) (entries-numbered (L .component) ps) z (rest ps)
 
-      pub lacking : lacks layout p ≡ true → spot 12 whole ≡ shown (first (componentSteps L start above named))
-      lacking e = subst Told e told ∙ ap shown (sym past-entries)
+    pub lacking : lacks layout p ≡ true → spot 12 whole ≡ shown (first (componentSteps L start above named))
+    lacking e = subst Told e told ∙ ap shown (sym past-entries)
 
-      pub complete : lacks layout p ≡ false → (r : Spot) → ValuesAre L above s start p whole r → r ≡ shown (first (componentSteps L start above named))
-      complete e r h = let w : Ready = subst Told e told in h 26 (w .fields) (w .found) t left ∙ ap shown (sym (past-entries ∙ w .values-then))
+    pub complete : lacks layout p ≡ false → (r : Spot) → ValuesAre L above s start p whole r → r ≡ shown (first (componentSteps L start above named))
+    complete e r h = let w : Ready = subst Told e told in h 26 (w .fields) (w .found) t left ∙ ap shown (sym (past-entries ∙ w .values-then))
 
   -- where the length stands, or else the component
   pub length-there : eitherOf (getD p 3 0) whole ≡ length (lengthNote L named .start)
   unfolding lengthNote lengthIn noteOr
-  length-there = rw (table-is t ps kt) (go (value 3) (stands 3 (omega arith)))
+  length-there = rw (table-is t ps (m .kind-is)) (go (value 3) (stands 3 (omega arith)))
     where
       go : (v : Option (Node Ends)) → Holds 27 s (getD p 3 0) v → eitherOf (getD p 3 0) whole ≡ length (noteOr (noteOf t) v .start)
       go none h = sym (none-there (getD p 3 0) whole h) ∙ left
@@ -187,57 +188,34 @@ module _ (layout : ℕ) (above : Option ℕ) (start : ℕ) (s : List ℕ) (p : L
 -- ---------------------------------------------------------------- whatever is read at c
 
 module _ (layout : ℕ) (c : List ℕ) (x : Opening) (h : MapIs (Here c 0) x) where
-  whole-is : (t : Node Ends) (q : List ℕ) → Reads 28 c t q → length c ≡ length (noteOf t .start)
-  whole-is t q r = sym (ap (λ (e : Ends). length (e .start)) (note-of 28 c t q r))
-
   module _ (e : x ≡ NotOpen) where
     pub not-map : (above : Option ℕ) (start : ℕ) (r : Spot) → r ≡ spot 8 (length c) → ComponentIs (layoutOf layout) above c start r
     unfolding componentSteps
-    not-map above start r k t q y n = k ∙ ap (spot 8) (whole-is t q y) ∙ no-map (layoutOf layout .component) t (opens.opening c x h NotOpen e 27 t q y) _
+    not-map above start r k t q y n = k ∙ ap (spot 8) (whole-is 27 c t q y) ∙ no-map (layoutOf layout .component) t (opens.opening c x h NotOpen e 27 t q y) _
 
     pub no-length : LengthIs (layoutOf layout) c (length c)
     unfolding lengthNote lengthIn
-    no-length t q y n = rw (opens.opening c x h NotOpen e 27 t q y) (whole-is t q y)
+    no-length t q y n = rw (opens.opening c x h NotOpen e 27 t q y) (whole-is 27 c t q y)
 
   module _ (mode count size : ℕ) (e : x ≡ Opened mode count size) (p : List ℕ) (k : Spot) (f : FirstIs (slotsAt layout 2) 27 mode count (Here c size) p k) where
-    -- its pairs, and what is known of them
-    record Met (t : Node Ends) : Type 0 where
-      pub pairs : List (Pair Ends)
-      pub last : List ℕ
-      pub chain : Chain 27 (drop size c) pairs last
-      pub slots : p ≡ foldl (marks (layoutOf layout .component)) (replicate 10 0) pairs
-      pub kind-is : kind t ≡ mapping pairs
-      pub first-is : k ≡ shown (first (entrySteps (layoutOf layout .component) pairs))
-
-    met : (t : Node Ends) (q : List ℕ) → Reads 28 c t q → Met t
-    met t q y =
-        let m = opens.opened c x h mode count size e .trees 27 t q y in
-        let g : FirstIs (layoutOf layout .component) 27 mode count (drop size c) p k = subst (λ ns. FirstIs ns 27 mode count (drop size c) p k) (slots-of layout) (subst (λ u. FirstIs (slotsAt layout 2) 27 mode count u p k) (part-to-end c size) f) in
-        let w = g (m .pairs) (m .last) (m .due) in
-        record {
-          pairs = m .pairs;
-          last = m .last;
-          chain = m .due .chain;
-          slots = w .0 ∙ ap (λ (i : ℕ). foldl (marks (layoutOf layout .component)) (replicate (i + 3) 0) (m .pairs)) (layoutOf layout .componentPlaces);
-          kind-is = m .kind-is;
-          first-is = w .1;
-        }
+    met : (t : Node Ends) (q : List ℕ) → Reads 28 c t q → Met (layoutOf layout .component) 7 27 (drop size c) p k t
+    met = opened.met (slotsAt layout 2) (layoutOf layout .component) (slots-of layout) 7 (layoutOf layout .componentPlaces) 27 c x h mode count size e p k f
 
     module _ (above : Option ℕ) (start : ℕ) where
       pub stops : (k .number ≡ 0 → ⊥) → ComponentIs (layoutOf layout) above c start k
-      stops z t q y n = let m = met t q y in entries-stop layout above start (drop size c) p t n (length c) (whole-is t q y) (m .pairs) (m .last) (m .chain) (m .slots) (m .kind-is) k (m .first-is) z
+      stops z t q y n = entries-stop layout above start (drop size c) p t n (length c) (whole-is 27 c t q y) k (met t q y) z
 
       module _ (z : k .number ≡ 0) (b : Bool) (so : b ≡ lacks layout p) where
         pub lacks-one : b ≡ true → (r : Spot) → r ≡ spot 12 (length c) → ComponentIs (layoutOf layout) above c start r
-        lacks-one w r v t q y n = let m = met t q y in
-            v ∙ lacking layout above start (drop size c) p t n (length c) (whole-is t q y) (m .pairs) (m .last) (m .chain) (m .slots) (m .kind-is) k (m .first-is) z
+        lacks-one w r v t q y n =
+            v ∙ lacking layout above start (drop size c) p t n (length c) (whole-is 27 c t q y) k (met t q y) z
             (sym so ∙ w)
 
         pub has-all : b ≡ false → (r : Spot) → ValuesAre (layoutOf layout) above (Here c size) start p (length c) r → ComponentIs (layoutOf layout) above c start r
-        has-all w r v t q y n = let m = met t q y in
-            complete layout above start (drop size c) p t n (length c) (whole-is t q y) (m .pairs) (m .last) (m .chain) (m .slots) (m .kind-is) k (m .first-is) z
+        has-all w r v t q y n =
+            complete layout above start (drop size c) p t n (length c) (whole-is 27 c t q y) k (met t q y) z
             (sym so ∙ w) r (subst (λ u. ValuesAre (layoutOf layout) above u start p (length c) r) (part-to-end c size) v)
 
     pub length-is : (r : ℕ) → r ≡ eitherOf (getD p 3 0) (length c) → LengthIs (layoutOf layout) c r
-    length-is r v t q y n = let m = met t q y in
-        v ∙ length-there layout none 0 (drop size c) p t n (length c) (whole-is t q y) (m .pairs) (m .last) (m .chain) (m .slots) (m .kind-is)
+    length-is r v t q y n =
+        v ∙ length-there layout none 0 (drop size c) p t n (length c) (whole-is 27 c t q y) k (met t q y)

@@ -3,3 +3,4 @@ pub mod Firsts
 pub mod Values
 pub mod Entries
 pub mod Maps
+pub mod Opened

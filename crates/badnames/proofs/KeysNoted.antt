@@ -1,6 +1,6 @@
 -- The walk over a map of names: one key more; and what is noted of them all, judged.
 use Rattle.meaning.specs.Check.{_unless_}
-use Prim.Native.Nat.{ℕ, zero, suc, _+_, _-_, _≤_, _<_, min}
+use Prim.Native.Nat.{ℕ, zero, suc, _+_, _-_, _*_, _^_, _≤_, _<_, min}
 use native.Mathlib.Omega.{arith}
 use mathlib.Core.List.{List, [], _∷_, _++_, map}
 use mathlib.Core.Bool.{Bool, true, false, cond, not, _&&_}
@@ -19,7 +19,7 @@ use Rattle.meaning.specs.Field.{isSome, keyOf}
 use Rattle.meaning.proofs.Tests.{opposite}
 use Rattle.cbor.specs.Ending.{FAULT, code, itemEnd}
 use Rattle.walk.specs.Reading.{Ends, Reads}
-use Rattle.walk.specs.Places.{MapIs, EntryIs as TurnIs}
+use Rattle.walk.specs.Places.{MapIs, Modes, EntryIs as TurnIs}
 use Rattle.walk.specs.declared.Entry.{Entry}
 use Rattle.walk.specs.declared.Entry.the-variants.{End, Value}
 use Rattle.walk.specs.declared.Opening.{Opening}
@@ -58,8 +58,12 @@ pub record Inv (tested : Bool) (levels mode count : ℕ) (s left₀ : List ℕ) 
   pub passed : Passed levels mode count s at due (Kept tested s left size (keysOf t key text))
   pub room : length left ≡ length left₀
 
-pub none-kept : (tested : Bool) (s left size : List ℕ) → length size ≡ length left → {key text : ℕ} → Kept tested s left size (keysOf (tally 0 false false) key text) []
+none-kept : (tested : Bool) (s left size : List ℕ) → length size ≡ length left → {key text : ℕ} → Kept tested s left size (keysOf (tally 0 false false) key text) []
 none-kept tested s left size e = record { known = none-known tested (none-noted s left size e); odd-key = λ h. absurd (let z : _≡_ {A = ℕ} 0 1 = cc in omega arith); bad-text = λ h. absurd (let z : _≡_ {A = ℕ} 0 1 = cc in omega arith) }
+
+pub begins : {tested : Bool} {levels mode count key text : ℕ} {s left size : List ℕ} → length size ≡ length left → Modes mode count → length s * 1 < 2 ^ 63
+    → Inv tested levels mode count s left 0 count left size (tally 0 false false) key text
+begins {tested} {s = s} {left = left} {size = size} same modes lent = record { passed = walked.passed-starts modes (omega arith) (none-kept tested s left size same); room = refl }
 
 -- the first that isn't UTF-8, of one key more
 text-found : (tested : Bool) (done : List (Pair Ends)) (p : Pair Ends) (bad bad′ : Bool) (held left : ℕ) → bad ≡ (tested && not (legible done)) → bad′ ≡ (tested && not (legible (done ++ p ∷ [])))
@@ -94,12 +98,12 @@ module _ {tested : Bool} {levels mode count at due key text : ℕ} {s left₀ le
   few-noted = let a = w .passed .holds .known .tallied .counted in let b = w .passed .few in let d = w .passed .walking .within in let g = w .passed .short in omega (arith, a, b, d, g)
 
   module _ {x : Entry} (h : TurnIs levels mode due (Here s at) x) where
-    pub ends : {e : ℕ} → x ≡ End e → (length left ≡ length left₀) × Walked tested levels mode count s left size (keysOf t key text)
-    ends is = (w .room, walked.holds-of-all (w .passed) h is)
+    pub ends : {e : ℕ} → x ≡ End e → Walked tested levels mode count s left size (keysOf t key text)
+    ends is = walked.holds-of-all (w .passed) h is
 
     module _ {k : ℕ} (is : x ≡ Value k) {e : ℕ} (skipped : e ≡ code (itemEnd levels (Here s (at + k)))) where
-      pub unread : length s - (at + k) < e → (length left ≡ length left₀) × Walked tested levels mode count s left size (keysOf t key text)
-      unread l = (w .room, walked.no-pairs (w .passed) h is skipped l _)
+      pub unread : length s - (at + k) < e → Walked tested levels mode count s left size (keysOf t key text)
+      unread l = walked.no-pairs (w .passed) h is skipped l _
 
       pub goes-on : e ≤ length s - (at + k) → {t′ : Tally} {left′ size′ : List ℕ} {key′ text′ : ℕ} → NotedIf tested (Here s at) t left size t′ left′ size′
           → key′ ≡ cond (t .odd) key (length s - at) → text′ ≡ cond (t .bad) text (length s - at)

@@ -9,22 +9,19 @@ use lib.ListN.{length, getD, drop, replicate}
 use lib.Dec.{eqb}
 use borrow.Author.Tests.{eq-eqb, ne-eqb, eqb-true, eqb-false}
 use borrow.Rule.Slice.PartAt.{part-to-end}
-use Rattle.meaning.specs.Tree.{Node, Pair, noteOf}
-use Rattle.meaning.specs.Check.{refuse}
-use Rattle.meaning.specs.Kind.{kind, mapping, aMapping}
+use Rattle.meaning.specs.Tree.{Node, Pair}
 use Rattle.meaning.specs.Model.{Word, Named}
-use Rattle.meaning.specs.Field.{field, isSome}
+use Rattle.meaning.specs.Field.{field}
 use Rattle.meaning.specs.Layouts.{Layout, slot, dtypeAt, layoutOf}
 use Rattle.meaning.specs.Judge as judge
 use Rattle.meaning.proofs.Tests.{not-both, both-left, both-right}
-use Rattle.walk.specs.Reading.{Ends, Reads, Chain, foldl}
+use Rattle.walk.specs.Reading.{Ends, Reads}
 use Rattle.walk.specs.Places.{MapIs}
 use Rattle.walk.specs.declared.Opening.{Opening}
 use Rattle.walk.specs.declared.Opening.the-variants.{NotOpen, Opened}
-use Rattle.walk.proofs.ReadSays.{note-of}
 use Rattle.walk.proofs.Passed.{Here}
 use Rattle.walk.proofs.Opens as opens
-use Rattle.fields.specs.Slots.{marks, Holds}
+use Rattle.fields.specs.Slots.{Holds}
 use Rattle.fields.proofs.Stands.{hold-none, Item, hold-some, field-stands}
 use Rattle.component.proofs.Verdicts.{none-left}
 use Rattle.object.specs.Verdict.{lacksDtype, Fields, Standing}
@@ -37,11 +34,13 @@ use Rattle.explained.proofs.Whole.{agree-object}
 use Rattle.explained.proofs.Why.{Refused, refused}
 use Rattle.keys.specs.Odd.{slotsAt}
 use Rattle.keys.proofs.Parts.{of-object}
-use Rattle.spot.specs.Shown.{spot, shown}
+use Rattle.spot.specs.Shown.{spot}
 use Rattle.spot.specs.declared.Spot.{Spot}
 use Rattle.badfields.specs.Fields.{entrySteps, FirstIs}
 use Rattle.badfields.proofs.Firsts.{shown-past}
 use Rattle.badfields.proofs.Entries.{entries-numbered}
+use Rattle.badfields.proofs.Opened as opened
+use Rattle.badfields.proofs.Opened.{Met, whole-is}
 use Rattle.badfields.proofs.Maps.{table-is, map-entries, missing-not, missing-in-not}
 use Rattle.badvalues.specs.Steps.{Alone, describedSteps, valueSteps}
 use Rattle.badvalues.proofs.Alone.{spot-alone}
@@ -77,11 +76,11 @@ module _ (layout : ℕ) (p : List ℕ) where
         unfolding lacks lacksDtype
         lacks-nothing e = rw (ne-eqb (getD p 1 0) 0 a, ne-eqb (getD p 2 0) 0 b, ne-eqb (getD p 4 0) 0 c, ne-eqb layout 1 e)
 
-pub slots-of : (layout : ℕ) → slotsAt layout 1 ≡ layoutOf layout .object
+slots-of : (layout : ℕ) → slotsAt layout 1 ≡ layoutOf layout .object
 slots-of layout = of-object 1 (λ z. omega (arith, z)) refl layout
 
-pub eight : (layout : ℕ) → length (slotsAt layout 1) + 3 ≡ 8
-eight layout = let e = ap length (slots-of layout) in let k = layoutOf layout .objectPlaces in omega (arith, e, k)
+pub eight-places : (layout : ℕ) → replicate {A = ℕ} 8 0 ≡ replicate (length (slotsAt layout 1) + 3) 0
+eight-places layout = opened.zeros (slotsAt layout 1) (layoutOf layout .object) (slots-of layout) 5 (layoutOf layout .objectPlaces)
 
 all-found : {A : Type 0} (u v w : Option A) (a b c : A) → u ≡ some a → v ≡ some b → w ≡ some c → (g : A → A → A → List (Step Ends))
     → first (steps._>>=_ u (λ x. steps._>>=_ v (λ y. steps._>>=_ w (λ z. g x y z)))) ≡ first (g a b c)
@@ -89,16 +88,18 @@ all-found u v w a b c e f h g = rw (e, f, h) refl
 
 -- ---------------------------------------------------------------- a map of these pairs
 
-module _ (layout : ℕ) (start : ℕ) (s : List ℕ) (p : List ℕ) (t : Node Ends) (w : Word Ends)
-    (ps : List (Pair Ends)) (q : List ℕ) (chain : Chain 29 s ps q) (is : p ≡ foldl (marks (layoutOf layout .object)) (replicate 8 0) ps) (kt : kind t ≡ mapping ps) where
+module _ (layout : ℕ) (start : ℕ) (s p : List ℕ) (t : Node Ends) (w : Word Ends) (k : Spot) (m : Met (layoutOf layout .object) 5 29 s p k t) where
   abbrev L : Layout
   L = layoutOf layout
+
+  abbrev ps : List (Pair Ends)
+  ps = m .pairs
 
   abbrev value : ℕ → Option (Node Ends)
   value i = field (slot i (L .object)) ps
 
   stands : (i : ℕ) → i < 5 → Holds 29 s (getD p i 0) (value i)
-  stands = field-stands (L .object) 5 (L .objectPlaces) 29 s ps q chain p is (L .objectApart)
+  stands = field-stands (L .object) 5 (L .objectPlaces) 29 s ps (m .last) (m .chain) p (m .slots) (L .objectApart)
 
   -- missing fields, then values
   abbrev rest : List (Pair Ends) → List (Step Ends)
@@ -118,7 +119,7 @@ module _ (layout : ℕ) (start : ℕ) (s : List ℕ) (p : List ℕ) (t : Node En
 
   entries-then : first (objectSteps L start named) ≡ first (entrySteps (L .object) ps ++ rest ps)
   unfolding objectSteps valueSteps describedSteps partSteps ruleSteps
-  entries-then = map-entries (L .object) t ps (table-is t ps kt) rest
+  entries-then = map-entries (L .object) t ps (table-is t ps (m .kind-is)) rest
 
   both : {x y : Bool} → x ≡ true → y ≡ true → (x && y) ≡ true
   both a b = rw (a, b) refl
@@ -179,28 +180,24 @@ module _ (layout : ℕ) (start : ℕ) (s : List ℕ) (p : List ℕ) (t : Node En
                 ∙ all-found (value 1) (value 2) (value 4) (i .item) (j .item) (k .item) (i .is) (j .is) (k .is) _;
           }
 
-  module _ (k : Spot) (ke : k ≡ shown (first (entrySteps (L .object) ps))) where
-    pub entries-stop : (k .number ≡ 0 → ⊥) → Alone (k .number) (k .left) (first (objectSteps L start named))
-    entries-stop e = let a = spot-alone (entrySteps (L .object) ps) (entries-plain (L .object) ps) k ke e (rest ps) in
-        record { this = a .this; is = entries-then ∙ a .is; number = a .number; place = a .place; owner = a .owner }
+  pub entries-stop : (k .number ≡ 0 → ⊥) → Alone (k .number) (k .left) (first (objectSteps L start named))
+  entries-stop e = let a = spot-alone (entrySteps (L .object) ps) (entries-plain (L .object) ps) k (m .first-is) e (rest ps) in
+      record { this = a .this; is = entries-then ∙ a .is; number = a .number; place = a .place; owner = a .owner }
 
-    module _ (z : k .number ≡ 0) where
-      past-entries : first (objectSteps L start named) ≡ first (rest ps)
-      past-entries = entries-then ∙ shown-past (entrySteps (L .object) ps) k ke (entries-numbered (L .object) ps) z (rest ps)
+  module _ (z : k .number ≡ 0) where
+    past-entries : first (objectSteps L start named) ≡ first (rest ps)
+    past-entries = entries-then ∙ shown-past (entrySteps (L .object) ps) k (m .first-is) (entries-numbered (L .object) ps) z (rest ps)
 
-      pub lacking : lacks layout p ≡ true → first (objectSteps L start named) ≡ some (stepAt 12 t)
-      lacking e = past-entries ∙ subst Told e told
+    pub lacking : lacks layout p ≡ true → first (objectSteps L start named) ≡ some (stepAt 12 t)
+    lacking e = past-entries ∙ subst Told e told
 
-      pub complete : lacks layout p ≡ false → (n c : ℕ) (r : Owned) → ValuesAre layout s start p n c r
-          → (x : Step Ends) → first (objectSteps L start named) ≡ some x → x .number ≡ n → x .component ≡ c → r ≡ ownedBy x
-      complete e n c r h x b i j = let y : Ready = subst Told e told in h (y .fields) (y .standing) x (sym (past-entries ∙ y .values-then) ∙ b) i j
+    pub complete : lacks layout p ≡ false → (n c : ℕ) (r : Owned) → ValuesAre layout s start p n c r
+        → (x : Step Ends) → first (objectSteps L start named) ≡ some x → x .number ≡ n → x .component ≡ c → r ≡ ownedBy x
+    complete e n c r h x b i j = let y : Ready = subst Told e told in h (y .fields) (y .standing) x (sym (past-entries ∙ y .values-then) ∙ b) i j
 
 -- ---------------------------------------------------------------- whatever is read at s
 
 module _ (layout : ℕ) (s : List ℕ) (start n c : ℕ) (v : Opening) (h : MapIs (Here s 0) v) where
-  whole-is : (t : Node Ends) (q : List ℕ) → Reads 30 s t q → length s ≡ length (noteOf t .start)
-  whole-is t q r = sym (ap (λ (e : Ends). length (e .start)) (note-of 30 s t q r))
-
   -- told without a component
   alone : (k left : ℕ) (f : Option (Step Ends)) → Alone k left f → (z : Spot) → z ≡ spot k left → (r : Owned) → r ≡ owned z 0 → r ≡ ownedOf f
   alone k left f a z i r j = j ∙ ap (λ (u : Spot). owned u 0) i ∙ alone-owned k left f a
@@ -208,45 +205,25 @@ module _ (layout : ℕ) (s : List ℕ) (start n c : ℕ) (v : Opening) (h : MapI
   pub not-map : v ≡ NotOpen → (z : Spot) → z ≡ spot 8 (length s) → (r : Owned) → r ≡ owned z 0 → ObjectIs layout s start n c r
   unfolding objectSteps
   not-map e z i r j t q y w o x =
-      alone 8 (length s) _ (step-alone 8 (length s) t (whole-is t q y) _ (gone.no-map (layoutOf layout .object) t (opens.opening s v h NotOpen e 29 t q y) _)) z i r j
+      alone 8 (length s) _ (step-alone 8 (length s) t (whole-is 29 s t q y) _ (gone.no-map (layoutOf layout .object) t (opens.opening s v h NotOpen e 29 t q y) _)) z i r j
 
   module _ (mode count size : ℕ) (e : v ≡ Opened mode count size) (p : List ℕ) (k : Spot) (f : FirstIs (slotsAt layout 1) 29 mode count (Here s size) p k) where
-    record Met (t : Node Ends) : Type 0 where
-      pub pairs : List (Pair Ends)
-      pub last : List ℕ
-      pub chain : Chain 29 (drop size s) pairs last
-      pub slots : p ≡ foldl (marks (layoutOf layout .object)) (replicate 8 0) pairs
-      pub kind-is : kind t ≡ mapping pairs
-      pub first-is : k ≡ shown (first (entrySteps (layoutOf layout .object) pairs))
-
-    met : (t : Node Ends) (q : List ℕ) → Reads 30 s t q → Met t
-    met t q y =
-        let m = opens.opened s v h mode count size e .trees 29 t q y in
-        let g : FirstIs (layoutOf layout .object) 29 mode count (drop size s) p k = subst (λ ns. FirstIs ns 29 mode count (drop size s) p k) (slots-of layout) (subst (λ u. FirstIs (slotsAt layout 1) 29 mode count u p k) (part-to-end s size) f) in
-        let w = g (m .pairs) (m .last) (m .due) in
-        record {
-          pairs = m .pairs;
-          last = m .last;
-          chain = m .due .chain;
-          slots = w .0 ∙ ap (λ (i : ℕ). foldl (marks (layoutOf layout .object)) (replicate (i + 3) 0) (m .pairs)) (layoutOf layout .objectPlaces);
-          kind-is = m .kind-is;
-          first-is = w .1;
-        }
+    met : (t : Node Ends) (q : List ℕ) → Reads 30 s t q → Met (layoutOf layout .object) 5 29 (drop size s) p k t
+    met = opened.met (slotsAt layout 1) (layoutOf layout .object) (slots-of layout) 5 (layoutOf layout .objectPlaces) 29 s v h mode count size e p k f
 
     pub stops : (k .number ≡ 0 → ⊥) → (r : Owned) → r ≡ owned k 0 → ObjectIs layout s start n c r
-    stops z r j t q y w o x = let m = met t q y in
-        alone (k .number) (k .left) _ (entries-stop layout start (drop size s) p t w (m .pairs) (m .last) (m .chain) (m .slots) (m .kind-is) k (m .first-is) z) k refl r j
+    stops z r j t q y w o x =
+        alone (k .number) (k .left) _ (entries-stop layout start (drop size s) p t w k (met t q y) z) k refl r j
 
     module _ (z : k .number ≡ 0) (b : Bool) (so : b ≡ lacks layout p) where
       pub lacks-one : b ≡ true → (u : Spot) → u ≡ spot 12 (length s) → (r : Owned) → r ≡ owned u 0 → ObjectIs layout s start n c r
-      lacks-one g u i r j t q y w o x = let m = met t q y in
-          alone 12 (length s) _ (step-alone 12 (length s) t (whole-is t q y) _ (lacking layout start (drop size s) p t w (m .pairs) (m .last) (m .chain) (m .slots) (m .kind-is) k (m .first-is) z (sym so ∙ g))) u i r j
+      lacks-one g u i r j t q y w o x =
+          alone 12 (length s) _ (step-alone 12 (length s) t (whole-is 29 s t q y) _ (lacking layout start (drop size s) p t w k (met t q y) z (sym so ∙ g))) u i r j
 
       pub has-all : b ≡ false → (r : Owned) → ValuesAre layout (Here s size) start p n c r → ObjectIs layout s start n c r
       unfolding ownedOf
       has-all g r a t q y w o x =
-          let m = met t q y in
           let d : Refused (objectSteps (layoutOf layout) start (record { name = w; value = t })) n o c = refused _ (judge.object (layoutOf layout) start (record { name = w; value = t })) (agree-object (layoutOf layout) start (record { name = w; value = t })) n o c x in
-          complete layout start (drop size s) p t w (m .pairs) (m .last) (m .chain) (m .slots) (m .kind-is) k (m .first-is) z (sym so ∙ g) n c r
+          complete layout start (drop size s) p t w k (met t q y) z (sym so ∙ g) n c r
           (subst (λ u. ValuesAre layout u start p n c r) (part-to-end s size) a) (d .this) (d .shown) (d .number) (d .component)
           ∙ ap ownedOf (sym (d .shown))

@@ -1,5 +1,5 @@
 -- What the small functions return, branch by branch.
-use Prim.Native.Nat.{ℕ, zero, suc, _+_, _%_, _≤_, _<_}
+use Prim.Native.Nat.{ℕ, zero, suc, _+_, _-_, _%_, _≤_, _<_}
 use native.Mathlib.Omega.{arith}
 use mathlib.Core.List.{List}
 use mathlib.Core.Path.{_≡_, refl, ap, sym}
@@ -18,17 +18,17 @@ broken-array zero n at e = absurd (omega arith)
 broken-array (suc zero) n at e = refl
 broken-array (suc (suc m)) n at e = absurd (omega arith)
 
-pub broken-value : (mode n at : ℕ) → 2 ≤ mode → n % 2 ≡ 0 → FAULT + 6 ≡ code (shift at (broken mode n))
+pub broken-value : (mode n at : ℕ) → (mode ≡ 0 → ⊥) → (mode ≡ 1 → ⊥) → n % 2 ≡ 0 → FAULT + 6 ≡ code (shift at (broken mode n))
 unfolding broken
-broken-value zero n at l e = absurd (omega arith)
-broken-value (suc zero) n at l e = absurd (omega arith)
-broken-value (suc (suc m)) n at l e = rw (eq-eqb (n % 2) 0 e)
+broken-value zero n at k l e = absurd (k refl)
+broken-value (suc zero) n at k l e = absurd (l refl)
+broken-value (suc (suc m)) n at k l e = rw (eq-eqb (n % 2) 0 e)
 
-pub broken-key : (mode n at : ℕ) → 2 ≤ mode → (n % 2 ≡ 0 → ⊥) → at + 1 ≡ code (shift at (broken mode n))
+pub broken-key : (mode n at : ℕ) → (mode ≡ 0 → ⊥) → (mode ≡ 1 → ⊥) → (n % 2 ≡ 0 → ⊥) → at + 1 ≡ code (shift at (broken mode n))
 unfolding broken
-broken-key zero n at l e = absurd (omega arith)
-broken-key (suc zero) n at l e = absurd (omega arith)
-broken-key (suc (suc m)) n at l e = rw (ne-eqb (n % 2) 0 e)
+broken-key zero n at k l e = absurd (k refl)
+broken-key (suc zero) n at k l e = absurd (l refl)
+broken-key (suc (suc m)) n at k l e = rw (ne-eqb (n % 2) 0 e)
 
 pub string-fits : (len size n : ℕ) → size + n ≤ len → size + n ≡ stringEnd len size n
 unfolding stringEnd
@@ -37,6 +37,17 @@ string-fits len size n l = rw (le-leb (size + n) len l)
 pub string-short : (len size n : ℕ) → len < size + n → FAULT + 6 ≡ stringEnd len size n
 unfolding stringEnd
 string-short len size n l = rw (lt-leb (size + n) len l)
+
+-- by the two tests of `string_end`
+module _ (len size n : ℕ) where
+  pub no-head : len < size → FAULT + 6 ≡ stringEnd len size n
+  no-head l = string-short len size n (omega arith)
+
+  pub too-short : size ≤ len → len - size < n → FAULT + 6 ≡ stringEnd len size n
+  too-short l h = string-short len size n (omega arith)
+
+  pub string-there : size ≤ len → n ≤ len - size → size + n ≡ stringEnd len size n
+  string-there l h = string-fits len size n (omega arith)
 
 pub doubled-small : (n : ℕ) → n < 4_611_686_018_427_387_904 → n + n ≡ doubled n
 unfolding doubled

@@ -6,3 +6,4 @@ pub mod FirstByte
 pub mod Loops
 pub mod Answers
 pub mod Agree
+pub mod Returns

@@ -2,12 +2,13 @@
 use mathlib.Core.Path.{_≡_, refl, subst}
 use mathlib.Core.List.{List}
 use mathlib.Core.Option.{Option}
-use Prim.Native.Nat.{ℕ}
-use lib.ListN.{replicate}
+use Prim.Native.Nat.{ℕ, _+_, _-_, _*_, _^_, _≤_, _<_}
+use lib.ListN.{length, replicate}
 use borrow.Rule.Slice.PartAt.{part-to-end}
 use Rattle.meaning.specs.Layouts.{Layout}
 use Rattle.meaning.specs.Field.{componentFields, fields}
 use Rattle.meaning.specs.Judge as judge
+use Rattle.cbor.specs.Ending.{code, itemEnd, rest}
 use Rattle.walk.specs.Places.{MapIs}
 use Rattle.walk.specs.declared.Opening.{Opening}
 use Rattle.walk.specs.declared.Opening.the-variants.{NotOpen, Opened}
@@ -16,6 +17,15 @@ use Rattle.walk.proofs.Opens as opens
 use Rattle.component.specs.declared.Judged.{Judged}
 use Rattle.component.specs.declared.Judged.the-variants.{No}
 use Rattle.component.specs.Verdict.{Placed, VerdictIs, ComponentIs}
+
+-- where the whole ends, if its entries end so
+module _ (c : List ℕ) (lent : length c * 1 < 2 ^ 63) (x : Opening) (h : MapIs (Here c 0) x) (mode count size : ℕ) (is : x ≡ Opened mode count size)
+    (e : ℕ) (passed : e ≡ code (rest mode count 27 (Here c size))) where
+  pub ends-inside : e ≤ length c - size → size + e ≡ code (itemEnd 28 c)
+  ends-inside = opens.ends-inside c x h mode count size is 27 lent e passed
+
+  pub ends-faulty : length c - size < e → e ≡ code (itemEnd 28 c)
+  ends-faulty = opens.ends-faulty c x h mode count size is 27 lent e passed
 
 module _ (L : Layout) (above : Option ℕ) (c : List ℕ) (start : ℕ) (x : Opening) (h : MapIs (Here c 0) x) where
   pub no-map : x ≡ NotOpen → ComponentIs L above c start (No 8)

@@ -1,31 +1,35 @@
 -- The values of a component, a branch each: l is what `walk::text` answered for s, lent whole.
-use mathlib.Core.Path.{_≡_, refl}
+use mathlib.Core.Path.{_≡_, refl, _∙_}
 use mathlib.Core.List.{List}
-use mathlib.Core.Option.{Option, none, some}
+use mathlib.Core.Option.{Option, some}
 use mathlib.Core.Bool.{Bool, true, false}
-use Prim.Native.Nat.{ℕ, _<_, _≤_}
+use Prim.Native.Nat.{ℕ, _-_, _<_, _≤_}
 use native.Mathlib.Omega.{arith}
 use borrow.Author.Tests.{lt-ltb, le-ltb}
 use lib.ListN.{length}
 use Rattle.meaning.specs.Text.{ascii, same, utf8}
 use Rattle.meaning.specs.Kind.{aNumber, aText}
-use Rattle.meaning.specs.Check.{optional}
+use Rattle.meaning.specs.Tree.{Node}
+use Rattle.meaning.specs.Check.{Check, optional}
 use Rattle.meaning.specs.Types.{fitsOver, listed, logicals}
 use Rattle.meaning.specs.Layouts.{Layout}
 use Rattle.meaning.specs.Judge.{codeOr, orElse, aDtype, aType, raw}
 use Rattle.types.specs.Known.{dtypeCode}
 use Rattle.types.proofs.Codes.{dtype-known, dtype-none, dtype-most}
-use Rattle.walk.specs.Places.{Whatever, TextIs as Lettered, NumberIs}
+use Rattle.walk.specs.Reading.{Ends}
+use Rattle.walk.specs.Places.{Whatever, TextIs as Lettered, NumberIs, NullIs}
 use Rattle.walk.specs.declared.Numeral.{Numeral}
 use Rattle.walk.specs.declared.Numeral.the-variants.{NoNumber, Number}
 use Rattle.walk.specs.declared.Letters.{Letters}
 use Rattle.walk.specs.declared.Letters.the-variants.{NoText, Text}
+use Rattle.fields.proofs.Places as places
 use Rattle.fields.proofs.Texts.{Here, no-word, word, letters}
 use Rattle.component.specs.declared.value.Coded.{Coded}
 use Rattle.component.specs.declared.value.Coded.the-variants.{No as NoCode, Yes as Code}
 use Rattle.component.specs.declared.value.Fine.the-variants.{No as Bad, Yes as Good}
+use Rattle.component.specs.declared.value.Spot.{Spot}
 use Rattle.component.specs.declared.value.Spot.the-variants.{No as NoSpot, Yes as At}
-use Rattle.component.specs.Value.{passes, fine, coded, given, codeOf, DtypeIs, RawIs, TextIs, TypeIs}
+use Rattle.component.specs.Value.{passes, fine, coded, spot, placeOf, given, codeOf, DtypeIs, DtypeAt, RawIs, TextIs, TypeIs, Typed}
 
 module _ (s : List ℕ) (l : Letters) (h : Lettered (Here s 0) l) where
   module _ (e : l ≡ NoText) where
@@ -100,18 +104,38 @@ number-none s w h e d t q r = let z = h d t q r in rw (z, e) refl
 pub number-some : (s : List ℕ) (w : Numeral) → NumberIs s w → (n : ℕ) → w ≡ Number n → Whatever s λ d t q. passes (optional aNumber (some t)) ≡ fine Good
 number-some s w h n e d t q r = let z = h d t q r in rw (z, e) refl
 
+-- ---------------------------------------------------------------- the type, over the storage with this code
+
+module _ (s : List ℕ) (left code : ℕ) where
+  abbrev typing : Option (Node Ends) → Check ℕ
+  typing o = placeOf (optional (aType code) o)
+
+  pub type-absent : left ≡ 0 → Typed s left code (At 0)
+  type-absent = places.none-there typing s left
+
+  module _ (at : ℕ) (is : at ≡ length s - left) (here : left ≡ 0 → ⊥) (b : Bool) (asked : NullIs (Here s at) b) where
+    pub type-null : b ≡ true → Typed s left code (At 0)
+    type-null = places.null-there typing s left at is here b asked
+
+    pub type-there : (r : Spot) → b ≡ false → TypeIs (Here s at) code r → Typed s left code r
+    type-there r = places.item-there typing s left at is here b asked (spot r)
+
 -- ---------------------------------------------------------------- a component's own code, or the one that it is given
 
-module _ (L : Layout) where
-  pub code-given : (above : ℕ) → above < 13 → codeOf L (given above) none ≡ coded (Code above)
-  unfolding codeOf given orElse
-  code-given above h = rw (lt-ltb above 13 h) refl
+module _ (L : Layout) (s : List ℕ) (left : ℕ) where
+  module _ (absent : left ≡ 0) (above : ℕ) where
+    pub code-given : above < 13 → DtypeAt L (given above) s left (Code above)
+    unfolding codeOf given orElse
+    code-given h d o x = places.nothing-there (codeOf L (given above)) s left absent d o x ∙ (rw (lt-ltb above 13 h) refl)
 
-  pub no-code : (above : ℕ) → 13 ≤ above → codeOf L (given above) none ≡ coded (NoCode 12)
-  unfolding codeOf given orElse
-  no-code above h = rw (le-ltb above 13 h) refl
+    pub no-code : 13 ≤ above → DtypeAt L (given above) s left (NoCode 12)
+    unfolding codeOf given orElse
+    no-code h d o x = places.nothing-there (codeOf L (given above)) s left absent d o x ∙ (rw (le-ltb above 13 h) refl)
 
-  pub own-code : (above : Option ℕ) (s : List ℕ) (r : Coded) → DtypeIs L s r → Whatever s λ d t q. codeOf L above (some t) ≡ coded r
+  pub own-code : (left ≡ 0 → ⊥) → (at : ℕ) → at ≡ length s - left → (r : Coded) → DtypeIs L (Here s at) r → (above : Option ℕ) → DtypeAt L above s left r
   unfolding codeOf orElse
-  own-code above s (NoCode n) h d t q x = rw (h d t q x) refl
-  own-code above s (Code c) h d t q x = rw (h d t q x) refl
+  own-code here at is r h above = places.something-there (codeOf L above) s left (coded r) at is here (go r h)
+    where
+      go : (r : Coded) → DtypeIs L (Here s at) r → Whatever (Here s at) λ d t q. codeOf L above (some t) ≡ coded r
+      go (NoCode n) h d t q x = rw (h d t q x) refl
+      go (Code c) h d t q x = rw (h d t q x) refl

@@ -1,5 +1,5 @@
 -- One more entry, a branch of `keep` each.
-use Prim.Native.Nat.{ℕ, suc, _*_, _<_}
+use Prim.Native.Nat.{ℕ, suc, _*_, _^_, _<_}
 use native.Mathlib.Omega.{arith}
 use mathlib.Core.List.{List, [], _∷_, _++_}
 use mathlib.Core.Bool.{_&&_}
@@ -38,7 +38,7 @@ use Rattle.components.specs.Row.{putRow}
 use Rattle.components.proofs.FirstFault.{fault-stays, first-fault, still-fine}
 use Rattle.table.proofs.Lettered.{type-at, named-so}
 use Rattle.table.proofs.Storage.{withCode, stored-so}
-use Rattle.components.proofs.Rows.{row-length, row-after}
+use Rattle.components.proofs.Rows.{row-after}
 
 plain-is : (c : List ℕ) (k : Component Ends) → WordAt c (k .type) → flag (eqb (leftWord (k .type)) 0 && eqb (k .dtype) 8) ≡ flag (plain (part k))
 unfolding part lettersOf
@@ -108,7 +108,7 @@ module _ (g : Given) (s c : List ℕ) (v : Judged) (j : ℕ) (first : First) (ro
           subst (λ i. take (4 * suc i) (putRow rows j called u b size) ≡ take (4 * i) rows ++ partRow (part (recoded p k))) is
           (row-after rows slots j called u b size (omega arith) ∙ ap (λ l. take (4 * j) rows ++ l) row)
 
-    pub row-put : Keeps g s c v j first rows Fine (putRow rows j called u b size)
+    row-put : Keeps g s c v j first rows Fine (putRow rows j called u b size)
     row-put start done p d q r x y h is all f fm has =
         go (component L start (given (g .code)) (namedAnyway p)) refl (sym a ∙ h (p .value) r y (namedAnyway p .name))
       where
@@ -121,20 +121,12 @@ module _ (g : Given) (s c : List ℕ) (v : Judged) (j : ℕ) (first : First) (ro
         go (refuse m o i) z w = absurd (let w : _≡_ {A = ℕ} 0 1 = cc in omega arith)
 
 -- whatever code the object gives
-module _ (layout format : ℕ) (s c : List ℕ) (v : Judged) (j : ℕ) (first : First) (rows : List ℕ) (room : length c < FAULT) (slots : length rows ≡ 64) (e : first ≡ Fine)
-    (code left o size digest : ℕ) (a : v ≡ Yes code left o size digest) (called : ℕ) (is-called : RoleIs s called) (kept : ℕ) (is-kept : kept ≡ storedAs layout format called code)
-    (u : ℕ) (is-u : UnitIs c kept left u) (b : ℕ) (is-b : b ≡ flag (eqb left 0 && eqb kept 8)) where
-  pub row-kept : (rows′ : List ℕ) → rows′ ≡ putRow rows j called u b size → (length rows′ ≡ 64) × ((d : ℕ) → Keeps (offered layout format d) s c v j first rows Fine rows′)
-  row-kept rows′ z = (
-    ap length z ∙ row-length rows slots j called u b size,
-    λ d. subst (Keeps (offered layout format d) s c v j first rows Fine) (sym z)
-        (row-put (offered layout format d) s c v j first rows room slots e code left o size digest a called is-called kept is-kept u is-u b is-b),
-  )
-
--- the whole of some bytes, as it is lent
-module _ (s : List ℕ) where
-  pub whole-unit : (code left u : ℕ) → UnitIs (Here s 0) code left u → UnitIs s code left u
-  whole-unit code left u = subst (λ s. UnitIs s code left u) (part-to-end s 0)
-
-  pub whole-role : (r : ℕ) → RoleIs (Here s 0) r → RoleIs s r
-  whole-role r = subst (λ s. RoleIs s r) (part-to-end s 0)
+module _ (layout format : ℕ) (s c : List ℕ) (v : Judged) (j : ℕ) (first : First) (rows : List ℕ) (lent : length c * 1 < 2 ^ 63) (slots : length rows ≡ 64) (e : first ≡ Fine)
+    (code left o size digest : ℕ) (a : v ≡ Yes code left o size digest) (called : ℕ) (is-called : RoleIs (Here s 0) called) (kept : ℕ) (is-kept : kept ≡ storedAs layout format called code)
+    (u : ℕ) (is-u : UnitIs (Here c 0) kept left u) (b : ℕ) (is-b : b ≡ flag (eqb left 0 && eqb kept 8)) where
+  pub row-kept : (rows′ : List ℕ) → rows′ ≡ putRow rows j called u b size → (d : ℕ) → Keeps (offered layout format d) s c v j first rows Fine rows′
+  row-kept rows′ z d =
+      let whole-role : RoleIs s called = subst (λ s. RoleIs s called) (part-to-end s 0) is-called in
+      let whole-unit : UnitIs c kept left u = subst (λ s. UnitIs s kept left u) (part-to-end c 0) is-u in
+      subst (Keeps (offered layout format d) s c v j first rows Fine) (sym z)
+      (row-put (offered layout format d) s c v j first rows (omega arith) slots e code left o size digest a called whole-role kept is-kept u whole-unit b is-b)

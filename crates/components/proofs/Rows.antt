@@ -21,7 +21,7 @@ module _ (rows : List ℕ) (room : length rows ≡ 64) (j a b c d : ℕ) where
   abbrev three : List ℕ
   three = set two (j * 4 + 2) c
 
-  pub sizes : (length one ≡ 64) × (length two ≡ 64) × (length three ≡ 64)
+  sizes : (length one ≡ 64) × (length two ≡ 64) × (length three ≡ 64)
   sizes =
       let x = length-set rows (j * 4) a ∙ room in
       let y = length-set one (j * 4 + 1) b ∙ x in
@@ -33,6 +33,9 @@ module _ (rows : List ℕ) (room : length rows ≡ 64) (j a b c d : ℕ) where
       go : (t : Bool) → length (cond t (set three (j * 4 + 3) d) rows) ≡ 64
       go true = length-set three (j * 4 + 3) d ∙ sizes .2
       go false = room
+
+  pub rows-room : (after : List ℕ) → after ≡ putRow rows j a b c d → length after ≡ 64
+  rows-room after e = ap length e ∙ row-length
 
   pub row-after : j < componentLimit → take (4 * suc j) (putRow rows j a b c d) ≡ take (4 * j) rows ++ a ∷ b ∷ c ∷ d ∷ []
   row-after few =

@@ -1,5 +1,5 @@
 -- A sweep, turn by turn.
-use Prim.Native.Nat.{ℕ, zero, suc, _+_, _-_, _%_, _≤_, _<_}
+use Prim.Native.Nat.{ℕ, zero, suc, _+_, _-_, _*_, _%_, _^_, _≤_, _<_}
 use native.Mathlib.Numerals.{add-one}
 use native.Mathlib.Omega.{arith}
 use mathlib.Core.List.{List, [], _∷_}
@@ -8,6 +8,8 @@ use mathlib.Core.Path.{_≡_, refl, sym, ap, _∙_, subst}
 use lib.ListN.{length, drop, getD, drop-of-length-le}
 use lib.Seq.{drop-cons}
 use lib.Dec.{ltb}
+use mir.Syntax.{w64}
+use mir.Val.{Fits}
 use borrow.Author.Tests.{lt-ltb, le-ltb}
 use Rattle.covering.specs.Sweep.{from, swept}
 
@@ -27,7 +29,7 @@ pub sweeping-first : (a : List ℕ) → Sweeping a 0 0 0
 sweeping-first a = record { even = refl; fits = omega arith; whole = omega arith }
 
 module _ {a : List ℕ} {sum reach i : ℕ} (two : length a % 2 ≡ 0) (w : Sweeping a sum reach i) where
-  pub next : i < length a → i + 2 ≤ length a
+  next : i < length a → i + 2 ≤ length a
   next h = let x = w .even in omega (arith, h, x, two)
 
   rest : i < length a → drop i a ≡ getD a i 0 ∷ getD a (i + 1) 0 ∷ drop (i + 2) a
@@ -35,6 +37,20 @@ module _ {a : List ℕ} {sum reach i : ℕ} (two : length a % 2 ≡ 0) (w : Swee
       let x = next h in
       let y : i + 2 ≡ suc (suc i) = omega arith in
       drop-cons a i 0 h ∙ ap (λ (l : List ℕ). getD a i 0 ∷ l) (drop-cons a (suc i) 0 (omega (arith, x))) ∙ rw (add-one i, y) refl
+
+  -- the second number of the range at i, and the range past it
+  module _ (h : i < length a) where
+    pub past-there : i + 1 < length a
+    past-there = omega (arith, next h)
+
+    pub past-fits : length a * 8 < 2 ^ 63 → Fits w64 (i + 1)
+    past-fits l = record { fits = omega (arith, next h) }
+
+    pub past-scaled-fits : length a * 8 < 2 ^ 63 → Fits w64 ((i + 1) * 8)
+    past-scaled-fits l = record { fits = omega (arith, next h) }
+
+    pub next-fits : length a * 8 < 2 ^ 63 → Fits w64 (i + 2)
+    next-fits l = record { fits = omega (arith, next h) }
 
   module _ (h : i < length a) (begins : ℕ) (f : begins ≡ from reach (getD a i 0)) where
     turn : (b : Bool) → ltb begins (getD a (i + 1) 0) ≡ b
@@ -53,8 +69,8 @@ module _ {a : List ℕ} {sum reach i : ℕ} (two : length a % 2 ≡ 0) (w : Swee
         record { even = omega (arith, x); fits = next h; whole = omega (arith, y, z) }
 
     -- the sum stays within the whole
-    pub sum-fits : begins < getD a (i + 1) 0 → sum + (getD a (i + 1) 0 - begins) ≤ swept 0 a
-    sum-fits g = let z = sweeping-more g .whole in omega (arith, z)
+    pub sum-fits : begins < getD a (i + 1) 0 → swept 0 a < 2 ^ 64 → Fits w64 (sum + (getD a (i + 1) 0 - begins))
+    sum-fits g l = let z = sweeping-more g .whole in record { fits = omega (arith, z) }
 
     pub sweeping-none : getD a (i + 1) 0 ≤ begins → Sweeping a sum reach (i + 2)
     sweeping-none g =

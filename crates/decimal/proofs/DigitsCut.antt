@@ -10,6 +10,8 @@ use mathlib.Core.Path.{_≡_, refl, sym, ap, _∙_}
 use lib.Dec.{ltb, leb, eqb, lit<, lit≤}
 use lib.Arith.{digits-div, digits-mod}
 use lib.Pow.{pow-add, pow-mono}
+use mir.Syntax.{w64}
+use mir.Val.{Fits}
 use lib.ListN.{getD, set, replicate}
 use Rattle.decimal.proofs.Glue.{limbs-set}
 use borrow.Author.Tests.{lt-ltb, le-ltb, leb-true, leb-false, eq-eqb, ne-eqb}
@@ -31,7 +33,7 @@ pub record Cut (all : ℕ) (xs : List ℕ) (place left : ℕ) : Type 0 where
   pub none : left ≡ 0 → rest ≡ 0
   pub some : left ≡ 1 → 0 < rest
 
-pub cut-first : (all : ℕ) (xs : List ℕ) → Limbs xs → value xs ≡ all → Cut all xs 0 0
+cut-first : (all : ℕ) (xs : List ℕ) → Limbs xs → value xs ≡ all → Cut all xs 0 0
 cut-first all xs l e = record {
   limbs = l;
   rest = 0;
@@ -76,17 +78,17 @@ more : (s t : ℕ) → 0 < s → 0 < t + s
 more s t h = omega arith
 
 module _ {all : ℕ} {xs : List ℕ} {p left : ℕ} (w : Cut all xs p left) where
-  pub cut-passed : leb billion (value xs) ≡ true → 10 ^ (9 + p) * unit ≤ all
+  cut-passed : leb billion (value xs) ≡ true → 10 ^ (9 + p) * unit ≤ all
   cut-passed h = rw (w .stands, ← billion-is p) (reached (10 ^ p) (value xs) (w .rest) billion (leb-true billion (value xs) h))
 
-  pub cut-next : (ys : List ℕ) (r left' : ℕ) → leb billion (value xs) ≡ true → Limbs ys → value xs ≡ 10 * value ys + r → r < 10
+  pub cut-next : (b : Bool) → b ≡ leb billion (value xs) → b ≡ true → (ys : List ℕ) (r left' : ℕ) → Limbs ys → value xs ≡ 10 * value ys + r → r < 10
       → (r ≡ 0 → left' ≡ left) → ((r ≡ 0 → ⊥) → left' ≡ 1) → Cut all ys (p + 1) left'
-  cut-next ys r left' h l e b z n = record {
+  cut-next large is met ys r left' l e b z n = record {
     limbs = l;
     rest = 10 ^ p * r + w .rest;
     stands = w .stands ∙ (split-digit (10 ^ p) (value xs) (value ys) r (w .rest) e ∙ ap (λ (k : ℕ). k * value ys + (10 ^ p * r + w .rest)) (sym (pow-suc 10 p) ∙ ap (λ (k : ℕ). 10 ^ k) (sym (add-one p))));
     low = rw (add-one p, pow-suc 10 p) (digit-low (10 ^ p) r (w .rest) b (w .low));
-    passed = λ i k. ⊎-elim (λ (q : i < p). w .passed i q) (λ (q : p ≤ i). rw (same i k q) (cut-passed h)) (lt-or i p);
+    passed = λ i k. ⊎-elim (λ (q : i < p). w .passed i q) (λ (q : p ≤ i). rw (same i k q) (cut-passed (sym is ∙ met))) (lt-or i p);
     bit = ⊎-elim (λ (q : r ≡ 0). rw (z q) (w .bit)) (λ (q : r ≡ 0 → ⊥). rw (n q) (lit< tt)) (eq-or r 0);
     none = λ y. ⊎-elim (λ (q : r ≡ 0). nothing (10 ^ p) r (w .rest) q (w .none (sym (z q) ∙ y))) (λ (q : r ≡ 0 → ⊥). absurd (clash left' y (n q))) (eq-or r 0);
     some = λ y. ⊎-elim (λ (q : r ≡ 0). more (w .rest) (10 ^ p * r) (w .some (sym (z q) ∙ y))) (λ (q : r ≡ 0 → ⊥). positive (10 ^ p) r (w .rest) (ten-some p) q) (eq-or r 0);
@@ -99,7 +101,10 @@ module _ {all : ℕ} {xs : List ℕ} {p left : ℕ} (w : Cut all xs p left) wher
       clash k a b = omega arith
 
   -- the loop ends: fewer than nine digits more
-  pub cut-below : leb billion (value xs) ≡ false → all < 10 ^ (9 + p) * unit
+  pub cut-small : (b : Bool) → b ≡ leb billion (value xs) → b ≡ false → value xs < billion
+  cut-small b is no-more = leb-false billion (value xs) (sym is ∙ no-more)
+
+  cut-below : leb billion (value xs) ≡ false → all < 10 ^ (9 + p) * unit
   cut-below h =
       let a : suc (value xs) ≤ billion = leb-false billion (value xs) h in
       let b : 10 ^ p * suc (value xs) ≤ 10 ^ p * billion = mul-le-mul-left (10 ^ p) a in
@@ -109,7 +114,7 @@ module _ {all : ℕ} {xs : List ℕ} {p left : ℕ} (w : Cut all xs p left) wher
       within t v s h = rw (mul-suc t v) (omega arith)
 
   -- and it ends soon
-  pub cut-soon : all < 16777216 * 2 ^ 253 * 5 ^ 53 → p < 84
+  cut-soon : all < 16777216 * 2 ^ 253 * 5 ^ 53 → p < 84
   cut-soon h = ⊎-elim (λ (q : 83 < p). absurd (far (lt-of-le-of-lt (w .passed 83 q) h))) (λ (q : p ≤ 83). soon q) (lt-or 83 p)
     where
       soon : p ≤ 83 → p < 84
@@ -122,7 +127,7 @@ module _ {all : ℕ} {xs : List ℕ} {p left : ℕ} (w : Cut all xs p left) wher
       far q = itself (10 ^ 92 * unit) (lt-of-lt-of-le q (lit≤ tt))
 
 -- the first place that suffices
-pub place-is : (f k p n c : ℕ) → k ≤ p → p ≤ k + f → ((e : ℕ) → e < p → 10 ^ (9 + e) * c ≤ n) → n < 10 ^ (9 + p) * c → placeOf f k n c ≡ p
+place-is : (f k p n c : ℕ) → k ≤ p → p ≤ k + f → ((e : ℕ) → e < p → 10 ^ (9 + e) * c ≤ n) → n < 10 ^ (9 + p) * c → placeOf f k n c ≡ p
 unfolding placeOf
 place-is zero k p n c a b l d = omega arith
 place-is (suc f) k p n c a b l d = ⊎-elim (λ (q : k < p). rw (le-ltb n (10 ^ (9 + k) * c) (l k q)) (place-is f (suc k) p n c q (grown k f p b) l d)) (λ (q : p ≤ k). here (between k p a q)) (lt-or k p)
@@ -181,7 +186,7 @@ module _ (q t f s h left : ℕ) (l : s < t) (b : left < 2) (z : left ≡ 0 → s
       up : (left ≡ 0 → ⊥) → rounded q (2 * (t * f + s)) (t * (2 * h)) ≡ rounded q (2 * f + left) (2 * h)
       up y = let n : 0 < s = o (omega arith) in rounded-up q _ _ (omega (arith, g)) ∙ sym (rounded-up q _ _ (omega arith))
 
-  pub weigh : rounded q (2 * (t * f + s)) (t * (2 * h)) ≡ rounded q (2 * f + left) (2 * h)
+  weigh : rounded q (2 * (t * f + s)) (t * (2 * h)) ≡ rounded q (2 * f + left) (2 * h)
   weigh = ⊎-elim weigh-below (λ (p : h ≤ f). ⊎-elim (λ (y : h < f). weigh-above y) (λ (y : f ≤ h). weigh-level (omega arith)) (lt-or h f)) (lt-or f h)
 
 below-unit : (t u f s : ℕ) → f < u → s < t → t * f + s < t * u
@@ -197,7 +202,7 @@ regrouped t u q f s v e =
     omega arith
 
 module _ {all : ℕ} {xs : List ℕ} {p left : ℕ} (w : Cut all xs p left) where
-  pub cut-nearest : nearest all (10 ^ p * unit) ≡ near (value xs) left
+  cut-nearest : nearest all (10 ^ p * unit) ≡ near (value xs) left
   unfolding nearest near
   cut-nearest =
       let e : all ≡ value xs / unit * (10 ^ p * unit) + (10 ^ p * (value xs % unit) + w .rest) = w .stands ∙ regrouped (10 ^ p) unit (value xs / unit) (value xs % unit) (w .rest) (value xs) (sym (div-add-mod' (value xs) unit)) in
@@ -206,40 +211,54 @@ module _ {all : ℕ} {xs : List ℕ} {p left : ℕ} (w : Cut all xs p left) wher
       let m : all % (10 ^ p * unit) ≡ 10 ^ p * (value xs % unit) + w .rest = ap (λ (n : ℕ). n % (10 ^ p * unit)) e ∙ digits-mod (value xs / unit) l in
       rw (d, m) (weigh (value xs / unit) (10 ^ p) (value xs % unit) (w .rest) (2 ^ 95) left (w .low) (w .bit) (w .none) (w .some))
 
-module _ (M : ℕ) {xs : List ℕ} {p left : ℕ} (w : Cut (M * 5 ^ 53) xs p left) (h : leb billion (value xs) ≡ false) (s : M * 5 ^ 53 < 16777216 * 2 ^ 253 * 5 ^ 53) (d : ℕ) (e : d ≡ near (value xs) left) where
-  place-found : placeOf 84 0 (M * 5 ^ 53) unit ≡ p
-  place-found = place-is 84 0 p (M * 5 ^ 53) unit (from p) (soon p (cut-soon w s)) (w .passed) (cut-below w h)
-    where
-      from : (p : ℕ) → 0 ≤ p
-      from p = omega arith
-
-      soon : (p : ℕ) → p < 84 → p ≤ 0 + 84
-      soon p h = omega arith
-
-  found : decimal M ≡ cond (eqb d (10 ^ 9)) (record { digits = 10 ^ 8; place = p + 1 }) (record { digits = d; place = p })
-  unfolding nineOf digitsAt
-  found = scale.decimal-in-limbs M ∙ rw (place-found, cut-nearest w, ← e)
-
-  pub found-up : d ≡ 1000000000 → _≡_ {A = Decimal} (record { digits = 100000000; place = p + 1 }) (decimal M)
-  found-up q = sym (found ∙ rw (eq-eqb d 1000000000 q))
-
-  pub found-as : (d ≡ 1000000000 → ⊥) → _≡_ {A = Decimal} (record { digits = d; place = p }) (decimal M)
-  found-as q = sym (found ∙ rw (ne-eqb d 1000000000 q))
-
--- where the loop begins
-pub scaled : (m j v₀ v₁ v₂ : ℕ) → v₀ ≡ m → v₁ ≡ 5 ^ 53 * v₀ → v₂ ≡ 2 ^ j * v₁ → v₂ ≡ m * 2 ^ j * 5 ^ 53
-scaled m j v₀ v₁ v₂ a b c =
-    c
-    ∙ (ap (λ (k : ℕ). 2 ^ j * k) (b ∙ (ap (λ (k : ℕ). 5 ^ 53 * k) a ∙ mul-comm (5 ^ 53) m))
-    ∙ (sym (mul-assoc (2 ^ j) m (5 ^ 53)) ∙ ap (λ (k : ℕ). k * 5 ^ 53) (mul-comm (2 ^ j) m)))
-
-pub scaled-low : (m j : ℕ) → m < 16777216 → j < 254 → m * 2 ^ j * 5 ^ 53 < 16777216 * 2 ^ 253 * 5 ^ 53
+scaled-low : (m j : ℕ) → m < 16777216 → j < 254 → m * 2 ^ j * 5 ^ 53 < 16777216 * 2 ^ 253 * 5 ^ 53
 scaled-low m j a b = lt-of-le-of-lt (mul-le-mul-right (5 ^ 53) (mul-le-mul (less m 16777215 a) (pow-mono (less j 253 b)))) (lit< tt)
   where
     less : (m k : ℕ) → m < suc k → m ≤ k
     less m k h = omega arith
 
-pub five-low : (v w : ℕ) → v < 16777216 → w ≡ 5 ^ 53 * v → w < 16777216 * 5 ^ 53
+-- m * 2^j in its nine digits
+module _ (m j : ℕ) {xs : List ℕ} {p left : ℕ} (w : Cut (m * 2 ^ j * 5 ^ 53) xs p left) (m-low : m < 16777216) (j-low : j < 254) where
+  abbrev M : ℕ
+  M = m * 2 ^ j
+
+  soon : p < 84
+  soon = cut-soon w (scaled-low m j m-low j-low)
+
+  pub place-fits : Fits w64 (p + 1)
+  place-fits = record { fits = few p soon }
+    where
+      few : (p : ℕ) → p < 84 → p + 1 < 18446744073709551616
+      few p h = omega arith
+
+  module _ (b : Bool) (is : b ≡ leb billion (value xs)) (no-more : b ≡ false) (d : ℕ) (e : d ≡ near (value xs) left) where
+    place-found : placeOf 84 0 (M * 5 ^ 53) unit ≡ p
+    place-found = place-is 84 0 p (M * 5 ^ 53) unit (from p) (late p soon) (w .passed) (cut-below w (sym is ∙ no-more))
+      where
+        from : (p : ℕ) → 0 ≤ p
+        from p = omega arith
+
+        late : (p : ℕ) → p < 84 → p ≤ 0 + 84
+        late p h = omega arith
+
+    found : decimal M ≡ cond (eqb d (10 ^ 9)) (record { digits = 10 ^ 8; place = p + 1 }) (record { digits = d; place = p })
+    unfolding nineOf digitsAt
+    found = scale.decimal-in-limbs M ∙ rw (place-found, cut-nearest w, ← e)
+
+    pub found-up : d ≡ 1000000000 → _≡_ {A = Decimal} (record { digits = 100000000; place = p + 1 }) (decimal (m * 2 ^ j))
+    found-up q = sym (found ∙ rw (eq-eqb d 1000000000 q))
+
+    pub found-as : (d ≡ 1000000000 → ⊥) → _≡_ {A = Decimal} (record { digits = d; place = p }) (decimal (m * 2 ^ j))
+    found-as q = sym (found ∙ rw (ne-eqb d 1000000000 q))
+
+-- where the loop begins
+scaled : (m j v₀ v₁ v₂ : ℕ) → v₀ ≡ m → v₁ ≡ 5 ^ 53 * v₀ → v₂ ≡ 2 ^ j * v₁ → v₂ ≡ m * 2 ^ j * 5 ^ 53
+scaled m j v₀ v₁ v₂ a b c =
+    c
+    ∙ (ap (λ (k : ℕ). 2 ^ j * k) (b ∙ (ap (λ (k : ℕ). 5 ^ 53 * k) a ∙ mul-comm (5 ^ 53) m))
+    ∙ (sym (mul-assoc (2 ^ j) m (5 ^ 53)) ∙ ap (λ (k : ℕ). k * 5 ^ 53) (mul-comm (2 ^ j) m)))
+
+five-low : (v w : ℕ) → v < 16777216 → w ≡ 5 ^ 53 * v → w < 16777216 * 5 ^ 53
 five-low v w h e = rw (e, mul-comm (5 ^ 53) v) (mul-lt-mul-of-pos-right h (lit< tt))
 
 zeros : (n k : ℕ) → getD (replicate n 0) k 0 < 4294967296
@@ -247,21 +266,25 @@ zeros zero k = lit< tt
 zeros (suc n) zero = lit< tt
 zeros (suc n) (suc k) = zeros n k
 
-pub first-limbs : (m : ℕ) → m < 16777216 → Limbs (set (replicate 13 0) 0 m)
-first-limbs m h = limbs-set (replicate 13 0) 0 m (lit< tt) (omega arith) (record { sized = refl; each = zeros 13 })
+abbrev first : ℕ → List ℕ
+first m = set (replicate 13 0) 0 m
 
-pub first-value : (m : ℕ) → value (set (replicate 13 0) 0 m) ≡ m
+first-value : (m : ℕ) → value (first m) ≡ m
 unfolding value
 first-value m = omega arith
 
-pub tenth-less : (v w r : ℕ) → leb billion v ≡ true → v ≡ 10 * w + r → w < v
-tenth-less v w r h e = smaller v w r (lt-of-lt-of-le (lit< tt) (leb-true billion v h)) e
+module _ (m : ℕ) (low : m < 16777216) where
+  pub first-number : Limbs (first m) × (value (first m) < 16777216)
+  first-number = (limbs-set (replicate 13 0) 0 m (lit< tt) (omega arith) (record { sized = refl; each = zeros 13 }), rw (first-value m) low)
+
+  pub fives-low : (ys : List ℕ) → value ys ≡ 5 ^ 53 * value (first m) → value ys < 16777216 * 5 ^ 53
+  fives-low ys e = five-low _ _ (rw (first-value m) low) e
+
+pub cut-begins : (m j : ℕ) (ys : List ℕ) → value ys ≡ 5 ^ 53 * value (first m) → {zs : List ℕ} → Limbs zs → value zs ≡ 2 ^ j * value ys → Cut (m * 2 ^ j * 5 ^ 53) zs 0 0
+cut-begins m j ys e {zs} l f = cut-first (m * 2 ^ j * 5 ^ 53) zs l (scaled m j _ _ _ (first-value m) e f)
+
+pub tenth-less : (v w r : ℕ) (b : Bool) → b ≡ leb billion v → b ≡ true → v ≡ 10 * w + r → w < v
+tenth-less v w r b is met e = smaller v w r (lt-of-lt-of-le (lit< tt) (leb-true billion v (sym is ∙ met))) e
   where
     smaller : (v w r : ℕ) → 0 < v → v ≡ 10 * w + r → w < v
     smaller v w r h e = omega arith
-
-pub few-places : (p : ℕ) → p < 84 → p + 1 < 18446744073709551616
-few-places p h = omega arith
-
-pub not-large : (v : ℕ) → leb billion v ≡ false → v < billion
-not-large v h = leb-false billion v h

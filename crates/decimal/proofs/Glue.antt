@@ -9,6 +9,8 @@ use mathlib.Core.Logic.{_⊎_, inl, inr, ⊎-elim}
 use mathlib.Core.Path.{_≡_, refl, sym, ap, _∙_}
 use lib.ListN.{length, getD, set, take, drop, length-set}
 use lib.Seq.{drop-cons, take-suc, take-suc-set, drop-set-lt, take-set-le, getD-set-same, getD-set-other}
+use mir.Syntax.{w64}
+use mir.Val.{Fits}
 use Rattle.endian.proofs.Which.{eq-or}
 use Rattle.decimal.specs.Limbs.{value, Limbs}
 
@@ -57,13 +59,13 @@ module _ (xs : List ℕ) (i : ℕ) (h : i < length xs) (c carry t : ℕ) (is : t
       let b : c * getD xs i 0 ≡ getD xs i 0 * c = mul-comm c (getD xs i 0) in
       omega arith
 
-  pub times-turn : glue (take (i + 1) (set xs i (t % base))) (t / base + c * value (drop (i + 1) (set xs i (t % base)))) ≡ glue (take i xs) (carry + c * value (drop i xs))
+  times-turn : glue (take (i + 1) (set xs i (t % base))) (t / base + c * value (drop (i + 1) (set xs i (t % base)))) ≡ glue (take i xs) (carry + c * value (drop i xs))
   times-turn =
       rw (value-at xs i h, add-one i, take-suc-set xs i (t % base) h, drop-set-lt (suc i) xs i (t % base) (omega arith), glue-snoc)
       (ap (glue (take i xs)) (times-sum (value (drop (suc i) xs))))
 
   -- no product is too large, and the carry stays below c
-  pub times-fits : 0 < c → carry < c → getD xs i 0 < base → (getD xs i 0 * c + carry < base * c) × (t / base < c)
+  times-fits : 0 < c → carry < c → getD xs i 0 < base → (getD xs i 0 * c + carry < base * c) × (t / base < c)
   times-fits z l b =
       let m : getD xs i 0 * c ≤ 4294967295 * c = mul-le-mul-right c (omega arith) in
       (omega arith, omega arith)
@@ -73,7 +75,7 @@ module _ (xs : List ℕ) (i : ℕ) (h : i < length xs) (rest t : ℕ) (is : t �
   tenth-sum : (v : ℕ) → 10 * (t / 10 + base * v) + t % 10 ≡ getD xs i 0 + base * (10 * v + rest)
   tenth-sum v = omega arith
 
-  pub tenth-turn : glue (take i (set xs i (t / 10))) (10 * value (drop i (set xs i (t / 10))) + t % 10) ≡ glue (take (i + 1) xs) (10 * value (drop (i + 1) xs) + rest)
+  tenth-turn : glue (take i (set xs i (t / 10))) (10 * value (drop i (set xs i (t / 10))) + t % 10) ≡ glue (take (i + 1) xs) (10 * value (drop (i + 1) xs) + rest)
   tenth-turn =
       let l : i < length (set xs i (t / 10)) = rw (length-set xs i (t / 10)) h in
       rw (value-at (set xs i (t / 10)) i l, add-one i, take-suc xs i 0 h, take-set-le i xs i (t / 10) (omega arith), getD-set-same xs i (t / 10) 0 h, drop-set-lt (suc i) xs i (t / 10) (omega arith), glue-snoc)
@@ -87,12 +89,12 @@ eq-le : {a b : ℕ} → a ≡ b → a ≤ b
 eq-le {a = a} e = rw (← e) (omega arith)
 
 -- all limbs are done, and nothing is above them
-pub none-above : (xs : List ℕ) (v n : ℕ) → length xs ≡ 13 → n < 2 ^ 416 → glue xs v ≡ n → v ≡ 0
+none-above : (xs : List ℕ) (v n : ℕ) → length xs ≡ 13 → n < 2 ^ 416 → glue xs v ≡ n → v ≡ 0
 none-above xs v n l h e =
     let b : base ^ length xs ≡ 2 ^ 416 = rw l refl in
     small (2 ^ 416) v n (le-trans (rw b at (glue-above xs v)) (eq-le e)) h
 
-pub take-all : (xs : List ℕ) (i : ℕ) → length xs ≤ i → take i xs ≡ xs
+take-all : (xs : List ℕ) (i : ℕ) → length xs ≤ i → take i xs ≡ xs
 take-all [] zero h = refl
 take-all [] (suc i) h = refl
 take-all (x ∷ xs) zero h = absurd (omega arith)
@@ -105,7 +107,7 @@ drop-all [] (suc i) h = refl
 drop-all (x ∷ xs) zero h = absurd (omega arith)
 drop-all (x ∷ xs) (suc i) h = drop-all xs i (omega arith)
 
-pub times-done : (xs : List ℕ) (i c carry n : ℕ) → length xs ≡ 13 → 13 ≤ i → n < 2 ^ 416 → glue (take i xs) (carry + c * value (drop i xs)) ≡ n → value xs ≡ n
+times-done : (xs : List ℕ) (i c carry n : ℕ) → length xs ≡ 13 → 13 ≤ i → n < 2 ^ 416 → glue (take i xs) (carry + c * value (drop i xs)) ≡ n → value xs ≡ n
 times-done xs i c carry n l h b e =
     let t : take i xs ≡ xs = take-all xs i (omega arith) in
     let d : value (drop i xs) ≡ 0 = drop-all xs i (omega arith) in
@@ -132,24 +134,32 @@ unfolding glue
 timed-first xs c z p = record { within = omega arith; low = z; limbs = p; stands = omega arith }
 
 module _ {all xs : List ℕ} {c carry i : ℕ} (w : Timed all c xs carry i) where
-  pub timed-fits : i < 13 → c < base → (getD xs i 0 * c < 18446744073709551616) × (getD xs i 0 * c + carry < 18446744073709551616)
-  timed-fits h b =
-      let l : i < length xs = omega (arith, w .limbs .sized) in
-      let f : getD xs i 0 * c + carry < base * c = times-fits xs i l c carry _ refl (omega (arith, w .low)) (w .low) (w .limbs .each i) .0 in
-      (omega arith, omega arith)
+  abbrev t : ℕ
+  t = getD xs i 0 * c + carry
 
-  pub timed-next : i < 13 → (t : ℕ) → t ≡ getD xs i 0 * c + carry → Timed all c (set xs i (t % base)) (t / base) (i + 1)
-  timed-next h t e =
-      let l : i < length xs = omega (arith, w .limbs .sized) in
-      record {
-        within = omega arith;
-        low = times-fits xs i l c carry t e (omega (arith, w .low)) (w .low) (w .limbs .each i) .1;
-        limbs = limbs-set xs i (t % base) l (omega arith) (w .limbs);
-        stands = times-turn xs i l c carry t e ∙ w .stands;
-      }
+  module _ (h : i < 13) where
+    there : i < length xs
+    there = omega (arith, w .limbs .sized)
 
-  pub timed-done : 13 ≤ i → c * value all < 2 ^ 416 → Limbs xs × (value xs ≡ c * value all)
-  timed-done h b = (w .limbs, times-done xs i c carry (c * value all) (w .limbs .sized) h b (w .stands))
+    t-low : (t < base * c) × (t / base < c)
+    t-low = times-fits xs i there c carry t refl (omega (arith, w .low)) (w .low) (w .limbs .each i)
+
+    pub product-fits : c < base → Fits w64 (getD xs i 0 * c)
+    product-fits b = record { fits = omega (arith, t-low .0) }
+
+    pub sum-fits : c < base → Fits w64 (getD xs i 0 * c + carry)
+    sum-fits b = record { fits = omega (arith, t-low .0) }
+
+    pub timed-next : Timed all c (set xs i ((getD xs i 0 * c + carry) % base)) ((getD xs i 0 * c + carry) / base) (i + 1)
+    timed-next = record {
+      within = omega arith;
+      low = t-low .1;
+      limbs = limbs-set xs i (t % base) there (omega arith) (w .limbs);
+      stands = times-turn xs i there c carry t refl ∙ w .stands;
+    }
+
+  pub timed-done : 13 ≤ i → c * value all < 2 ^ 416 → value xs ≡ c * value all
+  timed-done h b = times-done xs i c carry (c * value all) (w .limbs .sized) h b (w .stands)
 
 pub divided-first : (xs : List ℕ) → Limbs xs → Divided xs xs 0 13
 divided-first xs p =
@@ -159,18 +169,24 @@ divided-first xs p =
     record { within = omega arith; low = omega arith; limbs = p; stands = rw (t, d) (glue-value xs) }
 
 module _ {all xs : List ℕ} {rest i : ℕ} (w : Divided all xs rest i) where
-  pub divided-next : (j : ℕ) → 0 < i → j ≡ i - 1 → (t : ℕ) → t ≡ rest * base + getD xs j 0 → Divided all (set xs j (t / 10)) (t % 10) j
-  divided-next j h p t e =
-      let l : j < length xs = omega (arith, w .limbs .sized, w .within) in
-      let b : getD xs j 0 < base = w .limbs .each j in
-      let s : i ≡ j + 1 = omega arith in
-      record {
-        within = omega (arith, w .within);
-        low = omega arith;
-        limbs = limbs-set xs j (t / 10) l (omega (arith, w .low)) (w .limbs);
-        stands = tenth-turn xs j l rest t e ∙ rw (← s) (w .stands);
-      }
+  pub digit-fits : Fits w64 (rest * base + getD xs (i - 1) 0)
+  digit-fits = record { fits = omega (arith, w .limbs .each (i - 1), w .low) }
 
-  pub divided-done : i ≤ 0 → Limbs xs × ((value all ≡ 10 * value xs + rest) × (rest < 10))
+  pub divided-next : 0 < i → Divided all (set xs (i - 1) ((rest * base + getD xs (i - 1) 0) / 10)) ((rest * base + getD xs (i - 1) 0) % 10) (i - 1)
+  divided-next h = go (i - 1) refl (rest * base + getD xs (i - 1) 0) refl
+    where
+      go : (j : ℕ) → j ≡ i - 1 → (t : ℕ) → t ≡ rest * base + getD xs j 0 → Divided all (set xs j (t / 10)) (t % 10) j
+      go j p t e =
+          let l : j < length xs = omega (arith, w .limbs .sized, w .within) in
+          let b : getD xs j 0 < base = w .limbs .each j in
+          let s : i ≡ j + 1 = omega arith in
+          record {
+            within = omega (arith, w .within);
+            low = omega arith;
+            limbs = limbs-set xs j (t / 10) l (omega (arith, w .low)) (w .limbs);
+            stands = tenth-turn xs j l rest t e ∙ rw (← s) (w .stands);
+          }
+
+  pub divided-done : i ≤ 0 → value all ≡ 10 * value xs + rest
   unfolding glue
-  divided-done h = let z : i ≡ 0 = omega arith in (w .limbs, (sym (rw z at (w .stands)), w .low))
+  divided-done h = let z : i ≡ 0 = omega arith in sym (rw z at (w .stands))

@@ -5,17 +5,24 @@ use native.Mathlib.Omega.{arith}
 use mathlib.Core.List.{List, [], _∷_, _++_}
 use mathlib.Core.Bool.{Bool, true, false, cond}
 use mathlib.Core.Path.{_≡_, refl, sym, ap, _∙_}
+use lib.ListN.{length}
 use lib.Dec.{ltb, leb, eqb, lit<}
 use lib.Pow.{pow-pos}
 use borrow.Author.Tests.{lt-ltb, le-ltb, lt-leb, le-leb, eq-eqb, ne-eqb}
 use Rattle.meaning.specs.Text.{ascii}
+use Rattle.put.specs.Wrote.{most, capped, Wrote}
+use Rattle.put.proofs.PiecesInTurn as writing
 use Rattle.decimal.specs.Decimal.{decimal}
 use Rattle.decimal.specs.Text.{lowDigits, exponent, written, magnitude, number, unsigned, text}
 use Rattle.decimal.specs.declared.digits.Decimal.{Decimal}
 
-pub low-none : (k n : ℕ) → k ≡ 0 → [] ≡ lowDigits k n
+-- two pieces, one after the other, are all
+pub both : {us bs all : List ℕ} {at : ℕ} {xs ys zs : List ℕ} {r q : ℕ} → Wrote us at xs ys r → Wrote bs r ys zs q → us ++ bs ≡ all → Wrote all at xs zs q
+both a b e = writing.as-bytes e (writing.then a b)
+
+pub low-none : (k n at : ℕ) (xs : List ℕ) (r : ℕ) → k ≡ 0 → length xs * 1 < most → r ≡ capped at → Wrote (lowDigits k n) at xs xs r
 unfolding lowDigits
-low-none k n e = rw e
+low-none k n at xs r e short is = rw e (writing.nothing r (omega arith) is)
 
 pub low-more : (k n : ℕ) → (k ≡ 0 → ⊥) → lowDigits (k - 1) (n / 10) ++ ((48 + n % 10) ∷ []) ≡ lowDigits k n
 unfolding lowDigits
@@ -31,9 +38,10 @@ module _ (place : ℕ) where
   unfolding exponent
   exponent-plus h = rw (le-ltb place 45 h)
 
-pub written-is : (d : Decimal) → lowDigits 1 (d .digits / 100000000) ++ (46 ∷ (lowDigits 8 (d .digits) ++ (101 ∷ exponent (d .place)))) ≡ written d
+pub all-written : (d : Decimal) {at p q r s e : ℕ} {xs us vs ws ys zs : List ℕ} → Wrote (lowDigits 1 (d .digits / 100000000)) at xs us p → Wrote (46 ∷ []) p us vs q → Wrote (lowDigits 8 (d .digits)) q vs ws r
+    → Wrote (101 ∷ []) r ws ys s → Wrote (exponent (d .place)) s ys zs e → Wrote (written d) at xs zs e
 unfolding written
-written-is d = refl
+all-written d first point rest mark last = writing.then first (writing.then point (writing.then rest (writing.then mark last)))
 
 module _ (x t : ℕ) where
   pub number-zero : x ≡ 0 → t ≡ 0 → ascii "0.00000000e+00" ≡ number x t

@@ -6,6 +6,8 @@ use mathlib.Core.Bool.{Bool, true, false, cond}
 use mathlib.Core.Path.{_≡_, refl, sym, ap, _∙_}
 use lib.ListN.{length, getD, drop}
 use lib.Dec.{ltb, leb}
+use mir.Syntax.{w64}
+use mir.Val.{Fits}
 use borrow.Author.Tests.{lt-ltb, le-ltb, lt-leb, le-leb, leb-true, leb-false}
 use Rattle.decimal.specs.Limbs.{value, Limbs, unit, billion, rounded, near}
 use Rattle.decimal.proofs.Glue.{base, value-at, drop-all}
@@ -58,9 +60,28 @@ module _ (xs : List ℕ) (l : Limbs xs) where
         let e : 2 * low xs + left ≡ unit = omega arith in
         rw (whole, left-over, fourth h, e)
 
-    pub near-up : unit < 2 * low xs + left → getD xs 3 0 + 1 ≡ near (value xs) left
+    near-up : unit < 2 * low xs + left → getD xs 3 0 + 1 ≡ near (value xs) left
     unfolding near
     near-up p = rw (whole, left-over, fourth h, le-ltb (2 * low xs + left) unit (omega arith), lt-ltb unit (2 * low xs + left) p)
+
+    pub near-above : getD xs 2 0 ≡ 2147483648 → (getD xs 1 0 + getD xs 0 0 + left ≡ 0 → ⊥) → getD xs 3 0 + 1 ≡ near (value xs) left
+    near-above p q = near-up (omega arith)
+
+    pub near-over : 2147483648 ≤ getD xs 2 0 → (getD xs 2 0 ≡ 2147483648 → ⊥) → getD xs 3 0 + 1 ≡ near (value xs) left
+    near-over p q = near-up (omega arith)
+
+  -- sums of limbs fit 64 bits
+  pub two-fit : Fits w64 (getD xs 1 0 + getD xs 0 0)
+  two-fit = record { fits = omega (arith, l .each 1, l .each 0) }
+
+  pub two-and-left-fit : (left : ℕ) → left < 2 → Fits w64 (getD xs 1 0 + getD xs 0 0 + left)
+  two-and-left-fit left s = record { fits = omega (arith, l .each 1, l .each 0) }
+
+  pub even-fits : Fits w64 (getD xs 3 0 + getD xs 3 0 % 2)
+  even-fits = record { fits = omega (arith, l .each 3) }
+
+  pub up-fits : Fits w64 (getD xs 3 0 + 1)
+  up-fits = record { fits = omega (arith, l .each 3) }
 
 -- the limbs from the fifth on, from the i-th on nothing met
 pub record Looked (xs : List ℕ) (i : ℕ) : Type 0 where

@@ -23,11 +23,11 @@ use Rattle.differing.specs.Rows.{partAt, shapeAt, formatAt}
 use Rattle.differing.specs.Bits.{told, ownWhat}
 
 module _ (file table : List ℕ) (row : ℕ) where
-  pub dtype-at : partAt file table row .dtype ≡ getD table (row + dtypeColumn) 0
+  dtype-at : partAt file table row .dtype ≡ getD table (row + dtypeColumn) 0
   unfolding partAt describedComponent askedComponent
   dtype-at = getD-drop row table dtypeColumn 0
 
-  pub blob-at : partAt file table row .blob ≡ take (getD table (row + lengthColumn) 0) (drop (getD table (row + offsetColumn) 0) file)
+  blob-at : partAt file table row .blob ≡ take (getD table (row + lengthColumn) 0) (drop (getD table (row + offsetColumn) 0) file)
   unfolding partAt describedComponent askedComponent
   blob-at = rw (getD-drop row table lengthColumn 0, getD-drop row table offsetColumn 0)
 
@@ -38,13 +38,11 @@ module _ (file table : List ℕ) (row : ℕ) where
   unfolding partAt describedComponent askedComponent presentAt
   type-at = rw (getD-drop row table typeColumn 0, getD-drop row table typeLengthColumn 0)
 
-  pub type-none : true ≡ none-there → partAt file table row .type ≡ none
-  type-none h = rw (type-at, ← h)
+  type-none : {u : Bool} → u ≡ none-there → u ≡ true → partAt file table row .type ≡ none
+  type-none h e = rw (type-at, ← h, e)
 
-  pub type-some : false ≡ none-there → partAt file table row .type ≡ some (take (getD table (row + typeLengthColumn) 0) (drop (getD table (row + typeColumn) 0) file))
-  type-some h = rw (type-at, ← h)
-
--- ---- types
+  type-some : {u : Bool} → u ≡ none-there → u ≡ false → partAt file table row .type ≡ some (take (getD table (row + typeLengthColumn) 0) (drop (getD table (row + typeColumn) 0) file))
+  type-some h e = rw (type-at, ← h, e)
 
 module _ (first a : List ℕ) (p : ℕ) (second b : List ℕ) (q : ℕ) where
   abbrev c : DescribedComponent
@@ -53,35 +51,45 @@ module _ (first a : List ℕ) (p : ℕ) (second b : List ℕ) (q : ℕ) where
   abbrev d : DescribedComponent
   d = partAt second b q
 
-  pub both-absent : true ≡ none-there first a p → true ≡ none-there second b q → false ≡ otherType c d
-  both-absent h k = rw (type-none first a p h, type-none second b q k)
+  -- ---- types: u and v say whether they are absent
 
-  pub first-absent : true ≡ none-there first a p → false ≡ none-there second b q → true ≡ otherType c d
-  first-absent h k = rw (type-none first a p h, type-some second b q k)
+  module _ {u v : Bool} (h : u ≡ none-there first a p) (k : v ≡ none-there second b q) where
+    pub both-absent : u ≡ true → v ≡ true → false ≡ otherType c d
+    both-absent e f = rw (type-none first a p h e, type-none second b q k f)
 
-  pub second-absent : false ≡ none-there first a p → true ≡ none-there second b q → true ≡ otherType c d
-  second-absent h k = rw (type-some first a p h, type-none second b q k)
+    pub first-absent : u ≡ true → v ≡ false → true ≡ otherType c d
+    first-absent e f = rw (type-none first a p h e, type-some second b q k f)
 
-  pub both-there : false ≡ none-there first a p → false ≡ none-there second b q → {x y : List ℕ}
-      → x ≡ take (getD a (p + typeLengthColumn) 0) (drop (getD a (p + typeColumn) 0) first)
-      → y ≡ take (getD b (q + typeLengthColumn) 0) (drop (getD b (q + typeColumn) 0) second)
-      → {t : Bool} → t ≡ same x y → not t ≡ otherType c d
-  both-there h k e f g = ap not (g ∙ ap₂ same e f) ∙ (rw (type-some first a p h, type-some second b q k))
+    pub second-absent : u ≡ false → v ≡ true → true ≡ otherType c d
+    second-absent e f = rw (type-some first a p h e, type-none second b q k f)
+
+    -- both are there, and t says whether they are the same
+    module _ (e : u ≡ false) (f : v ≡ false) {x y : List ℕ} (ex : x ≡ take (getD a (p + typeLengthColumn) 0) (drop (getD a (p + typeColumn) 0) first))
+        (ey : y ≡ take (getD b (q + typeLengthColumn) 0) (drop (getD b (q + typeColumn) 0) second)) {t : Bool} (g : t ≡ same x y) where
+      both-there : not t ≡ otherType c d
+      both-there = ap not (g ∙ ap₂ same ex ey) ∙ (rw (type-some first a p h e, type-some second b q k f))
+
+      pub same-types : t ≡ true → false ≡ otherType c d
+      same-types s = ap not (sym s) ∙ both-there
+
+      pub other-types : t ≡ false → true ≡ otherType c d
+      other-types s = ap not (sym s) ∙ both-there
 
   -- ---- all of a component
 
-  pub differences-are : {u v w : ℕ} {x y : List ℕ} {s : Apart} → u ≡ bit 8 (not (eqb (getD a (p + dtypeColumn) 0) (getD b (q + dtypeColumn) 0)))
-      → v ≡ bit 16 (otherType (partAt first a p) (partAt second b q))
+  pub differences-are : {u v w : ℕ} {f g h : Bool} {x y : List ℕ} {s : Apart} → f ≡ not (eqb (getD a (p + dtypeColumn) 0) (getD b (q + dtypeColumn) 0)) → u ≡ bit 8 f
+      → g ≡ otherType (partAt first a p) (partAt second b q) → v ≡ bit 16 g
       → x ≡ take (getD a (p + lengthColumn) 0) (drop (getD a (p + offsetColumn) 0) first)
       → y ≡ take (getD b (q + lengthColumn) 0) (drop (getD b (q + offsetColumn) 0) second)
-      → s ≡ apart.told x y → w ≡ bit 32 (not (eqb (s .count) 0)) → record { dtype = u; kind = v; bytes = w; position = s .position; count = s .count } ≡ told c d
-  differences-are {u} {v} {w} {x} {y} {s} hu hv ex ey es hw =
+      → s ≡ apart.told x y → h ≡ not (eqb (s .count) 0) → w ≡ bit 32 h → record { dtype = u; kind = v; bytes = w; position = s .position; count = s .count } ≡ told c d
+  differences-are {u} {v} {w} {f} {g} {h} {x} {y} {s} ef eu eg ev ex ey es eh ew =
       let fx : x ≡ c .blob = ex ∙ sym (blob-at first a p) in
       let fy : y ≡ d .blob = ey ∙ sym (blob-at second b q) in
       let z : s ≡ apart.told (c .blob) (d .blob) = es ∙ ap₂ apart.told fx fy in
-      let du : u ≡ bit 8 (otherDtype c d) = hu ∙ sym (ap₂ (λ i j. bit 8 (not (eqb i j))) (dtype-at first a p) (dtype-at second b q)) in
-      let dw : w ≡ bit 32 (otherBytes c d) = hw ∙ ap (λ (r : Apart). bit 32 (not (eqb (r .count) 0))) z ∙ flipped (countApart (c .blob) (d .blob)) ∙ count-tells (c .blob) (d .blob) 32 in
-      rw (du, hv, dw, z)
+      let du : u ≡ bit 8 (otherDtype c d) = eu ∙ ap (bit 8) ef ∙ sym (ap₂ (λ i j. bit 8 (not (eqb i j))) (dtype-at first a p) (dtype-at second b q)) in
+      let dw : w ≡ bit 32 (otherBytes c d) = ew ∙ ap (bit 32) eh ∙ ap (λ (r : Apart). bit 32 (not (eqb (r .count) 0))) z ∙ flipped (countApart (c .blob) (d .blob)) ∙ count-tells (c .blob) (d .blob) 32 in
+      let dv : v ≡ bit 16 (otherType c d) = ev ∙ ap (bit 16) eg in
+      rw (du, dv, dw, z)
     where
       flipped : (n : ℕ) → bit 32 (not (eqb n 0)) ≡ cond (eqb n 0) 0 32
       flipped n = by (eqb n 0)
@@ -90,31 +98,65 @@ module _ (first a : List ℕ) (p : ℕ) (second b : List ℕ) (q : ℕ) where
           by true = refl
           by false = refl
 
+-- ---- numbers
+
+module _ (x y : ℕ) where
+  pub is-equal : x ≡ y → false ≡ not (eqb x y)
+  is-equal e = rw (eq-eqb x y e)
+
+  pub is-unequal : (x ≡ y → ⊥) → true ≡ not (eqb x y)
+  is-unequal n = rw (ne-eqb x y n)
+
 -- ---- lists of numbers
 
-module _ (x y : List ℕ) where
-  pub same-long : (length x ≡ length y → ⊥) → false ≡ same x y
-  same-long h = sym (ne-same x y (λ e. h (ap length e)))
+pub same-long : (x y : List ℕ) → (length x ≡ length y → ⊥) → false ≡ same x y
+same-long x y h = sym (ne-same x y (λ e. h (ap length e)))
 
-  pub same-step : (i : ℕ) → i < length x → i < length y → getD x i 0 ≡ getD y i 0 → same (drop i x) (drop i y) ≡ same (drop (i + 1) x) (drop (i + 1) y)
-  same-step i l m e = rw (drop-cons x i 0 l, drop-cons y i 0 m, eq-eqb (getD x i 0) (getD y i 0) e, add-one i)
+-- the loop over two lists as long as each other: those before i are the same
+pub record Comparing (x y : List ℕ) (i : ℕ) : Type 0 where
+  pub within : i ≤ length x
+  pub so-far : same x y ≡ same (drop i x) (drop i y)
 
-  pub same-stop : (i : ℕ) → i < length x → i < length y → (getD x i 0 ≡ getD y i 0 → ⊥) → same (drop i x) (drop i y) ≡ false
-  same-stop i l m e = rw (drop-cons x i 0 l, drop-cons y i 0 m, ne-eqb (getD x i 0) (getD y i 0) e)
+module _ {x y : List ℕ} {i : ℕ} (w : Comparing x y i) (long : length x ≡ length y) where
+  pub all-same : length x ≤ i → true ≡ same x y
+  all-same l = let m : length y ≤ i = omega (arith, l, long) in sym (w .so-far ∙ (rw (drop-of-length-le x l, drop-of-length-le y m)))
 
-  pub same-end : (i : ℕ) → length x ≤ i → length y ≤ i → same (drop i x) (drop i y) ≡ true
-  same-end i l m = rw (drop-of-length-le x l, drop-of-length-le y m)
+  module _ (l : i < length x) where
+    m : i < length y
+    m = omega (arith, l, long)
+
+    pub one-differs : (getD x i 0 ≡ getD y i 0 → ⊥) → false ≡ same x y
+    one-differs e = sym (w .so-far ∙ (rw (drop-cons x i 0 l, drop-cons y i 0 m, ne-eqb (getD x i 0) (getD y i 0) e)))
+
+    pub one-more-same : getD x i 0 ≡ getD y i 0 → Comparing x y (i + 1)
+    one-more-same e = record { within = omega (arith, l); so-far = w .so-far ∙ (rw (drop-cons x i 0 l, drop-cons y i 0 m, eq-eqb (getD x i 0) (getD y i 0) e, add-one i)) }
 
 -- ---- shapes and formats
 
-pub shape-is : (a : List ℕ) (p n : ℕ) → n ≡ getD a (p + rankColumn) 0 → take (p + shapeColumn + n - (p + shapeColumn)) (drop (p + shapeColumn) a) ≡ shapeAt a p
+pub shape-is : (a : List ℕ) (p : ℕ) → take (p + shapeColumn + getD a (p + rankColumn) 0 - (p + shapeColumn)) (drop (p + shapeColumn) a) ≡ shapeAt a p
 unfolding shapeAt
-shape-is a p n e = let z : p + shapeColumn + n - (p + shapeColumn) ≡ getD a (p + rankColumn) 0 = omega (arith, e) in rw z
+shape-is a p = let z : p + shapeColumn + getD a (p + rankColumn) 0 - (p + shapeColumn) ≡ getD a (p + rankColumn) 0 = omega arith in rw z
 
+-- u and v say whether the shapes and the formats are the same
 module _ (first a : List ℕ) (p : ℕ) (second b : List ℕ) (q : ℕ) {s t x y : List ℕ} {u v : Bool}
     (hs : s ≡ shapeAt a p) (ht : t ≡ shapeAt b q) (hu : u ≡ same s t)
     (hx : x ≡ take (getD a (p + formatLengthColumn) 0) (drop (getD a (p + formatColumn) 0) first))
     (hy : y ≡ take (getD b (q + formatLengthColumn) 0) (drop (getD b (q + formatColumn) 0) second)) (hv : v ≡ same x y) where
-  pub own-is : bit 1 (not u) + bit 2 (not v) ≡ ownWhat (shapeAt a p) (formatAt first a p) (shapeAt b q) (formatAt second b q)
+  abbrev Own : ℕ → Type 0
+  Own r = (r ≡ ownWhat (shapeAt a p) (formatAt first a p) (shapeAt b q) (formatAt second b q)) × (r ≤ 3)
+
+  own-is : bit 1 (not u) + bit 2 (not v) ≡ ownWhat (shapeAt a p) (formatAt first a p) (shapeAt b q) (formatAt second b q)
   unfolding formatAt
   own-is = rw (hu, hv, hs, ht, hx, hy)
+
+  pub none-differs : u ≡ true → v ≡ true → Own 0
+  none-differs e f = (rw (e, f) at own-is, omega arith)
+
+  pub formats-differ : u ≡ true → v ≡ false → Own 2
+  formats-differ e f = (rw (e, f) at own-is, omega arith)
+
+  pub shapes-differ : u ≡ false → v ≡ true → Own 1
+  shapes-differ e f = (rw (e, f) at own-is, omega arith)
+
+  pub both-differ : u ≡ false → v ≡ false → Own 3
+  both-differ e f = (rw (e, f) at own-is, omega arith)

@@ -5,9 +5,10 @@ use native.Mathlib.Numerals.{add-one}
 use native.Mathlib.Omega.{arith}
 use mathlib.Core.List.{List, [], _∷_, _++_, map, append-assoc, append-nil}
 use mathlib.Core.Path.{_≡_, refl, sym, ap, _∙_, subst}
-use lib.ListN.{length, take, drop, getD, set, length-append, length-drop, length-set, drop-of-length-le, take-append-drop}
+use lib.ListN.{length, take, drop, getD, set, replicate, length-replicate, getD-replicate, length-append, length-drop, length-set, drop-of-length-le, take-append-drop}
 use lib.Seq.{take-suc, drop-cons, set-at, set-split, take-at, drop-at, take-length, drop-append-add, drop-drop, length-take-le}
 use borrow.Rule.Slice.PartAt.{part-to-end}
+use Rattle.meaning.specs.Manifest.{numberBytes}
 use Rattle.meaning.specs.Read.{joined}
 use Rattle.emit.specs.Laid.{Room, Laid}
 
@@ -33,6 +34,9 @@ as-bytes {xs = xs} {ys} {at} {r} e w = subst (λ (b : List ℕ). Laid b at xs ys
 
 pub room-as : {us bs xs : List ℕ} {at : ℕ} → us ≡ bs → Room us at xs → Room bs at xs
 room-as {xs = xs} {at} e w = subst (λ (b : List ℕ). Room b at xs) e w
+
+pub room-back : {us bs xs : List ℕ} {at : ℕ} → us ≡ bs → Room bs at xs → Room us at xs
+room-back e w = room-as (sym e) w
 
 -- room for the first of two, and for the second after the first
 pub room-first : {us xs : List ℕ} {at : ℕ} (bs : List ℕ) → Room (us ++ bs) at xs → Room us at xs
@@ -152,6 +156,27 @@ number-next f ns i h = ap (λ (z : List ℕ). joined (map f z)) (byte-next ns i 
 pub numbers-end : (f : ℕ → List ℕ) (ns : List ℕ) (i : ℕ) → length ns ≤ i → joined (map f (drop i ns)) ≡ []
 numbers-end f ns i h = ap (λ (z : List ℕ). joined (map f z)) (drop-of-length-le ns h)
 
+-- the loop over the numbers of a list, at its place i
+pub record NumbersLaid (ns : List ℕ) (at : ℕ) (xs : List ℕ) (r i : ℕ) (ys : List ℕ) : Type 0 where
+  pub inside : i ≤ length ns
+  pub going-on : Going (joined (map numberBytes ns)) at xs (joined (map numberBytes (drop i ns))) r ys
+
+pub no-numbers : {ns xs : List ℕ} {at : ℕ} → Room (joined (map numberBytes ns)) at xs → NumbersLaid ns at xs at 0 xs
+no-numbers h = record { inside = omega arith; going-on = going _ _ _ h }
+
+module _ {ns xs ys : List ℕ} {at r i : ℕ} (w : NumbersLaid ns at xs r i ys) where
+  pub room-for-number : i < length ns → Room (numberBytes (getD ns i 0)) r ys
+  room-for-number l = room-one _ (w .going-on) (number-next numberBytes ns i l)
+
+  pub one-number : {zs : List ℕ} {q : ℕ} → i < length ns → Laid (numberBytes (getD ns i 0)) r ys zs q → NumbersLaid ns at xs q (i + 1) zs
+  one-number l e = record { inside = omega arith; going-on = go-on (w .going-on) (number-next numberBytes ns i l) e }
+
+  pub all-numbers : length ns ≤ i → Laid (joined (map numberBytes ns)) at xs ys r
+  all-numbers l = all-laid (w .going-on) (numbers-end numberBytes ns i l)
+
+  pub numbers-as-long : length ys ≡ length xs
+  numbers-as-long = same-so-far (w .going-on)
+
 -- i bytes of `bs`, n in number, are stored
 pub record Filling (bs : List ℕ) (n : ℕ) (xs ys : List ℕ) (i : ℕ) : Type 0 where
   pub size : length bs ≡ n
@@ -190,6 +215,26 @@ filled {bs} {xs} {ys} {n} {i} {r} f l e =
       is = f .is ∙ rw (q, take-length bs, zero-add (length bs));
     }
 
+pub all-filled : {bs xs ys : List ℕ} {n i : ℕ} → Filling bs n xs ys i → n ≤ i → Laid bs 0 xs ys n
+all-filled f l = filled f l refl
+
+-- a text, and zeros
+pub copy-none : {s xs : List ℕ} → length s ≤ length xs → Filling s (length s) xs xs 0
+copy-none {s} {xs} h = begin s (length s) xs refl h
+
+pub copy-more : {s xs ys : List ℕ} {i : ℕ} → Filling s (length s) xs ys i → i < length s → Filling s (length s) xs (set ys i (getD s i 0)) (i + 1)
+copy-more f l = more f l refl
+
+pub copy-all : {s xs ys : List ℕ} {i : ℕ} → Filling s (length s) xs ys i → length s ≤ i → Laid s 0 xs ys i
+copy-all f l = filled f l (omega (arith, f .within))
+
+module _ {n : ℕ} {xs : List ℕ} where
+  pub no-zeros : n ≤ length xs → Filling (replicate n 0) n xs xs 0
+  no-zeros h = begin _ n xs (length-replicate n 0) h
+
+  pub one-zero : {ys : List ℕ} {i : ℕ} → Filling (replicate n 0) n xs ys i → i < n → Filling (replicate n 0) n xs (set ys i 0) (i + 1)
+  one-zero {i = i} f l = more f l (sym (getD-replicate n i 0 0 l))
+
 -- ---- the part of xs from a place on, lent, and the whole with what it then holds
 
 abbrev pub part : ℕ → List ℕ → List ℕ
@@ -218,6 +263,12 @@ lent {bs} {xs} {zs} {at} {n} h w = record {
       ∙ ap (λ (z : List ℕ). take at xs ++ z) (w .is)
       ∙ rw (part-to-end xs at, zero-add (length bs), drop-drop (length bs) at xs);
 }
+
+pub lent-as-long : {bs xs zs : List ℕ} {at n : ℕ} → Room bs at xs → Laid bs 0 (part at xs) zs n → length (back at xs zs) ≡ length xs
+lent-as-long h w = same-length (lent h w)
+
+pub zeros-fit : {xs : List ℕ} {at n : ℕ} → Room (replicate n 0) at xs → n ≤ length (part at xs)
+zeros-fit {xs} {at} {n} h = rw (part-length at xs) (omega (arith, h .fits, length-replicate {A = ℕ} n 0))
 
 -- a byte, and more over the front of the part after it
 module _ {bs xs : List ℕ} {b at : ℕ} (room : Room (b ∷ bs) at xs) where

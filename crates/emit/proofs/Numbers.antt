@@ -2,14 +2,17 @@
 use Prim.Native.Nat.{ℕ, zero, suc, _+_, _-_, _*_, _/_, _%_, _^_, _≤_, _<_}
 use native.Mathlib.Nat.{pow-suc, pow-succ', div-div-eq-div-mul, div-one, not-suc-le-zero, le-of-suc-le-suc, mod-lt, mod-eq-of-lt, div-lt-iff-lt-mul, div-add-mod', mul-add-div-right, mul-add-mod-self-right, mul-comm, mul-assoc, one-le-pow}
 use native.Mathlib.Omega.{arith}
-use mathlib.Core.List.{_∷_}
+use mathlib.Core.List.{List, _∷_}
 use mathlib.Core.Path.{_≡_, refl, sym, ap, _∙_, subst}
-use lib.ListN.{getD}
+use lib.ListN.{length, getD, set, length-set}
 use lib.Pow.{pow-add}
 use borrow.Author.Tests.{lt-ltb, le-ltb}
 use Rattle.meaning.specs.Encoding.{big}
 use Rattle.meaning.specs.Manifest.{headOf, shortestHead}
 use Rattle.meaning.specs.WrittenFile.{littleBytes}
+use Rattle.meaning.proofs.Lengths.{big-length, little-length}
+use Rattle.emit.specs.Laid.{Room, Laid}
+use Rattle.emit.proofs.LaidPieces.{part, back, part-length, room-as, as-bytes, same-length, lent-after-byte, Filling, begin, more, all-filled}
 
 -- 256 ^ k as a shift
 shifted : (k : ℕ) → 256 ^ k ≡ 2 ^ (8 * k)
@@ -26,7 +29,7 @@ little-getD (suc k) n (suc i) h =
     little-getD k (n / 256) i (le-of-suc-le-suc h)
     ∙ ap (λ (x : ℕ). x % 256) (div-div-eq-div-mul n 256 (256 ^ i) ∙ ap (λ (x : ℕ). n / x) (sym (pow-succ' 256 i)))
 
-pub little-at : (k n i : ℕ) → i < k → n / 2 ^ (8 * i) % 256 ≡ getD (littleBytes k n) i 0
+little-at : (k n i : ℕ) → i < k → n / 2 ^ (8 * i) % 256 ≡ getD (littleBytes k n) i 0
 little-at k n i h = ap (λ (x : ℕ). n / x % 256) (sym (shifted i)) ∙ sym (little-getD k n i h)
 
 -- a byte doesn't depend on the bytes before it
@@ -69,7 +72,7 @@ big-getD (suc w) n (suc i) b h =
     ∙ without-above n (w - 1 - i) i
     ∙ ap (λ (j : ℕ). n / 256 ^ j % 256) (sym f)
 
-pub big-at : (w n i : ℕ) → n < 256 ^ w → i < w → n / 2 ^ (8 * (w - 1 - i)) % 256 ≡ getD (big w n) i 0
+big-at : (w n i : ℕ) → n < 256 ^ w → i < w → n / 2 ^ (8 * (w - 1 - i)) % 256 ≡ getD (big w n) i 0
 big-at w n i b h = ap (λ (x : ℕ). n / x % 256) (sym (shifted (w - 1 - i))) ∙ sym (big-getD w n i b h)
 
 -- the shortest head by its tests
@@ -98,5 +101,46 @@ module _ (m n : ℕ) where
         eight h = simp (le-ltb _ _ a, le-ltb _ _ b, le-ltb _ _ d, le-ltb _ _ h)
 
 -- a head by its initial byte as it was joined
-pub same-initial : (m l w n : ℕ) {b : ℕ} → b ≡ m * 32 + l → headOf m l w n ≡ b ∷ big w n
+same-initial : (m l w n : ℕ) {b : ℕ} → b ≡ m * 32 + l → headOf m l w n ≡ b ∷ big w n
 same-initial m l w n e = ap (λ (z : ℕ). z ∷ big w n) (sym e)
+
+module _ (m l w n : ℕ) {xs : List ℕ} {at : ℕ} (room : Room (headOf m l w n) at xs) (b : ℕ) where
+  pub argument-fits : w ≤ length (part (at + 1) (set xs at b))
+  argument-fits = rw (part-length (at + 1) (set xs at b), length-set) (omega (arith, room .fits, big-length w n))
+
+  module _ (e : b ≡ m * 32 + l) {zs : List ℕ} {k : ℕ} (a : Laid (big w n) 0 (part (at + 1) (set xs at b)) zs k) where
+    after-byte : Laid (b ∷ big w n) at xs (back (at + 1) (set xs at b) zs) (at + 1 + k)
+    after-byte = lent-after-byte (room-as (same-initial m l w n e) room) a
+
+    pub head-laid : Laid (headOf m l w n) at xs (back (at + 1) (set xs at b) zs) (at + 1 + k)
+    head-laid = as-bytes (sym (same-initial m l w n e)) after-byte
+
+    pub head-as-long : length (back (at + 1) (set xs at b) zs) ≡ length xs
+    head-as-long = same-length after-byte
+
+-- ---- the loops that store the bytes of a number
+
+pub record FillingBig (w n : ℕ) (xs ys : List ℕ) (i : ℕ) : Type 0 where
+  pub few : w ≤ 8
+  pub small : n < 256 ^ w
+  pub filling : Filling (big w n) w xs ys i
+
+pub big-none : {w n : ℕ} {xs : List ℕ} → w ≤ 8 → n < 256 ^ w → w ≤ length xs → FillingBig w n xs xs 0
+big-none {w} {n} {xs} f s h = record { few = f; small = s; filling = begin (big w n) w xs (big-length w n) h }
+
+module _ {w n i : ℕ} {xs ys : List ℕ} (f : FillingBig w n xs ys i) where
+  pub big-more : i < w → FillingBig w n xs (set ys i (n / 2 ^ (8 * (w - 1 - i)) % 256)) (i + 1)
+  big-more l = record { few = f .few; small = f .small; filling = more (f .filling) l (big-at w n i (f .small) l) }
+
+  pub big-all : w ≤ i → Laid (big w n) 0 xs ys w
+  big-all l = all-filled (f .filling) l
+
+module _ (n : ℕ) {xs : List ℕ} where
+  pub little-none : 8 ≤ length xs → Filling (littleBytes 8 n) 8 xs xs 0
+  little-none h = begin (littleBytes 8 n) 8 xs (little-length 8 n) h
+
+  pub little-more : {ys : List ℕ} {i : ℕ} → Filling (littleBytes 8 n) 8 xs ys i → i < 8 → Filling (littleBytes 8 n) 8 xs (set ys i (n / 2 ^ (8 * i) % 256)) (i + 1)
+  little-more {i = i} f l = more f l (little-at 8 n i l)
+
+  pub little-fits : {at : ℕ} → Room (littleBytes 8 n) at xs → 8 ≤ length (part at xs)
+  little-fits {at} h = rw (part-length at xs) (omega (arith, h .fits, little-length 8 n))

@@ -2,16 +2,18 @@
 use mathlib.Core.Path.{_≡_, refl, ap, sym, _∙_, subst}
 use mathlib.Core.List.{List, [], _∷_}
 use mathlib.Core.Bool.{Bool, cond}
-use Prim.Native.Nat.{ℕ, zero, suc, _+_, _-_, _≤_, _<_}
+use Prim.Native.Nat.{ℕ, zero, suc, _+_, _-_, _*_, _^_, _≤_, _<_}
 use native.Mathlib.Omega.{arith}
 use lib.ListN.{length, drop, length-drop}
 use borrow.Author.Tests.{eq-eqb, ne-eqb}
 use borrow.Rule.Slice.PartAt.{part-to-end}
 use Rattle.meaning.specs.Tree.{Pair, noteOf}
 use Rattle.meaning.specs.Kind.{aMapping, asMapping}
-use Rattle.cbor.specs.Ending.{FAULT}
-use Rattle.walk.specs.Reading.{Ends, Reads, Due, foldl}
-use Rattle.walk.specs.Places.{MapIs, Modes}
+use Rattle.cbor.specs.Ending.{code, itemEnd}
+use Rattle.walk.specs.Reading.{Ends, Reads, foldl}
+use Rattle.walk.specs.Places.{MapIs, Modes, EntryIs as TurnIs}
+use Rattle.walk.specs.declared.Entry.{Entry}
+use Rattle.walk.specs.declared.Entry.the-variants.{End, Value}
 use Rattle.walk.specs.declared.Opening.{Opening}
 use Rattle.walk.specs.declared.Opening.the-variants.{NotOpen, Opened}
 use Rattle.walk.proofs.Passed.{Here, Passed, Folds}
@@ -53,18 +55,14 @@ pub record Inv (left mode count : ℕ) (s : List ℕ) (index at due n : ℕ) (h 
   pub walking : Passed left mode count s at due (Folds (seen index) none-seen (record { count = n; held = h }))
   pub few : n ≤ at
 
-module _ (left mode count : ℕ) (s : List ℕ) (index : ℕ) (h : Places) where
-  pub is-held : {n : ℕ} → ((ps : List (Pair Ends)) (r : List ℕ) → Due left mode count s ps r → _≡_ {A = State} (record { count = n; held = h }) (foldl (seen index) none-seen ps)) → Held left mode count s index h
-  is-held f ps r d = ap (λ (x : State). x .held) (f ps r d) ∙ found index 0 index ps (omega arith)
-
-pub begins : {left mode count : ℕ} {s : List ℕ} {index : ℕ} → Modes mode count → length s < FAULT → {h : Places} → h ≡ places 0 0 → Inv left mode count s index 0 count 0 h
-begins modes short e = record {
-  walking = walked.passed-starts modes short (record { is = ap (λ (x : Places). record { count = 0; held = x }) e });
+pub begins : {left mode count : ℕ} {s : List ℕ} {index : ℕ} → Modes mode count → length s * 1 < 2 ^ 63 → {h : Places} → h ≡ places 0 0 → Inv left mode count s index 0 count 0 h
+begins modes lent e = record {
+  walking = walked.passed-starts modes (omega arith) (record { is = ap (λ (x : Places). record { count = 0; held = x }) e });
   few = omega arith;
 }
 
 -- one entry more
-pub one-more : (left index : ℕ) (s : List ℕ) (at v n : ℕ) (h q : Places) → q ≡ chosen index n (length s - at) (length s - v) h
+one-more : (left index : ℕ) (s : List ℕ) (at v n : ℕ) (h q : Places) → q ≡ chosen index n (length s - at) (length s - v) h
     → (p : Pair Ends) (r₁ r₂ : List ℕ) → Reads left (drop at s) (p .key) r₁ → Reads left (drop v s) (p .value) r₂
     → _≡_ {A = State} (record { count = n + 1; held = q }) (seen index (record { count = n; held = h }) p)
 one-more left index s at v n h q is p r₁ r₂ key value =
@@ -72,12 +70,28 @@ one-more left index s at v n h q is p r₁ r₂ key value =
     let b : length (noteOf (p .value) .start) ≡ length s - v = ap (λ x. length (x .start)) (note-of left (drop v s) (p .value) r₂ value) ∙ length-drop v s in
     rw (a, b) (ap (λ (x : Places). record { count = n + 1; held = x }) is)
 
+-- a turn, in the code's terms
+module _ {left mode count index at due n : ℕ} {s : List ℕ} {held : Places} (w : Inv left mode count s index at due n held) {x : Entry} (h : TurnIs left mode due (Here s at) x) where
+  pub ends : {e : ℕ} → x ≡ End e → Held left mode count s index held
+  ends is ps r d = ap (λ (y : State). y .held) (walked.holds-of-all (w .walking) h is ps r d .is) ∙ found index 0 index ps (omega arith)
+
+  module _ {k : ℕ} (is : x ≡ Value k) {e : ℕ} (skipped : e ≡ code (itemEnd left (Here s (at + k)))) where
+    pub unread : length s - (at + k) < e → Held left mode count s index held
+    unread l = walked.no-pairs (w .walking) h is skipped l _
+
+    module _ (l : e ≤ length s - (at + k)) where
+      pub goes-on : {q : Places} → q ≡ chosen index n (length s - at) (length s - (at + k)) held → Inv left mode count s index (at + k + e) (due - 2) (n + 1) q
+      goes-on {q} is-chosen = record {
+        walking = walked.folds-on (w .walking) h is skipped l (λ p key value. one-more left index s at (at + k) n held q is-chosen p _ _ key value);
+        few = let f = w .few in let z = walked.goes-on (w .walking) h is skipped l in omega arith;
+      }
+
 -- ---------------------------------------------------------------- the whole
 
 module _ (s : List ℕ) (x : Opening) (h : MapIs (Here s 0) x) (left index : ℕ) where
-  pub no-entry : x ≡ NotOpen → EntryIs left s index (places 0 0)
+  pub no-entry : x ≡ NotOpen → {r : Places} → r ≡ places 0 0 → EntryIs left s index r
   unfolding inTable
-  no-entry e t q r = rw (opens.opening s x h NotOpen e left t q r) refl
+  no-entry e is t q r = is ∙ (rw (opens.opening s x h NotOpen e left t q r) refl)
 
   pub of-map : (mode count size : ℕ) → x ≡ Opened mode count size → (r : Places) → Held left mode count (Here s size) index r → EntryIs left s index r
   unfolding inTable aMapping asMapping

@@ -46,6 +46,10 @@ module _ {S : Type 0} (ns : Slots) (width i : ℕ) (Says : Node Ends → S → T
     pub walking : Passed (suc d) mode count s at n (Noting s at p kept)
     pub slots : length p ≡ width + 3
 
+-- slots that are no more and no fewer than at the start
+pub slots-stay : (n : ℕ) (p before : List ℕ) → length p ≡ n → before ≡ replicate n 0 → length p ≡ length before
+slots-stay n p before l e = l ∙ sym (ap length e ∙ length-replicate n 0)
+
 no-field : (o : Option (List ℕ)) (t : Node Ends) → field o [] ≡ some t → ⊥
 unfolding get field
 no-field none t g = let z : _≡_ {A = ℕ} 0 1 = cc in omega arith
@@ -129,6 +133,12 @@ module _ {S : Type 0} {ns : Slots} {width i : ℕ} {Says : Node Ends → S → T
             module _ (l : e ≤ length s - (at + k)) where
               pub goes-on : at < at + k + e
               goes-on = passed.goes-on (w .walking) h is ended l
+
+              pub next-inside : at + k + e ≤ length s
+              next-inside = passed.next-inside (w .walking) h is ended l
+
+              pub nearer : length s - (at + k + e) < length s - at
+              nearer = passed.nearer (w .walking) h is ended l
 
               pub loops-on : {j : ℕ} {kept′ : S} {q : List ℕ} → SlotIs ns (Here s at) j → ValueIs ns width i Says (suc d) j (getD p i 0) (Here s (at + k)) kept kept′
                   → q ≡ marked width p j (length s - (at + k)) → Looping ns width i Says d mode count s (at + k + e) (n - 2) q kept′

@@ -43,21 +43,26 @@ module _ (s : List ℕ) (left : ℕ) where
   pub there : (at : ℕ) → at ≡ length s - left → (P : Node Ends → Type 0) → (Whatever (Here s at) λ d t q. P t) → ItemAt s left P
   there at is P h d t x = h d t (x .rest) (subst (λ u. Reads (suc d) u t (x .rest)) (sym (part-to-end s at ∙ ap (λ (i : ℕ). drop i s) is)) (x .reads))
 
-  -- a check F of what may be absent has the outcome r
-  module _ {R : Type 0} (F : Option (Node Ends) → R) (r : R) where
-    pub nothing-there : left ≡ 0 → F none ≡ r → OptionAt s left (λ o. F o ≡ r)
-    nothing-there z e d none h = e
-    nothing-there z e d (some t) h = let x = h .0 in absurd (omega arith)
+-- a check F of what may be absent has the outcome r
+module _ {R : Type 0} (F : Option (Node Ends) → R) (s : List ℕ) (left : ℕ) where
+  pub nothing-there : left ≡ 0 → OptionAt s left (λ o. F o ≡ F none)
+  nothing-there z d none h = refl
+  nothing-there z d (some t) h = let x = h .0 in absurd (omega arith)
 
-    module _ (at : ℕ) (is : at ≡ length s - left) (here : left ≡ 0 → ⊥) where
-      pub something-there : (Whatever (Here s at) λ d t q. F (some t) ≡ r) → OptionAt s left (λ o. F o ≡ r)
-      something-there h d none e = absurd (here e)
-      something-there h d (some t) x = there at is (λ t. F (some t) ≡ r) h d t (x .1)
+  module _ (r : R) (at : ℕ) (is : at ≡ length s - left) (here : left ≡ 0 → ⊥) where
+    pub something-there : (Whatever (Here s at) λ d t q. F (some t) ≡ r) → OptionAt s left (λ o. F o ≡ r)
+    something-there h d none e = absurd (here e)
+    something-there h d (some t) x = there s left at is (λ t. F (some t) ≡ r) h d t (x .1)
 
-  -- where null counts as absent
-  module _ {R : Type 0} (F : Option (Node Ends) → R) (r : R) (at : ℕ) (is : at ≡ length s - left) (here : left ≡ 0 → ⊥) (b : Bool) (asked : NullIs (Here s at) b) where
-    pub null-there : b ≡ true → F none ≡ r → OptionAt s left (λ o. F (present o) ≡ r)
-    null-there e f = something-there (λ o. F (present o)) r at is here (λ d t q x. ap F (null-absent t (asked d t q x ∙ e)) ∙ f)
+-- where null counts as absent
+module _ {R : Type 0} (F : Option (Node Ends) → R) (s : List ℕ) (left : ℕ) where
+  pub none-there : left ≡ 0 → OptionAt s left (λ o. F (present o) ≡ F none)
+  unfolding present
+  none-there = nothing-there (λ o. F (present o)) s left
 
-    pub item-there : b ≡ false → (Whatever (Here s at) λ d t q. F (some t) ≡ r) → OptionAt s left (λ o. F (present o) ≡ r)
-    item-there e h = something-there (λ o. F (present o)) r at is here (λ d t q x. ap F (other-present t (asked d t q x ∙ e)) ∙ h d t q x)
+  module _ (at : ℕ) (is : at ≡ length s - left) (here : left ≡ 0 → ⊥) (b : Bool) (asked : NullIs (Here s at) b) where
+    pub null-there : b ≡ true → OptionAt s left (λ o. F (present o) ≡ F none)
+    null-there e = something-there (λ o. F (present o)) s left (F none) at is here (λ d t q x. ap F (null-absent t (asked d t q x ∙ e)))
+
+    pub item-there : (r : R) → b ≡ false → (Whatever (Here s at) λ d t q. F (some t) ≡ r) → OptionAt s left (λ o. F (present o) ≡ r)
+    item-there r e h = something-there (λ o. F (present o)) s left r at is here (λ d t q x. ap F (other-present t (asked d t q x ∙ e)) ∙ h d t q x)

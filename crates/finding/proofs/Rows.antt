@@ -42,22 +42,22 @@ module _ (table : List ℕ) (row : ℕ) where
   by-length e f g = rw (e, f, g) refl
 
 module _ (file table : List ℕ) (row : ℕ) where
-  pub not-due : due table row ≡ false → undue ≡ atRow file table row
+  pub not-due : {d : Bool} → d ≡ due table row → d ≡ false → undue ≡ atRow file table row
   unfolding atRow
-  not-due e = rw e refl
+  not-due is e = rw (sym is ∙ e) refl
 
-  pub is-due : (bytes : List ℕ) (r : Shown) → due table row ≡ true
+  pub is-due : {d : Bool} {bytes : List ℕ} {r : Shown} → d ≡ due table row → d ≡ true
       → bytes ≡ take (getD table (row + lengthColumn) 0) (drop (getD table (row + offsetColumn) 0) file) → r ≡ shown (finding bytes) → r ≡ atRow file table row
   unfolding atRow
-  is-due bytes r e b f = f ∙ ap (λ (s : List ℕ). shown (finding s)) b ∙ rw e refl
+  is-due is e b f = f ∙ ap (λ (s : List ℕ). shown (finding s)) b ∙ rw (sym is ∙ e) refl
 
 -- ---- by the index
 
 -- what a range's answer tells: no component there; or its row lies in the table, and its finding is that row's
-pub record Told (file table : List ℕ) (objects components index : ℕ) (r : Extent) : Type 0 where
-  pub none : (r .number ≡ 0 → ⊥) → _≡_ {A = Found} (record { number = r .number; finding = 0; smallest = 0; largest = 0; nans = 0 }) (found file table objects components index)
-  pub lies : r .number ≡ 0 → objectWidth * objects + componentWidth * index + componentWidth ≤ length table
-  pub some : (f : Shown) → r .number ≡ 0 → f ≡ atRow file table (objectWidth * objects + componentWidth * index)
+record Told (file table : List ℕ) (objects components index : ℕ) (r : Extent) : Type 0 where
+  none : (r .number ≡ 0 → ⊥) → _≡_ {A = Found} (record { number = r .number; finding = 0; smallest = 0; largest = 0; nans = 0 }) (found file table objects components index)
+  lies : r .number ≡ 0 → objectWidth * objects + componentWidth * index + componentWidth ≤ length table
+  some : (f : Shown) → r .number ≡ 0 → f ≡ atRow file table (objectWidth * objects + componentWidth * index)
       → _≡_ {A = Found} (record { number = 0; finding = f .finding; smallest = f .smallest; largest = f .largest; nans = f .nans }) (found file table objects components index)
 
 module _ (file table : List ℕ) (objects components index : ℕ) where
@@ -84,6 +84,17 @@ module _ (file table : List ℕ) (objects components index : ℕ) where
   told-is : Told file table objects components index (view.told (viewed file table objects components index))
   told-is = by (ltb index components && leb (row + componentWidth) (length table)) (leb (place + size) (length file)) refl refl
 
-pub asked : (file table : List ℕ) (objects components index : ℕ) (r : Extent)
-    → r ≡ view.told (viewed file table objects components index) → Told file table objects components index r
-asked file table objects components index r e = subst (Told file table objects components index) (sym e) (told-is file table objects components index)
+-- r is a range's answer
+module _ (file table : List ℕ) (objects components index : ℕ) {r : Extent} (e : r ≡ view.told (viewed file table objects components index)) where
+  asked : Told file table objects components index r
+  asked = subst (Told file table objects components index) (sym e) (told-is file table objects components index)
+
+  pub row-lies : r .number ≡ 0 → objectWidth * objects + componentWidth * index + componentWidth ≤ length table
+  row-lies h = asked .lies h
+
+  pub none-found : (r .number ≡ 0 → ⊥) → _≡_ {A = Found} (record { number = r .number; finding = 0; smallest = 0; largest = 0; nans = 0 }) (found file table objects components index)
+  none-found h = asked .none h
+
+  pub row-found : {f : Shown} → r .number ≡ 0 → f ≡ atRow file table (objectWidth * objects + componentWidth * index)
+      → _≡_ {A = Found} (record { number = 0; finding = f .finding; smallest = f .smallest; largest = f .largest; nans = f .nans }) (found file table objects components index)
+  row-found {f} h i = asked .some f h i

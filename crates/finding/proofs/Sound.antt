@@ -49,13 +49,16 @@ unfolding ofValues
 of-values-sound [] = 0
 of-values-sound (x ∷ xs) = of-numbers-sound (nans (x ∷ xs)) (x ∷ xs)
 
-pub sound : (s : List ℕ) → Sound (finding s)
+sound : (s : List ℕ) → Sound (finding s)
 unfolding finding
 sound s = of-values-sound (values s)
 
 module _ {f : the.Finding} {a b : Float} {n : ℕ} (e : f ≡ Span a b n) where
-  pub span-sound : Sound f → T (not (isNan a)) × T (not (isNan b))
-  span-sound h = rw e at h
+  pub low-sound : Sound f → T (not (isNan a))
+  low-sound h = (rw e at h) .0
+
+  pub high-sound : Sound f → T (not (isNan b))
+  high-sound h = (rw e at h) .1
 
   pub span-shown : (x y : ℕ) → x ≡ toBits binary32 a → y ≡ toBits binary32 b → _≡_ {A = Shown} (record { finding = 3; smallest = x; largest = y; nans = n }) (shown f)
   unfolding shown

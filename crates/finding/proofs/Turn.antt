@@ -16,7 +16,7 @@ use Rattle.finding.specs.declared.Finding as the
 use Rattle.finding.specs.declared.Finding.the-variants.{Empty, OnlyNaN, Span}
 
 -- the values from i on begin with the one that stands there
-pub values-at : (s : List ℕ) (i : ℕ) → i + 4 ≤ length s → values (drop i s) ≡ ofBits binary32 (patternAt s i) ∷ values (drop (i + 4) s)
+values-at : (s : List ℕ) (i : ℕ) → i + 4 ≤ length s → values (drop i s) ≡ ofBits binary32 (patternAt s i) ∷ values (drop (i + 4) s)
 unfolding values
 values-at s i l =
     let a : i + 1 ≡ suc i = omega arith in
@@ -26,7 +26,7 @@ values-at s i l =
     rw (drop-cons s i 0 (omega arith), drop-cons s (suc i) 0 (omega arith), drop-cons s (suc (suc i)) 0 (omega arith), drop-cons s (suc (suc (suc i))) 0 (omega arith), a, b, c, d)
 
 -- fewer than four bytes hold none
-pub values-short : (s : List ℕ) → length s < 4 → values s ≡ []
+values-short : (s : List ℕ) → length s < 4 → values s ≡ []
 unfolding values
 values-short [] l = refl
 values-short (a ∷ []) l = refl
@@ -79,22 +79,22 @@ run-unmet n (x ∷ xs) = go (isNan x) refl (run-unmet (suc n) xs)
     go true e p = p ∙ ap (λ (k : ℕ). ofNumbers k (numbers xs)) (omega arith)
     go false e p = rw (lesser-first x e, greater-first x e) (run-met x x n xs)
 
-pub first : ofBits binary32 2139095040 ≡ inf false
+first : ofBits binary32 2139095040 ≡ inf false
 unfolding ofBits
 first = refl
 
-pub last : ofBits binary32 4286578688 ≡ inf true
+last : ofBits binary32 4286578688 ≡ inf true
 unfolding ofBits
 last = refl
 
-pub unmet-is : (xs : List Float) (x : Float) (ys : List Float) → xs ≡ x ∷ ys → run (inf false) (inf true) 0 false xs ≡ ofValues xs
+unmet-is : (xs : List Float) (x : Float) (ys : List Float) → xs ≡ x ∷ ys → run (inf false) (inf true) 0 false xs ≡ ofValues xs
 unfolding ofValues
 unmet-is xs x ys e =
     let z : 0 + nans (x ∷ ys) ≡ nans (x ∷ ys) = omega arith in
     rw e (run-unmet 0 (x ∷ ys) ∙ ap (λ (k : ℕ). ofNumbers k (numbers (x ∷ ys))) z)
 
 -- what the loop begins with is the finding
-pub begins : (s : List ℕ) → 4 ≤ length s → run (ofBits binary32 2139095040) (ofBits binary32 4286578688) 0 false (values (drop 0 s)) ≡ finding s
+begins : (s : List ℕ) → 4 ≤ length s → run (ofBits binary32 2139095040) (ofBits binary32 4286578688) 0 false (values (drop 0 s)) ≡ finding s
 unfolding finding
 begins s l = rw (first, last) (unmet-is (values (drop 0 s)) _ _ (values-at s 0 (omega arith)))
 
@@ -106,16 +106,16 @@ kept false false lo hi x e = (refl, refl)
 
 -- a turn at a NaN, at a number, and at one that lies within
 module _ (s : List ℕ) (i : ℕ) (l : i + 4 ≤ length s) (lo hi : Float) (n : ℕ) (b : Bool) where
-  pub turn-nan : nanBits binary32 (patternAt s i) ≡ true → run lo hi (n + 1) b (values (drop (i + 4) s)) ≡ run lo hi n b (values (drop i s))
+  turn-nan : nanBits binary32 (patternAt s i) ≡ true → run lo hi (n + 1) b (values (drop (i + 4) s)) ≡ run lo hi n b (values (drop i s))
   unfolding run
   turn-nan e = let z : isNan (ofBits binary32 (patternAt s i)) ≡ true = sym (nanBits-is binary32 (patternAt s i)) ∙ e in rw (values-at s i l, z, add-one n)
 
-  pub turn-number : nanBits binary32 (patternAt s i) ≡ false
+  turn-number : nanBits binary32 (patternAt s i) ≡ false
       → run (lesser lo (ofBits binary32 (patternAt s i))) (greater hi (ofBits binary32 (patternAt s i))) n true (values (drop (i + 4) s)) ≡ run lo hi n b (values (drop i s))
   unfolding run
   turn-number e = let z : isNan (ofBits binary32 (patternAt s i)) ≡ false = sym (nanBits-is binary32 (patternAt s i)) ∙ e in rw (values-at s i l, z)
 
-  pub turn-within : nanBits binary32 (patternAt s i) ≡ false → within lo hi (ofBits binary32 (patternAt s i)) ≡ true
+  turn-within : nanBits binary32 (patternAt s i) ≡ false → within lo hi (ofBits binary32 (patternAt s i)) ≡ true
       → run lo hi n true (values (drop (i + 4) s)) ≡ run lo hi n b (values (drop i s))
   turn-within e w =
       let x = ofBits binary32 (patternAt s i) in
@@ -123,14 +123,56 @@ module _ (s : List ℕ) (i : ℕ) (l : i + 4 ≤ length s) (lo hi : Float) (n : 
       rw (k .0, k .1) at (turn-number e)
 
 -- where it ends
-pub ends : (s : List ℕ) (i : ℕ) → length s - i < 4 → i ≤ length s → (lo hi : Float) (n : ℕ) (b t : Bool) {f : the.Finding}
+ends : (s : List ℕ) (i : ℕ) → length s - i < 4 → i ≤ length s → (lo hi : Float) (n : ℕ) (b t : Bool) {f : the.Finding}
     → b ≡ t → run lo hi n b (values (drop i s)) ≡ f → cond t (Span lo hi n) (OnlyNaN n) ≡ f
 unfolding run
 ends s i l h lo hi n b t e p = let z : values (drop i s) ≡ [] = values-short (drop i s) (simp length-drop (omega arith)) in rw (← e) (rw z at p)
 
-pub short : (s : List ℕ) → length s < 4 → finding s ≡ Empty
+pub is-empty : (s : List ℕ) → length s < 4 → Empty ≡ finding s
 unfolding finding ofValues
-short s l = rw (values-short s l)
+is-empty s l = rw (values-short s l)
 
 pub no : (b : Bool) → b ≡ false → T (not b)
 no b e = rw e tt
+
+pub no-nan : (p : ℕ) {q : Bool} → q ≡ nanBits binary32 p → q ≡ false → T (not (nanBits binary32 p))
+no-nan p is e = no _ (sym is ∙ e)
+
+-- ---- the loop: its own fold of the rest is the finding of all
+
+pub record Ran (s : List ℕ) (lo hi : Float) (n : ℕ) (b : Bool) (i : ℕ) : Type 0 where
+  pub inside : i ≤ length s
+  pub few : n ≤ i
+  pub so-far : run lo hi n b (values (drop i s)) ≡ finding s
+
+pub ran-none : {s : List ℕ} → 4 ≤ length s → Ran s (ofBits binary32 2139095040) (ofBits binary32 4286578688) 0 false 0
+ran-none {s} l = record { inside = omega arith; few = omega arith; so-far = begins s l }
+
+module _ {s : List ℕ} {lo hi : Float} {n : ℕ} {b : Bool} {i : ℕ} (w : Ran s lo hi n b i) where
+  -- p is the next pattern, and q says whether it is a NaN
+  module _ (l : 4 ≤ length s - i) {p : ℕ} (e : p ≡ patternAt s i) {q : Bool} (is : q ≡ nanBits binary32 p) where
+    lies : i + 4 ≤ length s
+    lies = omega arith
+
+    pub past-nan : q ≡ true → Ran s lo hi (n + 1) b (i + 4)
+    past-nan y = let m = w .few in record { inside = lies; few = omega arith; so-far = turn-nan s i lies lo hi n b (ap (nanBits binary32) (sym e) ∙ sym is ∙ y) ∙ w .so-far }
+
+    module _ (y : q ≡ false) {x : Float} (ex : x ≡ ofBits binary32 p) where
+      number-here : nanBits binary32 (patternAt s i) ≡ false
+      number-here = ap (nanBits binary32) (sym e) ∙ sym is ∙ y
+
+      here : ofBits binary32 (patternAt s i) ≡ x
+      here = ap (ofBits binary32) (sym e) ∙ sym ex
+
+      pub past-within : {r : Bool} → r ≡ within lo hi x → r ≡ true → Ran s lo hi n true (i + 4)
+      past-within er v = let m = w .few in record { inside = lies; few = omega arith; so-far = turn-within s i lies lo hi n b number-here (ap (within lo hi) here ∙ sym er ∙ v) ∙ w .so-far }
+
+      pub past-number : {lo′ hi′ : Float} → lo′ ≡ lesser lo x → hi′ ≡ greater hi x → Ran s lo′ hi′ n true (i + 4)
+      past-number el eh = let m = w .few in record { inside = lies; few = omega arith; so-far = rw (el, eh) ((rw here at (turn-number s i lies lo hi n b number-here)) ∙ w .so-far) }
+
+  module _ (l : length s - i < 4) where
+    pub ran-span : b ≡ true → Span lo hi n ≡ finding s
+    ran-span e = ends s i l (w .inside) lo hi n b true e (w .so-far)
+
+    pub ran-nans : b ≡ false → OnlyNaN n ≡ finding s
+    ran-nans e = ends s i l (w .inside) lo hi n b false e (w .so-far)

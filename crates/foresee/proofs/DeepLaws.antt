@@ -1,5 +1,5 @@
 -- Attributes that get too deep: by the code that skipping them gives, and object by object.
-use Prim.Native.Nat.{ℕ, _+_, _-_, _≤_, _<_}
+use Prim.Native.Nat.{ℕ, _+_, _-_, _*_, _^_, _≤_, _<_}
 use native.Mathlib.Omega.{arith}
 use mathlib.Core.List.{List}
 use mathlib.Core.Bool.{Bool, true, false, cond, _&&_}
@@ -15,6 +15,7 @@ use Rattle.meaning.specs.Described.{describedObject, describedObjects}
 use Rattle.cbor.specs.Ending.{FAULT, code, ending}
 use Rattle.readback.specs.Trees.{isDeep, deepAt}
 use Rattle.readback.specs.Judged.{deepOption, anyTooDeep}
+use Rattle.rows.specs.Placed.{objectsAt}
 use Rattle.rows.proofs.Both.{same-equality}
 use Rattle.rows.proofs.EachRow.{no-row, next-row-at}
 use Rattle.foresee.proofs.TextLaws.{nothing-there, something-there}
@@ -24,44 +25,56 @@ unfolding isDeep
 deep-code s (got t r) short = ne-eqb (length s - length r) (FAULT + 7) (λ z. omega (arith, short, z))
 deep-code s (refused n q) short = same-equality (FAULT + n) (FAULT + 7) n 7 (λ z. omega (arith, z)) (λ z. omega (arith, z))
 
-module _ (buffer : List ℕ) (place size levels : ℕ) where
+module _ (buffer : List ℕ) (place size levels : ℕ) {n : Bool} (absent : n ≡ (eqb place 0 && eqb size 0)) where
   abbrev range : Span
   range = record { place = place; size = size }
 
-  pub never-deep : (eqb place 0 && eqb size 0) ≡ true → false ≡ deepOption levels (presentAt buffer range)
+  pub never-deep : n ≡ true → false ≡ deepOption levels (presentAt buffer range)
   unfolding deepOption
-  never-deep e = rw (nothing-there buffer place size e) refl
+  never-deep e = rw (nothing-there buffer place size absent e) refl
 
-  pub skipped-deep : (eqb place 0 && eqb size 0) ≡ false → (s : List ℕ) → s ≡ take size (drop place buffer) → length buffer < FAULT → (r : ℕ)
-      → r ≡ code (ending s (item noNote levels s))
+  -- its bytes are s, and passing over an item of them answered r
+  pub skipped-deep : n ≡ false → {s : List ℕ} → s ≡ take size (drop place buffer) → length buffer * 1 < 2 ^ 63 → {r : ℕ} → r ≡ code (ending s (item noNote levels s))
       → eqb r (FAULT + 7) ≡ deepOption levels (presentAt buffer range)
   unfolding deepOption deepAt
-  skipped-deep e s is short r skipped =
+  skipped-deep e {s} is short skipped =
       let l : length s < FAULT = omega (arith, short, ap length is ∙ length-take size (drop place buffer), length-drop place buffer) in
-      rw (something-there buffer place size e, ← is) (ap (λ (n : ℕ). eqb n (FAULT + 7)) skipped ∙ deep-code s (item noNote levels s) l)
+      rw (something-there buffer place size absent e, ← is) (ap (λ (n : ℕ). eqb n (FAULT + 7)) skipped ∙ deep-code s (item noNote levels s) l)
 
--- `left` objects' rows from the place p on, whatever their components
-module _ (buffer rows : List ℕ) (left p : ℕ) where
-  abbrev anyFrom : ℕ → ℕ → List AskedComponent → Bool
-  anyFrom left p cs = anyTooDeep (describedObjects buffer (eachRow askedObject objectWidth left (drop p rows)) cs)
+-- the loop over n objects' rows, whatever their components: `left` of them to go, from the place `at` on
+abbrev anyFrom : List ℕ → List ℕ → ℕ → ℕ → List AskedComponent → Bool
+anyFrom buffer rows left at cs = anyTooDeep (describedObjects buffer (objectsAt left at rows) cs)
 
-  abbrev firstDeep : Bool
-  firstDeep = deepOption 29 (presentAt buffer (record { place = getD rows (p + attributesColumn) 0; size = getD rows (p + attributesLengthColumn) 0 }))
+abbrev anyOf : List ℕ → List ℕ → ℕ → List AskedComponent → Bool
+anyOf buffer rows n cs = anyTooDeep (describedObjects buffer (eachRow askedObject objectWidth n rows) cs)
 
-  pub none-deep : left ≤ 0 → (cs : List AskedComponent) → false ≡ anyFrom left p cs
-  unfolding anyTooDeep describedObjects
-  none-deep h cs = rw (no-row askedObject objectWidth left (drop p rows) h) refl
+pub record NoneDeep (buffer rows : List ℕ) (n at left : ℕ) : Type 0 where
+  pub lie : at + objectWidth * left ≤ length rows
+  pub so-far : (r : Bool) → ((cs : List AskedComponent) → r ≡ anyFrom buffer rows left at cs) → (cs : List AskedComponent) → r ≡ anyOf buffer rows n cs
 
-  module _ (h : 0 < left) (cs : List AskedComponent) where
-    abbrev others : List AskedComponent
-    others = drop (askedObject (drop p rows) .count) cs
+module _ {buffer rows : List ℕ} {n : ℕ} where
+  pub none-yet : objectWidth * n ≤ length rows → NoneDeep buffer rows n 0 n
+  none-yet h = record { lie = omega (arith, h); so-far = λ r f. f }
 
-    first-and-others : anyFrom left p cs ≡ cond firstDeep true (anyFrom (left - 1) (p + objectWidth) others)
-    unfolding anyTooDeep describedObjects describedObject askedObject
-    first-and-others = rw (next-row-at askedObject objectWidth left p rows h, getD-drop p rows attributesColumn 0, getD-drop p rows attributesLengthColumn 0) refl
+  module _ {at left : ℕ} (w : NoneDeep buffer rows n at left) where
+    pub none-deep : left ≤ 0 → (cs : List AskedComponent) → false ≡ anyOf buffer rows n cs
+    unfolding anyTooDeep describedObjects
+    none-deep h = w .so-far false none
+      where
+        none : (cs : List AskedComponent) → false ≡ anyFrom buffer rows left at cs
+        none cs = rw (no-row askedObject objectWidth left (drop at rows) h) refl
 
-    pub first-is-deep : true ≡ firstDeep → true ≡ anyFrom left p cs
-    first-is-deep e = sym (first-and-others ∙ ap (λ (b : Bool). cond b true (anyFrom (left - 1) (p + objectWidth) others)) (sym e))
+    -- `deep` said r of the attributes of the object whose row stands at `at`
+    module _ (more : 0 < left) {r : Bool} (is : r ≡ deepOption 29 (presentAt buffer (record { place = getD rows (at + attributesColumn) 0; size = getD rows (at + attributesLengthColumn) 0 }))) where
+      first-and-others : (cs : List AskedComponent) → anyFrom buffer rows left at cs ≡ cond r true (anyFrom buffer rows (left - 1) (at + objectWidth) (drop (askedObject (drop at rows) .count) cs))
+      unfolding anyTooDeep describedObjects describedObject askedObject
+      first-and-others cs = rw (next-row-at askedObject objectWidth left at rows more, getD-drop at rows attributesColumn 0, getD-drop at rows attributesLengthColumn 0, is) refl
 
-    pub others-deep : false ≡ firstDeep → anyFrom (left - 1) (p + objectWidth) others ≡ anyFrom left p cs
-    others-deep e = sym (first-and-others ∙ ap (λ (b : Bool). cond b true (anyFrom (left - 1) (p + objectWidth) others)) (sym e))
+      pub one-deep : r ≡ true → (cs : List AskedComponent) → true ≡ anyOf buffer rows n cs
+      one-deep e = w .so-far true (λ cs. sym (rw e at (first-and-others cs)))
+
+      pub none-deep-yet : r ≡ false → NoneDeep buffer rows n (at + objectWidth) (left - 1)
+      none-deep-yet e = record {
+        lie = (let l = w .lie in omega (arith, more, l));
+        so-far = λ b f. w .so-far b (λ cs. f (drop (askedObject (drop at rows) .count) cs) ∙ sym (rw e at (first-and-others cs)));
+      }

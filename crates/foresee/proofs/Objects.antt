@@ -1,12 +1,15 @@
 -- One object judged part by part, and objects one after the other.
-use Prim.Native.Nat.{ℕ, suc, _+_, _-_, _*_, _≤_, _<_}
+use Prim.Native.Nat.{ℕ, suc, _+_, _-_, _*_, _^_, _≤_, _<_}
 use native.Mathlib.Omega.{arith}
-use mathlib.Core.List.{List, map}
-use mathlib.Core.Bool.{Bool, true, false}
+use mathlib.Core.List.{List, _∷_, map}
+use mathlib.Core.Bool.{Bool, true, false, not}
 use mathlib.Core.Path.{_≡_, refl, ap, _∙_}
 use lib.ListN.{length, take, drop, getD, length-drop}
 use lib.Seq.{getD-drop}
+use mir.Syntax.{w64}
+use mir.Val.{Fits as FitsIn}
 use borrow.Rule.Slice.PartAt.{part-to-end}
+use borrow.Author.Tests.{not-true, not-false}
 use Rattle.meaning.specs.Columns.{objectWidth, componentWidth, rankColumn, shapeColumn, formatColumn, formatLengthColumn, countColumn}
 use Rattle.meaning.specs.Check.{Check, pass, refuse, _>>_, inObject, inComponent, each}
 use Rattle.meaning.specs.Text.{all, utf8}
@@ -20,13 +23,15 @@ use Rattle.formats.specs.declared.Ruled.{Ruled}
 use Rattle.formats.specs.declared.Ruled.the-variants.{Right as Fits, Wrong as Breaks}
 use Rattle.formats.specs.Parts as rules
 use Rattle.readback.specs.Judged.{judgedNames, judgedComponent, partOf, judgedObject, judgedObjects, deepOption, anyTooDeep, tooDeep, judged}
+use Rattle.rows.specs.Placed.{objectsAt, componentsAt}
 use Rattle.rows.specs.Turns.{counted}
-use Rattle.rows.proofs.EachRow.{first-so}
+use Rattle.rows.proofs.EachRow.{first-so, others-so}
 use Rattle.rows.proofs.Describes.{described-none, described-next, counted-next, rows-counted}
 use Rattle.rows.proofs.SoundRow.{object-rank-small}
 use Rattle.rows.proofs.Whole.{sound-lies, sound-objects}
 use Rattle.foresee.specs.declared.texts.Held.{Held}
 use Rattle.foresee.specs.declared.texts.Held.the-variants.{Right, Wrong}
+use Rattle.foresee.specs.declared.Foreseen.{Foreseen}
 use Rattle.foresee.specs.declared.Foreseen.the-variants.{Fine, Fault}
 use Rattle.foresee.specs.Foretold.{told, foretold, eachComponent, eachObject, objectsOf, Counted}
 use Rattle.foresee.specs.Names.{namesOf}
@@ -35,118 +40,149 @@ use Rattle.foresee.proofs.Components.{goes-on, stops}
 
 -- ---- one object, with n components
 
-module _ (buffer row rows : List ℕ) (n : ℕ) where
+-- its format's text is s, of which `utf8` said u
+module _ (buffer row rows : List ℕ) (n : ℕ) {s : List ℕ} (part : s ≡ take (getD row formatLengthColumn 0) (drop (getD row formatColumn 0) buffer)) {u : Bool} (text : u ≡ utf8 s) where
   abbrev verdict : Check (Unit {0})
   verdict = judgedObject (describedObject buffer (askedObject row) (eachRow askedComponent componentWidth n rows))
-
-  abbrev format : List ℕ
-  format = take (getD row formatLengthColumn 0) (drop (getD row formatColumn 0) buffer)
 
   abbrev parts : List DescribedComponent
   parts = map (describedComponent buffer) (eachRow askedComponent componentWidth n rows)
 
-  pub odd-format : utf8 format ≡ false → verdict ≡ rules.told (Breaks 10 0)
+  pub odd-format : not u ≡ true → verdict ≡ rules.told (Breaks 10 0)
   unfolding judgedObject describedObject askedObject
-  odd-format e = rw e refl
+  odd-format e = rw (← part, ← text, not-true u e) refl
 
-  module _ (text : utf8 format ≡ true) (r : Held) (named : judgedNames 16 (namesOf buffer componentWidth n rows) ≡ told r) where
-    pub odd-names : (k : ℕ) → r ≡ Wrong k → verdict ≡ rules.told (Breaks k 0)
+  -- `names` said r of its components' names, `components` q of each
+  module _ (fine : not u ≡ false) (r : Held) (named : judgedNames 16 (namesOf buffer componentWidth n rows) ≡ told r) where
+    pub odd-names : {k : ℕ} → r ≡ Wrong k → verdict ≡ rules.told (Breaks k 0)
     unfolding judgedObject describedObject askedObject
-    odd-names k e = rw (text, component-names buffer n rows, named, e) refl
+    odd-names e = rw (← part, ← text, not-false u fine, component-names buffer n rows, named, e) refl
 
-    module _ (well : r ≡ Right) where
-      pub few-components : n ≤ 16
-      unfolding namesOf
-      few-components =
-          omega
-          (arith, few-names 16 (namesOf buffer componentWidth n rows) (named ∙ ap told well), each-row-length (λ (row : List ℕ). take (getD row 1 0) (drop (getD row 0 0) buffer)) componentWidth n rows)
-
-      pub last-parts : verdict ≡ (eachComponent 0 parts >> formatRules format (askedObject row .shape) (map partOf parts))
+    module _ (well : r ≡ Right) (q : Ruled) (judged : eachComponent 0 parts ≡ rules.told q) where
+      last-parts : verdict ≡ (eachComponent 0 parts >> formatRules s (askedObject row .shape) (map partOf parts))
       unfolding judgedObject describedObject askedObject eachComponent
       last-parts =
-          rw (text, component-names buffer n rows, named, well)
-          (by (each (λ j c. inComponent j (judgedComponent c)) 0 parts) (formatRules format (take (getD row rankColumn 0) (drop shapeColumn row)) (map partOf parts)))
+          rw (← part, ← text, not-false u fine, component-names buffer n rows, named, well)
+          (by (each (λ j c. inComponent j (judgedComponent c)) 0 parts) (formatRules s (take (getD row rankColumn 0) (drop shapeColumn row)) (map partOf parts)))
         where
           by : (c : Check (List (Unit {0}))) (d : Check (Unit {0})) → (c >> d) ≡ (_>>_ {B = Unit {0}} c (pass tt) >> d)
           by (pass us) d = refl
           by (refuse n o k) d = refl
 
-      module _ (q : Ruled) (judged : eachComponent 0 parts ≡ rules.told q) where
-        pub odd-component : (k j : ℕ) → q ≡ Breaks k j → verdict ≡ rules.told (Breaks k j)
-        odd-component k j e = last-parts ∙ (rw (judged, e) refl)
+      pub odd-component : {k j : ℕ} → q ≡ Breaks k j → verdict ≡ rules.told (Breaks k j)
+      odd-component e = last-parts ∙ (rw (judged, e) refl)
 
-        pub by-format : q ≡ Fits → verdict ≡ formatRules format (askedObject row .shape) (map partOf parts)
-        by-format e = last-parts ∙ (rw (judged, e) refl)
+      pub by-format : q ≡ Fits → (z : Ruled) → formatRules s (askedObject row .shape) (map partOf parts) ≡ rules.told z → verdict ≡ rules.told z
+      by-format e z ruled = last-parts ∙ (rw (judged, e) ruled)
 
-pub lent-shape : (row : List ℕ) → askedObject row .shape ≡ take (shapeColumn + getD row rankColumn 0 - shapeColumn) (drop shapeColumn row)
-unfolding askedObject
-lent-shape row = let z : getD row rankColumn 0 ≡ shapeColumn + getD row rankColumn 0 - shapeColumn = omega arith in ap (λ (n : ℕ). take n (drop shapeColumn row)) z
+pub few-components : (buffer rows : List ℕ) (n : ℕ) {r : Held} → judgedNames 16 (namesOf buffer componentWidth n rows) ≡ told r → r ≡ Right → n ≤ 16
+unfolding namesOf
+few-components buffer rows n named well =
+    omega
+    (arith, few-names 16 (namesOf buffer componentWidth n rows) (named ∙ ap told well), each-row-length (λ (row : List ℕ). take (getD row 1 0) (drop (getD row 0 0) buffer)) componentWidth n rows)
 
 -- ---- one object after the other
 
--- `left` objects from the place p on, `due` components from the place q on, the first object with the index i
-module _ (buffer os cs : List ℕ) (i left due p q : ℕ) where
-  abbrev from : ℕ → ℕ → ℕ → ℕ → ℕ → Check (Unit {0})
-  from i left due p q = eachObject i (objectsOf buffer (drop p os) left (drop q cs) due)
+-- the loop over n objects' rows: from object i on, whose row stands at `at`, with `due` components to go from the place `from` on
+abbrev ofAll : List ℕ → List ℕ → ℕ → List ℕ → ℕ → Check (Unit {0})
+ofAll buffer rows n rest components = eachObject 0 (objectsOf buffer rows n rest components)
 
-  pub objects-end : left ≤ 0 → from i left due p q ≡ foretold Fine
-  unfolding eachObject objectsOf
-  objects-end h = rw (described-none buffer os cs left due p q h) refl
+pub record Judging (buffer rows : List ℕ) (n : ℕ) (rest : List ℕ) (components at from due i : ℕ) : Type 0 where
+  pub lie : at + objectWidth * (n - i) ≤ length rows
+  pub lie-rest : from + componentWidth * due ≤ length rest
+  pub adds-up : counted (objectsAt (n - i) at rows) ≡ due
+  pub sound : all (objectSound buffer) (objectsAt (n - i) at rows) ≡ true
+  pub so-far : ofAll buffer rows n rest components ≡ eachObject i (objectsOf buffer (drop at rows) (n - i) (drop from rest) due)
 
-  abbrev count : ℕ
-  count = getD os (p + countColumn) 0
+module _ {buffer rows : List ℕ} {n : ℕ} {rest : List ℕ} {components : ℕ} where
+  pub objects-begin : Counted buffer rows n rest components → Judging buffer rows n rest components 0 0 components 0
+  objects-begin c =
+      let z : n - 0 ≡ n = omega arith in
+      record {
+        lie = (let h = c .enough in omega (arith, h));
+        lie-rest = (let h = c .enough-rest in omega (arith, h));
+        adds-up = rw z (c .adds-up);
+        sound = rw z (c .sound);
+        so-far = rw z refl;
+      }
 
-  module _ (h : 0 < left) (adds-up : counted (eachRow askedObject objectWidth left (drop p os)) ≡ due) where
-    pub few-enough : count ≤ due
-    few-enough = omega (arith, adds-up, counted-next os left p h)
+  module _ {at from due i : ℕ} (w : Judging buffer rows n rest components at from due i) where
+    pub objects-end : n ≤ i → ofAll buffer rows n rest components ≡ foretold Fine
+    unfolding eachObject objectsOf
+    objects-end h = w .so-far ∙ rw (described-none buffer rows rest (n - i) due at from (omega (arith, h))) refl
 
-    pub others-add-up : counted (eachRow askedObject objectWidth (left - 1) (drop (p + objectWidth) os)) ≡ due - count
-    others-add-up = omega (arith, adds-up, counted-next os left p h)
+    module _ (more : i < n) where
+      abbrev count : ℕ
+      count = getD rows (at + countColumn) 0
 
-    abbrev one : ℕ → DescribedObject → Check (Unit {0})
-    one i o = inObject i (judgedObject o)
+      some-left : 0 < n - i
+      some-left = omega (arith, more)
 
-    abbrev this : DescribedObject
-    this = describedObject buffer (askedObject (drop p os)) (eachRow askedComponent componentWidth count (drop q cs))
+      pub count-due : count ≤ due
+      count-due = let h = w .adds-up in omega (arith, h, counted-next rows (n - i) at some-left)
 
-    -- the rows as they are lent
-    abbrev row : List ℕ
-    row = take (length os - p) (drop p os)
+      -- its components' rows lie among all
+      module _ (room : length rest * 8 < 2 ^ 63) where
+        pub rows-fit : FitsIn w64 (componentWidth * count)
+        rows-fit = record { fits = (let h = w .lie-rest in omega (arith, h, room, count-due)) }
 
-    abbrev rest : List ℕ
-    rest = take (length cs - q) (drop q cs)
+        pub end-fits : FitsIn w64 (from + componentWidth * count)
+        end-fits = record { fits = (let h = w .lie-rest in omega (arith, h, room, count-due)) }
 
-    abbrev lent : DescribedObject
-    lent = describedObject buffer (askedObject row) (eachRow askedComponent componentWidth (getD row countColumn 0) rest)
+      abbrev one : ℕ → DescribedObject → Check (Unit {0})
+      one i o = inObject i (judgedObject o)
 
-    as-lent : this ≡ lent
-    as-lent = rw (part-to-end os p, part-to-end cs q, getD-drop p os countColumn 0) refl
+      abbrev this : DescribedObject
+      this = describedObject buffer (askedObject (drop at rows)) (componentsAt count from rest)
 
-    pub may-judge : all (objectSound buffer) (eachRow askedObject objectWidth left (drop p os)) ≡ true → p + objectWidth * left ≤ length os → q + componentWidth * due ≤ length cs
-        → (objectWidth ≤ length row) × (getD row rankColumn 0 ≤ 8) × (componentWidth * getD row countColumn 0 ≤ length rest)
-    unfolding askedObject
-    may-judge sound room room-rest =
-        rw (part-to-end os p, part-to-end cs q) (
-          omega (arith, h, room, length-drop p os),
-          object-rank-small buffer (askedObject (drop p os)) (first-so (objectSound buffer) askedObject objectWidth left p os h sound),
-          omega (arith, few-enough, room-rest, getD-drop p os countColumn 0, length-drop q cs),
-        )
+      abbrev others : List DescribedObject
+      others = objectsOf buffer (drop (at + objectWidth) rows) (n - i - 1) (drop (from + componentWidth * count) rest) (due - count)
 
-    abbrev others : List DescribedObject
-    others = objectsOf buffer (drop (p + objectWidth) os) (left - 1) (drop (q + componentWidth * count) cs) (due - count)
+      -- its row and its components' as they are lent
+      abbrev row : List ℕ
+      row = take (length rows - at) (drop at rows)
 
-    module _ (r : Ruled) (judges : judgedObject lent ≡ rules.told r) where
-      pub object-passes : r ≡ Fits → from i left due p q ≡ from (i + 1) (left - 1) (due - count) (p + objectWidth) (q + componentWidth * count)
-      unfolding eachObject objectsOf
-      object-passes e =
-          let z : i + 1 ≡ suc i = omega arith in
-          rw (described-next buffer os cs left due p q h few-enough, z) (goes-on one i this others (ap (inObject i) (ap judgedObject as-lent ∙ judges ∙ ap rules.told e)))
+      abbrev theirs : List ℕ
+      theirs = take (length rest - from) (drop from rest)
 
-      pub object-faulty : (n c : ℕ) → r ≡ Breaks n c → from i left due p q ≡ foretold (Fault n i c)
-      unfolding eachObject objectsOf
-      object-faulty n c e =
-          rw (described-next buffer os cs left due p q h few-enough)
-          (stops one i this others n i c (ap (inObject i) (ap judgedObject as-lent ∙ judges ∙ ap rules.told e)))
+      abbrev lent : DescribedObject
+      lent = describedObject buffer (askedObject row) (eachRow askedComponent componentWidth (getD row countColumn 0) theirs)
+
+      as-lent : this ≡ lent
+      as-lent = rw (part-to-end rows at, part-to-end rest from, getD-drop at rows countColumn 0) refl
+
+      pub row-lent : objectWidth ≤ length row
+      row-lent = let l = w .lie in rw part-to-end (omega (arith, more, l, length-drop at rows))
+
+      pub rank-small : getD row rankColumn 0 ≤ 8
+      unfolding askedObject
+      rank-small = rw part-to-end (object-rank-small buffer (askedObject (drop at rows)) (first-so (objectSound buffer) askedObject objectWidth (n - i) at rows some-left (w .sound)))
+
+      pub rows-lent : componentWidth * getD row countColumn 0 ≤ length theirs
+      rows-lent = let l = w .lie-rest in rw (part-to-end rows at, part-to-end rest from) (omega (arith, count-due, l, getD-drop at rows countColumn 0, length-drop from rest))
+
+      first-and-others : objectsOf buffer (drop at rows) (n - i) (drop from rest) due ≡ this ∷ others
+      unfolding objectsOf
+      first-and-others = described-next buffer rows rest (n - i) due at from some-left count-due
+
+      module _ (r : Ruled) (judges : judgedObject lent ≡ rules.told r) where
+        pub object-faulty : {k c : ℕ} → r ≡ Breaks k c → ofAll buffer rows n rest components ≡ foretold (Fault k i c)
+        unfolding eachObject
+        object-faulty {k} {c} e = w .so-far ∙ rw first-and-others (stops one i this others k i c (ap (inObject i) (ap judgedObject as-lent ∙ judges ∙ ap rules.told e)))
+
+        pub object-passes : r ≡ Fits → Judging buffer rows n rest components (at + objectWidth) (from + componentWidth * count) (due - count) (i + 1)
+        unfolding eachObject
+        object-passes e =
+            let y : suc i ≡ i + 1 = omega arith in
+            let z : n - (i + 1) ≡ n - i - 1 = omega (arith, more) in
+            record {
+              lie = (let l = w .lie in omega (arith, more, l));
+              lie-rest = (let l = w .lie-rest in omega (arith, count-due, l));
+              adds-up = rw z (let h = w .adds-up in omega (arith, h, counted-next rows (n - i) at some-left));
+              sound = rw z (others-so (objectSound buffer) askedObject objectWidth (n - i) at rows some-left (w .sound));
+              so-far =
+                  rw (z, ← y) (w .so-far ∙ rw first-and-others (goes-on one i this others (ap (inObject i) (ap judgedObject as-lent ∙ judges ∙ ap rules.told e))));
+            }
 
 -- ---- names, then objects
 
@@ -154,13 +190,13 @@ module _ (buffer rows : List ℕ) (n : ℕ) (rest : List ℕ) (components : ℕ)
   abbrev objects : List DescribedObject
   objects = objectsOf buffer rows n rest components
 
-  pub odd-objects : (k : ℕ) → r ≡ Wrong k → judgedObjects objects ≡ foretold (Fault k 0 0)
+  pub odd-objects : {k : ℕ} → r ≡ Wrong k → judgedObjects objects ≡ foretold (Fault k 0 0)
   unfolding judgedObjects objectsOf
-  odd-objects k e = rw (object-names buffer n rows (eachRow askedComponent componentWidth components rest), named, e) refl
+  odd-objects e = rw (object-names buffer n rows (eachRow askedComponent componentWidth components rest), named, e) refl
 
-  pub by-objects : r ≡ Right → judgedObjects objects ≡ eachObject 0 objects
+  pub by-objects : r ≡ Right → (f : Foreseen) → eachObject 0 objects ≡ foretold f → judgedObjects objects ≡ foretold f
   unfolding judgedObjects objectsOf eachObject
-  by-objects e = rw (object-names buffer n rows (eachRow askedComponent componentWidth components rest), named, e) refl
+  by-objects e f each = rw (object-names buffer n rows (eachRow askedComponent componentWidth components rest), named, e) each
 
 -- ---- the whole
 
@@ -171,31 +207,44 @@ module _ (buffer rows : List ℕ) (objects components place size : ℕ) where
   abbrev foreseen : Check (Unit {0})
   foreseen = judged (described buffer (asked rows objects components range))
 
-  abbrev theirs : List AskedComponent
-  theirs = eachRow askedComponent componentWidth components (drop (objectWidth * objects) rows)
-
-  abbrev inObjects : Bool
-  inObjects = anyTooDeep (describedObjects buffer (eachRow askedObject objectWidth objects rows) theirs)
-
-  pub root-deep : true ≡ deepOption 31 (presentAt buffer range) → foreseen ≡ foretold (Fault 7 0 0)
-  unfolding judged tooDeep described asked
-  root-deep e = rw (← e) refl
-
-  module _ (root : false ≡ deepOption 31 (presentAt buffer range)) where
-    pub object-deep : true ≡ inObjects → foreseen ≡ foretold (Fault 7 0 0)
+  -- `deep` said d of the root's attributes, `any_deep` a of the objects', whatever their components
+  module _ {d : Bool} (root : d ≡ deepOption 31 (presentAt buffer range)) where
+    pub root-deep : d ≡ true → foreseen ≡ foretold (Fault 7 0 0)
     unfolding judged tooDeep described asked
-    object-deep e = rw (← root, ← e) refl
+    root-deep e = rw (← root, e) refl
 
-    pub none-too-deep : false ≡ inObjects → foreseen ≡ judgedObjects (objectsOf buffer rows objects (drop (objectWidth * objects) rows) components)
-    unfolding judged tooDeep described asked objectsOf
-    none-too-deep e = rw (← root, ← e) refl
+    module _ (fine : d ≡ false) {a : Bool} (any : (cs : List AskedComponent) → a ≡ anyTooDeep (describedObjects buffer (eachRow askedObject objectWidth objects rows) cs)) where
+      deep-there : a ≡ anyTooDeep (describedObjects buffer (eachRow askedObject objectWidth objects rows) (componentsAt components (objectWidth * objects) rows))
+      deep-there = any (componentsAt components (objectWidth * objects) rows)
 
-  pub rows-count : rowsSound buffer rows objects components range ≡ true → Counted buffer rows objects (drop (objectWidth * objects) rows) components
-  rows-count sound =
-      let lies = sound-lies buffer rows objects components range sound in
-      record {
-        enough = omega (arith, lies);
-        enough-rest = omega (arith, lies, length-drop (objectWidth * objects) rows);
-        adds-up = rows-counted buffer rows objects components range sound;
-        sound = sound-objects buffer rows objects components range sound;
-      }
+      pub object-deep : a ≡ true → foreseen ≡ foretold (Fault 7 0 0)
+      unfolding judged tooDeep described asked
+      object-deep e = rw (← root, fine, ← deep-there, e) refl
+
+      -- `judge` was lent the components' rows to the end of all rows
+      pub none-too-deep : a ≡ false → (f : Foreseen) → judgedObjects (objectsOf buffer rows objects (take (length rows - objectWidth * objects) (drop (objectWidth * objects) rows)) components) ≡ foretold f → foreseen ≡ foretold f
+      unfolding judged tooDeep described asked objectsOf
+      none-too-deep e f is = rw (← root, fine, ← deep-there, e) (rw part-to-end at is)
+
+  module _ (sound : rowsSound buffer rows objects components range ≡ true) where
+    lies : objectWidth * objects + componentWidth * components ≤ length rows
+    lies = sound-lies buffer rows objects components range sound
+
+    pub objects-lie : objectWidth * objects ≤ length rows
+    objects-lie = omega (arith, lies)
+
+    module _ (room : length rows * 8 < 2 ^ 63) where
+      pub objects-fit : FitsIn w64 (objectWidth * objects)
+      objects-fit = record { fits = omega (arith, lies, room) }
+
+      pub objects-bytes-fit : FitsIn w64 (objectWidth * objects * 8)
+      objects-bytes-fit = record { fits = omega (arith, lies, room) }
+
+    pub rows-count : Counted buffer rows objects (take (length rows - objectWidth * objects) (drop (objectWidth * objects) rows)) components
+    rows-count =
+        rw part-to-end (record {
+          enough = omega (arith, lies);
+          enough-rest = omega (arith, lies, length-drop (objectWidth * objects) rows);
+          adds-up = rows-counted buffer rows objects components range sound;
+          sound = sound-objects buffer rows objects components range sound;
+        })

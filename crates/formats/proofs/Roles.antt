@@ -19,12 +19,15 @@ use Rattle.formats.specs.Parts.{flag, unitCode, partRow, partRows, roleN
 use Rattle.formats.specs.declared.Filled.the-variants.{Absent, At}
 use Rattle.types.proofs.Tell.{place-tells}
 
--- what is left of the components where i of them are passed
-abbrev pub Left : List ℕ → List ℕ → ℕ → ℕ → Type 0
-Left n parts at i = (cs : List Part) → parts ≡ partRows cs → (ds : List Part) × (drop at parts ≡ partRows ds) × (role n 0 cs ≡ role n i ds)
+-- i components are passed up to `at`, none of them with the role n
+pub record Seeking (n parts : List ℕ) (at i : ℕ) : Type 0 where
+  pub inside : at ≤ length parts
+  pub counted : i ≤ at
+  -- what is left of the components
+  pub rest : (cs : List Part) → parts ≡ partRows cs → (ds : List Part) × (drop at parts ≡ partRows ds) × (role n 0 cs ≡ role n i ds)
 
-pub left-all : (n parts : List ℕ) → Left n parts 0 0
-left-all n parts cs e = (cs, e, refl)
+pub seeking-starts : (n parts : List ℕ) → Seeking n parts 0 0
+seeking-starts n parts = record { inside = omega arith; counted = omega arith; rest = λ cs e. (cs, e, refl) }
 
 pub role-tells : (j : ℕ) → j < 8 → (k : List ℕ) → same (roleName j) k ≡ eqb (position roleNames k) j
 unfolding roleName roleNames
@@ -57,25 +60,31 @@ module _ (parts : List ℕ) (at : ℕ) where
         rest = sym (drop-drop 4 at parts) ∙ ap (drop 4) e;
       }
 
-module _ (j : ℕ) (low : j < 8) (parts : List ℕ) (at i : ℕ) (so : Left (roleName j) parts at i) where
-  module _ (h : at + 4 ≤ length parts) where
+module _ (j : ℕ) (low : j < 8) {parts : List ℕ} {at i : ℕ} (so : Seeking (roleName j) parts at i) where
+  module _ (h : 4 ≤ length parts - at) where
+    abbrev row : (ds : List Part) → drop at parts ≡ partRows ds → Row parts at ds
+    row ds e = row-at parts at ds e (omega (arith, so .inside))
+
     pub role-here : getD parts at 0 ≡ j → (cs : List Part) → parts ≡ partRows cs → RoleIs (roleName j) cs (At i (getD parts (at + 1) 0) (getD parts (at + 2) 0) (getD parts (at + 3) 0))
     unfolding role
     role-here e cs is =
-        let l = so cs is in let r = row-at parts at (l .0) (l .1) h in
+        let l = so .rest cs is in let r = row (l .0) (l .1) in
         let t : same (roleName j) (r .this .called) ≡ true = role-tells j low (r .this .called) ∙ eq-eqb _ j (sym (r .code) ∙ e) in
         (r .this, (l .2 ∙ ap (role (roleName j) i) (r .are) ∙ rw t), r .bytes, r .bare, r .long)
 
-    pub role-later : (getD parts at 0 ≡ j → ⊥) → Left (roleName j) parts (at + 4) (i + 1)
+    later : (getD parts at 0 ≡ j → ⊥) → (cs : List Part) → parts ≡ partRows cs → (ds : List Part) × (drop (at + 4) parts ≡ partRows ds) × (role (roleName j) 0 cs ≡ role (roleName j) (i + 1) ds)
     unfolding role
-    role-later n cs is =
-        let l = so cs is in let r = row-at parts at (l .0) (l .1) h in
+    later n cs is =
+        let l = so .rest cs is in let r = row (l .0) (l .1) in
         let t : same (roleName j) (r .this .called) ≡ false = role-tells j low (r .this .called) ∙ ne-eqb _ j (λ (e : position roleNames (r .this .called) ≡ j). n (r .code ∙ e)) in
         (r .more, r .rest, l .2 ∙ ap (role (roleName j) i) (r .are) ∙ rw (t, add-one))
 
+    pub role-later : (getD parts at 0 ≡ j → ⊥) → Seeking (roleName j) parts (at + 4) (i + 1)
+    role-later n = record { inside = omega (arith, so .inside); counted = omega (arith, so .counted); rest = later n }
+
   pub role-none : length parts - at < 4 → (cs : List Part) → parts ≡ partRows cs → RoleIs (roleName j) cs Absent
   unfolding partRows partRow role
-  role-none h cs is = let l = so cs is in go (l .0) (l .1) (l .2)
+  role-none h cs is = let l = so .rest cs is in go (l .0) (l .1) (l .2)
     where
       go : (ds : List Part) → drop at parts ≡ partRows ds → role (roleName j) 0 cs ≡ role (roleName j) i ds → role (roleName j) 0 cs ≡ fault ROLE
       go [] e f = f

@@ -1,12 +1,11 @@
 -- A blob over the front of the output: after zeros where the front isn't so far, else into it. Assumes nothing.
 use Prim.Native.Nat.{ℕ, _+_, _-_, _≤_, _<_, max}
 use native.Mathlib.Omega.{arith}
-use native.Mathlib.Nat.{zero-add}
-use mathlib.Core.List.{List, [], _++_, append-assoc, append-nil}
+use mathlib.Core.List.{List, _++_, append-assoc, append-nil}
 use mathlib.Core.Bool.{Bool, true, false}
-use mathlib.Core.Path.{_≡_, refl, sym, ap, _∙_, subst}
+use mathlib.Core.Path.{_≡_, refl, sym, ap, _∙_}
 use lib.Dec.{leb}
-use lib.ListN.{length, take, drop, replicate, length-take, length-drop, length-replicate, length-append, take-append-drop, drop-of-length-le}
+use lib.ListN.{length, take, drop, replicate, length-replicate, take-append-drop, drop-of-length-le}
 use lib.Seq.{take-all, take-append-le, drop-append-le, length-take-le}
 use borrow.Author.Tests.{leb-true, leb-false}
 use Rattle.meaning.specs.WrittenFile.{over}
@@ -31,7 +30,7 @@ module _ (xs b : List ℕ) (past start : ℕ) (front : past ≤ length xs) where
         let m : length (take past xs) ≤ start = omega (arith, long, h) in
         rw (take-all start (take past xs) m, long, drop-of-length-le (take past xs) n, append-nil b) refl
 
-    pub blob-beyond : {ys zs : List ℕ} {from r : ℕ} → Laid (replicate (start - past) 0) past xs ys from → Laid b from ys zs r → Laid (over (take past xs) start b) 0 xs zs r
+    blob-beyond : {ys zs : List ℕ} {from r : ℕ} → Laid (replicate (start - past) 0) past xs ys from → Laid b from ys zs r → Laid (over (take past xs) start b) 0 xs zs r
     blob-beyond v w = as-bytes (sym beyond) (with-front (then v w))
 
   -- ---- into it
@@ -61,7 +60,7 @@ module _ (xs b : List ℕ) (past start : ℕ) (front : past ≤ length xs) where
           let n : length (take past xs) ≤ e = omega (arith, g, long) in
           ap (λ (k : ℕ). drop e (take past xs) ++ drop k xs) m ∙ ap (λ (d : List ℕ). d ++ drop e xs) (drop-of-length-le (take past xs) n)
 
-  pub blob-into : {ys : List ℕ} {end r : ℕ} → start ≤ past → Laid b start xs ys end → r ≡ max past end → Laid (over (take past xs) start b) 0 xs ys r
+  blob-into : {ys : List ℕ} {end r : ℕ} → start ≤ past → Laid b start xs ys end → r ≡ max past end → Laid (over (take past xs) start b) 0 xs ys r
   blob-into {ys} {end} {r} h w e = record {
     past = omega (arith, e, w .past, over-length (take past xs) start b, long);
     fits = omega (arith, w .fits, over-length (take past xs) start b, long, front);
@@ -79,14 +78,21 @@ module _ (xs b : List ℕ) (past start : ℕ) (front : past ≤ length xs) where
           ∙ regrouped (take start xs) b (drop (start + length b) (take past xs)) (drop (max past (start + length b)) xs)
           ∙ ap (λ (d : List ℕ). take start xs ++ (b ++ d)) (behind (start + length b))
 
--- ---- room for each piece, where there is room for the blob
+-- ---- a range of the buffer as a blob, where there is room for it
 
 module _ {xs buffer : List ℕ} {past start place size : ℕ} (room : BlobRoom xs past start size) (w : Within buffer place size) where
   pub room-for-zeros : past < start → Room (replicate (start - past) 0) past xs
   room-for-zeros h = record { fits = omega (arith, room .blob, length-replicate {A = ℕ} (start - past) 0, h) }
 
-  pub room-after-zeros : {ys : List ℕ} {from : ℕ} → past < start → Laid (replicate (start - past) 0) past xs ys from → Room (range buffer place size) from ys
-  room-after-zeros h v = record { fits = omega (arith, room .blob, within-length w, same-length v, v .past, length-replicate {A = ℕ} (start - past) 0, h) }
+  module _ (h : past < start) {ys : List ℕ} {from : ℕ} (v : Laid (replicate (start - past) 0) past xs ys from) where
+    pub room-after-zeros : Room (range buffer place size) from ys
+    room-after-zeros = record { fits = omega (arith, room .blob, within-length w, same-length v, v .past, length-replicate {A = ℕ} (start - past) 0, h) }
+
+    pub laid-after-zeros : {zs : List ℕ} {r : ℕ} → Laid (range buffer place size) from ys zs r → Laid (over (take past xs) start (range buffer place size)) 0 xs zs r
+    laid-after-zeros b = blob-beyond xs (range buffer place size) past start (room .front) (omega (arith, h)) v b
 
   pub room-inside : Room (range buffer place size) start xs
   room-inside = record { fits = omega (arith, room .blob, within-length w) }
+
+  pub laid-inside : {ys : List ℕ} {end r : ℕ} → start ≤ past → Laid (range buffer place size) start xs ys end → r ≡ max past end → Laid (over (take past xs) start (range buffer place size)) 0 xs ys r
+  laid-inside h b e = blob-into xs (range buffer place size) past start (room .front) h b e

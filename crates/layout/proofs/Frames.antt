@@ -2,79 +2,119 @@
 use Prim.Native.Nat.{ℕ, _+_, _*_, _≤_}
 use native.Mathlib.Nat.{zero-add}
 use mathlib.Core.List.{List, _++_}
-use mathlib.Core.Path.{_≡_, sym, ap, _∙_, subst}
-use lib.ListN.{length, take, drop}
+use mathlib.Core.Path.{_≡_, sym, ap, _∙_}
+use lib.ListN.{length, take}
 use native.Mathlib.Omega.{arith}
 use Rattle.meaning.specs.Columns.{objectWidth}
 use Rattle.meaning.specs.Layouts.{magic}
 use Rattle.meaning.specs.WrittenFile.{littleBytes}
 use Rattle.rows.specs.Turns.{begun}
 use Rattle.emit.specs.Laid.{Room, Laid}
-use Rattle.emit.proofs.LaidPieces.{part, back, as-bytes, room-as, room-first, room-next, then, lent, same-length, front-of, relaid}
-use Rattle.layout.specs.Pieces.{blobsOf, manifestFrom, wholeOf}
-use Rattle.layout.specs.Rows.{FrontRoom, WholeRows}
+use Rattle.emit.proofs.LaidPieces.{part, back, as-bytes, room-as, room-first, room-next, room-lent, then, lent, same-length, front-of, relaid}
+use Rattle.layout.specs.Pieces.{blobsOf, rootFront, objectsOf, manifestFrom, wholeOf}
+use Rattle.layout.specs.Rows.{Within, FrontRoom, ComponentRows, ObjectRows, WholeRows}
 use Rattle.layout.proofs.RowLoop.{blobs-grow}
+
+-- ---- blobs over a front that is laid
+
+module _ {f xs ys : List ℕ} {start : ℕ} (over : List ℕ → List ℕ) (m : Laid f 0 xs ys start) where
+  over-front : over (take start ys) ≡ over f
+  over-front = ap over (front-of m)
+
+  pub room-over : length (over f) ≤ length xs → FrontRoom (over (take start ys)) start ys
+  room-over h = record { front = omega (arith, m .past, m .fits, same-length m); fits = rw over-front (omega (arith, h, same-length m)) }
+
+  pub over-laid : {zs : List ℕ} {end : ℕ} → length f ≤ length (over f) → Laid (over (take start ys)) 0 ys zs end → Laid (over f) 0 xs zs end
+  over-laid grows g = relaid m (as-bytes over-front g) grows
+
+-- ---- behind the blobs: the manifest, its size and the footer
+
+abbrev pub closedBy : List ℕ → List ℕ → List ℕ
+closedBy front manifest = front ++ (manifest ++ (littleBytes 8 (length manifest) ++ magic))
+
+module _ (front manifest : List ℕ) {xs zs : List ℕ} {end : ℕ} (room : Room (closedBy front manifest) 0 xs) (b : Laid front 0 xs zs end) where
+  pub room-manifest : Room manifest end zs
+  room-manifest = room-first _ (room-next b room)
+
+  module _ {us : List ℕ} {n : ℕ} (f : Laid manifest 0 (part end zs) us n) where
+    laid-behind : Laid manifest end zs (back end zs us) (end + n)
+    laid-behind = lent room-manifest f
+
+    size-is : littleBytes 8 (length manifest) ≡ littleBytes 8 n
+    size-is = ap (littleBytes 8) (sym (f .past ∙ zero-add (length manifest)))
+
+    after-manifest : Room (littleBytes 8 (length manifest) ++ magic) (end + n) (back end zs us)
+    after-manifest = room-next laid-behind (room-next b room)
+
+    pub room-size : Room (littleBytes 8 n) (end + n) (back end zs us)
+    room-size = room-as size-is (room-first _ after-manifest)
+
+    module _ {vs : List ℕ} {past : ℕ} (s : Laid (littleBytes 8 n) (end + n) (back end zs us) vs past) where
+      pub room-footer : Room magic past vs
+      room-footer = room-next (as-bytes (sym size-is) s) after-manifest
+
+      pub closed-laid : {ws : List ℕ} {r : ℕ} → Laid magic past vs ws r → Laid (closedBy front manifest) 0 xs ws r
+      closed-laid w = then b (then laid-behind (then (as-bytes (sym size-is) s) w))
+
+-- ---- all of it
 
 module _ {buffer plan rows xs : List ℕ} {objects components place size : ℕ} (rs : WholeRows buffer plan rows objects components place size)
     (room : Room (wholeOf buffer plan rows objects components place size) 0 xs) where
-  -- the front of the file, over what stands there
-  abbrev front : List ℕ → List ℕ
-  front file = blobsOf buffer plan rows file components (objectWidth * objects) (begun plan)
+  -- the front of the file from a turn on, over what stands there
+  abbrev front : ℕ → List ℕ → List ℕ
+  front turn file = blobsOf buffer plan rows file components (objectWidth * objects) turn
 
   abbrev manifest : List ℕ
   manifest = manifestFrom buffer plan rows objects (objectWidth * objects) place size
 
-  in-order : Room (front magic ++ (manifest ++ (littleBytes 8 (length manifest) ++ magic))) 0 xs
+  in-order : Room (closedBy (front (begun plan) magic) manifest) 0 xs
   unfolding wholeOf
   in-order = room
 
-  grows : length magic ≤ length (front magic)
+  grows : length magic ≤ length (front (begun plan) magic)
   grows = blobs-grow buffer plan rows magic components (objectWidth * objects) (begun plan)
 
-  pub room-magic : Room magic 0 xs
-  room-magic = record { fits = omega (arith, room-first {us = front magic} _ in-order .fits, grows) }
+  pub whole-room-magic : Room magic 0 xs
+  whole-room-magic = record { fits = omega (arith, room-first {us = front (begun plan) magic} _ in-order .fits, grows) }
 
-  module _ {ys : List ℕ} {start : ℕ} (m : Laid magic 0 xs ys start) where
-    over-magic : front (take start ys) ≡ front magic
-    over-magic = ap front (front-of m)
+  module _ {ys : List ℕ} {start turn : ℕ} (m : Laid magic 0 xs ys start) (e : turn ≡ begun plan) where
+    pub blobs-can : ComponentRows buffer plan rows components (objectWidth * objects) turn × FrontRoom (front turn (take start ys)) start ys
+    blobs-can = rw e (rs .blobs, room-over (front (begun plan)) m (omega (arith, room-first {us = front (begun plan) magic} _ in-order .fits)))
 
-    pub room-blobs : FrontRoom (front (take start ys)) start ys
-    room-blobs = record {
-      front = omega (arith, m .past, m .fits, same-length m);
-      fits = rw over-magic (omega (arith, room-first {us = front magic} _ in-order .fits, same-length m));
-    }
+    module _ {zs : List ℕ} {end : ℕ} (g : Laid (front turn (take start ys)) 0 ys zs end) where
+      b : Laid (front (begun plan) magic) 0 xs zs end
+      b = over-laid (front (begun plan)) m grows (rw e at g)
 
-    module _ {zs : List ℕ} {end : ℕ} (g : Laid (front (take start ys)) 0 ys zs end) where
-      b : Laid (front magic) 0 xs zs end
-      b = relaid m (as-bytes over-magic g) grows
-
-      pub room-manifest : Room manifest end zs
-      room-manifest = room-first _ (room-next b in-order)
+      pub manifest-can : Within buffer place size × (ObjectRows buffer plan rows objects 0 (objectWidth * objects) (begun plan) × Room manifest 0 (part end zs))
+      manifest-can = (rs .attributes, (rs .each, room-lent (room-manifest (front (begun plan) magic) manifest in-order b)))
 
       module _ {us : List ℕ} {n : ℕ} (f : Laid manifest 0 (part end zs) us n) where
-        manifest-laid : Laid manifest end zs (back end zs us) (end + n)
-        manifest-laid = lent room-manifest f
-
-        size-is : littleBytes 8 (length manifest) ≡ littleBytes 8 n
-        size-is = ap (littleBytes 8) (sym (f .past ∙ zero-add (length manifest)))
-
-        after-manifest : Room (littleBytes 8 (length manifest) ++ magic) (end + n) (back end zs us)
-        after-manifest = room-next manifest-laid (room-next b in-order)
-
-        pub room-size : Room (littleBytes 8 n) (end + n) (back end zs us)
-        room-size = room-as size-is (room-first _ after-manifest)
+        pub whole-room-size : Room (littleBytes 8 n) (end + n) (back end zs us)
+        whole-room-size = room-size (front (begun plan) magic) manifest in-order b f
 
         module _ {vs : List ℕ} {past : ℕ} (s : Laid (littleBytes 8 n) (end + n) (back end zs us) vs past) where
-          pub room-footer : Room magic past vs
-          room-footer = room-next (as-bytes (sym size-is) s) after-manifest
+          pub whole-room-footer : Room magic past vs
+          whole-room-footer = room-footer (front (begun plan) magic) manifest in-order b f s
 
           pub whole-laid : {ws : List ℕ} {r : ℕ} → Laid magic past vs ws r → Laid (wholeOf buffer plan rows objects components place size) 0 xs ws r
           unfolding wholeOf
-          whole-laid w = then b (then manifest-laid (then (as-bytes (sym size-is) s) w))
+          whole-laid w = closed-laid (front (begun plan) magic) manifest in-order b f s w
 
--- a piece laid at the front of the output
-pub from-start : {bs xs ys : List ℕ} {r : ℕ} → Laid bs 0 xs ys r → (r ≡ length bs) × (ys ≡ bs ++ drop (length bs) xs)
-from-start {bs} {xs} w = (w .past ∙ zero-add (length bs), w .is ∙ ap (λ (k : ℕ). bs ++ drop k xs) (zero-add (length bs)))
+-- ---- the manifest's two pieces
 
-pub room-at-start : (bs xs : List ℕ) → length bs ≤ length xs → Room bs 0 xs
-room-at-start bs xs h = record { fits = subst (λ (k : ℕ). k ≤ length xs) (sym (zero-add (length bs))) h }
+module _ {buffer plan rows xs : List ℕ} {objects first place size : ℕ} (attributes : Within buffer place size) (rs : ObjectRows buffer plan rows objects 0 first (begun plan))
+    (room : Room (manifestFrom buffer plan rows objects first place size) 0 xs) where
+  pieces : Room (rootFront buffer objects place size ++ objectsOf buffer plan rows objects 0 first (begun plan)) 0 xs
+  unfolding manifestFrom
+  pieces = room
+
+  pub room-root : Room (rootFront buffer objects place size) 0 xs
+  room-root = room-first _ pieces
+
+  module _ {ys : List ℕ} {past turn : ℕ} (root : Laid (rootFront buffer objects place size) 0 xs ys past) (e : turn ≡ begun plan) where
+    pub objects-can : ObjectRows buffer plan rows objects 0 first turn × Room (objectsOf buffer plan rows objects 0 first turn) past ys
+    objects-can = rw e (rs, room-next root pieces)
+
+    pub manifest-laid : {zs : List ℕ} {r : ℕ} → Laid (objectsOf buffer plan rows objects 0 first turn) past ys zs r → Laid (manifestFrom buffer plan rows objects first place size) 0 xs zs r
+    unfolding manifestFrom
+    manifest-laid w = then root (rw e at w)

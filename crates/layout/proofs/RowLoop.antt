@@ -30,9 +30,6 @@ module _ {buffer plan rows : List ℕ} {n row reached : ℕ} (rs : ComponentRows
   pub first-component : ComponentRow buffer (drop row rows)
   first-component = let e : row + componentWidth * 0 ≡ row = omega arith in subst (λ (k : ℕ). ComponentRow buffer (drop k rows)) e (rs .each 0 some)
 
-  pub first-long : row + componentWidth ≤ length rows
-  first-long = omega (arith, first-component .long, length-drop row rows)
-
   pub first-blob : Within buffer (getD rows (row + offsetColumn) 0) (getD rows (row + lengthColumn) 0)
   first-blob = record { inside = rw (← getD-drop row rows offsetColumn 0, ← getD-drop row rows lengthColumn 0) (first-component .blob .inside) }
 

@@ -1,6 +1,7 @@
 -- Where a component's bytes may lie, a branch each. Assumes nothing.
 use mathlib.Core.Path.{_≡_}
-use Prim.Native.Nat.{ℕ, _+_, _%_, _≤_, _<_}
+use Prim.Native.Nat.{ℕ, _+_, _-_, _%_, _≤_, _<_}
+use native.Mathlib.Omega.{arith}
 use borrow.Author.Tests.{eq-eqb, ne-eqb, le-leb, lt-leb}
 use Rattle.lengths.specs.Place.{placed, number}
 
@@ -18,6 +19,9 @@ module _ (start o l : ℕ) where
       pub past : start < o + l → 20 ≡ number (placed start o l)
       unfolding placed
       past f = rw (eq-eqb (o % 64) 0 h, le-leb 64 o g, lt-leb (o + l) start f)
+
+      pub past-all : start < 18446744073709551616 → 18446744073709551615 - o < l → 20 ≡ number (placed start o l)
+      past-all m f = past (omega arith)
 
       pub inside : o + l ≤ start → 0 ≡ number (placed start o l)
       unfolding placed

@@ -1,5 +1,5 @@
 -- How long things are: parts of lists and of files, numbers written as bytes, rows. Assumes nothing.
-use Prim.Native.Nat.{ℕ, zero, suc, _+_, _*_, _/_, _%_, _^_, _≤_}
+use Prim.Native.Nat.{ℕ, zero, suc, _+_, _*_, _/_, _%_, _^_, _≤_, _<_}
 use native.Mathlib.Omega.{arith}
 use mathlib.Core.List.{List, [], _∷_, _++_, map}
 use mathlib.Core.Bool.{true}
@@ -7,6 +7,8 @@ use mathlib.Core.Path.{_≡_, refl, ap, _∙_}
 use lib.ListN.{length, take, drop, replicate, length-append, length-drop, length-replicate}
 use lib.Seq.{length-take-le}
 use borrow.Author.Tests.{leb-true}
+use mir.Val.{Fits}
+use mir.Syntax.{w64}
 use Rattle.meaning.specs.Read.{Span, bytesAt}
 use Rattle.meaning.specs.Encoding.{big}
 use Rattle.meaning.specs.Columns.{objectWidth, componentWidth}
@@ -17,6 +19,12 @@ use Rattle.meaning.specs.Described.{describedObjects}
 use Rattle.meaning.specs.Sound.{inside}
 use Rattle.meaning.specs.Placement.{aligned}
 use Rattle.meaning.specs.WrittenFile.{littleBytes}
+
+-- ---- places
+
+-- a place inside what is lent is a number of 64 bits: what lending tells comes first, so that `search` knows the list
+pub place-fits : (n : ℕ) (s : List ℕ) → length s < 2 ^ 64 → n ≤ length s → Fits w64 n
+place-fits n s small inside = record { fits = omega arith }
 
 -- ---- lists
 

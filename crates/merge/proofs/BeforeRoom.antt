@@ -1,13 +1,16 @@
 -- From what was weighed of both files to the merge's answer before ROOM.
-use Prim.Native.Nat.{ℕ, _+_, _*_, _≤_, _<_}
+use Prim.Native.Nat.{ℕ, suc, _+_, _*_, _≤_, _<_}
 use native.Mathlib.Omega.{arith}
 use mathlib.Core.List.{List, _++_, map}
-use mathlib.Core.Bool.{Bool, true, false, cond, _&&_}
+use mathlib.Core.Bool.{Bool, true, false, cond, not, _&&_}
 use mathlib.Core.Option.{Option}
 use mathlib.Core.Path.{_≡_, refl, sym, ap, ap₂, _∙_, subst}
 use lib.ListN.{length, drop}
 use lib.Dec.{eqb}
 use lib.Seq.{sets, length-sets}
+use borrow.Author.Tests.{not-true, not-false}
+use mir.Val.{Fits}
+use mir.Syntax.{w64}
 use Rattle.meaning.specs.Limit.{manifestLimit, endLimit, objectLimit}
 use Rattle.meaning.specs.Refusal.{COUNT, BIG, TWICE}
 use Rattle.meaning.specs.Check.{Check, refuse}
@@ -28,7 +31,7 @@ use Rattle.frame.proofs.Frames.{size-back}
 use Rattle.sizes.specs.Size.{capped, headSize, optionalCopy}
 use Rattle.sizes.proofs.Heads.{head-small}
 use Rattle.sizes.proofs.Lengths.{fieldSize, copied-field}
-use Rattle.merging.specs.Merge.{orElse, merged, refused, about, merge}
+use Rattle.merging.specs.Merge.{orElse, merged, about, merge}
 use Rattle.unshared.specs.Unshared.{noneOf}
 use Rattle.window.specs.Sums.{namePairs}
 use Rattle.window.proofs.Snoc.{names-length}
@@ -38,7 +41,8 @@ use Rattle.weigh.specs.declared.Weighed.the-variants.{No, Yes}
 use Rattle.summed.proofs.OfFile as of-file
 use Rattle.summed.proofs.Answer as answer
 use Rattle.summed.proofs.Names as names
-use Rattle.merge.specs.Checked.{span, attributesSize, Ready}
+use Rattle.merge.specs.declared.Verdict.the-variants as verdict
+use Rattle.merge.specs.Checked.{span, attributesSize, Ready, CheckedIs}
 
 -- ---- the kept attributes
 
@@ -53,11 +57,14 @@ kept A B S Q i j = go (eqb (S .place) 0 && eqb (S .size) 0) refl
 
 -- ---- which case it was
 
-pub refused-so : {c : Check Reading} {p n from : ℕ} {before after : List ℕ} {w : Weighed} → WeighedIs c p n from before w after → (k o j : ℕ) → w ≡ No k o j → c ≡ refuse k o j
+refused-so : {c : Check Reading} {p n from : ℕ} {before after : List ℕ} {w : Weighed} → WeighedIs c p n from before w after → (k o j : ℕ) → w ≡ No k o j → c ≡ refuse k o j
 refused-so {c} {p} {n} {from} {before} {after} h k o j e = subst (λ v. Cases c p n from before v after) e (h .case)
 
-pub weighs-so : {c : Check Reading} {p n from : ℕ} {before after : List ℕ} {w : Weighed} → WeighedIs c p n from before w after → (x y u v q k : ℕ) → w ≡ Yes x y u v q k → Weighs c p n from before x y u v q k after
+weighs-so : {c : Check Reading} {p n from : ℕ} {before after : List ℕ} {w : Weighed} → WeighedIs c p n from before w after → (x y u v q k : ℕ) → w ≡ Yes x y u v q k → Weighs c p n from before x y u v q k after
 weighs-so {c} {p} {n} {from} {before} {after} h x y u v q k e = subst (λ v. Cases c p n from before v after) e (h .case)
+
+pub weighed-small : {c : Check Reading} {p n from : ℕ} {before after : List ℕ} {w : Weighed} {x y u v q k : ℕ} → WeighedIs c p n from before w after → w ≡ Yes x y u v q k → (q ≤ suc endLimit) × (k ≤ suc manifestLimit)
+weighed-small {x = x} {y} {u} {v} {q} {k} h e = weighs-so h x y u v q k e .small
 
 module _ (l : ℕ) (first : List ℕ) (l′ : ℕ) (second : List ℕ) where
   abbrev L : Layout
@@ -66,30 +73,46 @@ module _ (l : ℕ) (first : List ℕ) (l′ : ℕ) (second : List ℕ) where
   abbrev M : Layout
   M = layoutOf l′
 
-  pub first-refused : (k o j : ℕ) → reading L first ≡ refuse k o j → (lent room : ℕ) → merge L first M second lent room ≡ refused 1 k o j
+  pub first-refused : {names₀ names₁ : List ℕ} {r₁ : Weighed} {k o j : ℕ} → WeighedIs (reading L first) 8 0 0 names₀ r₁ names₁ → r₁ ≡ No k o j → CheckedIs l first l′ second (verdict.No k 1 o j)
   unfolding merge about
-  first-refused k o j e lent room = rw e refl
+  first-refused {k = k} {o} {j} weighed e = record { case = λ lent room. rw (refused-so weighed k o j e) refl }
 
-  module _ (held : Held first) (held′ : Held second) {names₀ names₁ : List ℕ} {n c place size turn before : ℕ} (w : Weighs (reading L first) 8 0 0 names₀ n c place size turn before names₁) where
-    pub second-refused : (k o j : ℕ) → reading M second ≡ refuse k o j → (lent room : ℕ) → merge L first M second lent room ≡ refused 2 k o j
-    unfolding merge about
-    second-refused k o j e lent room = rw (w .is, e) refl
+  -- the first file is read
+  module _ {names₀ names₁ : List ℕ} {r₁ : Weighed} {n c place size turn before : ℕ} (weighed : WeighedIs (reading L first) 8 0 0 names₀ r₁ names₁) (is-read : r₁ ≡ Yes n c place size turn before)
+      (held : Held first) (held′ : Held second) where
+    w : Weighs (reading L first) 8 0 0 names₀ n c place size turn before names₁
+    w = weighs-so weighed n c place size turn before is-read
 
-    pub few-first : n ≤ 1024
+    few-first : n ≤ 1024
     few-first = let e = w .objects-are in omega (arith, e, of-file.few L (size-back l) first held (w .read) (w .is))
 
-    module _ {from : ℕ} (from-is : from ≡ 2 * n) {names₂ : List ℕ} {k d other rest end total : ℕ} (v : Weighs (reading M second) turn before from names₁ k d other rest end total names₂) where
-      pub few-second : k ≤ 1024
+    pub twice-fits : Fits w64 (2 * n)
+    twice-fits = let f = few-first in record { fits = omega arith }
+
+    pub second-refused : {names₂ : List ℕ} {r₂ : Weighed} {k o j : ℕ} → WeighedIs (reading M second) turn before (2 * n) names₁ r₂ names₂ → r₂ ≡ No k o j → CheckedIs l first l′ second (verdict.No k 2 o j)
+    unfolding merge about
+    second-refused {k = k} {o} {j} weighed′ e = record { case = λ lent room. rw (w .is, refused-so weighed′ k o j e) refl }
+
+    -- and the second
+    module _ {names₂ : List ℕ} {r₂ : Weighed} {k d other rest end total : ℕ} (weighed′ : WeighedIs (reading M second) turn before (2 * n) names₁ r₂ names₂)
+        (is-read′ : r₂ ≡ Yes k d other rest end total) where
+      v : Weighs (reading M second) turn before (2 * n) names₁ k d other rest end total names₂
+      v = weighs-so weighed′ k d other rest end total is-read′
+
+      few-second : k ≤ 1024
       few-second = let e = v .objects-are in omega (arith, e, of-file.few M (size-back l′) second held′ (v .read) (v .is))
+
+      pub both-fit : Fits w64 (n + k)
+      both-fit = let f = few-first in let g = few-second in record { fits = omega arith }
 
       abbrev sums : Sums (w .read .model) 8 0 0 names₀ turn before names₁
       sums = w .sums (of-file.in-window L (size-back l) first held (w .read) (w .is))
 
-      abbrev sums′ : Sums (v .read .model) turn before from names₁ end total names₂
+      abbrev sums′ : Sums (v .read .model) turn before (2 * n) names₁ end total names₂
       sums′ = v .sums (of-file.in-window M (size-back l′) second held′ (v .read) (v .is))
 
-      pub too-far : endLimit < end → (lent room : ℕ) → merge L first M second lent room ≡ refused 0 COUNT 0 0
-      too-far = answer.too-far L (size-back l) first M (size-back l′) second held held′ (w .read) (v .read) (w .is) (v .is) (sums .sum) (sums′ .sum)
+      pub too-far : endLimit < end → CheckedIs l first l′ second (verdict.No COUNT 0 0 0)
+      too-far h = record { case = answer.too-far L (size-back l) first M (size-back l′) second held held′ (w .read) (v .read) (w .is) (v .is) (sums .sum) (sums′ .sum) h }
 
       module _ (near : end ≤ endLimit) {t h m : ℕ} (t-is : t ≡ capped (attributesSize place size other rest)) (h-is : h ≡ headSize (n + k)) (m-is : m ≡ capped (23 + t + h + total)) where
         abbrev a : Described
@@ -115,15 +138,17 @@ module _ (l : ℕ) (first : List ℕ) (l′ : ℕ) (second : List ℕ) where
             m-is ∙ ap (λ (x : ℕ). capped (23 + t + x + total)) heads-same
             ∙ answer.manifest-is L (size-back l) first M (size-back l′) second held held′ (w .read) (v .read) (w .is) (v .is) (sums .sum) (sums′ .sum) near t (t-is ∙ ap capped (sym kept-size))
 
-        pub too-big : manifestLimit < m → (lent room : ℕ) → merge L first M second lent room ≡ refused 0 BIG 0 0
-        too-big = answer.too-big L (size-back l) first M (size-back l′) second held held′ (w .read) (v .read) (w .is) (v .is) (sums .sum) (sums′ .sum) near m m-means
+        pub too-big : manifestLimit < m → CheckedIs l first l′ second (verdict.No BIG 0 0 0)
+        too-big h = record { case = answer.too-big L (size-back l) first M (size-back l′) second held held′ (w .read) (v .read) (w .is) (v .is) (sums .sum) (sums′ .sum) near m m-means h }
 
         module _ (fits : m ≤ manifestLimit) where
-          pub too-many : 1024 < n + k → (lent room : ℕ) → merge L first M second lent room ≡ refused 0 COUNT 0 0
+          pub too-many : 1024 < n + k → CheckedIs l first l′ second (verdict.No COUNT 0 0 0)
           too-many h =
               let e = w .objects-are in
               let f = v .objects-are in
-              answer.too-many L (size-back l) first M (size-back l′) second held held′ (w .read) (v .read) (w .is) (v .is) (sums .sum) (sums′ .sum) near m m-means fits (omega (arith, h, e, f))
+              record {
+                case = answer.too-many L (size-back l) first M (size-back l′) second held held′ (w .read) (v .read) (w .is) (v .is) (sums .sum) (sums′ .sum) near m m-means fits (omega (arith, h, e, f));
+              }
 
           module _ (few : n + k ≤ 1024) (long : length names₀ ≡ 2048) {r : Bool} (found : r ≡ noneOf (listed (named first names₂ 0 2) 0 n) (listed (named second names₂ 0 2) n k)) where
             A : List ℕ
@@ -149,8 +174,8 @@ module _ (l : ℕ) (first : List ℕ) (l′ : ℕ) (second : List ℕ) where
             table-is =
                 let e = v .objects-are in
                 let x : length names₁ ≡ 2048 = ap length firsts ∙ length-sets names₀ 0 A ∙ long in
-                sums′ .names (omega (arith, e, few, from-is, x))
-                ∙ ap₂ (λ (z : List ℕ) (i : ℕ). sets z i B) firsts (from-is ∙ sym a-long)
+                sums′ .names (omega (arith, e, few, x))
+                ∙ ap₂ (λ (z : List ℕ) (i : ℕ). sets z i B) firsts (sym a-long)
                 ∙ names.both-put A B names₀ (omega (arith, a-long, b-long, few, long))
 
             r-is : r ≡ distinct (map (λ o. o .name) (merged a b .objects))
@@ -163,11 +188,13 @@ module _ (l : ℕ) (first : List ℕ) (l′ : ℕ) (second : List ℕ) where
             few-both : length (w .read .model .objects) + length (v .read .model .objects) ≤ objectLimit
             few-both = let e = w .objects-are in let f = v .objects-are in omega (arith, e, f, few)
 
-            pub shares : r ≡ false → (lent room : ℕ) → merge L first M second lent room ≡ refused 0 TWICE 0 0
-            shares e = answer.shares L (size-back l) first M (size-back l′) second held held′ (w .read) (v .read) (w .is) (v .is) (sums .sum) (sums′ .sum) near m m-means fits few-both (sym r-is ∙ e)
+            pub shares : not r ≡ true → CheckedIs l first l′ second (verdict.No TWICE 0 0 0)
+            shares q = record {
+              case = answer.shares L (size-back l) first M (size-back l′) second held held′ (w .read) (v .read) (w .is) (v .is) (sums .sum) (sums′ .sum) near m m-means fits few-both (sym r-is ∙ not-true r q);
+            }
 
-            pub ready : r ≡ true → Ready l first l′ second n c place size turn k d other rest (end + m + 16)
-            ready e = record {
+            all-ready : r ≡ true → Ready l first l′ second n c place size turn k d other rest (end + m + 16)
+            all-ready e = record {
               held = held;
               held′ = held′;
               read = w .read;
@@ -187,15 +214,18 @@ module _ (l : ℕ) (first : List ℕ) (l′ : ℕ) (second : List ℕ) where
               left = answer.goes-well L (size-back l) first M (size-back l′) second held held′ (w .read) (v .read) (w .is) (v .is) (sums .sum) (sums′ .sum) near m m-means fits few-both (sym r-is ∙ e);
             }
 
+            pub ready : not r ≡ false → CheckedIs l first l′ second (verdict.Yes n c place size turn k d other rest (end + m + 16))
+            ready q = record { case = all-ready (not-false r q) }
+
 -- ---- the kept attributes' bytes
 
-pub attributes-second : (p s o l : ℕ) {r : ℕ} → eqb p 0 && eqb s 0 ≡ true → r ≡ capped (optionalCopy 11 (span o l)) → r ≡ capped (attributesSize p s o l)
+pub attributes-second : (p s o l : ℕ) {b : Bool} {r : ℕ} → b ≡ eqb p 0 && eqb s 0 → b ≡ true → r ≡ capped (optionalCopy 11 (span o l)) → r ≡ capped (attributesSize p s o l)
 unfolding attributesSize
-attributes-second p s o l e f = rw e f
+attributes-second p s o l absent h f = rw (sym absent ∙ h) f
 
-pub attributes-first : (p s o l : ℕ) {r : ℕ} → eqb p 0 && eqb s 0 ≡ false → r ≡ capped (optionalCopy 11 (span p s)) → r ≡ capped (attributesSize p s o l)
+pub attributes-first : (p s o l : ℕ) {b : Bool} {r : ℕ} → b ≡ eqb p 0 && eqb s 0 → b ≡ false → r ≡ capped (optionalCopy 11 (span p s)) → r ≡ capped (attributesSize p s o l)
 unfolding attributesSize
-attributes-first p s o l e f = rw e f
+attributes-first p s o l absent h f = rw (sym absent ∙ h) f
 
 pub head-low : (h x : ℕ) → h ≡ headSize x → h ≤ 9
 head-low h x e = omega (arith, e, head-small x)

@@ -1,41 +1,43 @@
 -- Objects by their numbers, and the one that a name was matched with.
-use Prim.Native.Nat.{ℕ, zero, suc, _+_, _-_, _*_, _≤_, _<_}
+use Prim.Native.Nat.{ℕ, zero, suc, _+_, _-_, _*_, _^_, _≤_, _<_}
 use native.Mathlib.Omega.{arith}
 use native.Mathlib.Nat.{zero-add}
-use mathlib.Core.List.{List, [], _∷_, _++_}
+use mathlib.Core.List.{List, [], _∷_}
 use mathlib.Core.Option.{none, some, Option·some-injective, Option·none-ne-some}
 use mathlib.Core.Path.{_≡_, refl, sym, ap, _∙_, subst}
 use lib.ListN.{length, getD, getElem?, set, length-set}
 use lib.Seq.{getD-drop, getD-set-same, getD-set-other}
+use mir.Syntax.{w64}
+use mir.Val.{Fits}
 use Rattle.text.proofs.OrderIsTotal.{Which, less, more, equal, which}
-use Rattle.meaning.specs.Columns.{objectWidth, componentWidth, nameColumn, nameLengthColumn}
+use Rattle.meaning.specs.Columns.{objectWidth, componentWidth, nameColumn, nameLengthColumn, countColumn}
 use Rattle.meaning.specs.Limit.{objectLimit}
 use Rattle.meaning.specs.Asked.{askedObject}
 use Rattle.meaning.specs.Described.{DescribedObject, describedObject}
-use Rattle.put.specs.Wrote.{most, capped, Wrote}
-use Rattle.put.proofs.PiecesInTurn.{Rest, rest-all, nothing, then, as-bytes}
+use Rattle.put.specs.Wrote.{capped, Wrote}
+use Rattle.put.proofs.PiecesInTurn.{Rest, rest-all, rest-less, rest-none, same-length, nothing, then, as-bytes}
 use Rattle.matching.specs.Named.{nameAt, named, Rows}
 use Rattle.matching.specs.Matched.{First, Sorted}
 use Rattle.changes.specs.Changes.{Entry, entry, numbers, flat, across, object, ofObject, ifAbsent, inBoth}
 use Rattle.changes.proofs.Lists.{seek-lacks}
 use Rattle.parts.proofs.MatchedRows.{seek-first}
 use Rattle.parts.proofs.Turns.{across-next, flat-append}
-use Rattle.pairs.specs.Objects.{objectAt, countAt}
+use Rattle.pairs.specs.Objects.{objectAt, countAt, Sized}
 use Rattle.models.specs.Tables.{startOf, Starts, Table, Known, Beside, objectOf, objectsFrom, oldsFrom, newsFrom, changesOf}
 
 module _ (file table : List ℕ) where
-  pub object-name : (row first : ℕ) → objectAt file table row first .name ≡ nameAt file table row
+  object-name : (row first : ℕ) → objectAt file table row first .name ≡ nameAt file table row
   unfolding objectAt describedObject askedObject nameAt
   object-name row first = rw (getD-drop row table nameColumn 0, getD-drop row table nameLengthColumn 0)
 
   module _ (n : ℕ) where
-    pub objects-none : (j k : ℕ) → k ≤ 0 → objectsFrom file table n j k ≡ []
+    objects-none : (j k : ℕ) → k ≤ 0 → objectsFrom file table n j k ≡ []
     unfolding objectsFrom
     objects-none j zero l = refl
     objects-none j (suc k) l = absurd (omega arith)
 
     -- of m, those from j on
-    pub objects-step : (m j : ℕ) → j < m → objectsFrom file table n j (m - j) ≡ objectOf file table n j ∷ objectsFrom file table n (j + 1) (m - (j + 1))
+    objects-step : (m j : ℕ) → j < m → objectsFrom file table n j (m - j) ≡ objectOf file table n j ∷ objectsFrom file table n (j + 1) (m - (j + 1))
     unfolding objectsFrom
     objects-step m j l = let z : m - j ≡ suc (m - (j + 1)) = omega arith in let y : j + 1 ≡ suc j = omega arith in rw (z, y)
 
@@ -65,16 +67,37 @@ module _ (file table : List ℕ) where
       not-before : (j : ℕ) (o : DescribedObject) → getElem? (objectsFrom file table n 0 n) j ≡ some o → o .name ≡ w → j < r → ⊥
       not-before j o h e l = let q = at-zero j o h in f .before j l (sym (called j) ∙ ap (λ (x : DescribedObject). x .name) (q .1) ∙ e)
 
-      pub object-found : r < n → object w (objectsFrom file table n 0 n) ≡ some (record { index = r; it = objectOf file table n r })
+      object-found : r < n → object w (objectsFrom file table n 0 n) ≡ some (record { index = r; it = objectOf file table n r })
       object-found l =
           seek-first (λ (o : DescribedObject). o .name) (objectsFrom file table n 0 n) w r (objectOf file table n r)
           (object-elem 0 n r l ∙ ap (λ x. some (objectOf file table n x)) (zero-add r)) (called r ∙ f .is l) (λ j o m h e. not-before j o h e m)
 
-      pub object-lacks : n ≤ r → object w (objectsFrom file table n 0 n) ≡ none
+      object-lacks : n ≤ r → object w (objectsFrom file table n 0 n) ≡ none
       object-lacks l = seek-lacks (λ (o : DescribedObject). o .name) (objectsFrom file table n 0 n) w (λ j o h e. not-before j o h e (omega (arith, at-zero j o h .0)))
 
-pub row-lies : {table : List ℕ} {n j : ℕ} → Table table n → j < n → objectWidth * j + objectWidth ≤ length table
-row-lies t l = t .each _ l .own .lies
+-- the row of the object j, and the count in it; `at` is where its components begin
+module _ {table : List ℕ} {n j : ℕ} (t : Table table n) (l : j < n) where
+  pub row-lies : objectWidth * j + objectWidth ≤ length table
+  row-lies = t .each _ l .own .lies
+
+  pub count-lies : objectWidth * j + countColumn < length table
+  count-lies = omega (arith, row-lies)
+
+  module _ (room : length table * 8 < 2 ^ 63) where
+    pub row-fits : Fits w64 (objectWidth * j)
+    row-fits = record { fits = omega (arith, row-lies, room) }
+
+    pub count-fits : Fits w64 (objectWidth * j + countColumn)
+    count-fits = record { fits = omega (arith, row-lies, room) }
+
+    pub count-scaled : Fits w64 ((objectWidth * j + countColumn) * 8)
+    count-scaled = record { fits = omega (arith, row-lies, room) }
+
+    pub parts-fit : Fits w64 (componentWidth * countAt table (objectWidth * j))
+    parts-fit = record { fits = omega (arith, t .each _ l .parts, room) }
+
+    pub next-fits : {at : ℕ} → at ≡ startOf table n j → Fits w64 (at + componentWidth * countAt table (objectWidth * j))
+    next-fits e = record { fits = omega (arith, t .each _ l .parts, room, e) }
 
 pub asked : {file table ix : List ℕ} {n sorted : ℕ} → Known file table n ix sorted → Rows table 0 objectWidth n × (sorted ≤ length ix) × Sorted (named file table 0 objectWidth) n ix sorted
 asked k = (record { wide = omega arith; lie = omega (arith, k .rows .lie) }, k .room, k .names)
@@ -97,22 +120,25 @@ module _ (first a : List ℕ) (m i : ℕ) (second b : List ℕ) (n : ℕ) {r : �
     pub first-only : n ≤ r → Wrote (numbers (entry 1 i 0 0 0 0 0 0)) at xs ys past → Wrote (flat (ofObject i (objectOf first a m i) (object (objectOf first a m i .name) (objectsFrom second b n 0 n)))) at xs ys past
     first-only l w = rw (is-absent l) w
 
-    pub in-both : r < n → {c d : ℕ} → c ≡ startOf a m i → d ≡ startOf b n r
-        → Wrote (flat (inBoth i r (objectAt first a (objectWidth * i) c) (objectAt second b (objectWidth * r) d))) at xs ys past
+    pub in-both : r < n → {from to : List ℕ} → Starts a m from → i < m → Starts b n to
+        → Wrote (flat (inBoth i r (objectAt first a (objectWidth * i) (getD from i 0)) (objectAt second b (objectWidth * r) (getD to r 0)))) at xs ys past
         → Wrote (flat (ofObject i (objectOf first a m i) (object (objectOf first a m i .name) (objectsFrom second b n 0 n)))) at xs ys past
-    in-both l ec ed w = rw (is-found l) (rw (ec, ed) at w)
+    in-both l s h z w = rw (is-found l) (rw (s .is i h, z .is r l) at w)
 
     pub second-only : n ≤ r → Wrote (numbers (entry 2 0 i 0 0 0 0 0)) at xs ys past
         → Wrote (flat (ifAbsent (entry 2 0 i 0 0 0 0 0) (object (objectOf first a m i .name) (objectsFrom second b n 0 n)))) at xs ys past
     second-only l w = rw (is-absent l) w
 
   module _ {at past : ℕ} {xs : List ℕ} where
-    pub not-new : r < n → length xs < most → past ≡ capped at → Wrote (flat (ifAbsent (entry 2 0 i 0 0 0 0 0) (object (objectOf first a m i .name) (objectsFrom second b n 0 n)))) at xs xs past
-    not-new l h e = rw (is-found l) (nothing _ h e)
+    pub not-new : r < n → length xs * 8 < 2 ^ 63 → past ≡ capped at → Wrote (flat (ifAbsent (entry 2 0 i 0 0 0 0 0) (object (objectOf first a m i .name) (objectsFrom second b n 0 n)))) at xs xs past
+    not-new l room e = rw (is-found l) (nothing _ (omega (arith, room)) e)
 
 -- ---- where components' rows begin
 
-pub starts-next : (table : List ℕ) (n j : ℕ) → startOf table n (j + 1) ≡ startOf table n j + componentWidth * countAt table (objectWidth * j)
+pub sized : {table : List ℕ} {n : ℕ} → Table table n → {starts : List ℕ} → Starts table n starts → {j : ℕ} → j < n → Sized table (objectWidth * j) (getD starts j 0)
+sized t s {j} l = rw (s .is j l) (t .each j l)
+
+starts-next : (table : List ℕ) (n j : ℕ) → startOf table n (j + 1) ≡ startOf table n j + componentWidth * countAt table (objectWidth * j)
 unfolding startOf
 starts-next table n j = let z : j + 1 ≡ suc j = omega arith in rw z
 
@@ -141,26 +167,58 @@ begun-more {table} {n} {j} {at} {old} {starts} h b l = record {
     go i m (more w) = absurd (omega arith)
     go i m (equal w) = rw w (getD-set-same starts j at 0 (omega (arith, b .size)) ∙ b .here)
 
-pub begun-all : {table : List ℕ} {n j at : ℕ} {old starts : List ℕ} → n ≤ length old → Begun table n j at old starts → n ≤ j → Starts table n starts × (length starts ≡ length old)
-begun-all h b l = (record { long = omega (arith, h, b .size); is = λ i m. b .is i (omega arith) }, b .size)
+pub begun-all : {table : List ℕ} {n j at : ℕ} {old starts : List ℕ} → n ≤ length old → Begun table n j at old starts → n ≤ j → Starts table n starts
+begun-all h b l = record { long = omega (arith, h, b .size); is = λ i m. b .is i (omega arith) }
 
--- ---- turns of the loops
+-- ---- a loop over the m objects of a table: of the object o whose number is x `f x o` is written; i of them are done
 
-module _ (file table : List ℕ) (m : ℕ) (g : ℕ → DescribedObject → List Entry) where
-  abbrev pub still : ℕ → List ℕ
-  still i = flat (across (λ x o. g (i + x) o) (objectsFrom file table m i (m - i)))
+module _ (file table : List ℕ) (m : ℕ) (f : ℕ → DescribedObject → List Entry) where
+  abbrev still : ℕ → List ℕ
+  still i = flat (across (λ x o. f (i + x) o) (objectsFrom file table m i (m - i)))
 
-  abbrev pub whole-list : List ℕ
-  whole-list = flat (across (λ x o. g (0 + x) o) (objectsFrom file table m 0 m))
+  abbrev whole-list : List ℕ
+  whole-list = flat (across (λ x o. f (0 + x) o) (objectsFrom file table m 0 m))
 
-  pub turns-begin : (at : ℕ) (xs : List ℕ) → length xs < most → Rest whole-list at xs (still 0) at xs
-  turns-begin at xs h = let z : m - 0 ≡ m = omega arith in rw z (rest-all _ _ _ h)
+pub record Turned (f : ℕ → DescribedObject → List Entry) (file table : List ℕ) (m at : ℕ) (xs : List ℕ) (i past : ℕ) (ys : List ℕ) : Type 0 where
+  pub within : i ≤ m
+  pub rest : Rest (whole-list file table m f) at xs (still file table m f i) past ys
 
-  pub turns-step : (i : ℕ) → i < m → still i ≡ flat (g i (objectOf file table m i)) ++ still (i + 1)
-  turns-step i l = ap (λ (os : List DescribedObject). flat (across (λ x o. g (i + x) o) os)) (objects-step file table m m i l) ∙ across-next g i (objectOf file table m i) (objectsFrom file table m (i + 1) (m - (i + 1)))
+module _ (f : ℕ → DescribedObject → List Entry) (file table : List ℕ) (m at : ℕ) (xs : List ℕ) where
+  pub begins : length xs * 8 < 2 ^ 63 → Turned f file table m at xs 0 at xs
+  begins room = record { within = omega arith; rest = (let z : m - 0 ≡ m = omega arith in rw z (rest-all _ _ _ (omega (arith, room)))) }
 
-  pub turns-end : (i : ℕ) → m ≤ i → still i ≡ []
-  turns-end i l = ap (λ (os : List DescribedObject). flat (across (λ x o. g (i + x) o) os)) (objects-none file table m i (m - i) (omega arith))
+module _ {f : ℕ → DescribedObject → List Entry} {file table : List ℕ} {m at : ℕ} {xs : List ℕ} {i past : ℕ} {ys : List ℕ} (w : Turned f file table m at xs i past ys) where
+  of-these : List DescribedObject → List ℕ
+  of-these os = flat (across (λ x o. f (i + x) o) os)
+
+  pub one-more : i < m → {zs : List ℕ} {r : ℕ} → Wrote (flat (f i (objectOf file table m i))) past ys zs r → Turned f file table m at xs (i + 1) r zs
+  unfolding of-these
+  one-more l v = record {
+    within = omega (arith, l);
+    rest = rest-less (w .rest) (ap of-these (objects-step file table m m i l) ∙ across-next f i (objectOf file table m i) (objectsFrom file table m (i + 1) (m - (i + 1)))) v;
+  }
+
+  module _ (end : m ≤ i) where
+    all-turned : {q : ℕ} → q ≡ capped past → Wrote (whole-list file table m f) at xs ys q
+    unfolding of-these
+    all-turned e = rest-none _ (w .rest) (ap of-these (objects-none file table m i (m - i) (omega (arith, end)))) e
+
+    pub turned-length : length ys ≡ length xs
+    turned-length = same-length (all-turned refl)
+
+-- what is written of the first's object o beside the second's, and of the second's beside the first's
+abbrev pub old : List DescribedObject → ℕ → DescribedObject → List Entry
+old ps x o = ofObject x o (object (o .name) ps)
+
+abbrev pub new : List DescribedObject → ℕ → DescribedObject → List Entry
+new os x p = ifAbsent (entry 2 0 x 0 0 0 0 0) (object (p .name) os)
+
+module _ (others : List DescribedObject) {file table : List ℕ} {m at : ℕ} {xs : List ℕ} {i past : ℕ} {ys : List ℕ} where
+  pub all-olds : Turned (old others) file table m at xs i past ys → m ≤ i → {q : ℕ} → q ≡ capped past → Wrote (flat (oldsFrom others 0 (objectsFrom file table m 0 m))) at xs ys q
+  all-olds w end e = all-turned w end e
+
+  pub all-news : Turned (new others) file table m at xs i past ys → m ≤ i → {q : ℕ} → q ≡ capped past → Wrote (flat (newsFrom others 0 (objectsFrom file table m 0 m))) at xs ys q
+  all-news w end e = all-turned w end e
 
 -- what was sorted, handed on
 pub known : {file table : List ℕ} {n : ℕ} → Table table n → {ix : List ℕ} {k : ℕ} → Sorted (named file table 0 objectWidth) n ix k → length ix ≡ objectLimit → Known file table n ix k

@@ -10,7 +10,8 @@ use Rattle.meaning.specs.Text.{same, oneOf, distinct}
 use Rattle.meaning.proofs.SameText.{same-eq}
 use Rattle.text.proofs.OrderIsTotal.{Which, less, more, equal, which}
 use Rattle.text.proofs.SameIsEqual.{eq-same, ne-same}
-use Rattle.names.specs.Names.{listed, Differ, Copy, Leading}
+use Rattle.names.specs.Names.{name, listed, Differ, Copy, Leading}
+use Rattle.names.proofs.NamedParts.{wholes, from-wholes}
 
 module _ (f : ℕ → List ℕ) where
   pub listed-there : (w : List ℕ) (i k j : ℕ) → i ≤ j → j < i + k → f j ≡ w → oneOf (listed f i k) w ≡ true
@@ -82,14 +83,35 @@ module _ {f : ℕ → List ℕ} where
   pub leading-some : {k n : ℕ} → k ≤ n → Differ f k → Copy f k → Leading f n k
   leading-some l h c = record { most = l; differ = h; copied = λ _. c }
 
-  -- a and b are the names i and x, and r says that they are the same
-  pub copy-found : {i x : ℕ} {a b : List ℕ} {r : Bool} → a ≡ f i → b ≡ f x → r ≡ same a b → r ≡ true → i < x → Copy f x
-  copy-found {i} {x} {a} {b} p q e t l = record { first = i; before = l; is = sym p ∙ same-eq a b (sym e ∙ t) ∙ q }
+  pub not-said : {x : ℕ} → false ≡ true → Copy f x
+  not-said q = let z : _≡_ {A = ℕ} 0 1 = cc in absurd (omega arith)
 
-  pub leading-decides : {n r : ℕ} → Leading f n r → eqb r n ≡ distinct (listed f 0 n)
+  leading-decides : {n r : ℕ} → Leading f n r → eqb r n ≡ distinct (listed f 0 n)
   leading-decides {n} {r} h = go (which r n)
     where
       go : Which r n → eqb r n ≡ distinct (listed f 0 n)
       go (less q) = ne-eqb r n (λ e. omega arith) ∙ sym (copy-twice f (h .copied q) q)
       go (more q) = absurd (omega (arith, h .most))
       go (equal q) = rw q (eq-eqb n n refl ∙ sym (differ-once f (rw q at (h .differ))))
+
+-- ---------------------------------------------------------------- names that were read from whole parts
+
+module _ (m left size : List ℕ) where
+  -- a and b are the names i and x, and r says that they are the same
+  pub copy-found : {i x : ℕ} {a b : List ℕ} {r : Bool} → a ≡ wholes m left size i → b ≡ wholes m left size x → r ≡ same a b → r ≡ true → i < x → Copy (name m left size) x
+  copy-found {i} {x} {a} {b} p q e t l = record { first = i; before = l; is = rw (from-wholes m left size) at (sym p ∙ same-eq a b (sym e ∙ t) ∙ q) }
+
+  pub wholes-differ : {k : ℕ} → Differ (wholes m left size) k → Differ (name m left size) k
+  wholes-differ h = rw (from-wholes m left size) at h
+
+  pub wholes-lead : {n r : ℕ} → Leading (wholes m left size) n r → Leading (name m left size) n r
+  wholes-lead h = rw (from-wholes m left size) at h
+
+  pub all-lead : {k n : ℕ} → Differ (wholes m left size) k → k ≡ n → Leading (name m left size) n n
+  all-lead h e = leading-all (fewer-differ (omega arith) (wholes-differ h))
+
+  pub some-lead : {k n : ℕ} {r : Bool} → Differ (wholes m left size) k → k ≤ n → (r ≡ true → Copy (wholes m left size) k) → r ≡ true → Leading (name m left size) n k
+  some-lead h l c q = leading-some l (wholes-differ h) (rw (from-wholes m left size) at (c q))
+
+  pub leading-tells : {n r : ℕ} → Leading (wholes m left size) n r → eqb r n ≡ distinct (listed (name m left size) 0 n)
+  leading-tells h = leading-decides (wholes-lead h)

@@ -6,7 +6,7 @@ use mathlib.Core.Bool.{Bool, true, false, _&&_, not}
 use mathlib.Core.Logic.{⊎-elim}
 use mathlib.Core.Option.{none, some}
 use mathlib.Core.Path.{_≡_, refl, ap, ap₂, sym, _∙_, subst}
-use lib.ListN.{length, take, drop, length-append, length-map, length-drop}
+use lib.ListN.{length, take, drop, set, length-append, length-map, length-drop}
 use lib.Seq.{getD-set-same, getD-set-other, drop-drop, take-all, take-append-le}
 use borrow.Author.Tests.{lt-ltb, le-ltb}
 use Rattle.meaning.specs.Tree.{Pair}
@@ -191,5 +191,25 @@ module _ (s : List ℕ) (t : Tally) (left size : List ℕ) (v : Letters) (h : Te
           (note-bad m done t left size y p at a n within (subst (λ u. a + n ≤ length u) is fits) (key-is m at is d p r x) (sym (g ∙ ap utf8 letters ∙ ap (λ u. utf8 (take n (drop a u))) is))),
     )
 
+-- a number put where there is room, and where there is none
+pub put-here : (l : List ℕ) (i x : ℕ) → i < length l → set l i x ≡ put l i x
+put-here l i x h = rw (lt-ltb i (length l) h) refl
+
+pub put-nowhere : (l : List ℕ) (i x : ℕ) → length l ≤ i → l ≡ put l i x
+put-nowhere l i x h = rw (le-ltb i (length l) h) refl
+
+-- a key's letters lie inside what it begins
 pub inside : (s : List ℕ) (v : Letters) (a n : ℕ) → Inside (Here s 0) v → v ≡ Text a n → a + n ≤ length s
 inside s v a n h e = let z : a + n ≤ length (Here s 0) = rw e at h in let y : length (Here s 0) ≡ length s = ap length (part-to-end s 0) in omega arith
+
+pub begins-inside : (s : List ℕ) (v : Letters) (a n : ℕ) → Inside (Here s 0) v → v ≡ Text a n → a ≤ length s
+begins-inside s v a n h e = omega (arith, inside s v a n h e)
+
+-- a key that is text, whether it is UTF-8 or not
+module _ (s : List ℕ) (t : Tally) (left size : List ℕ) (v : Letters) (within : Inside (Here s 0) v) (h : TextIs (Here s 0) v) (a n : ℕ) (e : v ≡ Text a n) (u : Bool)
+    (by : u ≡ utf8 (take (a + n - a) (drop a s))) (t′ : Tally) (left′ size′ : List ℕ) (x : left′ ≡ put left (t .count) (length s - a)) (y : size′ ≡ put size (t .count) n) where
+  pub text-noted : u ≡ true → t′ ≡ tally (t .count + 1) (t .odd) (t .bad) → Noted s t left size t′ left′ size′
+  text-noted g z = noted-as s t left size z x y (noted-good s t left size v h a n e (inside s v a n within e) (sym g ∙ by))
+
+  pub no-text-noted : u ≡ false → t′ ≡ tally (t .count + 1) (t .odd) true → Noted s t left size t′ left′ size′
+  no-text-noted g z = noted-as s t left size z x y (noted-bad s t left size v h a n e (inside s v a n within e) (sym g ∙ by))

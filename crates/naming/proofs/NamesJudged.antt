@@ -19,6 +19,7 @@ use Rattle.meaning.specs.Field.{isSome, keyOf, keyKind, nameKind, nameOf, names
 use Rattle.meaning.proofs.JudgeNatural.{all-map, map-map}
 use Rattle.meaning.proofs.Tests.{opposite}
 use Rattle.names.specs.Names.{name, listed}
+use Rattle.names.proofs.NamedParts.{from-wholes}
 use borrow.Rule.Slice.PartAt.{part-to-end}
 use Rattle.walk.specs.Reading.{Ends}
 use Rattle.walk.proofs.Passed.{Here}
@@ -79,6 +80,13 @@ module _ (limit : ℕ) (x : Node Ends) (ps : List (Pair Ends)) (is : kind x ≡ 
       rw (is, each-name 0 ps true e)
       (simp (all-map, map-map, length-map, letters-of))
 
+-- a name alone stands once
+once : (f : ℕ → List ℕ) (n : ℕ) → n < 2 → distinct (listed f 0 n) ≡ true
+unfolding listed
+once f zero l = refl
+once f (suc zero) l = refl
+once f (suc (suc n)) l = absurd (omega arith)
+
 -- ---------------------------------------------------------------- by the tally
 
 module _ (m : List ℕ) (t : Tally) (left size : List ℕ) (done : List (Pair Ends)) (h : Tallied m done t left size) (x : Node Ends) (is : kind x ≡ kinds.mapping done) where
@@ -104,19 +112,26 @@ module _ (m : List ℕ) (t : Tally) (left size : List ℕ) (done : List (Pair En
             let l : listed (name m left size) 0 (t .count) ≡ map lettersOf done = rw z at (h .listed-are) ∙ take-all (length left) (map lettersOf done) (omega (arith, length-map done lettersOf)) in
             sym (by ∙ ap distinct l)
 
-        pub judge-last : names (length left) x ≡ told done (cond r Yes (No 11))
+        judge-last : names (length left) x ≡ told done (cond r Yes (No 11))
         judge-last = let c = h .counted in let z : all (λ p. utf8 (lettersOf p)) done ≡ true = opposite (h .badly) false good in rw (all-text, z, le-leb (length done) (length left) (omega arith), names-are) (two r)
           where
             two : (b : Bool) → (TWICE unless b >> pass (map namedAnyway done)) ≡ told done (cond b Yes (No 11))
             two true = refl
             two false = refl
 
--- a name alone stands once
-pub once : (f : ℕ → List ℕ) (n : ℕ) → n < 2 → distinct (listed f 0 n) ≡ true
-unfolding listed
-once f zero l = refl
-once f (suc zero) l = refl
-once f (suc (suc n)) l = absurd (omega arith)
+      module _ (few : t .count ≤ length left) where
+        pub judge-once : t .count < 2 → names (length left) x ≡ told done Yes
+        judge-once l = judge-last few true (sym (once _ _ l))
+
+        module _ (r : Bool) (by : r ≡ distinct (listed (name (Here m 0) (Here left 0) (Here size 0)) 0 (t .count))) where
+          wholes : r ≡ distinct (listed (name m left size) 0 (t .count))
+          wholes = by ∙ ap (λ f. distinct (listed f 0 (t .count))) (from-wholes m left size)
+
+          pub judge-apart : r ≡ true → names (length left) x ≡ told done Yes
+          judge-apart e = judge-last few true (sym e ∙ wholes)
+
+          pub judge-twice : r ≡ false → names (length left) x ≡ told done (No 11)
+          judge-twice e = judge-last few false (sym e ∙ wholes)
 
 -- names that pass are within the limit
 pub few-names : (limit : ℕ) (x : Node Ends) (ns : List (Named Ends)) → names limit x ≡ pass ns → length ns ≤ limit

@@ -1,5 +1,5 @@
 -- The loop over an object's entries, as fields' law on walks that keep what they find in one field: here the components, with what was found in them, their rows and the table.
-use Prim.Native.Nat.{ℕ, _+_, _-_, _≤_, _<_}
+use Prim.Native.Nat.{ℕ, _+_, _-_, _*_, _^_, _≤_, _<_}
 use native.Mathlib.Omega.{arith}
 use mathlib.Core.List.{List, []}
 use mathlib.Core.Bool.{Bool, true, false}
@@ -7,22 +7,29 @@ use mathlib.Core.Logic.{⊎-elim}
 use mathlib.Core.Path.{_≡_, refl, ap, ap₂, sym, _∙_, subst}
 use lib.ListN.{length, getD, replicate, length-drop}
 use lib.Dec.{eqb}
+use mir.Val.{Fits}
+use mir.Syntax.{w64}
 use borrow.Author.Tests.{eq-eqb, ne-eqb, eqb-true, eqb-false}
 use borrow.Rule.Slice.PartAt.{part-to-end}
 use Rattle.meaning.specs.Layouts.{layoutOf}
 use Rattle.meaning.specs.Judge.{inherited}
 use Rattle.meaning.proofs.Tests.{not-both}
-use Rattle.types.specs.Known.{position, formatNames}
+use Rattle.types.specs.Known.{fieldAt, position, formatNames}
+use Rattle.types.proofs.Codes.{field-most}
 use Rattle.component.specs.Value.{given}
 use Rattle.cbor.specs.Ending.{FAULT, code, itemEnd, rest}
 use Rattle.cbor.proofs.Rest.{never-empty}
 use Rattle.endian.proofs.Which.{eq-or}
-use Rattle.walk.specs.Places.{Modes, EntryIs}
+use Rattle.walk.specs.Places.{Modes, EntryIs, TextIs}
+use Rattle.walk.specs.declared.Letters.{Letters}
+use Rattle.walk.specs.declared.Letters.the-variants.{NoText, Text}
 use Rattle.walk.specs.declared.Entry.{Entry}
 use Rattle.walk.specs.declared.Entry.the-variants.{End, Value}
+use Rattle.walk.proofs.Passed as passed
 use Rattle.fields.specs.Slots.{marked, SlotIs}
 use Rattle.fields.specs.FieldWalk as keeping-is
-use Rattle.fields.proofs.Texts.{Here}
+use Rattle.fields.proofs.Texts as texts
+use Rattle.fields.proofs.Texts.{Here, letters}
 use Rattle.fields.proofs.FieldLoop as keeping
 use Rattle.components.specs.declared.Found.{Found}
 use Rattle.table.specs.Given.{offered}
@@ -33,8 +40,20 @@ use Rattle.object.specs.Verdict.{waiting, ValueIs}
 use Rattle.object.specs.Laying.{Tells, ValuePut, Walked}
 use Rattle.object.proofs.Waiting.{waits-old, waits-not, waits-other, still-blank}
 
-pub known : 4 < 5
+known : 4 < 5
 known = omega arith
+
+-- the slot of the key that begins s, lent whole to `walk::text`, which answered l
+module _ (layout : ℕ) where
+  pub slot-few : (k : ℕ) (u : List ℕ) → k ≡ fieldAt (layoutOf layout .object) u → k ≤ 6
+  slot-few k u is = omega (arith, field-most (layoutOf layout .object) u, layoutOf layout .objectPlaces)
+
+  module _ (s : List ℕ) (l : Letters) (h : TextIs (Here s 0) l) where
+    pub slot-odd : l ≡ NoText → SlotIs (layoutOf layout .object) s 6
+    slot-odd e = texts.slot-odd s l h e (layoutOf layout .object) 5 (layoutOf layout .objectPlaces)
+
+    pub slot-known : (at n : ℕ) (e : l ≡ Text at n) (k : ℕ) → k ≡ fieldAt (layoutOf layout .object) (letters s l h at n e) → SlotIs (layoutOf layout .object) s k
+    slot-known at n e k is = texts.slot-known s l h at n e (layoutOf layout .object) 5 (layoutOf layout .objectPlaces) k is .1
 
 -- ---------------------------------------------------------------- one value
 
@@ -82,10 +101,10 @@ pub record Looping (layout start : ℕ) (to : Place) (mode count : ℕ) (s befor
   pub untouched : layout ≡ 1 → t ≡ before
 
 module _ {layout start : ℕ} {to : Place} {mode count : ℕ} {s before : List ℕ} where
-  pub loop-starts : {p : List ℕ} {found : Found} {rows : List ℕ} → Modes mode count → length s < FAULT → p ≡ replicate 8 0 → length rows ≡ 64
+  pub loop-starts : {p : List ℕ} {found : Found} {rows : List ℕ} → Modes mode count → length s * 1 < 2 ^ 63 → p ≡ replicate 8 0 → length rows ≡ 64
       → Looping layout start to mode count s before 0 count p found rows before
-  loop-starts modes short e l = record {
-    keeps = keeping.loop-starts (layoutOf layout .objectPlaces) known (layoutOf layout .objectApart) modes short e;
+  loop-starts modes lent e l = record {
+    keeps = keeping.loop-starts (layoutOf layout .objectPlaces) known (layoutOf layout .objectApart) modes (omega arith) e;
     slots = ap length e;
     room = l;
     long = refl;
@@ -95,11 +114,14 @@ module _ {layout start : ℕ} {to : Place} {mode count : ℕ} {s before : List �
 
   module _ {at n : ℕ} {p : List ℕ} {found : Found} {rows t : List ℕ} (w : Looping layout start to mode count s before at n p found rows t) {x : Entry} (h : EntryIs 29 mode n (Here s at) x) where
     module _ {e : ℕ} (is : x ≡ End e) where
-      pub ends-inside : e ≤ length s - at → (at + e ≡ code (rest mode count 29 s)) × Walked layout start to mode count s before p found rows t
-      ends-inside l = let y = keeping.ends-inside (w .keeps) h is l in (y .0, record { notes = y .1; untouched = w .untouched })
+      pub ends-inside : e ≤ length s - at → at + e ≡ code (rest mode count 29 s)
+      ends-inside l = keeping.ends-inside (w .keeps) h is l .0
 
-      pub ends-faulty : length s - at < e → (e ≡ code (rest mode count 29 s)) × Walked layout start to mode count s before p found rows t
-      ends-faulty l = let y = keeping.ends-faulty (w .keeps) h is l in (y .0, record { notes = y .1; untouched = w .untouched })
+      pub ends-faulty : length s - at < e → e ≡ code (rest mode count 29 s)
+      ends-faulty l = keeping.ends-faulty (w .keeps) h is l .0
+
+      pub all-walked : Walked layout start to mode count s before p found rows t
+      all-walked = record { notes = λ ps r d. passed.holds-of-all (w .keeps .walking) h is ps r d .noted; untouched = w .untouched }
 
     module _ {k : ℕ} (is : x ≡ Value k) {e : ℕ} (ended : e ≡ code (itemEnd 29 (Here s (at + k)))) where
       -- in layout 1.0 still no row is put
@@ -107,12 +129,15 @@ module _ {layout start : ℕ} {to : Place} {mode count : ℕ} {s before : List �
       as-untouched {j} {seen} put o = put .other (waits-old layout j seen o) ∙ w .untouched o
 
       -- then nothing is read, and whatever was found and put may be answered
-      pub value-faulty : {found′ : Found} {rows′ : List ℕ} {j seen : ℕ} {c t′ : List ℕ} → length s - (at + k) < e → ValuePut layout start to j seen c t t′
-          → (e ≡ code (rest mode count 29 s)) × Walked layout start to mode count s before p found′ rows′ t′
-      value-faulty {found′} {rows′} {t′ = t′} l put =
-          let y = keeping.value-faulty (w .keeps) h is ended {kept′ = ((found′, rows′), t′)} l in (y .0, record { notes = y .1; untouched = as-untouched put })
+      pub none-walked : {found′ : Found} {rows′ : List ℕ} {j seen : ℕ} {c t′ : List ℕ} → length s - (at + k) < e → ValuePut layout start to j seen c t t′
+          → Walked layout start to mode count s before p found′ rows′ t′
+      none-walked {found′} {rows′} {t′ = t′} l put =
+          record { notes = keeping.value-faulty (w .keeps) h is ended {kept′ = ((found′, rows′), t′)} l .1; untouched = as-untouched put }
 
       module _ (l : e ≤ length s - (at + k)) where
+        pub next-fits : Fits w64 (at + k + e)
+        next-fits = let y = keeping.next-inside (w .keeps) h is ended l in let z = w .keeps .walking .short in record { fits = omega arith }
+
         -- where no byte is left no value is read
         some-left : 0 < length s - (at + k)
         some-left = ⊎-elim (λ z. absurd (none z)) (λ z. omega arith) (eq-or (length s - (at + k)) 0)

@@ -3,6 +3,7 @@ use mathlib.Core.Path.{_≡_, refl, sym, ap, _∙_, subst}
 use mathlib.Core.List.{List}
 use mathlib.Core.Bool.{Bool, true, false}
 use Prim.Native.Nat.{ℕ, _-_, _<_}
+use native.Mathlib.Omega.{arith}
 use lib.ListN.{length, drop}
 use borrow.Rule.Slice.PartAt.{part-to-end}
 use Rattle.meaning.specs.Text.{utf8, following, follow, within, tail}
@@ -19,9 +20,9 @@ use Rattle.fields.proofs.Texts.{Here, no-word, word, letters}
 use Rattle.object.specs.declared.place.Coded.the-variants.{No as NoCode, Yes as Code}
 use Rattle.object.specs.Place.{FormatIs, ShapeAt}
 
-pub known-format : (k : List ℕ) → position formatNames k < 4 → utf8 k ≡ true
+pub known-format : (k : List ℕ) (f : ℕ) → f ≡ position formatNames k → f < 4 → true ≡ utf8 k
 unfolding formatNames utf8 following follow within tail
-known-format k l = named-holds utf8 formatNames k refl l
+known-format k f is l = sym (named-holds utf8 formatNames k refl (omega arith))
 
 module _ (s : List ℕ) (l : Letters) (h : TextIs (Here s 0) l) where
   pub format-kind : l ≡ NoText → FormatIs s (NoCode 8)

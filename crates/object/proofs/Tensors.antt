@@ -1,26 +1,31 @@
 -- The dtype on an object, a branch each: a text that names a storage, or none.
-use Prim.Native.Nat.{ℕ, _≤_, _<_}
+use Prim.Native.Nat.{ℕ, _-_, _≤_, _<_}
 use mathlib.Core.List.{List}
-use mathlib.Core.Option.{none}
 use mathlib.Core.Path.{_≡_, refl}
+use lib.ListN.{length}
 use borrow.Author.Tests.{lt-ltb}
-use Rattle.meaning.specs.Check.{pass, optional}
+use Rattle.meaning.specs.Check.{optional}
 use Rattle.meaning.specs.Layouts.{Layout}
 use Rattle.meaning.specs.Judge.{aDtype}
 use Rattle.types.specs.Known.{dtypeCode}
-use Rattle.walk.specs.Reading.{Ends}
 use Rattle.walk.specs.Places.{TextIs}
 use Rattle.walk.specs.declared.Letters.{Letters}
 use Rattle.walk.specs.declared.Letters.the-variants.{NoText, Text}
+use Rattle.fields.proofs.Places as places
 use Rattle.fields.proofs.Texts.{Here, letters}
 use Rattle.component.specs.Value.{given}
 use Rattle.component.proofs.Values as values
+use Rattle.object.specs.declared.place.Coded.{Coded}
 use Rattle.object.specs.declared.place.Coded.the-variants.{No as NoCode, Yes as Code}
-use Rattle.object.specs.Place.{tensored, TensorIs}
+use Rattle.object.specs.Place.{tensored, TensorIs, TensorAt}
 
-pub no-tensor : (L : Layout) → optional (aDtype L {P = Ends}) none ≡ tensored (Code 13)
-unfolding given
-no-tensor L = refl
+module _ (L : Layout) (s : List ℕ) (left : ℕ) where
+  pub no-tensor : left ≡ 0 → TensorAt L s left (Code 13)
+  unfolding given
+  no-tensor = places.nothing-there (optional (aDtype L)) s left
+
+  pub tensor-there : (left ≡ 0 → ⊥) → (at : ℕ) → at ≡ length s - left → (r : Coded) → TensorIs L (Here s at) r → TensorAt L s left r
+  tensor-there here at is r = places.something-there (optional (aDtype L)) s left (tensored r) at is here
 
 module _ (L : Layout) (s : List ℕ) (l : Letters) (h : TextIs (Here s 0) l) where
   pub tensor-kind : l ≡ NoText → TensorIs L s (NoCode 8)

@@ -1,5 +1,5 @@
 -- A whole object, whose value c was lent whole to `walk::map`, which answered x: its entries passed over, then in layout 1.0 its components' rows put, then its own.
-use Prim.Native.Nat.{ℕ, _+_, _≤_}
+use Prim.Native.Nat.{ℕ, _+_, _-_, _*_, _^_, _≤_, _<_}
 use native.Mathlib.Omega.{arith}
 use mathlib.Core.List.{List}
 use mathlib.Core.Logic.{⊎-elim}
@@ -17,6 +17,7 @@ use Rattle.meaning.specs.Layouts.{slot, layoutOf}
 use Rattle.meaning.specs.Field.{objectFields, fields, field}
 use Rattle.meaning.specs.Judge.{inherited, object}
 use Rattle.endian.proofs.Which.{eq-or}
+use Rattle.cbor.specs.Ending.{code, itemEnd, rest}
 use Rattle.walk.specs.Reading.{Ends}
 use Rattle.walk.specs.Places.{MapIs}
 use Rattle.walk.specs.declared.Opening.{Opening}
@@ -37,8 +38,9 @@ use Rattle.table.proofs.ObjectPasses.{Made, fieldsOf, made, described, gives}
 use Rattle.components.specs.declared.Found.{Found}
 use Rattle.object.specs.declared.Judged.{Judged}
 use Rattle.object.specs.declared.Judged.the-variants.{No, Yes}
-use Rattle.object.specs.Verdict.{judged, ObjectIs}
+use Rattle.object.specs.Verdict.{judged, VerdictIs, ObjectIs}
 use Rattle.object.specs.Laying.{Lays, Walked, Once, OwnPut}
+use Rattle.object.proofs.Walks as walks
 use Rattle.object.proofs.Verdicts.{tensor-dtype, lacked}
 
 -- ---------------------------------------------------------------- its own row
@@ -113,3 +115,20 @@ module _ (layout : ℕ) (s c : List ℕ) (start : ℕ) (to : Place) (before : Li
       own _ yes d (p .key) q key o (so .word ∙ ap pass (f .named)) (described L (drop size c) (m .pairs) (m .last) (m .due .chain) slots (a .0) start (n .name) o f) refl in
       let short : to .row + length (objectIn (to .end) o) ≤ to .from = omega (arith, object-length (mapObject (spanOf (to .end)) o)) in
       row ∙ ap (λ t. sets t (to .row) (objectIn (to .end) o)) (says room) ∙ laying.sets-commute (objectIn (to .end) o) (rowsIn (to .end) (to .owner) (o .components)) before (to .row) (to .from) short
+
+-- the map's head, its entries passed over, the verdict on them and what was put
+module _ (layout : ℕ) (s c : List ℕ) (start : ℕ) (to : Place) (before : List ℕ) (lent : length c * 1 < 2 ^ 63) (x : Opening) (h : MapIs (Here c 0) x) (mode count size : ℕ) (is : x ≡ Opened mode count size)
+    (e : ℕ) (slots : List ℕ) (found : Found) (rows t : List ℕ) (run : (e ≡ code (rest mode count 29 (Here c size))) × Walked layout start to mode count (Here c size) before slots found rows t)
+    (v : Judged) (t′ : List ℕ) (told : VerdictIs layout (Here c size) start slots found rows v × Once v (LatePut layout (Here c size) slots start (to .end) (to .owner) (to .from) t t′))
+    (after : List ℕ) (own : OwnPut (Here s 0) (Here c size) slots v to t′ after) where
+  said : ObjectIs (layoutOf layout) c start v
+  said = walks.entries-judged layout c start x h mode count size is to before slots found rows t (run .1) v (told .0)
+
+  put-so : WholePut layout s c start (to .end) (to .owner) (to .row) (to .from) before after
+  put-so = whole-put layout s c start to before x h mode count size is slots found rows t (run .1) v said t′ (told .1) after own
+
+  pub whole-inside : e ≤ length c - size → (size + e ≡ code (itemEnd 30 c)) × ObjectIs (layoutOf layout) c start v × WholePut layout s c start (to .end) (to .owner) (to .row) (to .from) before after
+  whole-inside l = (opens.ends-inside c x h mode count size is 29 lent e (run .0) l, said, put-so)
+
+  pub whole-faulty : length c - size < e → (e ≡ code (itemEnd 30 c)) × ObjectIs (layoutOf layout) c start v × WholePut layout s c start (to .end) (to .owner) (to .row) (to .from) before after
+  whole-faulty l = (opens.ends-faulty c x h mode count size is 29 lent e (run .0) l, said, put-so)

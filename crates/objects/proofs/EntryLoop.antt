@@ -1,34 +1,36 @@
 -- A turn of the loop over the entries of the `objects` map: what was noted of the pairs passed, and of one more.
-use Prim.Native.Nat.{ℕ, _+_, _-_, _≤_}
+use Prim.Native.Nat.{ℕ, _+_, _-_, _*_, _^_, _≤_, _<_}
 use native.Mathlib.Omega.{arith}
 use mathlib.Core.List.{List, []}
 use mathlib.Core.Bool.{Bool, true, false}
 use mathlib.Core.Path.{_≡_, refl, _∙_}
-use lib.ListN.{length}
+use lib.ListN.{length, replicate}
 use borrow.Rule.Slice.PartAt.{part-to-end}
+use mir.Syntax.{w64}
+use mir.Val.{Fits}
 use Rattle.meaning.specs.Columns.{objectWidth}
 use Rattle.meaning.specs.Tree.{Pair}
 use Rattle.meaning.specs.Rows.{componentCount}
 use Rattle.meaning.specs.Layouts.{Layout, layoutOf}
-use Rattle.cbor.specs.Ending.{code, itemEnd}
+use Rattle.cbor.specs.Ending.{code, itemEnd, rest}
 use Rattle.walk.specs.Reading.{Ends}
-use Rattle.walk.specs.Places.{EntryIs}
+use Rattle.walk.specs.Places.{EntryIs, Modes}
 use Rattle.walk.specs.declared.Entry.{Entry}
-use Rattle.walk.specs.declared.Entry.the-variants.{Value}
+use Rattle.walk.specs.declared.Entry.the-variants.{End, Value}
 use Rattle.walk.proofs.Passed as passed
 use Rattle.walk.proofs.Passed.{Here, Passed}
 use Rattle.naming.specs.NotedNames.{tally, Noted}
 use Rattle.naming.specs.declared.Tally.{Tally}
 use Rattle.naming.proofs.NameNoted.{none-noted}
-use Rattle.table.specs.Objects.{WholePut, ObjectsLaid}
-use Rattle.table.proofs.ObjectLoop.{one-more-laid}
+use Rattle.table.specs.Objects.{WholePut, ObjectsLaid, AllLaid}
+use Rattle.table.proofs.ObjectLoop.{none-laid, one-more-laid}
 use Rattle.object.specs.declared.Judged.{Judged}
 use Rattle.objects.specs.declared.First.{First}
 use Rattle.objects.specs.declared.First.the-variants.{Fine}
-use Rattle.objects.specs.Firsts.{entries, OneIs, Beyond, Keeps, Kept}
+use Rattle.objects.specs.Firsts.{entries, OneIs, Beyond, Keeps, Kept, Walked}
 use Rattle.objects.proofs.Laying.{onward}
 
-pub none-kept : (deep : Bool) (L : Layout) (start : ℕ) (s left size : List ℕ) → length size ≡ length left → Kept deep L start s (tally 0 false false) left size (Fine 0) []
+none-kept : (deep : Bool) (L : Layout) (start : ℕ) (s left size : List ℕ) → length size ≡ length left → Kept deep L start s (tally 0 false false) left size (Fine 0) []
 unfolding entries componentCount
 none-kept deep L start s left size e = record { named = none-noted s left size e; judged = record { found = []; passed = refl; few = omega arith; totals = λ l. refl } }
 
@@ -43,6 +45,62 @@ pub record Looping (deep : Bool) (layout start end from mode count : ℕ) (s bef
   pub slots : length left ≡ length left₀
   pub room : length rows ≡ 64
   pub long : length t ≡ length before
+
+-- before the first turn
+pub loop-starts : (deep : Bool) (layout start end from mode count : ℕ) (s left size before : List ℕ) → length s * 1 < 2 ^ 63 → length size ≡ length left → Modes mode count
+    → Looping deep layout start end from mode count s before 0 count (tally 0 false false) left left size (Fine 0) (replicate 64 0) 0 from before
+loop-starts deep layout start end from mode count s left size before lent same modes = record {
+  walking =
+      passed.passed-starts modes (omega arith) (record { kept = none-kept deep (layoutOf layout) start s left size same; laid = λ d. none-laid layout start end from before });
+  slots = refl;
+  room = refl;
+  long = refl;
+}
+
+module _ {deep : Bool} {layout start end from mode count : ℕ} {s before : List ℕ} {at n : ℕ} {names : Tally} {left₀ left size : List ℕ} {first : First} {rows : List ℕ} {row next : ℕ} {t : List ℕ}
+    (w : Looping deep layout start end from mode count s before at n names left₀ left size first rows row next t) where
+  pub count-small : names .count < 9223372036854775808
+  count-small =
+      let x = w .walking .holds .kept .named .counted in
+      let y = w .walking .few in
+      let z = w .walking .walking .within in
+      let d = w .walking .short in omega (arith, x, y, z, d)
+
+  pub still-long : (t′ : List ℕ) → length t′ ≡ length t → length t′ ≡ length before
+  still-long t′ same = same ∙ w .long
+
+  module _ {x : Entry} (h : EntryIs 30 mode n (Here s at) x) where
+    module _ {e : ℕ} (is : x ≡ End e) where
+      pub ends-faulty : length s - at < e → e ≡ code (rest mode count 30 s)
+      ends-faulty l = passed.ends-faulty (w .walking) h is l .0
+
+      pub ends-inside : e ≤ length s - at → at + e ≡ code (rest mode count 30 s)
+      ends-inside l = passed.ends-inside (w .walking) h is l .0
+
+      pub all-kept : Walked deep (layoutOf layout) start mode count s names left size first
+      all-kept ps r d = passed.holds-of-all (w .walking) h is ps r d .kept
+
+      pub all-laid : deep ≡ true → AllLaid layout start end from mode count s before t
+      all-laid f = record { row = row; next = next; are = λ ps r d. passed.holds-of-all (w .walking) h is ps r d .laid f }
+
+    module _ {k : ℕ} (is : x ≡ Value k) {e : ℕ} (ended : e ≡ code (itemEnd 30 (Here s (at + k)))) where
+      module _ (l : length s - (at + k) < e) where
+        pub value-fails : e ≡ code (rest mode count 30 s)
+        value-fails = passed.value-fails (w .walking) h is ended l
+
+        -- where a value is faulty there are no pairs
+        pub none-kept-there : Walked deep (layoutOf layout) start mode count s names left size first
+        none-kept-there = passed.no-pairs (w .walking) h is ended l _
+
+        pub none-laid-there : (t′ : List ℕ) → deep ≡ true → AllLaid layout start end from mode count s before t′
+        none-laid-there t′ f = record { row = row; next = next; are = passed.no-pairs (w .walking) h is ended l _ }
+
+      module _ (l : e ≤ length s - (at + k)) where
+        pub turn-fits : Fits w64 (at + k + e)
+        turn-fits = record { fits = (let d = w .walking .short in omega (arith, passed.value-inside (w .walking) h is, l, d)) }
+
+        pub turn-less : length s - (at + k + e) < length s - at
+        turn-less = omega (arith, passed.value-inside (w .walking) h is, passed.goes-on (w .walking) h is ended l, l)
 
 -- a turn, in the code's terms: the value at `at + k`, which takes e bytes, is judged as v
 module _ {deep : Bool} {layout start end from mode count : ℕ} {s before : List ℕ} {at n : ℕ} {names : Tally} {left₀ left size : List ℕ} {first : First} {rows : List ℕ} {row next : ℕ} {t : List ℕ}

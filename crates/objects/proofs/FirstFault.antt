@@ -1,11 +1,11 @@
 -- The first fault is kept: one more object, sound or not; and what the whole map comes to.
-use Prim.Native.Nat.{ℕ, _+_, _≤_}
+use Prim.Native.Nat.{ℕ, _+_, _≤_, _<_}
 use native.Mathlib.Omega.{arith}
 use mathlib.Core.List.{List, [], _∷_, _++_, map}
 use mathlib.Core.Bool.{Bool}
 use mathlib.Core.Path.{_≡_, refl, ap, sym, _∙_, subst}
 use lib.ListN.{length, length-append, length-map}
-use borrow.Author.Tests.{le-leb}
+use borrow.Author.Tests.{le-leb, lt-leb}
 use Rattle.meaning.specs.Tree.{Node, Pair}
 use Rattle.meaning.specs.Check.{Check, pass, refuse, _>>=_, inObject}
 use Rattle.meaning.specs.Limit.{objectLimit}
@@ -102,3 +102,15 @@ module _ (deep : Bool) (L : Layout) (start : ℕ) (done : List (Pair Ends)) (x :
         let a : m ≡ length (f .found) = is ∙ sym same in
         let b : total ≡ componentCount (f .found) = f .totals (omega arith) in
         (rw (a, b) refl) ∙ sym (ap judged (named ∙ f .passed))
+
+-- ---------------------------------------------------------------- the total, a branch each
+
+module _ (total m : ℕ) where
+  pub added : m ≤ 16 → total ≤ 16368 → total + m ≡ plus total m
+  added h k = rw (le-leb m 16 h, le-leb total 16368 k) refl
+
+  pub total-past : m ≤ 16 → 16368 < total → total ≡ plus total m
+  total-past h k = rw (le-leb m 16 h, lt-leb total 16368 k) refl
+
+  pub more-past : 16 < m → total ≡ plus total m
+  more-past h = rw (lt-leb m 16 h) refl

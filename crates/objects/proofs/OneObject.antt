@@ -14,13 +14,16 @@ use Rattle.object.specs.declared.Judged.the-variants.{Yes}
 use Rattle.objects.specs.Found.{passedOver, judging}
 use Rattle.objects.specs.Firsts.{OneIs}
 
-module _ (L : Layout) (c : List ℕ) (start e : ℕ) where
-  pub is-judged : (deep : Bool) → deep ≡ true → (v : Judged) → (e ≡ code (itemEnd 30 (Here c 0))) × ObjectIs L (Here c 0) start v → (e ≡ code (itemEnd 30 c)) × OneIs deep L c start v
-  unfolding judging
-  is-judged true _ v h = subst (λ (s : List ℕ). (e ≡ code (itemEnd 30 s)) × ObjectIs L s start v) (part-to-end c 0) h
-  is-judged false d v h = absurd (let z : _≡_ {A = ℕ} 0 1 = cc in omega (arith, z))
+pub ends-so : (c : List ℕ) (e : ℕ) → e ≡ code (itemEnd 30 (Here c 0)) → e ≡ code (itemEnd 30 c)
+ends-so c e h = h ∙ ap (λ (s : List ℕ). code (itemEnd 30 s)) (part-to-end c 0)
 
-  pub is-passed : (deep : Bool) → deep ≡ false → e ≡ code (itemEnd 30 (Here c 0)) → (e ≡ code (itemEnd 30 c)) × OneIs deep L c start (Yes 0)
+module _ (L : Layout) (c : List ℕ) (start : ℕ) where
+  pub judged-so : (deep : Bool) → deep ≡ true → (v : Judged) → ObjectIs L (Here c 0) start v → OneIs deep L c start v
+  unfolding judging
+  judged-so true _ v h = subst (λ (s : List ℕ). ObjectIs L s start v) (part-to-end c 0) h
+  judged-so false d v h = absurd (let z : _≡_ {A = ℕ} 0 1 = cc in omega (arith, z))
+
+  pub passed-so : (deep : Bool) → deep ≡ false → OneIs deep L c start (Yes 0)
   unfolding judging passedOver
-  is-passed false _ h = (h ∙ ap (λ (s : List ℕ). code (itemEnd 30 s)) (part-to-end c 0), λ t q r n. refl)
-  is-passed true d h = absurd (let z : _≡_ {A = ℕ} 0 1 = cc in omega (arith, z))
+  passed-so false _ = λ t q r n. refl
+  passed-so true d = absurd (let z : _≡_ {A = ℕ} 0 1 = cc in omega (arith, z))

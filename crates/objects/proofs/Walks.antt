@@ -2,10 +2,11 @@
 use Prim.Native.Nat.{ℕ}
 use mathlib.Core.List.{List}
 use mathlib.Core.Bool.{Bool}
-use mathlib.Core.Path.{_≡_, refl, subst}
+use mathlib.Core.Path.{_≡_, refl, ap, _∙_, subst}
 use borrow.Rule.Slice.PartAt.{part-to-end}
 use Rattle.meaning.specs.Field.{names}
 use Rattle.meaning.specs.Layouts.{Layout}
+use Rattle.cbor.specs.Ending.{code, itemEnd}
 use Rattle.walk.specs.Places.{MapIs}
 use Rattle.walk.specs.declared.Opening.{Opening}
 use Rattle.walk.specs.declared.Opening.the-variants.{NotOpen, Opened}
@@ -29,3 +30,7 @@ module _ (deep : Bool) (L : Layout) (c : List ℕ) (start : ℕ) (x : Opening) (
       let m = opens.opened c x h mode count size is .trees 30 t q r in
       let w = subst (λ u. Walked deep L start mode count u n left spans first) (part-to-end c size) walked (m .pairs) (m .last) (m .due) in
       subst (λ u. Concluded u n first left spans found) (part-to-end c size) concluded deep L start (m .pairs) w t (m .kind-is)
+
+-- where a value that is lent whole ends
+pub ends-so : (c : List ℕ) (e : ℕ) → e ≡ code (itemEnd 31 (Here c 0)) → e ≡ code (itemEnd 31 c)
+ends-so c e h = h ∙ ap (λ (s : List ℕ). code (itemEnd 31 s)) (part-to-end c 0)

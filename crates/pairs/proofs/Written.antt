@@ -1,5 +1,5 @@
 -- An entry that is written after those that follow it; and objects that nothing tells apart have no entry.
-use Prim.Native.Nat.{ℕ, zero, suc, _+_, _-_, _≤_, _<_}
+use Prim.Native.Nat.{ℕ, zero, suc, _+_, _≤_, _<_}
 use native.Mathlib.Nat.{zero-add}
 use native.Mathlib.Omega.{arith}
 use mathlib.Core.List.{List, [], _∷_, _++_, map}
@@ -9,6 +9,8 @@ use mathlib.Core.Path.{_≡_, refl, sym, ap, ap₂, _∙_}
 use lib.ListN.{length, take, set}
 use lib.Seq.{sets, set-comm, set-out, length-sets, getD-drop, drop-drop}
 use lib.Dec.{eqb}
+use mir.Syntax.{w64}
+use mir.Val.{Fits}
 use borrow.Author.Tests.{ne-eqb}
 use Rattle.meaning.specs.Columns.{componentWidth, rankColumn, shapeColumn, formatColumn, formatLengthColumn}
 use Rattle.meaning.specs.Asked.{askedObject, askedComponent, eachRow}
@@ -42,7 +44,7 @@ sets-sets l q (a ∷ e) p r h =
     ap (λ (x : List ℕ). sets x (suc q) e) (set-sets l q a p r (omega arith)) ∙ sets-sets (set l q a) (suc q) e p r (omega arith)
 
 -- what follows an entry was written first
-pub later-first : {es rs : List ℕ} {at : ℕ} {xs ys zs : List ℕ} {past r q : ℕ} → length es ≡ 8 → past ≡ capped (at + 8) → Wrote rs past xs ys r → Wrote es at ys zs q
+later-first : {es rs : List ℕ} {at : ℕ} {xs ys zs : List ℕ} {past r q : ℕ} → length es ≡ 8 → past ≡ capped (at + 8) → Wrote rs past xs ys r → Wrote es at ys zs q
     → Wrote (es ++ rs) at xs zs r
 later-first {es} {rs} {at} {xs} {ys} {zs} {past} {r} {q} n e w v = go
   where
@@ -108,30 +110,30 @@ module _ (i j : ℕ) (ds : List DescribedComponent) where
 
 -- ---- an object's parts
 
-pub parts-are : (file table : List ℕ) (q n : ℕ) → map (describedComponent file) (componentsAt n q table) ≡ partsAt file table q n
+parts-are : (file table : List ℕ) (q n : ℕ) → map (describedComponent file) (componentsAt n q table) ≡ partsAt file table q n
 unfolding partsAt partAt eachRow
 parts-are file table q zero = refl
 parts-are file table q (suc n) =
     ap₂ {C = List DescribedComponent} (λ c cs. c ∷ cs) refl (ap (λ (l : List ℕ). map (describedComponent file) (eachRow askedComponent componentWidth n l)) (drop-drop componentWidth q table) ∙ parts-are file table (q + componentWidth) n)
 
 module _ (file table : List ℕ) (row first : ℕ) where
-  pub components-are : objectAt file table row first .components ≡ partsAt file table first (countAt table row)
+  components-are : objectAt file table row first .components ≡ partsAt file table first (countAt table row)
   unfolding objectAt describedObject
   components-are = parts-are file table first (countAt table row)
 
-  pub shape-is : objectAt file table row first .shape ≡ shapeAt table row
+  shape-is : objectAt file table row first .shape ≡ shapeAt table row
   unfolding objectAt describedObject askedObject shapeAt
   shape-is = ap₂ (λ (n : ℕ) (l : List ℕ). take n l) (getD-drop row table rankColumn 0) (drop-drop shapeColumn row table)
 
-  pub format-is : objectAt file table row first .format ≡ formatAt file table row
+  format-is : objectAt file table row first .format ≡ formatAt file table row
   unfolding objectAt describedObject askedObject formatAt
   format-is = rw (getD-drop row table formatColumn 0, getD-drop row table formatLengthColumn 0)
 
 -- ---- the pair
 
-pub both-seen : (cs ds : List DescribedComponent) (i j at : ℕ) {xs ys zs : List ℕ} {f : Seen} {s : Lone} {e : ℕ} → PartsSeen cs ds i j at xs ys f → LonesSeen ds cs i j (f .at) ys zs s
+pub both-seen : {cs ds : List DescribedComponent} {i j at : ℕ} {xs ys zs : List ℕ} {f : Seen} {s : Lone} {e : ℕ} → PartsSeen cs ds i j at xs ys f → LonesSeen ds cs i j (f .at) ys zs s
     → e ≡ cond (eqb (f .names) 0) (s .names) (f .names) → BothSeen cs ds i j at xs zs (record { at = s .at; names = e; dtypes = f .dtypes; kinds = f .kinds; bytes = f .bytes })
-both-seen cs ds i j at {f = f} {s = s} hf hs he = record {
+both-seen {cs} {ds} hf hs he = record {
   wrote = then (hf .wrote) (hs .wrote);
   names = he ∙ ap₂ (λ (x y : ℕ). cond (eqb x 0) y x) (hf .names) (hs .names) ∙ go (lone cs ds) (lone ds cs);
   dtypes = hf .dtypes;
@@ -143,10 +145,24 @@ both-seen cs ds i j at {f = f} {s = s} hf hs he = record {
     go true t = refl
     go false t = refl
 
-pub what-fits : (cs ds : List DescribedComponent) {i j at own : ℕ} {xs zs : List ℕ} {s : Seen} → own ≤ 3 → BothSeen cs ds i j at xs zs s → own + s .names + s .dtypes + s .kinds + s .bytes ≤ 63
-what-fits cs ds l h =
-    rw (h .names, h .dtypes, h .kinds, h .bytes)
-    (omega (arith, l, bit-small 4 (lone cs ds || lone ds cs), bit-small 8 (shared otherDtype cs ds), bit-small 16 (shared otherType cs ds), bit-small 32 (shared otherBytes cs ds)))
+-- what both differ in adds up to no more than 63
+module _ {cs ds : List DescribedComponent} {i j at own : ℕ} {xs zs : List ℕ} {s : Seen} (l : own ≤ 3) (h : BothSeen cs ds i j at xs zs s) where
+  what-small : own + s .names + s .dtypes + s .kinds + s .bytes ≤ 63
+  what-small =
+      rw (h .names, h .dtypes, h .kinds, h .bytes)
+      (omega (arith, l, bit-small 4 (lone cs ds || lone ds cs), bit-small 8 (shared otherDtype cs ds), bit-small 16 (shared otherType cs ds), bit-small 32 (shared otherBytes cs ds)))
+
+  pub two-fit : Fits w64 (own + s .names)
+  two-fit = record { fits = omega (arith, what-small) }
+
+  pub three-fit : Fits w64 (own + s .names + s .dtypes)
+  three-fit = record { fits = omega (arith, what-small) }
+
+  pub four-fit : Fits w64 (own + s .names + s .dtypes + s .kinds)
+  four-fit = record { fits = omega (arith, what-small) }
+
+  pub five-fit : Fits w64 (own + s .names + s .dtypes + s .kinds + s .bytes)
+  five-fit = record { fits = omega (arith, what-small) }
 
 module _ (o p : DescribedObject) (i j at : ℕ) (xs : List ℕ) {past : ℕ} {zs : List ℕ} {s : Seen} {own : ℕ} (ep : past ≡ capped (at + 8))
     (hs : BothSeen (o .components) (p .components) i j past xs zs s) (ho : own ≡ ownWhat (o .shape) (o .format) (p .shape) (p .format)) where
@@ -161,13 +177,13 @@ module _ (o p : DescribedObject) (i j at : ℕ) (xs : List ℕ) {past : ℕ} {zs
       (ap flat (across-same (λ x d. ifAbsent (entry 6 i j 0 (0 + x) 0 0 0) (part (d .name) (o .components))) (λ x d. ifAbsent (entry 6 i j 0 x 0 0 0) (part (d .name) (o .components))) (λ x d. ap (λ (y : ℕ). ifAbsent (entry 6 i j 0 y 0 0 0) (part (d .name) (o .components))) (zero-add x)) (p .components))))
       (hs .wrote)
 
-  pub pair-differs : (own + s .names + s .dtypes + s .kinds + s .bytes ≡ 0 → ⊥) → {ws : List ℕ} {q : ℕ}
+  pair-differs : (own + s .names + s .dtypes + s .kinds + s .bytes ≡ 0 → ⊥) → {ws : List ℕ} {q : ℕ}
       → Wrote (numbers (entry 3 i j 0 0 (own + s .names + s .dtypes + s .kinds + s .bytes) 0 0)) at zs ws q → Wrote (flat (inBoth i j o p)) at xs ws (s .at)
   pair-differs z w =
       let n : eqb (objectWhat o p) 0 ≡ false = ne-eqb (objectWhat o p) 0 (λ h. z (what-is ∙ h)) in
       as-bytes (rw (n, flat-append (firsts i j o p) (seconds i j o p)) refl) (later-first {es = numbers (entry 3 i j 0 0 (objectWhat o p) 0 0)} refl ep after-it (rw what-is at w))
 
-  pub pair-same : own + s .names + s .dtypes + s .kinds + s .bytes ≡ 0 → {q : ℕ} → q ≡ capped at → Wrote (flat (inBoth i j o p)) at xs zs q
+  pair-same : own + s .names + s .dtypes + s .kinds + s .bytes ≡ 0 → {q : ℕ} → q ≡ capped at → Wrote (flat (inBoth i j o p)) at xs zs q
   pair-same z {q} h =
       let n : objectWhat o p ≡ 0 = sym what-is ∙ z in
       let l = or-false (lone (o .components) (p .components)) (lone (p .components) (o .components)) (bit-none 4 _ (omega arith) (sym (hs .names) ∙ (let v : s .names ≡ 0 = omega arith in v))) in
@@ -183,13 +199,28 @@ module _ (o p : DescribedObject) (i j at : ℕ) (xs : List ℕ) {past : ℕ} {zs
 -- ---- the objects that the rows count
 
 module _ (first a : List ℕ) (p c : ℕ) (second b : List ℕ) (q d : ℕ) where
-  pub seen-is : {i j m n past : ℕ} {xs zs : List ℕ} {s : Seen} → m ≡ countAt a p → n ≡ countAt b q → BothSeen (partsAt first a c m) (partsAt second b d n) i j past xs zs s
+  seen-is : {i j past : ℕ} {xs zs : List ℕ} {s : Seen} → BothSeen (partsAt first a c (countAt a p)) (partsAt second b d (countAt b q)) i j past xs zs s
       → BothSeen (objectAt first a p c .components) (objectAt second b q d .components) i j past xs zs s
-  seen-is em en h = rw (components-are first a p c, components-are second b q d) (rw (em, en) at h)
+  seen-is h = rw (components-are first a p c, components-are second b q d) h
 
-  pub own-is : {own : ℕ} → own ≡ ownWhat (shapeAt a p) (formatAt first a p) (shapeAt b q) (formatAt second b q)
+  own-is : {own : ℕ} → own ≡ ownWhat (shapeAt a p) (formatAt first a p) (shapeAt b q) (formatAt second b q)
       → own ≡ ownWhat (objectAt first a p c .shape) (objectAt first a p c .format) (objectAt second b q d .shape) (objectAt second b q d .format)
   own-is h = rw (shape-is first a p c, format-is first a p c, shape-is second b q d, format-is second b q d) h
+
+module _ (first a : List ℕ) (p c : ℕ) (second b : List ℕ) (q d : ℕ) {i j at past own : ℕ} {xs zs : List ℕ} {s : Seen} (ep : past ≡ capped (at + 8))
+    (hs : BothSeen (partsAt first a c (countAt a p)) (partsAt second b d (countAt b q)) i j past xs zs s)
+    (ho : own ≡ ownWhat (shapeAt a p) (formatAt first a p) (shapeAt b q) (formatAt second b q)) where
+  pub objects-differ : (own + s .names + s .dtypes + s .kinds + s .bytes ≡ 0 → ⊥) → {ws : List ℕ} {r : ℕ}
+      → Wrote (numbers (entry 3 i j 0 0 (own + s .names + s .dtypes + s .kinds + s .bytes) 0 0)) at zs ws r
+      → Wrote (flat (inBoth i j (objectAt first a p c) (objectAt second b q d))) at xs ws (s .at)
+  objects-differ z w = pair-differs (objectAt first a p c) (objectAt second b q d) i j at xs ep (seen-is first a p c second b q d hs) (own-is first a p c second b q d ho) z w
+
+  pub objects-same : own + s .names + s .dtypes + s .kinds + s .bytes ≡ 0 → {r : ℕ} → r ≡ capped at → Wrote (flat (inBoth i j (objectAt first a p c) (objectAt second b q d))) at xs zs r
+  objects-same z h = pair-same (objectAt first a p c) (objectAt second b q d) i j at xs ep (seen-is first a p c second b q d hs) (own-is first a p c second b q d ho) z h
+
+-- the place past an entry is no higher than the last
+pub past-last : (at : ℕ) → most ≤ at → most ≡ capped (at + 8)
+past-last at l = sym (capped-high (at + 8) (omega (arith, l)))
 
 -- what was sorted, handed on
 pub known : {file table : List ℕ} {first n : ℕ} → Lie table first n → {ix : List ℕ} {k : ℕ} → Sorted (named file table first componentWidth) n ix k → length ix ≡ 16 → Known file table first n ix k

@@ -5,3 +5,4 @@ pub mod LineEnds
 pub mod Answers
 pub mod Columns
 pub mod OfRows
+pub mod Pieces

@@ -1,5 +1,5 @@
 -- The listing of a table that begins with a model's rows is the model's listing.
-use Prim.Native.Nat.{ℕ, suc, _+_, _-_, _*_}
+use Prim.Native.Nat.{ℕ, suc, _+_, _*_}
 use native.Mathlib.Nat.{zero-add, suc-add}
 use native.Mathlib.Omega.{arith}
 use mathlib.Core.List.{List, [], _∷_, _++_, append-assoc}
@@ -17,7 +17,7 @@ use Rattle.meaning.specs.Listing as meaning
 use Rattle.meaning.specs.Every.{Every}
 use Rattle.meaning.specs.Stands.{ComponentStands, ObjectStands, InFile}
 use Rattle.meaning.specs.Tree.{Node}
-use Rattle.panel.specs.Lines.{plain, countAt, counted, every, componentSound, objectSound, blobLine, blobLines, objectLine, objectLines, text, sound, listed}
+use Rattle.panel.specs.Lines.{plain, countAt, counted, every, componentSound, objectSound, blobLines, objectLines, text, sound, listed}
 use Rattle.panel.proofs.Answers.{all-listed}
 use Rattle.view.proofs.Columns.{component-past, objects-at, components-at, rows-lie, components-past}
 use Rattle.panel.proofs.Columns.{component-sound, blob-line, count-is, object-past, object-sound, object-line}

@@ -1,12 +1,14 @@
 -- Components by their rows, and the one that a name was matched with.
-use Prim.Native.Nat.{ℕ, zero, suc, _+_, _-_, _*_, _≤_, _<_}
+use Prim.Native.Nat.{ℕ, zero, suc, _+_, _-_, _*_, _^_, _≤_, _<_}
 use native.Mathlib.Omega.{arith}
 use mathlib.Core.List.{List, [], _∷_}
 use mathlib.Core.Bool.{true, false}
 use mathlib.Core.Option.{Option, none, some, Option·some-injective, Option·none-ne-some}
 use mathlib.Core.Path.{_≡_, refl, sym, ap, _∙_, subst}
-use lib.ListN.{getElem?}
+use lib.ListN.{length, getElem?}
 use lib.Seq.{getD-drop}
+use mir.Syntax.{w64}
+use mir.Val.{Fits}
 use Rattle.meaning.specs.Columns.{componentWidth, nameColumn, nameLengthColumn}
 use Rattle.meaning.specs.Text.{same}
 use Rattle.meaning.specs.Asked.{askedComponent}
@@ -35,16 +37,16 @@ module _ {A : Type 0} (called : A → List ℕ) where
 -- ---- rows
 
 module _ (file table : List ℕ) where
-  pub part-name : (row : ℕ) → partAt file table row .name ≡ nameAt file table row
+  part-name : (row : ℕ) → partAt file table row .name ≡ nameAt file table row
   unfolding partAt describedComponent askedComponent nameAt
   part-name row = rw (getD-drop row table nameColumn 0, getD-drop row table nameLengthColumn 0)
 
-  pub parts-none : (row n : ℕ) → n ≤ 0 → partsAt file table row n ≡ []
+  parts-none : (row n : ℕ) → n ≤ 0 → partsAt file table row n ≡ []
   unfolding partsAt
   parts-none row zero l = refl
   parts-none row (suc n) l = absurd (omega arith)
 
-  pub parts-next : (row n : ℕ) → 0 < n → partsAt file table row n ≡ partAt file table row ∷ partsAt file table (row + componentWidth) (n - 1)
+  parts-next : (row n : ℕ) → 0 < n → partsAt file table row n ≡ partAt file table row ∷ partsAt file table (row + componentWidth) (n - 1)
   unfolding partsAt
   parts-next row zero l = absurd (omega arith)
   parts-next row (suc n) l = let z : suc n - 1 ≡ n = omega arith in rw z
@@ -71,12 +73,12 @@ module _ (file table : List ℕ) where
   called row i = part-name (row + componentWidth * i)
 
   module _ (row n : ℕ) {r : ℕ} {w : List ℕ} (f : First (named file table row componentWidth) n w r) where
-    pub part-found : r < n → part w (partsAt file table row n) ≡ some (record { index = r; it = partAt file table (row + componentWidth * r) })
+    part-found : r < n → part w (partsAt file table row n) ≡ some (record { index = r; it = partAt file table (row + componentWidth * r) })
     part-found l =
         seek-first (λ (c : DescribedComponent). c .name) (partsAt file table row n) w r (partAt file table (row + componentWidth * r)) (part-elem row n r l) (called row r ∙ f .is l)
         (λ j b m h e. let q = elem-part row n j b h in f .before j m (sym (called row j) ∙ ap (λ (c : DescribedComponent). c .name) (q .1) ∙ e))
 
-    pub part-lacks : n ≤ r → part w (partsAt file table row n) ≡ none
+    part-lacks : n ≤ r → part w (partsAt file table row n) ≡ none
     part-lacks l =
         seek-lacks (λ (c : DescribedComponent). c .name) (partsAt file table row n) w
         (λ j b h e. let q = elem-part row n j b h in f .before j (omega (arith, q .0)) (sym (called row j) ∙ ap (λ (c : DescribedComponent). c .name) (q .1) ∙ e))
@@ -96,5 +98,24 @@ matched first a p second b q n {r} {w} f e =
     let g : First (named second b q componentWidth) n (partAt first a p .name) r = subst (λ (v : List ℕ). First (named second b q componentWidth) n v r) (e ∙ sym (part-name first a p)) f in
     record { found = part-found second b q n g; lacks = part-lacks second b q n g }
 
-pub parts-begin : (file table : List ℕ) (p m : ℕ) → partsAt file table (p + componentWidth * 0) (m - 0) ≡ partsAt file table p m
+-- those from the k-th on of the m that begin at p
+abbrev pub still : List ℕ → List ℕ → ℕ → ℕ → ℕ → List DescribedComponent
+still file table p m k = partsAt file table (p + componentWidth * k) (m - k)
+
+pub parts-begin : (file table : List ℕ) (p m : ℕ) → still file table p m 0 ≡ partsAt file table p m
 parts-begin file table p m = let z : p + componentWidth * 0 ≡ p = omega arith in let y : m - 0 ≡ m = omega arith in rw (z, y)
+
+pub parts-end : (file table : List ℕ) (p m k : ℕ) → m ≤ k → still file table p m k ≡ []
+parts-end file table p m k l = parts-none file table (p + componentWidth * k) (m - k) (omega (arith, l))
+
+-- the row of one of m that lie in a table
+module _ (p m k : ℕ) (table : List ℕ) (l : k < m) (lie : p + componentWidth * m ≤ length table) where
+  pub row-lies : p + componentWidth * k + componentWidth ≤ length table
+  row-lies = omega (arith, l, lie)
+
+  module _ (room : length table * 8 < 2 ^ 63) where
+    pub offset-fits : Fits w64 (componentWidth * k)
+    offset-fits = record { fits = omega (arith, l, lie, room) }
+
+    pub row-fits : Fits w64 (p + componentWidth * k)
+    row-fits = record { fits = omega (arith, l, lie, room) }

@@ -2,11 +2,11 @@
 use Prim.Native.Nat.{ℕ, zero, suc, _+_, _-_, _*_, _%_, _≤_, _<_}
 use native.Mathlib.Omega.{arith}
 use mathlib.Core.List.{List, [], _∷_}
-use mathlib.Core.Bool.{Bool, true, false, _&&_, _||_}
+use mathlib.Core.Bool.{Bool, true, false, not, _&&_, _||_}
 use mathlib.Core.Path.{_≡_, refl, sym, ap, _∙_, subst}
 use lib.Dec.{eqb, leb}
 use lib.ListN.{length, getD}
-use borrow.Author.Tests.{leb-true, le-leb, lt-leb, eqb-true, eq-eqb, ne-eqb}
+use borrow.Author.Tests.{not-true, not-false, leb-true, le-leb, lt-leb, eqb-true, eq-eqb, ne-eqb}
 use Rattle.meaning.specs.Columns.{componentWidth, lengthColumn}
 use Rattle.meaning.specs.Limit.{endLimit}
 use Rattle.meaning.specs.Text.{all}
@@ -88,18 +88,20 @@ module _ {plan rows : List ℕ} where
     unfolding earlier
     opened = g .same ∙ ap (λ (k : ℕ). all (apart s) (earlier plan rows k)) (sym is-one-more)
 
-    pub earlier-there : Earlier plan rows (suc (i - 1))
+    earlier-there : Earlier plan rows (suc (i - 1))
     earlier-there = subst (Earlier plan rows) (sym is-one-more) (g .left)
 
     pub its-end : getD plan (i - 1) 0 + getD rows (componentWidth * (i - 1) + lengthColumn) 0 ≤ endLimit
     unfolding earlier
     its-end = earlier-there .low .0
 
-    pub go-on : true ≡ apart s (here plan rows (i - 1)) → Looking plan rows s n (i - 1)
-    go-on e = record { left = fewer earlier-there; same = opened ∙ ap (λ (t : Bool). t && all (apart s) (earlier plan rows (i - 1))) (sym e) }
+    -- b: the blob there shares no byte with this one
+    module _ (b : Bool) (is : b ≡ apart s (here plan rows (i - 1))) where
+      pub go-on : b ≡ true → Looking plan rows s n (i - 1)
+      go-on e = record { left = fewer earlier-there; same = opened ∙ ap (λ (t : Bool). t && all (apart s) (earlier plan rows (i - 1))) (sym is ∙ e) }
 
-    pub shares : false ≡ apart s (here plan rows (i - 1)) → false ≡ all (apart s) (earlier plan rows n)
-    shares e = sym (opened ∙ ap (λ (t : Bool). t && all (apart s) (earlier plan rows (i - 1))) (sym e))
+      pub shares : b ≡ false → false ≡ all (apart s) (earlier plan rows n)
+      shares e = sym (opened ∙ ap (λ (t : Bool). t && all (apart s) (earlier plan rows (i - 1))) (sym is ∙ e))
 
 -- ---- the next offset
 
@@ -113,15 +115,20 @@ module _ {plan rows : List ℕ} {i end ceiling : ℕ} (x : Next plan rows i end 
   abbrev none-shares : Bool
   none-shares = all (apart (ranged offset size)) (earlier plan rows i)
 
-  pub not-allowed : false ≡ allowed ceiling (ranged offset size) → false ≡ (allowed ceiling (ranged offset size) && none-shares)
-  not-allowed e = ap (λ (t : Bool). t && none-shares) e
+  -- b: what is answered of the offset by itself
+  module _ (b : Bool) (is : b ≡ allowed ceiling (ranged offset size)) where
+    pub not-allowed : not b ≡ true → false ≡ (allowed ceiling (ranged offset size) && none-shares)
+    not-allowed h = ap (λ (t : Bool). t && none-shares) (sym (not-true b h) ∙ is)
 
-  module _ (e : true ≡ allowed ceiling (ranged offset size)) where
-    pub end-low : offset + size ≤ endLimit
-    end-low = ends-low offset size ceiling (x .ceiling-low) (sym e)
+    module _ (h : not b ≡ false) where
+      e : true ≡ allowed ceiling (ranged offset size)
+      e = sym (not-false b h) ∙ is
 
-    pub past-all : end ≤ offset → true ≡ (allowed ceiling (ranged offset size) && none-shares)
-    past-all h = sym (apart-before end offset size (earlier plan rows i) h (x .ends)) ∙ ap (λ (t : Bool). t && none-shares) e
+      pub end-low : offset + size ≤ endLimit
+      end-low = ends-low offset size ceiling (x .ceiling-low) (sym e)
 
-    pub as-looked : {r : Bool} → r ≡ none-shares → r ≡ (allowed ceiling (ranged offset size) && none-shares)
-    as-looked q = q ∙ ap (λ (t : Bool). t && none-shares) e
+      pub past-all : end ≤ offset → true ≡ (allowed ceiling (ranged offset size) && none-shares)
+      past-all h = sym (apart-before end offset size (earlier plan rows i) h (x .ends)) ∙ ap (λ (t : Bool). t && none-shares) e
+
+      pub as-looked : {r : Bool} → r ≡ none-shares → r ≡ (allowed ceiling (ranged offset size) && none-shares)
+      as-looked q = q ∙ ap (λ (t : Bool). t && none-shares) e

@@ -6,6 +6,8 @@ use mathlib.Core.List.{List, [], _∷_}
 use mathlib.Core.Bool.{Bool, true, false, _&&_}
 use mathlib.Core.Path.{_≡_, refl, sym, ap, _∙_, subst}
 use lib.Dec.{leb}
+use mir.Syntax.{w64}
+use mir.Val.{Fits}
 use lib.ListN.{length, drop, getD, drop-of-length-le}
 use lib.Seq.{drop-cons, getD-drop}
 use borrow.Author.Tests.{le-leb, lt-leb}
@@ -74,9 +76,14 @@ module _ {plan rows : List ℕ} {n ceiling i end : ℕ} (g : Going plan rows n c
     unfolding plannedFrom
     left-over h = g .verdict ∙ rw (no-rest, drop-cons plan i 0 h) refl
 
-    pub accepted : length plan ≤ i → (planned ceiling plan (sizes plan rows n) ≡ pass tt) × (end ≡ lastEnd plan (sizes plan rows n))
-    unfolding plannedFrom endFrom
-    accepted h = (g .verdict ∙ rw (no-rest, drop-of-length-le plan h) refl, sym (g .ends ∙ rw (no-rest, drop-of-length-le plan h) refl))
+    module _ (h : length plan ≤ i) where
+      pub accepted : planned ceiling plan (sizes plan rows n) ≡ pass tt
+      unfolding plannedFrom
+      accepted = g .verdict ∙ rw (no-rest, drop-of-length-le plan h) refl
+
+      pub ends-last : end ≡ lastEnd plan (sizes plan rows n)
+      unfolding endFrom
+      ends-last = sym (g .ends ∙ rw (no-rest, drop-of-length-le plan h) refl)
 
   -- ---- one more row
 
@@ -94,7 +101,7 @@ module _ {plan rows : List ℕ} {n ceiling i end : ℕ} (g : Going plan rows n c
         ∙ ap (λ (k : ℕ). size ∷ blobSizes (componentsAt k (componentWidth * i + componentWidth) rows)) a
         ∙ ap (λ (k : ℕ). size ∷ blobSizes (componentsAt (n - suc i) k rows)) b
 
-    pub row-long : componentWidth * suc i ≤ length rows
+    row-long : componentWidth * suc i ≤ length rows
     row-long = omega (arith, g .lie, some)
 
     pub too-short : length plan ≤ i → planned ceiling plan (sizes plan rows n) ≡ refuse PLAN i 0
@@ -116,14 +123,20 @@ module _ {plan rows : List ℕ} {n ceiling i end : ℕ} (g : Going plan rows n c
       unfolding plannedFrom
       opened = g .verdict ∙ rw (one-row, drop-cons plan i 0 has) refl
 
-      pub breaks : false ≡ test → planned ceiling plan (sizes plan rows n) ≡ refuse PLAN i 0
-      breaks e =
+      pub breaks : (b : Bool) → b ≡ test → b ≡ false → planned ceiling plan (sizes plan rows n) ≡ refuse PLAN i 0
+      breaks b is e =
           opened
-          ∙ ap (λ (t : Bool). inObject i (PLAN unless t) >> plannedFrom ceiling (suc i) (ranged offset size ∷ earlier plan rows i) (drop (suc i) plan) (rest rows n (suc i))) (sym e)
+          ∙ ap (λ (t : Bool). inObject i (PLAN unless t) >> plannedFrom ceiling (suc i) (ranged offset size ∷ earlier plan rows i) (drop (suc i) plan) (rest rows n (suc i))) (sym is ∙ e)
 
-      module _ (e : true ≡ test) where
-        pub sum-low : offset + size ≤ endLimit
+      module _ (b : Bool) (is : b ≡ test) (held : b ≡ true) where
+        e : true ≡ test
+        e = sym held ∙ is
+
+        sum-low : offset + size ≤ endLimit
         sum-low = ends-low offset size ceiling (g .low) (both-left (allowed ceiling (ranged offset size)) (all (apart (ranged offset size)) (earlier plan rows i)) (sym e))
+
+        pub sum-fits : Fits w64 (getD plan i 0 + getD rows (componentWidth * i + lengthColumn) 0)
+        sum-fits = record { fits = omega (arith, sum-low) }
 
         stepped : {far : ℕ} → far ≡ max end (offset + size) → Going plan rows n ceiling (suc i) far
         unfolding earlier endFrom

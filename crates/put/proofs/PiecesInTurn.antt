@@ -1,14 +1,18 @@
 -- Pieces of writing, one after the other. Where a place is stopped nothing is written any more, so what is left is the same.
-use Prim.Native.Nat.{ℕ, suc, _+_, _≤_, _<_}
+use Prim.Native.Nat.{ℕ, suc, _+_, _-_, _*_, _/_, _%_, _≤_, _<_}
 use native.Mathlib.Nat.{add-zero, add-suc, suc-add}
 use native.Mathlib.Omega.{arith}
 use mathlib.Core.List.{List, [], _∷_, _++_}
-use mathlib.Core.Bool.{Bool, true, false}
+use mathlib.Core.Bool.{Bool, true, false, _&&_, not}
 use mathlib.Core.Path.{_≡_, refl, sym, ap, _∙_, subst}
-use lib.ListN.{length, set, length-append}
+use lib.ListN.{length, getD, take, drop, set, length-append}
 use lib.Seq.{sets, length-sets, set-out}
-use lib.Dec.{ltb}
+use lib.Dec.{ltb, eqb}
 use borrow.Author.Tests.{lt-ltb, le-ltb, ltb-true, ltb-false}
+use borrow.Rule.Slice.PartAt.{part-to-end}
+use Rattle.meaning.specs.Text.{within}
+use Rattle.meaning.specs.Listing.{decimal, hex, shown, shownText}
+use Rattle.put.proofs.Pieces.{next, at-end, next-shown, shown-end, shown-plain, shown-escaped, decimal-one, decimal-more}
 use Rattle.put.specs.Wrote.{most, capped, Wrote}
 
 pub capped-low : (n : ℕ) → n < most → capped n ≡ n
@@ -105,3 +109,68 @@ module _ {all rest : List ℕ} {at : ℕ} {xs : List ℕ} {r : ℕ} {ys : List �
 
   pub rest-none : (q : ℕ) → Rest all at xs rest r ys → rest ≡ [] → q ≡ capped r → Wrote all at xs ys q
   rest-none q h e p = h .1 ys q (as-bytes (sym e) (nothing q (h .0) p))
+
+pub byte-then : {bs xs ys zs : List ℕ} {b at r q : ℕ} → Wrote (b ∷ []) at xs ys r → Wrote bs r ys zs q → Wrote (b ∷ bs) at xs zs q
+byte-then v w = then v w
+
+-- ---- a byte that is shown
+
+module _ (b : ℕ) {xs ys : List ℕ} {at r : ℕ} {plain : Bool} (e : plain ≡ within 33 126 b && not (eqb b 92)) where
+  pub plain-shown : plain ≡ true → Wrote (b ∷ []) at xs ys r → Wrote (shown b) at xs ys r
+  plain-shown t w = as-bytes (shown-plain b (sym e ∙ t)) w
+
+  pub escaped-shown : {us vs : List ℕ} {n m h l : ℕ} → plain ≡ false → h ≡ hex (b / 16) → l ≡ hex (b % 16) → Wrote (92 ∷ []) at xs us n → Wrote (h ∷ []) n us vs m → Wrote (l ∷ []) m vs ys r
+      → Wrote (shown b) at xs ys r
+  escaped-shown {h = h} {l = l} f p q u v w = as-bytes (shown-escaped b h l (sym e ∙ f) p q) (then u (then v w))
+
+-- ---- a number
+
+module _ (n : ℕ) {xs ys : List ℕ} {at r : ℕ} where
+  pub one-digit : n < 10 → Wrote ((48 + n) ∷ []) at xs ys r → Wrote (decimal n) at xs ys r
+  one-digit h w = as-bytes (decimal-one n h) w
+
+  pub more-digits : n < 18446744073709551616 → 10 ≤ n → {zs : List ℕ} {q : ℕ} → Wrote (decimal (n / 10)) at xs ys r → Wrote ((48 + n % 10) ∷ []) r ys zs q → Wrote (decimal n) at xs zs q
+  more-digits s h v w = as-bytes (decimal-more n s h) (then v w)
+
+-- ---- a text after a blank
+
+pub blank-then-text : (t : List ℕ) {xs ys zs : List ℕ} {at r q : ℕ} → Wrote (32 ∷ []) at xs ys r → Wrote (shownText (take (length t - 0) (drop 0 t))) r ys zs q → Wrote (32 ∷ shownText t) at xs zs q
+blank-then-text t v w = as-bytes (ap (λ (s : List ℕ). 32 ∷ shownText s) (part-to-end t 0)) (then v w)
+
+-- ---- the loops over a text, at its place i: what each writes for the rest of it is still to be written
+
+pub record Writing (of : List ℕ → List ℕ) (t : List ℕ) (at : ℕ) (xs : List ℕ) (r i : ℕ) (ys : List ℕ) : Type 0 where
+  pub inside : i ≤ length t
+  pub rest : Rest (of t) at xs (of (drop i t)) r ys
+
+-- what a slice of bytes that is owned is: it has less than 2 ^ 63
+abbrev pub Owned : List ℕ → Type 0
+Owned xs = length xs * 1 < most
+
+owned-short : (xs : List ℕ) → Owned xs → length xs < most
+owned-short xs h = omega arith
+
+pub written-none : {of : List ℕ → List ℕ} {t xs : List ℕ} {at : ℕ} → Owned xs → Writing of t at xs at 0 xs
+written-none {of} {t} {xs} {at} h = record { inside = omega arith; rest = rest-all (of t) at xs (owned-short xs h) }
+
+module _ {t xs ys zs : List ℕ} {at r i s : ℕ} where
+  pub byte-written : Writing (λ (u : List ℕ). u) t at xs r i ys → i < length t → Wrote (getD t i 0 ∷ []) r ys zs s → Writing (λ (u : List ℕ). u) t at xs s (i + 1) zs
+  byte-written w l e = record { inside = omega arith; rest = rest-less (w .rest) (next t i l) e }
+
+  pub shown-written : Writing shownText t at xs r i ys → i < length t → Wrote (shown (getD t i 0)) r ys zs s → Writing shownText t at xs s (i + 1) zs
+  shown-written w l e = record { inside = omega arith; rest = rest-less (w .rest) (next-shown t i l) e }
+
+module _ {t xs ys : List ℕ} {at r i : ℕ} where
+  module _ (w : Writing (λ (u : List ℕ). u) t at xs r i ys) (l : length t ≤ i) where
+    pub all-bytes : {q : ℕ} → q ≡ capped r → Wrote t at xs ys q
+    all-bytes {q} e = rest-none q (w .rest) (at-end t i l) e
+
+    pub bytes-as-long : length ys ≡ length xs
+    bytes-as-long = same-length (all-bytes refl)
+
+  module _ (w : Writing shownText t at xs r i ys) (l : length t ≤ i) where
+    pub all-shown : {q : ℕ} → q ≡ capped r → Wrote (shownText t) at xs ys q
+    all-shown {q} e = rest-none q (w .rest) (shown-end t i l) e
+
+    pub shown-as-long : length ys ≡ length xs
+    shown-as-long = same-length (all-shown refl)

@@ -1,14 +1,14 @@
 -- From an accepted manifest to the answer and the table: its room, where its attributes and its objects stand, and the rows.
-use Prim.Native.Nat.{ℕ, _+_, _-_, _*_, _≤_, _<_}
+use Prim.Native.Nat.{ℕ, _+_, _-_, _*_, _^_, _≤_, _<_}
 use native.Mathlib.Omega.{arith}
 use mathlib.Core.List.{List, _++_, append-nil}
-use mathlib.Core.Bool.{Bool, true, false}
+use mathlib.Core.Bool.{Bool, true, false, not}
 use mathlib.Core.Option.{some}
-use mathlib.Core.Path.{_≡_, refl, sym, ap, ap₂, _∙_, subst}
+use mathlib.Core.Path.{_≡_, refl, sym, ap, _∙_, subst}
 use lib.ListN.{length, take, drop, length-map, length-drop, drop-of-length-le}
 use lib.Seq.{length-take-le}
 use lib.Dec.{leb}
-use borrow.Author.Tests.{leb-true}
+use borrow.Author.Tests.{leb-true, not-true, not-false}
 use borrow.Rule.Slice.PartAt.{part-to-end}
 use Rattle.meaning.specs.Columns.{objectWidth, componentWidth}
 use Rattle.meaning.specs.Tree.{Node, Pair, mapP}
@@ -18,7 +18,7 @@ use Rattle.meaning.specs.Model.{Model}
 use Rattle.meaning.specs.Notes.{mapOption, mapModel, mapObject}
 use Rattle.meaning.specs.Kind.{kind, mapping}
 use Rattle.meaning.specs.Field as field
-use Rattle.meaning.specs.Layouts.{Layout, slot, objectsAt, layoutOf}
+use Rattle.meaning.specs.Layouts.{Layout, slot, objectsAt, current, layoutOf}
 use Rattle.meaning.specs.Judge.{judge, objectsOf}
 use Rattle.meaning.specs.Frame.{Reading, frame, reading}
 use Rattle.meaning.specs.Rows.{attributesSpan, rows, roomFor, roomy, answer, tableAfter, readInto}
@@ -39,7 +39,7 @@ use Rattle.reader.specs.declared.Told.the-variants.{No, Yes}
 use Rattle.reader.specs.declared.into.Answer.{Answer}
 use Rattle.reader.specs.Verdict.{manifestReading, Accepted, ManifestIs}
 use Rattle.reader.specs.Answer.{refused, read, answered, AttributesIs, ahead, laidOver, placed, Filled}
-use Rattle.reader.proofs.Frames.{framed, inside, manifest-read}
+use Rattle.reader.proofs.Frames.{at-zero, framed, inside, manifest-read}
 use Rattle.reader.proofs.RootParts.{attributesAt, rooted, field-holds}
 
 -- ---------------------------------------------------------------- what an accepted root is made of
@@ -201,15 +201,23 @@ module _ (layout : ℕ) (last : Bool) (start : ℕ) (m before : List ℕ) (x : T
   filled-not n o c e r is = subst (λ r. Filled (layoutOf layout) last start m before r before) (sym is) (manifest-refuses layout start m before last n o c (told-there (No n o c) e))
 
   module _ (objects components left at : ℕ) (e : x ≡ Yes objects components left at) where
-    pub filled-no-room : false ≡ leb (objectWidth * objects + componentWidth * components) (length before) → (r : Answer) → r ≡ refused 24 0 0 → Filled (layoutOf layout) last start m before r before
-    filled-no-room f r is = subst (λ r. Filled (layoutOf layout) last start m before r before) (sym is) (no-room layout start m before objects components left at (told-there (Yes objects components left at) e) last f)
+    module _ (roomy-so : Bool) (by : roomy-so ≡ leb (objectWidth * objects + componentWidth * components) (length before)) where
+      pub filled-no-room : not roomy-so ≡ true → (r : Answer) → r ≡ refused 24 0 0 → Filled (layoutOf layout) last start m before r before
+      filled-no-room f r is =
+          subst (λ r. Filled (layoutOf layout) last start m before r before) (sym is)
+          (no-room layout start m before objects components left at (told-there (Yes objects components left at) e) last (sym (not-true roomy-so f) ∙ by))
 
-    pub filled-so : length m < FAULT → true ≡ leb (objectWidth * objects + componentWidth * components) (length before)
-        → (first : ℕ) → first ≡ ahead last (length before) (objectWidth * objects + componentWidth * components) → (place : ℕ) → place ≡ length m - at → (after : List ℕ)
-        → Written layout (Here m place) start (start + length m) (objectWidth * objects) (lentPart first before) after → (s : Span) → AttributesIs m left (start + length m) s
-        → Filled (layoutOf layout) last start m before (read objects components start s) (lentBack first before after)
-    filled-so room f first ahead-is place here after w s a =
-        written layout start m before objects components left at (told-there (Yes objects components left at) e) room f last first ahead-is place here after w s a
+      pub filled-so : start + length m < FAULT → not roomy-so ≡ false
+          → (first : ℕ) → first ≡ ahead last (length before) (objectWidth * objects + componentWidth * components) → (place : ℕ) → place ≡ length m - at → (after : List ℕ)
+          → Written layout (Here m place) start (start + length m) (objectWidth * objects) (lentPart first before) after → (s : Span) → AttributesIs m left (start + length m) s
+          → Filled (layoutOf layout) last start m before (read objects components start s) (lentBack first before after)
+      filled-so room f first ahead-is place here after w s a =
+          written layout start m before objects components left at (told-there (Yes objects components left at) e) (omega arith) (sym (not-false roomy-so f) ∙ by) last first ahead-is place here after w s a
+
+-- the room for the rows
+module _ (objects components : ℕ) (t : List ℕ) (roomy-so : Bool) (by : roomy-so ≡ leb (objectWidth * objects + componentWidth * components) (length t)) (f : not roomy-so ≡ false) where
+  pub room-enough : objectWidth * objects + componentWidth * components ≤ length t
+  room-enough = leb-true _ (length t) (sym by ∙ not-false roomy-so f)
 
 -- from the frame on
 module _ (layout : ℕ) (last : Bool) (file before : List ℕ) (r : Framed) (asked : frame (layoutOf layout) file ≡ framed-told r) where
@@ -221,19 +229,30 @@ module _ (layout : ℕ) (last : Bool) (file before : List ℕ) (r : Framed) (ask
     manifest-length : length (take (start + size - start) (drop start file)) ≡ size
     manifest-length = let i = inside layout file r asked start size e in length-take-le (start + size - start) (drop start file) (omega (arith, length-drop start file)) ∙ (omega arith)
 
-    pub manifest-short : length file < FAULT → start + length (take (start + size - start) (drop start file)) < FAULT
+    pub manifest-short : length file * 1 < 2 ^ 63 → start + length (take (start + size - start) (drop start file)) < FAULT
     manifest-short l = let i = inside layout file r asked start size e in let n = manifest-length in omega arith
 
-    pub frame-read : (m : List ℕ) → m ≡ take (start + size - start) (drop start file) → (a : Answer) (after : List ℕ) → Filled (layoutOf layout) last start m before a after
+    pub frame-read : (a : Answer) (after : List ℕ) → Filled (layoutOf layout) last start (take (start + size - start) (drop start file)) before a after
         → (a ≡ answered (readInto (layoutOf layout) file (length before))) × (after ≡ placed last before (readInto (layoutOf layout) file (length before)))
     unfolding readInto
-    frame-read m is a after f =
-        let l : length m ≡ size = ap length is ∙ manifest-length in
-        let z : reading (layoutOf layout) file ≡ manifestReading (layoutOf layout) (start + length m) start m = manifest-read layout file r asked start size e ∙ ap₂ (λ i u. manifestReading (layoutOf layout) i start u) (ap (λ n. start + n) (sym l)) (sym is) in
+    frame-read a after f =
+        let m = take (start + size - start) (drop start file) in
+        let z : reading (layoutOf layout) file ≡ manifestReading (layoutOf layout) (start + length m) start m =
+        manifest-read layout file r asked start size e ∙ ap (λ (i : ℕ). manifestReading (layoutOf layout) (start + i) start m) (sym manifest-length) in
         (f .0 ∙ ap (λ k. answered (k >>= roomy (length before))) (sym z), f .1 ∙ ap (λ k. placed last before (k >>= roomy (length before))) (sym z))
 
 -- at the beginning it is meaning's own table
-pub at-beginning : (t : List ℕ) (k : Check Reading) → placed false t k ≡ tableAfter t k
+at-beginning : (t : List ℕ) (k : Check Reading) → placed false t k ≡ tableAfter t k
 unfolding tableAfter placed laidOver
 at-beginning t (pass r) = refl
 at-beginning t (refuse n o c) = refl
+
+module _ (a : Answer) (t after : List ℕ) where
+  pub read-at-beginning : (k : Check Reading) → a ≡ answered k → after ≡ placed false t k → (a ≡ answered k) × (after ≡ tableAfter t k)
+  read-at-beginning k x y = (x, y ∙ at-beginning t k)
+
+  -- for 1.2.0
+  pub reads-current : (file : List ℕ) → a ≡ answered (readInto (layoutOf 0) file (length t)) → after ≡ tableAfter t (readInto (layoutOf 0) file (length t))
+      → (a ≡ answered (readInto current file (length t))) × (after ≡ tableAfter t (readInto current file (length t)))
+  reads-current file x y =
+      (x ∙ ap (λ (L : Layout). answered (readInto L file (length t))) at-zero, y ∙ ap (λ (L : Layout). tableAfter t (readInto L file (length t))) at-zero)

@@ -3,11 +3,11 @@ use Prim.Native.Nat.{ℕ, _+_, _-_, _≤_}
 use native.Mathlib.Omega.{arith}
 use mathlib.Core.List.{List}
 use mathlib.Core.Bool.{Bool, true, false, _&&_}
-use mathlib.Core.Path.{_≡_, refl, sym, ap, _∙_}
+use mathlib.Core.Path.{_≡_, refl, sym, ap, _∙_, subst}
 use lib.ListN.{length, take, drop}
 use lib.Dec.{leb}
 use borrow.Author.Tests.{leb-true}
-use Rattle.meaning.specs.Check.{pass, refuse, _>>_, _unless_}
+use Rattle.meaning.specs.Check.{pass, _>>_, _unless_}
 use Rattle.meaning.specs.Text.{same}
 use Rattle.meaning.specs.Refusal.{SHORT, HEADER, FOOTER, BIG, FIT}
 use Rattle.meaning.specs.Limit.{manifestLimit}
@@ -17,7 +17,10 @@ use Rattle.frame.specs.FrameAnswer.{told}
 use Rattle.frame.proofs.Frames.{size-back}
 use Rattle.frame.specs.declared.Framed.{Framed}
 use Rattle.frame.specs.declared.Framed.the-variants.{No, At}
-use Rattle.reader.specs.Verdict.{refusal, verdict, manifestReading, Accepted}
+use Rattle.reader.specs.declared.Verdict.{Verdict}
+use Rattle.reader.specs.declared.Told.{Told}
+use Rattle.reader.specs.declared.Told.the-variants.{No as Refused, Yes}
+use Rattle.reader.specs.Verdict.{refusal, verdict, manifestReading, ManifestIs}
 
 -- 0 is 1.2.0
 pub at-zero : layoutOf 0 ≡ current
@@ -60,9 +63,9 @@ module _ (layout : ℕ) (file : List ℕ) where
     pub framed : (q : Framed) → r ≡ q → frame L file ≡ told q
     framed q e = asked ∙ ap told e
 
-    pub no-frame : (number : ℕ) → r ≡ No number → refusal number 0 0 ≡ verdict (reading L file)
+    pub no-frame : (number : ℕ) → r ≡ No number → (v : Verdict) → v ≡ refusal number 0 0 → v ≡ verdict (reading L file)
     unfolding reading
-    no-frame number e = rw (framed (No number) e) refl
+    no-frame number e v is = is ∙ (rw (framed (No number) e) refl)
 
     module _ (start sized : ℕ) (e : r ≡ At start sized) where
       pub inside : start + sized ≤ n
@@ -75,12 +78,17 @@ module _ (layout : ℕ) (file : List ℕ) where
           let z : start + sized - start ≡ sized = omega arith in
           (rw (framed (At start sized) e) refl) ∙ ap (λ (i : ℕ). manifestReading L (start + sized) start (take i (drop start file))) (sym z)
 
-      module _ (m : List ℕ) (is : m ≡ take (start + sized - start) (drop start file)) where
-        there : reading L file ≡ manifestReading L (start + sized) start m
-        there = manifest-read ∙ ap (manifestReading L (start + sized) start) (sym is)
+      -- by what the manifest's reader told
+      module _ (x : Told) (h : (end : ℕ) → ManifestIs L end start (take (start + sized - start) (drop start file)) x) (v : Verdict) where
+        told-there : (y : Told) → x ≡ y → ManifestIs L (start + sized) start (take (start + sized - start) (drop start file)) y
+        told-there y same = subst (ManifestIs L (start + sized) start (take (start + sized - start) (drop start file))) same (h (start + sized))
 
-        pub accept-refuses : (n o c : ℕ) → manifestReading L (start + sized) start m ≡ refuse n o c → refusal n o c ≡ verdict (reading L file)
-        accept-refuses n o c h = sym (ap verdict (there ∙ h))
+        pub accept-refuses : (n o c : ℕ) → x ≡ Refused n o c → v ≡ refusal n o c → v ≡ verdict (reading L file)
+        accept-refuses n o c same is = is ∙ sym (ap verdict (manifest-read ∙ told-there (Refused n o c) same))
 
-        pub accept-accepts : (objects components left at : ℕ) → Accepted L (start + sized) start m objects components left at → refusal 0 0 0 ≡ verdict (reading L file)
-        accept-accepts objects components left at h = sym (ap verdict (there ∙ h .is))
+        pub accept-accepts : (objects components left at : ℕ) → x ≡ Yes objects components left at → v ≡ refusal 0 0 0 → v ≡ verdict (reading L file)
+        accept-accepts objects components left at same is = is ∙ sym (ap verdict (manifest-read ∙ told-there (Yes objects components left at) same .is))
+
+-- for 1.2.0
+pub accepts-current : (file : List ℕ) (v : Verdict) → v ≡ verdict (reading (layoutOf 0) file) → v ≡ verdict (reading current file)
+accepts-current file v h = h ∙ ap (λ (L : Layout). verdict (reading L file)) at-zero

@@ -1,6 +1,6 @@
 -- From the walk over the root to the reading of the manifest s: the walk speaks of trees that carry the bytes left at each item, the reading of trees that carry
 -- spans; neither the reading nor the judgement looks at them.
-use Prim.Native.Nat.{ℕ, _-_, _≤_, _<_}
+use Prim.Native.Nat.{ℕ, _-_, _*_, _^_, _≤_, _<_}
 use native.Mathlib.Omega.{arith}
 use mathlib.Core.List.{List}
 use mathlib.Core.Path.{_≡_, refl, ap, _∙_, subst}
@@ -24,6 +24,10 @@ use Rattle.table.specs.Spans.{spanOf}
 use Rattle.reader.proofs.ItemFills as items
 use Rattle.reader.proofs.ItemFills.{Filling}
 
+-- a walk over s that ended beyond it found a fault
+pub a-fault : (s : List ℕ) (e : ℕ) → e ≡ code (itemEnd 32 s) → length s < e → FAULT ≤ e
+a-fault s e asked l = items.faulty 0 s e asked l .high
+
 module _ (L : Layout) (end start : ℕ) where
   abbrev spans : Ends → Span
   spans = spanOf end
@@ -35,21 +39,18 @@ module _ (L : Layout) (end start : ℕ) where
   module _ (s : List ℕ) where
     -- the walk over s, lent whole, ended at e
     module _ (e : ℕ) (asked : e ≡ code (itemEnd 32 s)) where
-      pub a-fault : length s < e → FAULT ≤ e
-      a-fault l = items.faulty end s e asked l .high
-
       -- malformed, ended early or too deep
       pub faulty : length s < e → manifestReading L end start s ≡ refuse (e - FAULT) 0 0
       faulty l = ap judging (items.faulty end s e asked l .is)
 
-      module _ (room : length s < FAULT) where
+      module _ (lent : length s * 1 < 2 ^ 63) where
         pub left-over : e < length s → manifestReading L end start s ≡ refuse 6 0 0
-        left-over l = ap judging (items.left-over end s e asked room l)
+        left-over l = ap judging (items.left-over end s e asked (omega arith) l)
 
-        module _ (l : length s ≡ e) where
+        module _ (low : e ≤ length s) (high : length s ≤ e) where
           -- the root fills the manifest exactly
           abbrev filling : Filling end s
-          filling = items.filling end s e asked room l
+          filling = items.filling end s e asked (omega arith) (omega arith)
 
           read-so : manifestReading L end start s ≡ (mapCheck (mapModel spans) (judge L start (filling .tree)) >>= λ m. pass (record { start = start; model = m }))
           read-so = ap judging (filling .is) ∙ ap (λ k. k >>= λ m. pass (record { start = start; model = m })) (judge-map spans L start (filling .tree))

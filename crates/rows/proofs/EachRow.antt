@@ -4,8 +4,9 @@ use native.Mathlib.Omega.{arith}
 use mathlib.Core.List.{List, [], _∷_, _++_, map}
 use mathlib.Core.Bool.{Bool, true, false, _&&_}
 use mathlib.Core.Path.{_≡_, refl, sym, ap, _∙_}
-use lib.ListN.{take, drop}
+use lib.ListN.{length, take, drop}
 use lib.Seq.{drop-drop, take-at, drop-at}
+use borrow.Rule.Slice.PartAt.{part-to-end}
 use Rattle.meaning.specs.Text.{all}
 use Rattle.meaning.specs.Asked.{eachRow}
 use Rattle.meaning.proofs.Tests.{both-left, both-right}
@@ -63,17 +64,17 @@ module _ {A : Type 0} (read : List ℕ → A) (width : ℕ) where
 
 -- what is asked of each row
 module _ {A : Type 0} (p : A → Bool) (read : List ℕ → A) (width n at : ℕ) (rows : List ℕ) where
-  pub all-of-none : n ≤ 0 → all p (eachRow read width n (drop at rows)) ≡ true
+  all-of-none : n ≤ 0 → all p (eachRow read width n (drop at rows)) ≡ true
   all-of-none h = ap (all p) (no-row read width n (drop at rows) h)
 
   module _ (h : 0 < n) where
     first-of-all : all p (eachRow read width n (drop at rows)) ≡ p (read (drop at rows)) && all p (eachRow read width (n - 1) (drop (at + width) rows))
     first-of-all = ap (all p) (next-row-at read width n at rows h)
 
-    pub all-go : p (read (drop at rows)) ≡ true → all p (eachRow read width n (drop at rows)) ≡ all p (eachRow read width (n - 1) (drop (at + width) rows))
+    all-go : p (read (drop at rows)) ≡ true → all p (eachRow read width n (drop at rows)) ≡ all p (eachRow read width (n - 1) (drop (at + width) rows))
     all-go e = first-of-all ∙ ap (λ (b : Bool). b && all p (eachRow read width (n - 1) (drop (at + width) rows))) e
 
-    pub all-stop : p (read (drop at rows)) ≡ false → all p (eachRow read width n (drop at rows)) ≡ false
+    all-stop : p (read (drop at rows)) ≡ false → all p (eachRow read width n (drop at rows)) ≡ false
     all-stop e = first-of-all ∙ ap (λ (b : Bool). b && all p (eachRow read width (n - 1) (drop (at + width) rows))) e
 
     pub first-so : all p (eachRow read width n (drop at rows)) ≡ true → p (read (drop at rows)) ≡ true
@@ -81,6 +82,34 @@ module _ {A : Type 0} (p : A → Bool) (read : List ℕ → A) (width n at : ℕ
 
     pub others-so : all p (eachRow read width n (drop at rows)) ≡ true → all p (eachRow read width (n - 1) (drop (at + width) rows)) ≡ true
     others-so e = both-right (p (read (drop at rows))) _ (sym first-of-all ∙ e)
+
+-- the loop that asks p of each of n rows: `left` of them to go, from the place `at` on
+pub record Asking {A : Type 0} (p : A → Bool) (read : List ℕ → A) (width n : ℕ) (rows : List ℕ) (at left : ℕ) : Type 0 where
+  pub lie : at + width * left ≤ length rows
+  pub so-far : all p (eachRow read width n rows) ≡ all p (eachRow read width left (drop at rows))
+
+module _ {A : Type 0} {p : A → Bool} {read : List ℕ → A} {width n : ℕ} {rows : List ℕ} where
+  pub asking-begins : width * n ≤ length rows → Asking p read width n rows 0 n
+  asking-begins h = record { lie = omega (arith, h); so-far = refl }
+
+  module _ {at left : ℕ} (w : Asking p read width n rows at left) where
+    pub all-asked : left ≤ 0 → true ≡ all p (eachRow read width n rows)
+    all-asked h = sym (w .so-far ∙ all-of-none p read width left at rows h)
+
+    -- the row at `at` was lent to the end of all rows, and r was said of it
+    module _ (more : 0 < left) {r : Bool} (is : r ≡ p (read (take (length rows - at) (drop at rows)))) where
+      said : p (read (drop at rows)) ≡ r
+      said = sym (is ∙ ap (λ (s : List ℕ). p (read s)) (part-to-end rows at))
+
+      pub one-fails : r ≡ false → false ≡ all p (eachRow read width n rows)
+      one-fails e = sym (w .so-far ∙ all-stop p read width left at rows more (said ∙ e))
+
+      pub one-more-holds : r ≡ true → Asking p read width n rows (at + width) (left - 1)
+      one-more-holds e = record { lie = one-less left more (w .lie); so-far = w .so-far ∙ all-go p read width left at rows more (said ∙ e) }
+        where
+          one-less : (left : ℕ) → 0 < left → at + width * left ≤ length rows → at + width + width * (left - 1) ≤ length rows
+          one-less zero more l = absurd (omega (arith, more))
+          one-less (suc k) more l = let e : suc k - 1 ≡ k = omega arith in rw e (omega (arith, l))
 
 -- and of a list's parts
 module _ {A : Type 0} (p : A → Bool) where

@@ -1,13 +1,15 @@
 -- What is asked of one row and of attributes, test by test.
-use Prim.Native.Nat.{ℕ, zero, suc, _+_, _-_, _*_, _/_, _≤_, _<_}
+use Prim.Native.Nat.{ℕ, zero, suc, _+_, _-_, _*_, _/_, _^_, _≤_, _<_}
 use native.Mathlib.Omega.{arith}
 use mathlib.Core.List.{List, [], _∷_}
-use mathlib.Core.Bool.{Bool, true, false, _&&_}
+use mathlib.Core.Bool.{Bool, true, false, not, _&&_}
 use mathlib.Core.Path.{_≡_, refl, sym, ap, _∙_}
 use lib.ListN.{length, take, drop, getD}
 use lib.Dec.{leb, eqb}
-use borrow.Author.Tests.{le-leb, lt-leb, lt-ltb, le-ltb, eq-eqb, ne-eqb}
-use Rattle.meaning.specs.Columns.{rankColumn, formatColumn, formatLengthColumn, attributesColumn, attributesLengthColumn, dtypeColumn, typeColumn, typeLengthColumn, offsetColumn, lengthColumn, digestColumn, digestLengthColumn}
+use mir.Syntax.{w64}
+use mir.Val.{Fits}
+use borrow.Author.Tests.{not-true, not-false, leb-true, le-leb, lt-leb, lt-ltb, le-ltb, eq-eqb, ne-eqb}
+use Rattle.meaning.specs.Columns.{nameColumn, nameLengthColumn, rankColumn, formatColumn, formatLengthColumn, attributesColumn, attributesLengthColumn, dtypeColumn, typeColumn, typeLengthColumn, offsetColumn, lengthColumn, digestColumn, digestLengthColumn}
 use Rattle.meaning.specs.Types.{storages}
 use Rattle.meaning.specs.Read.{Span, Outcome, got, refused, item, noNote}
 use Rattle.meaning.specs.Asked.{askedObject, askedComponent, presentAt}
@@ -25,7 +27,7 @@ by-size n place size h = same-test size (n - place) (place + size) n (λ a. omeg
 
 -- ---- one map
 
-module _ {A : Type 0} (s : List ℕ) (some : 0 < length s) (short : length s < FAULT) where
+module _ {A : Type 0} (s : List ℕ) (some : 0 < length s) (short : length s * 1 < 2 ^ 63) where
   fills : (o : Outcome A) → code (ending s o) ≡ length s → fillsOrDeep o ≡ true
   unfolding fillsOrDeep
   fills (got t []) e = refl
@@ -52,12 +54,16 @@ module _ (levels : ℕ) (s : List ℕ) where
   begins [] h = absurd (h refl)
   begins (b ∷ r) h = refl
 
-  module _ (some : length s ≡ 0 → ⊥) where
-    pub other-no-map : (getD s 0 0 / 32 ≡ 5 → ⊥) → false ≡ aMap levels s
+  -- the first byte's major type is k, and passing over an item answered r
+  module _ (some : length s ≡ 0 → ⊥) {k : ℕ} (major : k ≡ getD s 0 0 / 32) where
+    pub other-no-map : (k ≡ 5 → ⊥) → false ≡ aMap levels s
     unfolding aMap
-    other-no-map h = rw (begins s some, ne-eqb (getD s 0 0 / 32) 5 h) refl
+    other-no-map h = rw (begins s some, ne-eqb (getD s 0 0 / 32) 5 (λ e. h (major ∙ e))) refl
 
-    module _ (first : getD s 0 0 / 32 ≡ 5) (short : length s < FAULT) (r : ℕ) (is : r ≡ code (ending s (item noNote levels s))) where
+    module _ (map-begins : k ≡ 5) (short : length s * 1 < 2 ^ 63) {r : ℕ} (is : r ≡ code (ending s (item noNote levels s))) where
+      first : getD s 0 0 / 32 ≡ 5
+      first = sym major ∙ map-begins
+
       at-least-one : 0 < length s
       at-least-one = by (length s) refl
         where
@@ -77,22 +83,31 @@ module _ (levels : ℕ) (s : List ℕ) where
 
 -- ---- attributes
 
-module _ (buffer : List ℕ) (levels place size : ℕ) where
+module _ (buffer : List ℕ) (levels place size : ℕ) {r : Bool} (within : r ≡ leb (place + size) (length buffer)) where
   abbrev range : Span
   range = record { place = place; size = size }
 
-  pub attributes-outside : leb (place + size) (length buffer) ≡ false → false ≡ attributesSound buffer levels range
+  pub attributes-outside : not r ≡ true → false ≡ attributesSound buffer levels range
   unfolding attributesSound inside
-  attributes-outside e = rw e refl
+  attributes-outside e = rw (sym within ∙ not-true r e) refl
 
-  module _ (lies : leb (place + size) (length buffer) ≡ true) where
-    pub attributes-absent : eqb place 0 && eqb size 0 ≡ true → true ≡ attributesSound buffer levels range
+  module _ (lies : not r ≡ false) {none : Bool} (absent : none ≡ eqb place 0 && eqb size 0) where
+    pub attributes-absent : none ≡ true → true ≡ attributesSound buffer levels range
     unfolding attributesSound inside presentAt absentOr
-    attributes-absent e = rw (lies, e) refl
+    attributes-absent e = rw (sym within ∙ not-false r lies, sym absent ∙ e) refl
 
-    pub attributes-there : eqb place 0 && eqb size 0 ≡ false → aMap levels (take (place + size - place) (drop place buffer)) ≡ attributesSound buffer levels range
+    pub attributes-there : none ≡ false → {m : Bool} → m ≡ aMap levels (take (place + size - place) (drop place buffer)) → m ≡ attributesSound buffer levels range
     unfolding attributesSound inside presentAt absentOr
-    attributes-there e = rw (lies, e) (let z : place + size - place ≡ size = omega arith in ap (λ (k : ℕ). aMap levels (take k (drop place buffer))) z)
+    attributes-there e is =
+        rw (sym within ∙ not-false r lies, sym absent ∙ e)
+        (is ∙ (let z : place + size - place ≡ size = omega arith in ap (λ (k : ℕ). aMap levels (take k (drop place buffer))) z))
+
+module _ (buffer : List ℕ) (place size : ℕ) {r : Bool} (within : r ≡ leb (place + size) (length buffer)) (lies : not r ≡ false) where
+  pub range-lies : place + size ≤ length buffer
+  range-lies = leb-true (place + size) (length buffer) (sym within ∙ not-false r lies)
+
+  pub end-fits : length buffer * 1 < 2 ^ 63 → Fits w64 (place + size)
+  end-fits h = record { fits = omega (arith, h, range-lies) }
 
 -- ---- an object's row, a component's
 
@@ -100,43 +115,48 @@ module _ (buffer row : List ℕ) where
   abbrev lie : ℕ → ℕ → Bool
   lie i j = leb (getD row i 0 + getD row j 0) (length buffer)
 
-  pub object-name : lie 0 1 ≡ false → false ≡ objectSound buffer (askedObject row)
-  unfolding objectSound askedObject inside
-  object-name e = rw e refl
-
-  module _ (name : lie 0 1 ≡ true) where
-    pub object-rank : 8 < getD row rankColumn 0 → false ≡ objectSound buffer (askedObject row)
+  -- what `inside` said of the name
+  module _ {n : Bool} (name : n ≡ lie nameColumn nameLengthColumn) where
+    pub object-name : not n ≡ true → false ≡ objectSound buffer (askedObject row)
     unfolding objectSound askedObject inside
-    object-rank e = rw (name, lt-leb (getD row rankColumn 0) 8 e) refl
+    object-name e = rw (sym name ∙ not-true n e) refl
 
-    module _ (rank : getD row rankColumn 0 ≤ 8) where
-      pub object-format : lie formatColumn formatLengthColumn ≡ false → false ≡ objectSound buffer (askedObject row)
+    pub component-name : not n ≡ true → false ≡ componentSound buffer (askedComponent row)
+    unfolding componentSound askedComponent inside
+    component-name e = rw (sym name ∙ not-true n e) refl
+
+    module _ (named : not n ≡ false) where
+      pub object-rank : 8 < getD row rankColumn 0 → false ≡ objectSound buffer (askedObject row)
       unfolding objectSound askedObject inside
-      object-format e = rw (name, le-leb (getD row rankColumn 0) 8 rank, e) refl
+      object-rank e = rw (sym name ∙ not-false n named, lt-leb (getD row rankColumn 0) 8 e) refl
 
-      pub object-attributes : lie formatColumn formatLengthColumn ≡ true → attributesSound buffer 29 (record { place = getD row attributesColumn 0; size = getD row attributesLengthColumn 0 }) ≡ objectSound buffer (askedObject row)
-      unfolding objectSound askedObject inside
-      object-attributes e = rw (name, le-leb (getD row rankColumn 0) 8 rank, e) refl
+      module _ (rank : getD row rankColumn 0 ≤ 8) {f : Bool} (format : f ≡ lie formatColumn formatLengthColumn) where
+        pub object-format : not f ≡ true → false ≡ objectSound buffer (askedObject row)
+        unfolding objectSound askedObject inside
+        object-format e = rw (sym name ∙ not-false n named, le-leb (getD row rankColumn 0) 8 rank, sym format ∙ not-true f e) refl
 
-  pub component-name : lie 0 1 ≡ false → false ≡ componentSound buffer (askedComponent row)
-  unfolding componentSound askedComponent inside
-  component-name e = rw e refl
+        pub object-attributes : not f ≡ false → {a : Bool} → a ≡ attributesSound buffer 29 (record { place = getD row attributesColumn 0; size = getD row attributesLengthColumn 0 }) → a ≡ objectSound buffer (askedObject row)
+        unfolding objectSound askedObject inside
+        object-attributes e is = rw (sym name ∙ not-false n named, le-leb (getD row rankColumn 0) 8 rank, sym format ∙ not-false f e) is
 
-  module _ (name : lie 0 1 ≡ true) where
-    pub component-code : 12 < getD row dtypeColumn 0 → false ≡ componentSound buffer (askedComponent row)
-    unfolding componentSound askedComponent inside storages
-    component-code e = rw (name, le-ltb (getD row dtypeColumn 0) 13 (omega (arith, e))) refl
-
-    module _ (known : getD row dtypeColumn 0 ≤ 12) where
-      pub component-type : lie typeColumn typeLengthColumn ≡ false → false ≡ componentSound buffer (askedComponent row)
+      pub component-code : 12 < getD row dtypeColumn 0 → false ≡ componentSound buffer (askedComponent row)
       unfolding componentSound askedComponent inside storages
-      component-type e = rw (name, lt-ltb (getD row dtypeColumn 0) 13 (omega (arith, known)), e) refl
+      component-code e = rw (sym name ∙ not-false n named, le-ltb (getD row dtypeColumn 0) 13 (omega (arith, e))) refl
 
-      module _ (type : lie typeColumn typeLengthColumn ≡ true) where
-        pub component-blob : lie offsetColumn lengthColumn ≡ false → false ≡ componentSound buffer (askedComponent row)
+      module _ (known : getD row dtypeColumn 0 ≤ 12) {t : Bool} (type : t ≡ lie typeColumn typeLengthColumn) where
+        pub component-type : not t ≡ true → false ≡ componentSound buffer (askedComponent row)
         unfolding componentSound askedComponent inside storages
-        component-blob e = rw (name, lt-ltb (getD row dtypeColumn 0) 13 (omega (arith, known)), type, e) refl
+        component-type e = rw (sym name ∙ not-false n named, lt-ltb (getD row dtypeColumn 0) 13 (omega (arith, known)), sym type ∙ not-true t e) refl
 
-        pub component-digest : lie offsetColumn lengthColumn ≡ true → lie digestColumn digestLengthColumn ≡ componentSound buffer (askedComponent row)
-        unfolding componentSound askedComponent inside storages
-        component-digest e = rw (name, lt-ltb (getD row dtypeColumn 0) 13 (omega (arith, known)), type, e) refl
+        module _ (typed : not t ≡ false) {b : Bool} (blob : b ≡ lie offsetColumn lengthColumn) where
+          pub component-blob : not b ≡ true → false ≡ componentSound buffer (askedComponent row)
+          unfolding componentSound askedComponent inside storages
+          component-blob e =
+              rw (sym name ∙ not-false n named, lt-ltb (getD row dtypeColumn 0) 13 (omega (arith, known)), sym type ∙ not-false t typed, sym blob ∙ not-true b e)
+              refl
+
+          pub component-digest : not b ≡ false → {d : Bool} → d ≡ lie digestColumn digestLengthColumn → d ≡ componentSound buffer (askedComponent row)
+          unfolding componentSound askedComponent inside storages
+          component-digest e is =
+              rw (sym name ∙ not-false n named, lt-ltb (getD row dtypeColumn 0) 13 (omega (arith, known)), sym type ∙ not-false t typed, sym blob ∙ not-false b e)
+              is

@@ -1,12 +1,15 @@
 -- All rows together, test by test.
-use Prim.Native.Nat.{ℕ, _+_, _-_, _*_, _≤_}
+use Prim.Native.Nat.{ℕ, _+_, _-_, _*_, _^_, _≤_, _<_}
+use native.Mathlib.Omega.{arith}
 use mathlib.Core.List.{List}
-use mathlib.Core.Bool.{Bool, true, false, _&&_}
-use mathlib.Core.Path.{_≡_, refl, ap}
-use lib.ListN.{length, take, drop}
+use mathlib.Core.Bool.{Bool, true, false, not, _&&_}
+use mathlib.Core.Path.{_≡_, refl, sym, ap, _∙_}
+use lib.ListN.{length, take, drop, length-drop}
 use borrow.Rule.Slice.PartAt.{part-to-end}
 use lib.Dec.{leb}
-use borrow.Author.Tests.{leb-true}
+use mir.Syntax.{w64}
+use mir.Val.{Fits}
+use borrow.Author.Tests.{leb-true, not-true, not-false}
 use Rattle.meaning.specs.Columns.{objectWidth, componentWidth}
 use Rattle.meaning.specs.Text.{same, all}
 use Rattle.meaning.specs.Read.{Span}
@@ -33,43 +36,45 @@ module _ (buffer rows : List ℕ) (objects components : ℕ) (attributes : Span)
   lent-is : lent ≡ Cs
   lent-is = ap (eachRow askedComponent componentWidth components) (part-to-end rows (objectWidth * objects))
 
-  pub lent-order : same (owners 0 Os) (ownersIn lent) ≡ same (owners 0 Os) (ownersIn Cs)
-  lent-order = ap (λ cs. same (owners 0 Os) (ownersIn cs)) lent-is
+  -- what was said of the rows' number, of their order, of the root's attributes and of the objects
+  module _ {h : Bool} (holds : h ≡ leb (objectWidth * objects + componentWidth * components) (length rows)) where
+    pub not-held : not h ≡ true → false ≡ verdict
+    unfolding rowsSound
+    not-held e = rw (sym holds ∙ not-true h e) refl
 
-  pub lent-components : all (componentSound buffer) lent ≡ all (componentSound buffer) Cs
-  lent-components = ap (all (componentSound buffer)) lent-is
+    module _ (held : not h ≡ false) {o : Bool} (ordered : o ≡ same (owners 0 Os) (ownersIn lent)) where
+      rows-held : leb (objectWidth * objects + componentWidth * components) (length rows) ≡ true
+      rows-held = sym holds ∙ not-false h held
 
-  pub not-held : leb (objectWidth * objects + componentWidth * components) (length rows) ≡ false → false ≡ verdict
-  unfolding rowsSound
-  not-held e = rw e refl
+      order : same (owners 0 Os) (ownersIn Cs) ≡ o
+      order = sym (ordered ∙ ap (λ cs. same (owners 0 Os) (ownersIn cs)) lent-is)
 
-  module _ (held : leb (objectWidth * objects + componentWidth * components) (length rows) ≡ true) where
-    pub rows-lie : objectWidth * objects + componentWidth * components ≤ length rows
-    rows-lie = leb-true (objectWidth * objects + componentWidth * components) (length rows) held
-
-    pub out-of-order : same (owners 0 Os) (ownersIn Cs) ≡ false → false ≡ verdict
-    unfolding rowsSound askedSound asked
-    out-of-order e = rw (held, e) refl
-
-    module _ (order : same (owners 0 Os) (ownersIn Cs) ≡ true) where
-      pub odd-attributes : attributesSound buffer 31 attributes ≡ false → false ≡ verdict
+      pub out-of-order : not o ≡ true → false ≡ verdict
       unfolding rowsSound askedSound asked
-      odd-attributes e = rw (held, order, e) refl
+      out-of-order e = rw (rows-held, order ∙ not-true o e) refl
 
-      module _ (map-there : attributesSound buffer 31 attributes ≡ true) where
-        pub odd-object : all (objectSound buffer) Os ≡ false → false ≡ verdict
+      module _ (in-order : not o ≡ false) {m : Bool} (map-there : m ≡ attributesSound buffer 31 attributes) where
+        pub odd-attributes : not m ≡ true → false ≡ verdict
         unfolding rowsSound askedSound asked
-        odd-object e = rw (held, order, map-there, e) refl
+        odd-attributes e = rw (rows-held, order ∙ not-false o in-order, sym map-there ∙ not-true m e) refl
 
-        pub by-each : all (objectSound buffer) Os ≡ true → all (componentSound buffer) Cs ≡ verdict
-        unfolding rowsSound askedSound asked
-        by-each e = rw (held, order, map-there, e) refl
+        module _ (even-attributes : not m ≡ false) {s : Bool} (each : s ≡ all (objectSound buffer) Os) where
+          pub odd-object : not s ≡ true → false ≡ verdict
+          unfolding rowsSound askedSound asked
+          odd-object e = rw (rows-held, order ∙ not-false o in-order, sym map-there ∙ not-false m even-attributes, sym each ∙ not-true s e) refl
+
+          pub by-each : not s ≡ false → {r : Bool} → r ≡ all (componentSound buffer) lent → r ≡ verdict
+          unfolding rowsSound askedSound asked
+          by-each e is =
+              rw (rows-held, order ∙ not-false o in-order, sym map-there ∙ not-false m even-attributes, sym each ∙ not-false s e)
+              (is ∙ ap (all (componentSound buffer)) lent-is)
 
   -- what sound rows give
   module _ (sound : rowsSound buffer rows objects components attributes ≡ true) where
     pub sound-lies : objectWidth * objects + componentWidth * components ≤ length rows
     unfolding rowsSound
-    sound-lies = rows-lie (both-left _ (askedSound buffer (asked rows objects components attributes)) sound)
+    sound-lies =
+        leb-true (objectWidth * objects + componentWidth * components) (length rows) (both-left _ (askedSound buffer (asked rows objects components attributes)) sound)
 
     judged : same (owners 0 Os) (ownersIn Cs) && attributesSound buffer 31 attributes && all (objectSound buffer) Os && all (componentSound buffer) Cs ≡ true
     unfolding rowsSound askedSound asked
@@ -92,3 +97,21 @@ module _ (buffer rows : List ℕ) (objects components : ℕ) (attributes : Span)
 
     pub sound-components : all (componentSound buffer) Cs ≡ true
     sound-components = both-right (same (owners 0 Os) (ownersIn Cs) && attributesSound buffer 31 attributes && all (objectSound buffer) Os) _ judged
+
+-- rows that hold so many objects and components
+module _ (rows : List ℕ) (objects components : ℕ) {h : Bool} (holds : h ≡ leb (objectWidth * objects + componentWidth * components) (length rows)) (held : not h ≡ false) where
+  lie : objectWidth * objects + componentWidth * components ≤ length rows
+  lie = leb-true (objectWidth * objects + componentWidth * components) (length rows) (sym holds ∙ not-false h held)
+
+  pub objects-lie : objectWidth * objects ≤ length rows
+  objects-lie = omega (arith, lie)
+
+  pub components-lie : componentWidth * components ≤ length (take (length rows - objectWidth * objects) (drop (objectWidth * objects) rows))
+  components-lie = rw part-to-end (simp length-drop (omega (arith, lie)))
+
+  module _ (room : length rows * 8 < 2 ^ 63) where
+    pub objects-fit : Fits w64 (objectWidth * objects)
+    objects-fit = record { fits = omega (arith, lie, room) }
+
+    pub objects-bytes-fit : Fits w64 (objectWidth * objects * 8)
+    objects-bytes-fit = record { fits = omega (arith, lie, room) }

@@ -5,12 +5,14 @@ use mathlib.Core.List.{List, [], _∷_, _++_}
 use mathlib.Core.Bool.{Bool, true, false, cond}
 use mathlib.Core.Path.{_≡_, refl, ap, sym, _∙_}
 use lib.ListN.{take, drop, getD, length, List·getD-eq-default}
-use lib.Dec.{eqb, leb, ltb, lit≤}
+use lib.Dec.{eqb, ltb, lit≤}
 use borrow.Author.Tests.{lt-ltb, le-ltb, eq-eqb, ne-eqb, ltb-true, ltb-false}
-use Rattle.meaning.specs.Text.{ascii, all}
+use Rattle.meaning.specs.Text.{ascii}
 use Rattle.meaning.specs.Layouts.{Layout, layoutOf, current, old}
 use Rattle.meaning.proofs.WhichLayout.{by-layout}
 use Rattle.meaning.specs.Listing.{decimal, digits}
+use Rattle.put.specs.Wrote.{Wrote}
+use Rattle.put.proofs.PiecesInTurn as writing
 use Rattle.explained.specs.Sentence.{reasons, reason}
 use Rattle.sentence.specs.Given.{listed}
 
@@ -36,7 +38,7 @@ begins = 0 ∷ 0 ∷ 26 ∷ 47 ∷ 67 ∷ 99 ∷ 144 ∷ 192 ∷ 224 ∷ 291 ∷
 abbrev pub listedAt : ℕ → List ℕ
 listedAt k = take (getD begins (k + 1) 0 - getD begins k 0) (drop (getD begins k 0) table)
 
-pub listed-low : (layout n : ℕ) → listed layout n ≤ 26
+listed-low : (layout n : ℕ) → listed layout n ≤ 26
 unfolding listed
 listed-low layout n = go (ltb 24 n) refl (eqb layout 1) (eqb n 1) (eqb n 5)
   where
@@ -48,7 +50,7 @@ listed-low layout n = go (ltb 24 n) refl (eqb layout 1) (eqb n 1) (eqb n 5)
     go false e false c d = let h : n ≤ 24 = ltb-false 24 n e in omega (arith, h)
 
 -- the list rises, within the table
-pub rising : (k : ℕ) → k ≤ 26 → (getD begins k 0 ≤ getD begins (k + 1) 0) × (getD begins (k + 1) 0 ≤ 1008)
+rising : (k : ℕ) → k ≤ 26 → (getD begins k 0 ≤ getD begins (k + 1) 0) × (getD begins (k + 1) 0 ≤ 1008)
 rising zero h = (lit≤ tt, lit≤ tt)
 rising (suc zero) h = (lit≤ tt, lit≤ tt)
 rising (suc (suc zero)) h = (lit≤ tt, lit≤ tt)
@@ -140,7 +142,7 @@ no-reason : (L : Layout) (n : ℕ) → 24 < n → reason L n ≡ []
 unfolding reason reasons
 no-reason L n h = let g : length ([] ∷ reasons L) ≤ n = omega (arith, h) in List·getD-eq-default ([] ∷ reasons L) [] g
 
-pub reasoned : (layout n : ℕ) → listedAt (listed layout n) ≡ reason (layoutOf layout) n
+reasoned : (layout n : ℕ) → listedAt (listed layout n) ≡ reason (layoutOf layout) n
 unfolding listed
 reasoned layout n = by-layout (λ layout L. listedAt (listed layout n) ≡ reason L n) layout (λ e. as-old e) (λ e. as-current e)
   where
@@ -180,8 +182,15 @@ module _ (layout n : ℕ) where
   as-numbered h e = rw (le-ltb 24 n h, ne-eqb layout 1 e)
 
 -- of the code's answer
-pub low-as : {k : ℕ} (layout n : ℕ) → k ≡ listed layout n → k ≤ 26
-low-as layout n e = let h = listed-low layout n in omega (arith, e, h)
+module _ (layout n : ℕ) {k : ℕ} (e : k ≡ listed layout n) where
+  pub low-as : k ≤ 26
+  low-as = let h = listed-low layout n in omega (arith, e, h)
 
-pub reasoned-as : {k : ℕ} (layout n : ℕ) → k ≡ listed layout n → listedAt k ≡ reason (layoutOf layout) n
-reasoned-as layout n e = ap listedAt e ∙ reasoned layout n
+  pub begins-first : getD begins k 0 ≤ getD begins (k + 1) 0
+  begins-first = rising k low-as .0
+
+  pub ends-inside : getD begins (k + 1) 0 ≤ 1008
+  ends-inside = rising k low-as .1
+
+  pub reason-written : {at r : ℕ} {xs ys : List ℕ} → Wrote (listedAt k) at xs ys r → Wrote (reason (layoutOf layout) n) at xs ys r
+  reason-written w = writing.as-bytes (ap listedAt e ∙ reasoned layout n) w

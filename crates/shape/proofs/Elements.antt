@@ -1,13 +1,13 @@
 -- The loop over a shape's elements: the numbers so far, the elements still due, and the verdict on the whole.
-use Prim.Native.Nat.{ℕ, suc, _+_, _-_, _≤_, _<_}
+use Prim.Native.Nat.{ℕ, suc, _+_, _-_, _*_, _≤_, _<_}
 use native.Mathlib.Omega.{arith}
 use mathlib.Core.List.{List, [], _∷_, _++_, append-assoc, append-nil}
 use mathlib.Core.Bool.{Bool, true, false}
 use mathlib.Core.Path.{_≡_, refl, ap, sym, _∙_, subst}
-use lib.ListN.{length, getD, take, drop, length-append}
+use lib.ListN.{length, getD, set, take, drop, length-append}
 use lib.Seq.{drop-drop, take-suc-set}
 use lib.Dec.{leb}
-use borrow.Author.Tests.{lt-ltb, le-leb, lt-leb}
+use borrow.Author.Tests.{lt-ltb, le-ltb, le-leb, lt-leb}
 use borrow.Rule.Slice.PartAt.{part-to-end}
 use Rattle.meaning.specs.Tree.{Node}
 use Rattle.meaning.specs.Check.{Check, pass, refuse, _>>=_, _>>_, _unless_, fault, each}
@@ -32,6 +32,13 @@ use Rattle.walk.proofs.Puts.{length-put, put-other}
 use Rattle.walk.proofs.Found.{number-read}
 use Rattle.shape.specs.Shape.{ShapeRead}
 use Rattle.shape.specs.declared.Shaped.the-variants.{No, Yes}
+
+module _ (a : List ℕ) (i x : ℕ) where
+  pub put-there : i < length a → set a i x ≡ put a i x
+  put-there h = rw (lt-ltb i (length a) h) refl
+
+  pub put-past : length a ≤ i → a ≡ put a i x
+  put-past h = rw (le-ltb i (length a) h) refl
 
 abbrev numbers : ℕ → List (Node Ends) → Check (List ℕ)
 numbers = each (λ i. aNumber)
@@ -58,6 +65,7 @@ pub record Standing (d mode due : ℕ) (s dims : List ℕ) (rank : ℕ) (verdict
 
 -- the loop's invariant
 pub record Passing (d mode count : ℕ) (s before dims : List ℕ) (at rank : ℕ) : Type 0 where
+  pub short : length s < FAULT
   pub within : at ≤ length s
   pub few : rank ≤ at
   pub room : length dims ≡ rankLimit
@@ -102,6 +110,10 @@ module _ {d mode due : ℕ} {s dims : List ℕ} {rank : ℕ} {verdict : Check (L
 refused : {n rank : ℕ} → No n ≡ Yes rank → ⊥
 refused e = let z : _≡_ {A = ℕ} 0 1 = cc in omega arith
 
+-- what is known of the length of a slice that is lent
+abbrev Lent : List ℕ → Type 0
+Lent s = length s * 1 < FAULT
+
 abbrev From : List ℕ → ℕ → List ℕ
 From s at = take (length s - at) (drop at s)
 
@@ -110,11 +122,12 @@ module _ {d : ℕ} {s dims : List ℕ} (room : length dims ≡ rankLimit) {v : O
   unfolding shapeOf
   no-list e = let k : ListIs s NotOpen = rw (part-to-end s 0, e) at h in record { room = room; others = λ _ z. absurd (refused z); trees = λ t r x. rw (k d t r x) refl }
 
-  pub begins : {mode count size : ℕ} → v ≡ Opened mode count size → Passing d mode count s dims dims size 0
+  pub begins : {mode count size : ℕ} → Lent s → v ≡ Opened mode count size → Passing d mode count s dims dims size 0
   unfolding shapeOf kinds.aList kinds.asList
-  begins {mode} {count} {size} e =
+  begins {mode} {count} {size} lent e =
       let k : ListIs s (Opened mode count size) = rw (part-to-end s 0, e) at h in
       record {
+        short = omega arith;
         within = k .within;
         few = omega arith;
         room = room;
@@ -126,12 +139,15 @@ module _ {d : ℕ} {s dims : List ℕ} (room : length dims ≡ rankLimit) {v : O
       }
 
 module _ {d mode count : ℕ} {s before dims : List ℕ} {at rank : ℕ} (p : Passing d mode count s before dims at rank) where
-  module _ (short : length s < FAULT) {k : ℕ} (is-k : k ≡ code (itemEnd d (From s at))) where
+  module _ {k : ℕ} (is-k : k ≡ code (itemEnd d (From s at))) where
     ends-so : k ≡ code (itemEnd d (drop at s))
     ends-so = is-k ∙ ap (λ u. code (itemEnd d u)) (part-to-end s at)
 
-    pub takes-a-byte : k ≤ length s - at → 1 ≤ k
-    takes-a-byte l = loops.takes-a-byte (item noNote d) (item-exact d) (item-hungry d) s short at (p .within) k ends-so l
+    takes-a-byte : k ≤ length s - at → 1 ≤ k
+    takes-a-byte l = loops.takes-a-byte (item noNote d) (item-exact d) (item-hungry d) s (p .short) at (p .within) k ends-so l
+
+    pub fewer-left : k ≤ length s - at → length s - (at + k) < length s - at
+    fewer-left l = omega (arith, takes-a-byte l)
 
   module _ {more : Bool} (h : MoreIs mode (count - rank) (From s at) more) where
     abbrev Here : Node Ends → List ℕ → List (Node Ends) → Type 0
@@ -169,14 +185,14 @@ module _ {d mode count : ℕ} {s before dims : List ℕ} {at rank : ℕ} (p : Pa
         pub no-number : v ≡ NoNumber → ShapeRead d s before dims (No 8)
         no-number e = record { room = p .room; others = λ _ z. absurd (refused z); trees = at-the-next v is-v _ λ t found x xs z y. not-a-number y (z ∙ ap numeral e) }
 
-        module _ (short : length s < FAULT) {n : ℕ} (is-n : v ≡ Number n) {k : ℕ} (is-k : k ≡ code (itemEnd d (From s at))) {noted : List ℕ} (is-noted : noted ≡ put dims rank n) where
+        module _ {n : ℕ} (is-n : v ≡ Number n) {k : ℕ} (is-k : k ≡ code (itemEnd d (From s at))) {noted : List ℕ} (is-noted : noted ≡ put dims rank n) where
           still-room : length noted ≡ rankLimit
           still-room = ap length is-noted ∙ length-put dims rank n ∙ p .room
 
           -- no element of a tree is refused
           pub no-end : length s - at < k → ShapeRead d s before noted (No 8)
           no-end l =
-              let f = loops.fails (item noNote d) (item-exact d) (item-hungry d) s short at (p .within) k (ends-so short is-k) l in
+              let f = loops.fails (item noNote d) (item-exact d) (item-hungry d) s (p .short) at (p .within) k (ends-so is-k) l in
               record {
                 room = still-room;
                 others = λ _ z. absurd (refused z);
@@ -186,10 +202,11 @@ module _ {d mode count : ℕ} {s before dims : List ℕ} {at rank : ℕ} (p : Pa
 
           pub goes-on : k ≤ length s - at → Passing d mode count s before noted (at + k) (rank + 1)
           goes-on l =
-              let w = p .within in let m = p .few in let o = takes-a-byte short is-k l in
-              let e = loops.passes (item noNote d) (item-exact d) (item-hungry d) s short at (p .within) k (ends-so short is-k) l in
+              let w = p .within in let m = p .few in let o = takes-a-byte is-k l in
+              let e = loops.passes (item noNote d) (item-exact d) (item-hungry d) s (p .short) at (p .within) k (ends-so is-k) l in
               let z : count - rank - 1 ≡ count - (rank + 1) = omega arith in
               record {
+                short = p .short;
                 within = omega arith;
                 few = omega arith;
                 room = still-room;

@@ -1,5 +1,5 @@
 -- These sizes are the lengths of what sound rows describe.
-use Prim.Native.Nat.{ℕ, zero, suc, _+_, _*_, _≤_}
+use Prim.Native.Nat.{ℕ, zero, suc, _+_, _-_, _*_, _≤_}
 use native.Mathlib.Omega.{arith}
 use mathlib.Core.List.{List, [], _∷_, map}
 use mathlib.Core.Bool.{Bool, true}
@@ -7,6 +7,9 @@ use mathlib.Core.Path.{_≡_, refl, sym, ap, _∙_}
 use lib.ListN.{length, take, drop, getD, length-map, length-take, length-drop}
 use lib.Seq.{length-take-le}
 use lib.Dec.{ltb}
+use mir.Syntax.{w64}
+use mir.Val.{Fits as FitsIn}
+use borrow.Rule.Slice.PartAt.{part-to-end}
 use borrow.Author.Tests.{ltb-true, le-leb, lt-ltb}
 use Rattle.meaning.specs.Columns.{objectWidth, componentWidth, rankColumn, shapeColumn}
 use Rattle.meaning.specs.Text.{all}
@@ -20,13 +23,14 @@ use Rattle.meaning.proofs.Lengths.{part-length, each-row-length}
 use Rattle.rows.specs.Placed.{objectsAt, componentsAt}
 use Rattle.rows.specs.Turns.{begun, offsetAt, stepped, turnLimit, reached, entriesFrom, objectFrom, objectsFrom, blobSizes, counted}
 use Rattle.rows.proofs.EachRow.{all-taken, all-dropped}
+use Rattle.rows.proofs.Lent.{lent-both}
 use Rattle.rows.proofs.Turns.{last-is-reached}
 use Rattle.rows.proofs.Whole.{sound-lies, sound-attributes, sound-objects, sound-components}
 use Rattle.rows.proofs.SoundRow.{component-name-inside, component-type-inside, component-blob-inside, component-digest-inside, attributes-inside, object-name-inside, object-rank-small, object-format-inside, object-attributes-sound}
 use Rattle.rows.proofs.Describes.{blobs-as-long, rows-counted, blob-lengths}
-use Rattle.sizes.specs.Size.{capped, headSize, textSize, optionalCopy, fixedSize, componentSize, componentsSize, objectSize, objectsSize, objectsSizeIn, manifestSize}
-use Rattle.sizes.specs.Measured.{shaped, Fits, Measurable, lengthsOf, endOf, manifestLength}
-use Rattle.sizes.proofs.Heads.{head-one}
+use Rattle.sizes.specs.Size.{capped, cappedEnd, headSize, textSize, optionalCopy, fixedSize, componentSize, componentsSize, objectSize, objectsSize, objectsSizeIn, manifestSize}
+use Rattle.sizes.specs.Measured.{shaped, Fits, Measurable, lengthsOf, endOf, manifestLength, ManifestIs}
+use Rattle.sizes.proofs.Heads.{head-one, head-small}
 use Rattle.sizes.proofs.Lengths.{text-length, number-length, list-length, entriesSize, map-length, text-field, copied-field, text-there, called-size, component-bytes, object-bytes, manifest-bytes}
 
 -- ---- components
@@ -132,10 +136,18 @@ module _ (plan buffer : List ℕ) where
 
 -- the last blob's end without a plan
 module _ (buffer rows : List ℕ) (objects components : ℕ) (attributes : Span) (sound : rowsSound buffer rows objects components attributes ≡ true) where
-  pub end-is : endOf (described buffer (asked rows objects components attributes)) ≡ reached [] 8 (blobSizes (componentsAt components (objectWidth * objects) rows))
+  end-is : endOf (described buffer (asked rows objects components attributes)) ≡ reached [] 8 (blobSizes (componentsAt components (objectWidth * objects) rows))
   end-is =
       last-is-reached (lengthsOf (described buffer (asked rows objects components attributes)))
       ∙ ap (reached [] 8) (blob-lengths buffer rows objects components attributes sound)
+
+  -- `end` was lent the components' rows to the end of all rows
+  pub end-so : {r : ℕ} → r ≡ cappedEnd (reached [] 8 (blobSizes (eachRow askedComponent componentWidth components (take (length rows - objectWidth * objects) (drop (objectWidth * objects) rows)))))
+      → r ≡ cappedEnd (endOf (described buffer (asked rows objects components attributes)))
+  end-so e =
+      e
+      ∙ ap (λ (s : List ℕ). cappedEnd (reached [] 8 (blobSizes (eachRow askedComponent componentWidth components s)))) (part-to-end rows (objectWidth * objects))
+      ∙ ap cappedEnd (sym end-is)
 
 module _ (plan buffer rows : List ℕ) (objects components : ℕ) (attributes : Span) (sound : rowsSound buffer rows objects components attributes ≡ true) where
   abbrev a : Asked
@@ -150,7 +162,7 @@ module _ (plan buffer rows : List ℕ) (objects components : ℕ) (attributes : 
   abbrev Cs : List AskedComponent
   Cs = componentsAt components (objectWidth * objects) rows
 
-  pub manifest-is : manifestLength plan d ≡ manifestSize plan a
+  manifest-is : manifestLength plan d ≡ manifestSize plan a
   unfolding described asked manifestSize
   manifest-is =
       let all-objects = sound-objects buffer rows objects components attributes sound in
@@ -181,25 +193,43 @@ module _ (plan buffer rows : List ℕ) (objects components : ℕ) (attributes : 
 
 -- ---- what is measured
 
-module _ (plan rows : List ℕ) (objects components : ℕ) (m : Measurable plan rows objects components) where
-  pub all-fit : Fits plan rows (drop (objectWidth * objects) rows) objects 0 0 (begun plan)
-  all-fit = record {
-    objects = omega (arith, m .lie);
-    components = omega (arith, m .lie, m .counts, length-drop (objectWidth * objects) rows);
-    ranks = m .ranks;
-    ends = rw (m .counts) (m .ends);
-  }
+-- the rows as they are lent: all of them, and from the components' on
+abbrev whole : List ℕ → List ℕ
+whole rows = take (length rows - 0) (drop 0 rows)
 
-  pub manifest-sum : (attributes : Span) (t h p : ℕ) → t ≡ capped (optionalCopy 11 attributes) → h ≡ headSize objects
-      → p ≡ capped (objectsSizeIn plan rows (drop (objectWidth * objects) rows) objects)
-      → capped (23 + t + h + p) ≡ capped (manifestSize plan (asked rows objects components attributes))
-  unfolding manifestSize asked
-  manifest-sum attributes t h p e f g =
-      omega (
-        arith,
-        e,
-        f,
-        g,
-        ap headSize (each-row-length askedObject objectWidth objects rows),
-        ap (λ (k : ℕ). objectsSize plan (begun plan) (eachRow askedObject objectWidth objects rows) (componentsAt k (objectWidth * objects) rows)) (m .counts),
-      )
+abbrev after : ℕ → List ℕ → List ℕ
+after objects rows = take (length rows - objectWidth * objects) (drop (objectWidth * objects) rows)
+
+module _ {plan rows : List ℕ} {objects components : ℕ} (m : Measurable plan rows objects components) where
+  pub all-fit : Fits plan (whole rows) (after objects rows) objects 0 0 (begun plan)
+  all-fit =
+      rw (part-to-end rows 0, part-to-end rows (objectWidth * objects)) (record {
+        objects = omega (arith, m .lie);
+        components = omega (arith, m .lie, m .counts, length-drop (objectWidth * objects) rows);
+        ranks = m .ranks;
+        ends = rw (m .counts) (m .ends);
+      })
+
+  module _ (attributes : Span) {t h p : ℕ} (copied : t ≡ capped (optionalCopy 11 attributes)) (headed : h ≡ headSize objects)
+      (held : p ≡ capped (objectsSizeIn plan (whole rows) (after objects rows) objects)) where
+    measured : capped (23 + t + h + p) ≡ capped (manifestSize plan (asked rows objects components attributes))
+    unfolding manifestSize asked
+    measured =
+        omega (
+          arith,
+          copied,
+          headed,
+          held ∙ lent-both rows rows (objectWidth * objects) (λ os cs. capped (objectsSizeIn plan os cs objects)),
+          ap headSize (each-row-length askedObject objectWidth objects rows),
+          ap (λ (k : ℕ). objectsSize plan (begun plan) (eachRow askedObject objectWidth objects rows) (componentsAt k (objectWidth * objects) rows)) (m .counts),
+        )
+
+    pub manifest-sum : {r : ℕ} → r ≡ capped (23 + t + h + p) → ManifestIs plan rows objects components attributes r
+    manifest-sum e buffer sound = e ∙ measured ∙ ap capped (sym (manifest-is plan buffer rows objects components attributes sound))
+
+module _ (n m : ℕ) {t h : ℕ} (copied : t ≡ capped n) (headed : h ≡ headSize m) where
+  pub head-fits : FitsIn w64 (23 + t + h)
+  head-fits = record { fits = omega (arith, copied, headed, head-small m) }
+
+  pub all-fits : (k : ℕ) {p : ℕ} → p ≡ capped k → FitsIn w64 (23 + t + h + p)
+  all-fits k e = record { fits = omega (arith, copied, headed, e, head-small m) }

@@ -1,9 +1,11 @@
 -- One turn of each loop over rows: what is measured, and what is still to be.
-use Prim.Native.Nat.{ℕ, _+_, _-_, _*_, _≤_, _<_}
+use Prim.Native.Nat.{ℕ, _+_, _-_, _*_, _^_, _≤_, _<_}
 use native.Mathlib.Omega.{arith}
 use mathlib.Core.List.{List}
 use mathlib.Core.Path.{_≡_, ap, sym, _∙_, subst}
 use lib.ListN.{length, take, drop, getD, length-drop}
+use mir.Syntax.{w64}
+use mir.Val.{Fits as FitsIn}
 use borrow.Rule.Slice.PartAt.{part-to-end}
 use Rattle.meaning.specs.Columns.{objectWidth, componentWidth, rankColumn, countColumn, lengthColumn}
 use Rattle.meaning.specs.Limit.{manifestLimit}
@@ -13,6 +15,7 @@ use Rattle.rows.specs.Turns.{begun, offsetAt, stepped, turnLimit, reached, blob
 use Rattle.rows.proofs.Turns.{reached-above, reached-next}
 use Rattle.sizes.specs.Size.{capped, headSize, componentSize, componentsSize, objectSize, objectsSize, objectsSizeIn}
 use Rattle.sizes.specs.Measured.{Fits}
+use Rattle.sizes.proofs.Heads.{head-small}
 use Rattle.sizes.proofs.Sums.{from-nothing, one-more, one-object, components-none, components-next, objects-none, objects-next, rank-small, components-there, ends-in-time, fits-next}
 
 -- what is lent from a place on
@@ -53,8 +56,24 @@ module _ {plan rows : List ℕ} {whole at left turn total : ℕ} (p : PartsLeft 
     pub step-in-time : stepped plan turn size ≤ turnLimit plan
     step-in-time = omega (arith, ends-next, reached-above plan (stepped plan turn size) others)
 
+    pub row-starts : at ≤ length rows
+    row-starts = omega (arith, p .lie)
+
     pub row-there : componentWidth ≤ length (from-on at rows)
     row-there = rw (part-to-end rows at) (omega (arith, p .lie, some, length-drop at rows))
+
+    pub length-there : at + lengthColumn < length rows
+    length-there = omega (arith, p .lie, some)
+
+    module _ (room : length rows * 8 < 2 ^ 63) where
+      pub length-fits : FitsIn w64 (at + lengthColumn)
+      length-fits = record { fits = omega (arith, p .lie, some, room) }
+
+      pub next-fits : FitsIn w64 (at + componentWidth)
+      next-fits = record { fits = omega (arith, p .lie, some, room) }
+
+    pub sum-fits : (n : ℕ) {s : ℕ} → s ≡ capped n → FitsIn w64 (total + s)
+    sum-fits n e = record { fits = omega (arith, p .small, e) }
 
     pub parts-turn : {o s t u : ℕ} → o ≡ offsetAt plan turn → s ≡ capped (componentSize o (askedComponent (from-on at rows))) → t ≡ capped (total + s) → u ≡ stepped plan turn size
         → PartsLeft plan rows whole (at + componentWidth) (left - 1) u t
@@ -93,18 +112,63 @@ module _ {plan rows parts : List ℕ} {whole row from left turn total : ℕ} (p 
     abbrev own : ℕ
     own = reached plan turn (blobSizes (componentsAt count from parts))
 
-    pub object-long : row + objectWidth ≤ length rows
+    object-long : row + objectWidth ≤ length rows
     object-long = omega (arith, p .fits .objects, some)
 
-    pub parts-long : from + componentWidth * count ≤ length parts
+    parts-long : from + componentWidth * count ≤ length parts
     parts-long = components-there plan rows parts left row from turn some (p .fits)
 
-    pub object-there : (objectWidth ≤ length (from-on row rows)) × (getD (from-on row rows) rankColumn 0 ≤ 8)
-    object-there = rw (part-to-end rows row) (omega (arith, object-long, length-drop row rows), rank-small plan rows parts left row from turn some (p .fits))
+    pub object-starts : row ≤ length rows
+    object-starts = omega (arith, object-long)
 
-    pub parts-there : (componentWidth * count ≤ length (from-on from parts))
-        × (reached plan turn (blobSizes (eachRow askedComponent componentWidth count (from-on from parts))) ≤ turnLimit plan)
-    parts-there = rw (part-to-end parts from) (omega (arith, parts-long, length-drop from parts), ends-in-time plan rows parts left row from turn some (p .fits))
+    pub count-there : row + countColumn < length rows
+    count-there = omega (arith, object-long)
+
+    pub object-there : objectWidth ≤ length (from-on row rows)
+    object-there = rw (part-to-end rows row) (omega (arith, object-long, length-drop row rows))
+
+    pub rank-there : getD (from-on row rows) rankColumn 0 ≤ 8
+    rank-there = rw (part-to-end rows row) (rank-small plan rows parts left row from turn some (p .fits))
+
+    pub parts-start : from ≤ length parts
+    parts-start = omega (arith, parts-long)
+
+    pub parts-there : componentWidth * count ≤ length (from-on from parts)
+    parts-there = rw (part-to-end parts from) (omega (arith, parts-long, length-drop from parts))
+
+    pub parts-in-time : reached plan turn (blobSizes (eachRow askedComponent componentWidth count (from-on from parts))) ≤ turnLimit plan
+    parts-in-time = rw (part-to-end parts from) (ends-in-time plan rows parts left row from turn some (p .fits))
+
+    module _ (room : length rows * 8 < 2 ^ 63) where
+      pub count-fits : FitsIn w64 (row + countColumn)
+      count-fits = record { fits = omega (arith, object-long, room) }
+
+      pub object-fits : FitsIn w64 (row * 8)
+      object-fits = record { fits = omega (arith, object-long, room) }
+
+      pub next-object-fits : FitsIn w64 (row + objectWidth)
+      next-object-fits = record { fits = omega (arith, object-long, room) }
+
+    module _ (room : length parts * 8 < 2 ^ 63) where
+      pub from-fits : FitsIn w64 (from * 8)
+      from-fits = record { fits = omega (arith, parts-long, room) }
+
+      pub parts-fit : FitsIn w64 (componentWidth * count)
+      parts-fit = record { fits = omega (arith, parts-long, room) }
+
+      pub next-from-fits : FitsIn w64 (from + componentWidth * count)
+      next-from-fits = record { fits = omega (arith, parts-long, room) }
+
+    -- the object's own bytes, with the head of its components and then with them
+    module _ (n : ℕ) {o h : ℕ} (own-is : o ≡ capped n) (head-is : h ≡ headSize count) where
+      pub own-fits : FitsIn w64 (o + h)
+      own-fits = record { fits = omega (arith, own-is, head-is, head-small count) }
+
+      pub own-sum-fits : FitsIn w64 (total + (o + h))
+      own-sum-fits = record { fits = omega (arith, p .small, own-is, head-is, head-small count) }
+
+      pub parts-sum-fits : (m : ℕ) {s : ℕ} → s ≡ capped m → FitsIn w64 (total + (o + h) + s)
+      parts-sum-fits m e = record { fits = omega (arith, p .small, own-is, head-is, e, head-small count) }
 
     pub objects-turn : {o h s t u : ℕ} → o ≡ capped (objectSize (askedObject (from-on row rows))) → h ≡ headSize count
         → s ≡ capped (componentsSize plan turn (eachRow askedComponent componentWidth count (from-on from parts))) → t ≡ capped (total + (o + h) + s)

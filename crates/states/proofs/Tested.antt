@@ -3,12 +3,12 @@ use Prim.Native.Nat.{ℕ, zero, suc, _+_, _-_, _*_, _/_, _≤_, _<_}
 use native.Mathlib.Numerals.{add-one}
 use native.Mathlib.Omega.{arith}
 use mathlib.Core.List.{List, [], _∷_}
-use mathlib.Core.Bool.{Bool, true, false, cond, _&&_}
+use mathlib.Core.Bool.{Bool, true, false, cond, not, _&&_}
 use mathlib.Core.Path.{_≡_, refl, sym, ap, _∙_}
 use lib.Dec.{eqb}
 use lib.ListN.{length, take, drop, getD, length-drop, drop-of-length-le}
 use lib.Seq.{drop-cons, drop-drop, take-all, length-take-le}
-use borrow.Author.Tests.{eq-eqb, ne-eqb, le-leb, lt-leb, eqb-true}
+use borrow.Author.Tests.{eq-eqb, ne-eqb, le-leb, lt-leb, eqb-true, not-true, not-false}
 use borrow.Rule.Slice.PartAt.{part-to-end}
 use Rattle.meaning.specs.Check.{pass, refuse}
 use Rattle.meaning.specs.Refusal.{INDEX}
@@ -19,6 +19,7 @@ use Rattle.engines.specs.Calls.{placeOf}
 use Rattle.states.specs.Places.{standsBy, fitting, both, stands, standing}
 use Rattle.states.specs.declared.Usage.{Usage}
 use Rattle.states.specs.declared.Usage.the-variants.{Unusable, Holding}
+use Rattle.states.specs.declared.Place.{Place}
 use Rattle.states.specs.declared.Place.the-variants.{Nowhere, Idle, Loaded}
 use Rattle.engines.proofs.Opens.{Opened, opened-closed}
 
@@ -83,18 +84,24 @@ module _ (s : List ℕ) where
   unfolding stateSound
   layout-past f h = rw (le-leb (flagOf s) 1 f, lt-leb (layoutColumn s) 1 h) refl
 
-  module _ (f : flagOf s ≤ 1) (l : layoutColumn s ≤ 1) where
-    pub not-just : justHeld ≡ false → false ≡ stateSound s
+  module _ (f : flagOf s ≤ 1) (l : layoutColumn s ≤ 1) (j : Bool) (asked : j ≡ justHeld) where
+    pub not-just : not j ≡ true → false ≡ stateSound s
     unfolding stateSound
-    not-just h = rw (le-leb (flagOf s) 1 f, le-leb (layoutColumn s) 1 l, h) refl
+    not-just h = let k : justHeld ≡ false = sym asked ∙ not-true j h in rw (le-leb (flagOf s) 1 f, le-leb (layoutColumn s) 1 l, k) refl
 
-    pub idle-sound : justHeld ≡ true → flagOf s ≡ 0 → all (λ n. eqb n 0) s ≡ stateSound s
-    unfolding stateSound
-    idle-sound h z = rw (le-leb (flagOf s) 1 f, le-leb (layoutColumn s) 1 l, h, eq-eqb (flagOf s) 0 z) refl
+    module _ (h : not j ≡ false) where
+      just : justHeld ≡ true
+      just = sym asked ∙ not-false j h
 
-    pub loaded-sound : justHeld ≡ true → (flagOf s ≡ 0 → ⊥) → true ≡ stateSound s
-    unfolding stateSound
-    loaded-sound h z = rw (le-leb (flagOf s) 1 f, le-leb (layoutColumn s) 1 l, h, ne-eqb (flagOf s) 0 z) refl
+      pub idle-sound : flagOf s ≡ 0 → (z : Bool) → z ≡ all (λ n. eqb n 0) (take (length s - 0) (drop 0 s)) → z ≡ stateSound s
+      unfolding stateSound
+      idle-sound e z zeros =
+          let k = just in
+          zeros ∙ ap (λ (x : List ℕ). all (λ n. eqb n 0) x) (part-to-end s 0) ∙ (rw (le-leb (flagOf s) 1 f, le-leb (layoutColumn s) 1 l, k, eq-eqb (flagOf s) 0 e) refl)
+
+      pub loaded-sound : (flagOf s ≡ 0 → ⊥) → true ≡ stateSound s
+      unfolding stateSound
+      loaded-sound e = let k = just in rw (le-leb (flagOf s) 1 f, le-leb (layoutColumn s) 1 l, k, ne-eqb (flagOf s) 0 e) refl
 
 -- ---- where its engine stands
 
@@ -108,28 +115,38 @@ stands-loaded s place free h = rw (ne-eqb (flagOf s) 0 h) refl
 
 -- ---- both states
 
-pub both-ways : {n m : ℕ} → m ≤ n → n ≤ m → n ≡ m
-both-ways a b = omega (arith, a, b)
-
 -- what two states hold
-module _ (size : ℕ) (a b : List ℕ) where
-  pub first-unsound : stateSound a ≡ false → Unusable ≡ fitting size a b
+module _ (size : ℕ) (a b : List ℕ) (p : Bool) (asked : p ≡ stateSound a) where
+  pub first-unsound : not p ≡ true → Unusable ≡ fitting size a b
   unfolding fitting
-  first-unsound h = rw h refl
+  first-unsound h = let k : stateSound a ≡ false = sym asked ∙ not-true p h in rw k refl
 
-  module _ (h : stateSound a ≡ true) where
-    pub second-unsound : stateSound b ≡ false → Unusable ≡ fitting size a b
+  module _ (yes : not p ≡ false) (q : Bool) (also-asked : q ≡ stateSound b) where
+    one : stateSound a ≡ true
+    one = sym asked ∙ not-false p yes
+
+    pub second-unsound : not q ≡ true → Unusable ≡ fitting size a b
     unfolding fitting
-    second-unsound k = rw (h, k) refl
+    second-unsound h = let j = one in let k : stateSound b ≡ false = sym also-asked ∙ not-true q h in rw (j, k) refl
 
-    module _ (k : stateSound b ≡ true) where
-      pub too-many : size < heldOf a + heldOf b → Unusable ≡ fitting size a b
-      unfolding fitting
-      too-many l = rw (h, k, lt-leb (heldOf a + heldOf b) size l) refl
+    module _ (also : not q ≡ false) where
+      two : stateSound b ≡ true
+      two = sym also-asked ∙ not-false q also
 
-      pub both-fit : heldOf a + heldOf b ≤ size → Holding (heldOf a) (heldOf b) ≡ fitting size a b
+      too-many : size < heldOf a + heldOf b → Unusable ≡ fitting size a b
       unfolding fitting
-      both-fit l = rw (h, k, le-leb (heldOf a + heldOf b) size l) refl
+      too-many l = let j = one in let k = two in rw (j, k, lt-leb (heldOf a + heldOf b) size l) refl
+
+      pub front-past : size < heldOf a → Unusable ≡ fitting size a b
+      front-past l = too-many (omega arith)
+
+      module _ (l : heldOf a ≤ size) where
+        pub back-past : size - heldOf a < heldOf b → Unusable ≡ fitting size a b
+        back-past m = too-many (omega arith)
+
+        pub both-fit : heldOf b ≤ size - heldOf a → Holding (heldOf a) (heldOf b) ≡ fitting size a b
+        unfolding fitting
+        both-fit m = let j = one in let k = two in rw (j, k, le-leb (heldOf a + heldOf b) size (omega arith)) refl
 
 module _ (size : ℕ) (l : List ℕ) where
   abbrev front : List ℕ
@@ -138,9 +155,15 @@ module _ (size : ℕ) (l : List ℕ) where
   abbrev back : List ℕ
   back = take 8 (drop (size + 8) l)
 
-  pub length-past : (length l ≡ size + 16 → ⊥) → Unusable ≡ both size l
+  length-past : (length l ≡ size + 16 → ⊥) → Unusable ≡ both size l
   unfolding both usable
   length-past h = rw (ne-eqb (length l) (size + 16) h) refl
+
+  pub too-short : length l < size + 16 → Unusable ≡ both size l
+  too-short h = length-past (λ e. omega arith)
+
+  pub too-long : size + 16 < length l → Unusable ≡ both size l
+  too-long h = length-past (λ e. omega arith)
 
   module _ (n : length l ≡ size + 16) where
     pub back-is : drop 8 (drop size l) ≡ back
@@ -148,19 +171,29 @@ module _ (size : ℕ) (l : List ℕ) where
         let d : length (drop (size + 8) l) ≡ length l - (size + 8) = length-drop (size + 8) l in
         drop-drop 8 size l ∙ sym (take-all 8 (drop (size + 8) l) (omega (arith, d, n)))
 
-    pub front-eight : length front ≡ 8
+    front-eight : length front ≡ 8
     front-eight = let d : length (drop size l) ≡ length l - size = length-drop size l in length-take-le 8 (drop size l) (omega (arith, d, n))
 
-    pub back-eight : length back ≡ 8
+    back-eight : length back ≡ 8
     back-eight = let d : length (drop (size + 8) l) ≡ length l - (size + 8) = length-drop (size + 8) l in length-take-le 8 (drop (size + 8) l) (omega (arith, d, n))
 
-    pub both-are : fitting size front back ≡ both size l
+    both-are : fitting size front back ≡ both size l
     unfolding both fitting usable partOf
     both-are = let e = back-is in rw (eq-eqb (length l) (size + 16) n, e) refl
 
+  module _ (low : size + 16 ≤ length l) (high : length l ≤ size + 16) where
+    sized : length l ≡ size + 16
+    sized = omega arith
+
+    pub eights : (length front ≡ 8) × (length back ≡ 8)
+    eights = (front-eight sized, back-eight sized)
+
+    pub both-told : (r : Usage) → r ≡ fitting size front back → r ≡ both size l
+    both-told r h = h ∙ both-are sized
+
   -- ---- and from there where an engine stands
 
-  pub asked : (x y : Usage) → x ≡ both size (take (length l - 0) (drop 0 l)) → x ≡ y → both size l ≡ y
+  asked : (x y : Usage) → x ≡ both size (take (length l - 0) (drop 0 l)) → x ≡ y → both size l ≡ y
   asked x y e g = ap (both size) (sym (part-to-end l 0)) ∙ sym e ∙ g
 
   abbrev isUsable : Bool
@@ -185,12 +218,12 @@ module _ (size : ℕ) (l : List ℕ) where
   sayOf Unusable = 0 ∷ []
   sayOf (Holding f b) = 1 ∷ f ∷ b ∷ []
 
-  pub record Uses (f b : ℕ) : Type 0 where
-    pub usable-so : isUsable ≡ true
-    pub front-is : f ≡ heldOf (partOf size first l .state)
-    pub back-held : b ≡ heldOf (partOf size second l .state)
+  record Uses (f b : ℕ) : Type 0 where
+    usable-so : isUsable ≡ true
+    front-is : f ≡ heldOf (partOf size first l .state)
+    back-held : b ≡ heldOf (partOf size second l .state)
 
-  pub uses : (f b : ℕ) → both size l ≡ Holding f b → Uses f b
+  uses : (f b : ℕ) → both size l ≡ Holding f b → Uses f b
   unfolding both
   uses f b = by isUsable refl
     where
@@ -205,13 +238,13 @@ module _ (size : ℕ) (l : List ℕ) where
     okay : Opened size l parts
     okay = opened-closed size l parts (opens-parts (there .usable-so))
 
-    pub fit : f + b ≤ size
+    fit : f + b ≤ size
     fit = let k = okay .ok in omega (arith, there .front-is, there .back-held, k .fills, k .front .held, k .back .held)
 
     free-length : length (parts .free) ≡ size - f - b
     free-length = let k = okay .ok in omega (arith, there .front-is, there .back-held, k .fills, k .front .held, k .back .held)
 
-    pub whole : length l ≡ size + 16
+    whole : length l ≡ size + 16
     unfolding usable
     whole = eqb-true (length l) (size + 16) (go (eqb (length l) (size + 16)) _ _ _ (there .usable-so))
       where
@@ -219,17 +252,17 @@ module _ (size : ℕ) (l : List ℕ) where
         go true b c d x = refl
         go false b c d x = x
 
-    pub standing-first : standsBy 0 (size - f - b) front ≡ standing size 0 l
+    front-stands : standsBy 0 (size - f - b) front ≡ standing size 0 l
     unfolding standing stands placeOf partOf
-    standing-first = let o = opens-parts (there .usable-so) in let e = free-length in rw (o, e) refl
+    front-stands = let o = opens-parts (there .usable-so) in let e = free-length in rw (o, e) refl
 
-    pub standing-second : standsBy (size - b) (size - f - b) back ≡ standing size 1 l
+    back-stands : standsBy (size - b) (size - f - b) back ≡ standing size 1 l
     unfolding standing stands placeOf partOf
-    standing-second = let o = opens-parts (there .usable-so) in let e = free-length in let i = back-is whole in let j = there .back-held in rw (o, e, ← i, j) refl
+    back-stands = let o = opens-parts (there .usable-so) in let e = free-length in let i = back-is whole in let j = there .back-held in rw (o, e, ← i, j) refl
 
-  pub standing-unusable : (engine : ℕ) → both size l ≡ Unusable → Nowhere ≡ standing size engine l
+  none-stands : (engine : ℕ) → both size l ≡ Unusable → Nowhere ≡ standing size engine l
   unfolding both standing stands
-  standing-unusable engine = by isUsable refl engine
+  none-stands engine = by isUsable refl engine
     where
       none : (n : ℕ) → opened size l ≡ refuse INDEX 0 0 → Nowhere ≡ standing size n l
       none zero o = rw o refl
@@ -245,3 +278,44 @@ module _ (size : ℕ) (l : List ℕ) where
   standing-stranger zero a b = absurd (a refl)
   standing-stranger (suc zero) a b = absurd (b refl)
   standing-stranger (suc (suc n)) a b = refl
+
+-- ---- the same, by what `both` answered of the numbers lent whole
+
+module _ (l : List ℕ) (u : Usage) (told : u ≡ both 65536 (take (length l - 0) (drop 0 l))) where
+  pub standing-unusable : u ≡ Unusable → (engine : ℕ) → Nowhere ≡ standing 65536 engine l
+  standing-unusable e engine = none-stands 65536 l engine (asked 65536 l u Unusable told e)
+
+  module _ (f b : ℕ) (is : u ≡ Holding f b) where
+    holding : both 65536 l ≡ Holding f b
+    holding = asked 65536 l u (Holding f b) told is
+
+    all-lent : length l ≡ 65552
+    all-lent = whole 65536 l f b holding
+
+    pub front-fits : f ≤ 65536
+    front-fits = omega (arith, fit 65536 l f b holding)
+
+    pub back-fits : b ≤ 65536
+    back-fits = omega (arith, fit 65536 l f b holding)
+
+    pub beside-front : b ≤ 65536 - f
+    beside-front = omega (arith, fit 65536 l f b holding)
+
+    pub first-state-lies : 65544 ≤ length l
+    first-state-lies = omega (arith, all-lent)
+
+    pub second-state-lies : 65552 ≤ length l
+    second-state-lies = omega (arith, all-lent)
+
+    pub first-state-sized : length (take 8 (drop 65536 l)) ≡ 8
+    first-state-sized = front-eight 65536 l all-lent
+
+    pub second-state-sized : length (take 8 (drop 65544 l)) ≡ 8
+    second-state-sized = back-eight 65536 l all-lent
+
+    module _ (engine : ℕ) (r : Place) where
+      pub standing-first : r ≡ standsBy 0 (65536 - f - b) (take 8 (drop 65536 l)) → engine ≡ 0 → r ≡ standing 65536 engine l
+      standing-first h e = h ∙ front-stands 65536 l f b holding ∙ ap (λ (n : ℕ). standing 65536 n l) (sym e)
+
+      pub standing-second : r ≡ standsBy (65536 - b) (65536 - f - b) (take 8 (drop 65544 l)) → engine ≡ 1 → r ≡ standing 65536 engine l
+      standing-second h e = h ∙ back-stands 65536 l f b holding ∙ ap (λ (n : ℕ). standing 65536 n l) (sym e)

@@ -1,21 +1,32 @@
 -- One turn of a walk over a slice s, at the place `at`, towards what its reading is refused for.
-use Prim.Native.Nat.{ℕ, zero, suc, _+_, _-_, _/_, _%_, _≤_, _<_}
+use Prim.Native.Nat.{ℕ, zero, suc, _+_, _-_, _*_, _/_, _%_, _≤_, _<_}
 use native.Mathlib.Omega.{arith}
 use mathlib.Core.List.{List, [], _∷_}
 use mathlib.Core.Path.{_≡_, refl, ap, sym, _∙_, subst}
-use lib.ListN.{length, getD, drop, length-drop}
+use lib.ListN.{length, getD, take, drop, length-drop}
+use borrow.Rule.Slice.PartAt.{part-to-end}
 use lib.Seq.{drop-drop}
+use mir.Syntax.{w8}
+use mir.Val.{Fits}
 use Rattle.meaning.specs.Read as read
 use Rattle.meaning.specs.Read.{got, refused, Reader, item, noNote, chunk, toBreak}
 use Rattle.meaning.proofs.ReadPrefix.{item-exact, item-hungry, chunk-hungry}
 use Rattle.cbor.specs.Ending.{FAULT, code, itemEnd}
 use Rattle.cbor.proofs.Ends.{got-what, refused-what}
 use Rattle.cbor.proofs.Loops.{passes, fails, takes-a-byte}
-use Rattle.stop.specs.Stop.{LeftBy, OfString, headLeft, PlainStops}
+use Rattle.stop.specs.Stop.{LeftBy, OfString, ChunksStop, headLeft, PlainStops}
 use Rattle.stop.proofs.Stuck.{same-left, Stuck, break-stuck, stuck-refused, stuck-got}
 use Rattle.stop.proofs.Heads as heads
 
+-- what is known of the length of a slice that is lent
+abbrev pub Lent : List ℕ → Type 0
+Lent s = length s * 1 < FAULT
+
 -- ---------------------------------------------------------------- the bytes from a place on
+
+-- as they are lent
+abbrev pub onwards : List ℕ → ℕ → List ℕ
+onwards s at = take (length s - at) (drop at s)
 
 pub from-at : (s : List ℕ) (at : ℕ) → at < length s → drop at s ≡ getD s at 0 ∷ drop (suc at) s
 from-at [] at l = absurd (omega arith)
@@ -95,7 +106,13 @@ module _ (m : ℕ) (s : List ℕ) where
         pub odd-head : 28 ≤ k → LeftBy (toBreak (chunk m)) s (length s - at)
         odd-head z = stops-here i l (heads.chunk-late m (getD s at 0) (drop (suc at) s) (sym h ∙ g) (omega (arith, y, z)) .is)
 
-        module _ (of : OfString m) (z : k < 28) (room : length s < FAULT) (r : ℕ) (is : r ≡ code (itemEnd 1 (drop at s))) where
+        module _ (of : OfString m) (z : k < 28) (lent : Lent s) (r : ℕ) (said : r ≡ code (itemEnd 1 (onwards s at))) where
+          room : length s < FAULT
+          room = omega arith
+
+          is : r ≡ code (itemEnd 1 (drop at s))
+          is = said ∙ ap (λ u. code (itemEnd 1 u)) (part-to-end s at)
+
           as-first : {o : read.Outcome _} → item noNote 1 (drop at s) ≡ o → item noNote 1 (getD s at 0 ∷ drop (suc at) s) ≡ o
           as-first e = ap (item noNote 1) (sym (from-at s at l)) ∙ e
 
@@ -112,8 +129,8 @@ module _ (m : ℕ) (s : List ℕ) where
               let c = heads.chunk-whole m (getD s at 0) (drop (suc at) s) of (sym h ∙ g) (omega (arith, y, z)) (as-first (e .is)) in
               goes-on i r l (ap (chunk m) (from-at s at l) ∙ c .is) (let v = i .within in omega (arith, v, w))
 
-          pub some-byte : r ≤ length s - at → 1 ≤ r
-          some-byte w = takes-a-byte (item noNote 1) (item-exact 1) (item-hungry 1) s room at (i .within) r is w
+          pub fewer-left : r ≤ length s - at → length s - (at + r) < length s - at
+          fewer-left w = omega (arith, takes-a-byte (item noNote 1) (item-exact 1) (item-hungry 1) s room at (i .within) r is w)
 
 -- ---------------------------------------------------------------- items that hold no other
 
@@ -122,13 +139,21 @@ unfolding item read.here read.byte
 plain-none [] l d h n q e = ap length (same-left e)
 plain-none (b ∷ s) l d h n q e = absurd (omega arith)
 
-pub plain-bytes : (s : List ℕ) (r : ℕ) → (length s ≡ 0 → ⊥) → getD s 0 0 ≡ 95 → LeftBy (toBreak (chunk 2)) (drop 1 s) r → PlainStops s r
-plain-bytes [] r n e f d h c q g = absurd (n refl)
-plain-bytes (b ∷ s) r n e f d h c q g = f c q (heads.open-bytes d s (ap (λ b. item noNote (suc d) (b ∷ s)) (sym e) ∙ g))
+-- the chunks from the second byte on
+module _ (s : List ℕ) (r : ℕ) (some : length s ≡ 0 → ⊥) where
+  pub plain-bytes : getD s 0 0 ≡ 95 → ChunksStop 2 (onwards s 1) r → PlainStops s r
+  plain-bytes e f = go s some e (subst (λ u. ChunksStop 2 u r) (part-to-end s 1) f)
+    where
+      go : (s : List ℕ) → (length s ≡ 0 → ⊥) → getD s 0 0 ≡ 95 → ChunksStop 2 (drop 1 s) r → PlainStops s r
+      go [] n e f d h c q g = absurd (n refl)
+      go (b ∷ s) n e f d h c q g = f c q (heads.open-bytes d s (ap (λ b. item noNote (suc d) (b ∷ s)) (sym e) ∙ g))
 
-pub plain-text : (s : List ℕ) (r : ℕ) → (length s ≡ 0 → ⊥) → getD s 0 0 ≡ 127 → LeftBy (toBreak (chunk 3)) (drop 1 s) r → PlainStops s r
-plain-text [] r n e f d h c q g = absurd (n refl)
-plain-text (b ∷ s) r n e f d h c q g = f c q (heads.open-text d s (ap (λ b. item noNote (suc d) (b ∷ s)) (sym e) ∙ g))
+  pub plain-text : getD s 0 0 ≡ 127 → ChunksStop 3 (onwards s 1) r → PlainStops s r
+  plain-text e f = go s some e (subst (λ u. ChunksStop 3 u r) (part-to-end s 1) f)
+    where
+      go : (s : List ℕ) → (length s ≡ 0 → ⊥) → getD s 0 0 ≡ 127 → ChunksStop 3 (drop 1 s) r → PlainStops s r
+      go [] n e f d h c q g = absurd (n refl)
+      go (b ∷ s) n e f d h c q g = f c q (heads.open-text d s (ap (λ b. item noNote (suc d) (b ∷ s)) (sym e) ∙ g))
 
 pub plain-one : (s : List ℕ) → getD s 0 0 ≡ 248 → length s ≡ 1 → PlainStops s 0
 plain-one [] e l d h c q g = absurd (omega arith)
@@ -140,6 +165,9 @@ plain-two [] n e l d h c q g = absurd (n refl)
 plain-two (b ∷ []) n e l d h c q g = absurd (l refl)
 plain-two (b ∷ x ∷ s) n e l d h c q g = heads.two-byte d (x ∷ s) (ap (λ b. item noNote (suc d) (b ∷ x ∷ s)) (sym e) ∙ g) .1 (omega arith)
 
-pub plain-head : (s : List ℕ) (r : ℕ) → (length s ≡ 0 → ⊥) → getD s 0 0 < 256 → (getD s 0 0 ≡ 95 → ⊥) → (getD s 0 0 ≡ 127 → ⊥) → (getD s 0 0 ≡ 248 → ⊥) → r ≡ headLeft s → PlainStops s r
-plain-head [] r n k x y z f d h c q g = absurd (n refl)
-plain-head (b ∷ s) r n k x y z f d h c q g = f ∙ heads.plain-left d b s g h k x y z
+pub plain-head : (s : List ℕ) (r : ℕ) → (length s ≡ 0 → ⊥) → ((i : ℕ) → Fits w8 (getD s i 0)) → (getD s 0 0 ≡ 95 → ⊥) → (getD s 0 0 ≡ 127 → ⊥) → (getD s 0 0 ≡ 248 → ⊥) → r ≡ headLeft (onwards s 0) → PlainStops s r
+plain-head s r n k x y z f = go s n (omega (arith, k 0)) x y z (f ∙ ap headLeft (part-to-end s 0))
+  where
+    go : (s : List ℕ) → (length s ≡ 0 → ⊥) → getD s 0 0 < 256 → (getD s 0 0 ≡ 95 → ⊥) → (getD s 0 0 ≡ 127 → ⊥) → (getD s 0 0 ≡ 248 → ⊥) → r ≡ headLeft s → PlainStops s r
+    go [] n k x y z f d h c q g = absurd (n refl)
+    go (b ∷ s) n k x y z f d h c q g = f ∙ heads.plain-left d b s g h k x y z

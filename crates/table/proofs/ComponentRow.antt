@@ -1,5 +1,5 @@
 -- The row of a component, a branch each: none where the judgement refuses it, else twelve numbers.
-use Prim.Native.Nat.{ℕ, _+_, _≤_, _<_}
+use Prim.Native.Nat.{ℕ, _+_, _*_, _^_, _≤_, _<_}
 use native.Mathlib.Omega.{arith}
 use mathlib.Core.List.{List, [], _∷_}
 use mathlib.Core.Path.{_≡_, refl, ap, sym, _∙_, subst}
@@ -95,7 +95,7 @@ own-of layout format code start n f fm has k passes = go (component (layoutOf la
 pub row-beyond : (layout format : ℕ) (s c : List ℕ) (v : Judged) (size end owner i : ℕ) (before : List ℕ) → length before ≤ i → RowPut layout format s c v size end owner i before before
 row-beyond layout format s c v size end owner i before h code start says p d q r key value sized n name f fm has k passes = sym (laying.sets-out (rowIn end owner k) before i h)
 
-module _ (layout format : ℕ) (s c : List ℕ) (room : length c < FAULT) (v : Judged) (size end owner i : ℕ) (before after : List ℕ) where
+module _ (layout format : ℕ) (s c : List ℕ) (v : Judged) (size end owner i : ℕ) (before after : List ℕ) where
   pub no-row : (m : ℕ) → v ≡ No m → RowPut layout format s c v size end owner i before after
   no-row m e code start says p d q r key value sized n name f fm has k passes =
       let so = named-pair p n name in
@@ -104,10 +104,11 @@ module _ (layout format : ℕ) (s c : List ℕ) (room : length c < FAULT) (v : J
       absurd (let z : _≡_ {A = ℕ} 0 1 = cc in omega arith)
 
   pub a-row : (code t o l g : ℕ) → v ≡ Yes code t o l g → (x y z w : Span) → SpeltIs (Here s 0) end x → SpeltAt (Here c 0) t end y → SpeltAt (Here c 0) g end z → WholeFrom (Here c 0) size end w
-      → (kept : ℕ) → StorageIs layout format s code kept
+      → (kept : ℕ) → StorageIs layout format s code kept → length c * 1 < 2 ^ 63
       → after ≡ sets before i (twelve (spanned x) kept (spanned y) o l (spanned z) owner (spanned w)) → RowPut layout format s c v size end owner i before after
   unfolding componentRow
-  a-row code t o l g e x y z w sx sy sz sw kept stored put above start says p d q r key value sized n name f fm has k passes =
+  a-row code t o l g e x y z w sx sy sz sw kept stored lent put above start says p d q r key value sized n name f fm has k passes =
+      let room : length c < FAULT = omega arith in
       let so = named-pair p n name in
       let A = inherited f (given above) (n .name .letters) in
       let own = own-of layout format above start n f fm has k passes in

@@ -3,6 +3,7 @@ use Prim.Native.Nat.{ℕ, suc, _+_, _*_, _≤_}
 use native.Mathlib.Nat.{zero-add}
 use native.Mathlib.Omega.{arith}
 use mathlib.Core.List.{List, [], _∷_, _++_, map, append-nil, append-assoc}
+use mathlib.Core.Bool.{true}
 use mathlib.Core.Path.{_≡_, refl, ap, ap₂, sym, _∙_, subst}
 use lib.ListN.{length, drop, length-append, length-map}
 use lib.Seq.{sets, sets-eq}
@@ -139,11 +140,12 @@ module _ (layout : ℕ) (s : List ℕ) (start end from : ℕ) (before after : Li
       let y : objectsOf (layoutOf layout) start t ≡ refuse 8 0 0 = rw z refl in
       let w : pass (m .objects) ≡ refuse 8 0 0 = sym is ∙ y in absurd (let v : _≡_ {A = ℕ} 0 1 = cc in omega arith)
 
-  pub map-written : (mode count size : ℕ) → x ≡ Opened mode count size → AllLaid layout start end from mode count (Here s size) before after → Written layout s start end from before after
+  pub map-written : (mode count size : ℕ) → x ≡ Opened mode count size → (true ≡ true → AllLaid layout start end from mode count (Here s size) before after)
+      → Written layout s start end from before after
   unfolding objectsOf rows roomFor
   map-written mode count size e all t q r m is low room =
       let o = opens.opened s x h mode count size e .trees 30 t q r in
-      let w = subst (λ u. AllLaid layout start end from mode count u before after) (part-to-end s size) all .are (o .pairs) (o .last) (o .due) in
+      let w = subst (λ u. AllLaid layout start end from mode count u before after) (part-to-end s size) (all refl) .are (o .pairs) (o .last) (o .due) in
       let g = entering.all-entered (entry layout start) objectLimit t (o .pairs) (o .kind-is) (m .objects) is in
       let laid = w (m .objects) g (omega arith) (omega arith) in
       let A = objectsIn end (m .objects) in

@@ -85,10 +85,10 @@ module _ (m : List ℕ) (left at : ℕ) (is : at ≡ length m - left) (d₀ d₁
 
 -- ---------------------------------------------------------------- sixteen numbers
 
-pub sixteen-put : (t t₁ t₂ t₃ t₄ : List ℕ) (i a₀ a₁ a₂ a₃ a₄ b₀ b₁ b₂ b₃ b₄ c₀ c₁ c₂ c₃ c₄ d : ℕ) → t₁ ≡ sets t i (a₀ ∷ a₁ ∷ a₂ ∷ a₃ ∷ a₄ ∷ []) → t₂ ≡ sets t₁ (i + 5) (b₀ ∷ b₁ ∷ b₂ ∷ b₃ ∷ b₄ ∷ [])
-    → t₃ ≡ sets t₂ (i + 10) (c₀ ∷ c₁ ∷ c₂ ∷ c₃ ∷ c₄ ∷ []) → t₄ ≡ set t₃ (i + 15) d
+pub sixteen-put : (t t₁ t₂ t₃ t₄ : List ℕ) (i a₀ a₁ a₂ a₃ a₄ b₀ b₁ b₂ b₃ b₄ c₀ c₁ c₂ c₃ c₄ d : ℕ) → t₄ ≡ set t₃ (i + 15) d → t₃ ≡ sets t₂ (i + 10) (c₀ ∷ c₁ ∷ c₂ ∷ c₃ ∷ c₄ ∷ [])
+    → t₂ ≡ sets t₁ (i + 5) (b₀ ∷ b₁ ∷ b₂ ∷ b₃ ∷ b₄ ∷ []) → t₁ ≡ sets t i (a₀ ∷ a₁ ∷ a₂ ∷ a₃ ∷ a₄ ∷ [])
     → t₄ ≡ sets t i (a₀ ∷ a₁ ∷ a₂ ∷ a₃ ∷ a₄ ∷ b₀ ∷ b₁ ∷ b₂ ∷ b₃ ∷ b₄ ∷ c₀ ∷ c₁ ∷ c₂ ∷ c₃ ∷ c₄ ∷ d ∷ [])
-sixteen-put t t₁ t₂ t₃ t₄ i a₀ a₁ a₂ a₃ a₄ b₀ b₁ b₂ b₃ b₄ c₀ c₁ c₂ c₃ c₄ d x y z w =
+sixteen-put t t₁ t₂ t₃ t₄ i a₀ a₁ a₂ a₃ a₄ b₀ b₁ b₂ b₃ b₄ c₀ c₁ c₂ c₃ c₄ d w z y x =
     let two = rows.ten-put t t₁ t₂ i a₀ a₁ a₂ a₃ a₄ b₀ b₁ b₂ b₃ b₄ x y in
     let three = z ∙ ap (λ t. sets t (i + 10) (c₀ ∷ c₁ ∷ c₂ ∷ c₃ ∷ c₄ ∷ [])) two ∙ sym (laying.sets-append (a₀ ∷ a₁ ∷ a₂ ∷ a₃ ∷ a₄ ∷ b₀ ∷ b₁ ∷ b₂ ∷ b₃ ∷ b₄ ∷ []) (c₀ ∷ c₁ ∷ c₂ ∷ c₃ ∷ c₄ ∷ []) t i) in
     w ∙ ap (λ t. sets t (i + 15) (d ∷ [])) three

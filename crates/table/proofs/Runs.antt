@@ -25,14 +25,18 @@ pub sets-commute : (vs ws l : List ℕ) (i j : ℕ) → i + length vs ≤ j → 
 sets-commute [] ws l i j h = refl
 sets-commute (a ∷ vs) ws l i j h = ap (λ l. sets l (suc i) vs) (set-sets ws l i j a (omega arith)) ∙ sets-commute vs ws (set l i a) (suc i) j (omega arith)
 
+-- one number beyond the end
+pub put-out : (l : List ℕ) (i a : ℕ) → length l ≤ i → l ≡ set l i a
+put-out l i a h = sym (set-out l i a h)
+
 -- two numbers, one by one
 pub two-put : (t t₁ t₂ : List ℕ) (i a b : ℕ) → t₁ ≡ set t i a → t₂ ≡ set t₁ (i + 1) b → t₂ ≡ sets t i (a ∷ b ∷ [])
 two-put t t₁ t₂ i a b h₁ h₂ = let x : i + 1 ≡ suc i = omega arith in h₂ ∙ (rw (h₁, x) refl)
 
--- five numbers, one by one
-pub five-put : (t t₁ t₂ t₃ t₄ t₅ : List ℕ) (i a b c d e : ℕ) → t₁ ≡ set t i a → t₂ ≡ set t₁ (i + 1) b → t₃ ≡ set t₂ (i + 2) c → t₄ ≡ set t₃ (i + 3) d → t₅ ≡ set t₄ (i + 4) e
+-- five numbers, one by one: the last first, so that `search` knows each table from the one after it
+pub five-put : (t t₁ t₂ t₃ t₄ t₅ : List ℕ) (i a b c d e : ℕ) → t₅ ≡ set t₄ (i + 4) e → t₄ ≡ set t₃ (i + 3) d → t₃ ≡ set t₂ (i + 2) c → t₂ ≡ set t₁ (i + 1) b → t₁ ≡ set t i a
     → t₅ ≡ sets t i (a ∷ b ∷ c ∷ d ∷ e ∷ [])
-five-put t t₁ t₂ t₃ t₄ t₅ i a b c d e h₁ h₂ h₃ h₄ h₅ =
+five-put t t₁ t₂ t₃ t₄ t₅ i a b c d e h₅ h₄ h₃ h₂ h₁ =
     let x : i + 1 ≡ suc i = omega arith in
     let y : i + 2 ≡ suc (suc i) = omega arith in
     let z : i + 3 ≡ suc (suc (suc i)) = omega arith in

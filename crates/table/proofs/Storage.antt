@@ -26,7 +26,7 @@ use Rattle.text.proofs.SameIsEqual.{eq-same}
 use Rattle.fields.proofs.Marks.{position-same, position-slot}
 use Rattle.walk.specs.Reading.{Ends}
 use Rattle.component.specs.Value.{given}
-use Rattle.table.specs.Stored.{indexed, storedAs}
+use Rattle.table.specs.Stored.{indexed, storedAs, RoleIs, StorageIs}
 
 -- ---------------------------------------------------------------- an index role, by its code and its format's
 
@@ -103,3 +103,40 @@ module _ (start : ℕ) (n : Named Ends) where
           ≡ mapCheck (λ c. withCode (cond (b && indexed format role) 8 (c .dtype)) c) (component (cond b old current) start (cond (ltb d 13) (some d) none) n)
       go true e = rw (lt-ltb d 13 (has (eqb-true layout 1 e)), ← indexes) (old-stored format d (indexed format role) refl)
       go false e = any-above start _ _ n ∙ sym (unchanged (component current start (cond (ltb d 13) (some d) none) n))
+
+-- ---------------------------------------------------------------- as the code asks, a branch each
+
+module _ (layout format role code : ℕ) where
+  pub other-layout : (layout ≡ 1 → ⊥) → code ≡ storedAs layout format role code
+  unfolding storedAs
+  other-layout n = rw (ne-eqb layout 1 n) refl
+
+  module _ (old : layout ≡ 1) where
+    module _ (csr : format ≡ 1) where
+      pub csr-indices : role ≡ 2 → 8 ≡ storedAs layout format role code
+      unfolding storedAs indexed
+      csr-indices e = rw (eq-eqb layout 1 old, eq-eqb format 1 csr, eq-eqb role 2 e) refl
+
+      pub csr-pointers : (role ≡ 2 → ⊥) → role ≡ 3 → 8 ≡ storedAs layout format role code
+      unfolding storedAs indexed
+      csr-pointers n e = rw (eq-eqb layout 1 old, eq-eqb format 1 csr, ne-eqb role 2 n, eq-eqb role 3 e) refl
+
+      pub csr-other : (role ≡ 2 → ⊥) → (role ≡ 3 → ⊥) → code ≡ storedAs layout format role code
+      unfolding storedAs indexed
+      csr-other n m = rw (eq-eqb layout 1 old, eq-eqb format 1 csr, ne-eqb role 2 n, ne-eqb role 3 m, ne-eqb format 2 (λ z. omega (arith, csr, z))) refl
+
+    module _ (no-csr : format ≡ 1 → ⊥) where
+      pub coo-coords : format ≡ 2 → role ≡ 4 → 8 ≡ storedAs layout format role code
+      unfolding storedAs indexed
+      coo-coords coo e = rw (eq-eqb layout 1 old, ne-eqb format 1 no-csr, eq-eqb format 2 coo, eq-eqb role 4 e) refl
+
+      pub coo-other : format ≡ 2 → (role ≡ 4 → ⊥) → code ≡ storedAs layout format role code
+      unfolding storedAs indexed
+      coo-other coo n = rw (eq-eqb layout 1 old, ne-eqb format 1 no-csr, eq-eqb format 2 coo, ne-eqb role 4 n) refl
+
+      pub no-index : (format ≡ 2 → ⊥) → code ≡ storedAs layout format role code
+      unfolding storedAs indexed
+      no-index n = rw (eq-eqb layout 1 old, ne-eqb format 1 no-csr, ne-eqb format 2 n) refl
+
+pub role-stored : (layout format : ℕ) (s : List ℕ) (code role kept : ℕ) → RoleIs s role → kept ≡ storedAs layout format role code → StorageIs layout format s code kept
+role-stored layout format s code role kept h e d t q r = e ∙ ap (λ role. storedAs layout format role code) (h d t q r)

@@ -42,10 +42,10 @@ from-whole c size end r whole = record {
     same-in same = cc
 
 -- an item, or none, at a place where it was passed over
-module _ (d : ℕ) (m : List ℕ) (left end size : ℕ) (skipped : size ≡ code (itemEnd d (Here m (length m - left)))) where
+module _ (d : ℕ) (m : List ℕ) (left end at size : ℕ) (there : at ≡ length m - left) (skipped : size ≡ code (itemEnd d (Here m at))) where
   pub item-there : (r : Span) → WholeIs left size end r → ItemIs d m left end r
   item-there r h none e = h none (sym e) (λ t z. absurd (let y : _≡_ {A = ℕ} 0 1 = cc in omega arith))
   item-there r h (some t) (l, x) = h (some t) (sym (x .left-is)) (λ u z. let y : t ≡ u = cc in subst (λ (u : Node Ends). (0 < left) × SizeIs u size) y (l, sized))
     where
       sized : SizeIs t size
-      sized = skipped ∙ ap (λ u. code (itemEnd d u)) (part-to-end m (length m - left)) ∙ item-size d (drop (length m - left) m) t (x .rest) (x .reads)
+      sized = skipped ∙ ap (λ u. code (itemEnd d u)) (part-to-end m at ∙ ap (λ (i : ℕ). drop i m) there) ∙ item-size d (drop (length m - left) m) t (x .rest) (x .reads)

@@ -1,5 +1,5 @@
 -- The test `same` is equality; and a part from 0 on is the whole. Assumes nothing.
-use mathlib.Core.Path.{_≡_, refl}
+use mathlib.Core.Path.{_≡_, refl, ap, _∙_}
 use mathlib.Core.List.{List}
 use mathlib.Core.Bool.{Bool, true, false}
 use Prim.Native.Nat.{ℕ, _-_}
@@ -20,3 +20,6 @@ ne-same a b h = go (same a b) refl
 
 pub whole : (s : List ℕ) → take (length s - 0) (drop 0 s) ≡ s
 whole s = part-to-end s 0
+
+pub same-as-whole : (m s : List ℕ) {r : Bool} → r ≡ same m (take (length s - 0) (drop 0 s)) → r ≡ same m s
+same-as-whole m s e = e ∙ ap (same m) (whole s)

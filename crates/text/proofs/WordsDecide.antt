@@ -9,7 +9,10 @@ use lib.Seq.{drop-cons, getD-drop, ext-getD}
 use lib.Dec.{ltb}
 use borrow.Author.Tests.{ltb-true, ltb-false}
 use borrow.Rule.Slice.PartAt.{part-to-end}
+use mir.Syntax.{w8}
+use mir.Val.{Fits}
 use Rattle.endian.specs.Word.{word}
+use Rattle.endian.proofs.Laws.{word-one}
 use Rattle.text.specs.Order.{first, lex, order, Agree}
 use Rattle.text.proofs.OrderIsTotal.{Which, less, more, equal, which, first-less, first-more, first-equal, order-refl}
 
@@ -26,6 +29,13 @@ word-part k s i = let z : i + 0 ≡ i = omega arith in rw (part-to-end s i) (wor
 -- every element is a byte
 abbrev pub Bytes : List ℕ → Type 0
 Bytes s = (i : ℕ) → getD s i 0 < 256
+
+-- what is known of a slice of them
+abbrev pub Known : List ℕ → Type 0
+Known s = (i : ℕ) → Fits w8 (getD s i 0)
+
+pub known-bytes : (s : List ℕ) → Known s → Bytes s
+known-bytes s k i = omega (arith, k i)
 
 pub agree-none : (s t : List ℕ) → Agree s t 0
 agree-none s t = record { each = λ j l. absurd (omega arith) }
@@ -79,7 +89,7 @@ module _ (s t : List ℕ) (hs : Bytes s) (ht : Bytes t) where
 
 -- texts that agree up to i, and the words of k bytes at p, which stands there or before
 module _ {s t : List ℕ} {i : ℕ} (h : Agree s t i) (hs : Bytes s) (ht : Bytes t) (k p : ℕ) {x y : ℕ} (hx : x ≡ word k s p 0) (hy : y ≡ word k t p 0) (l : p ≤ i) where
-  pub agree-more : x ≡ y → Agree s t (p + k)
+  agree-more : x ≡ y → Agree s t (p + k)
   agree-more e = record { each = λ j m. go j m (ltb j i) refl }
     where
       go : (j : ℕ) → j < p + k → (b : Bool) → ltb j i ≡ b → getD s j 0 ≡ getD t j 0
@@ -87,7 +97,7 @@ module _ {s t : List ℕ} {i : ℕ} (h : Agree s t i) (hs : Bytes s) (ht : Bytes
       go j m false q = word-equal s t hs ht k p 0 0 refl (omega arith) j (omega (arith, ltb-false j i q)) m
 
   -- the numbers that decide: two words that differ, or the last ones
-  pub order-by : length s ≡ length t → p + k ≤ length s → (x ≡ y → length s ≤ p + k) → first x y 0 ≡ order s t
+  order-by : length s ≡ length t → p + k ≤ length s → (x ≡ y → length s ≤ p + k) → first x y 0 ≡ order s t
   order-by e m d = go (which x y)
     where
       at : order s t ≡ first x y (lex (drop (p + k) s) (drop (p + k) t))
@@ -101,6 +111,44 @@ module _ {s t : List ℕ} {i : ℕ} (h : Agree s t i) (hs : Bytes s) (ht : Bytes
       go (more q) = first-more x y 0 q ∙ sym (at ∙ first-more x y _ q)
       go (equal q) = first-equal x y 0 q ∙ sym (at ∙ first-equal x y _ q ∙ nothing-left q)
 
--- texts of one length that agree throughout
-pub agree-order : {s t : List ℕ} {i : ℕ} → Agree s t i → length s ≡ length t → length s ≤ i → 0 ≡ order s t
-agree-order {s} {t} h e l = let q = ext-getD 0 s t e (λ j m. h .each j (omega arith)) in rw q (sym (order-refl t))
+-- ---------------------------------------------------------------- the loops: the texts, of one length, agree up to i
+
+pub record AgreeUpTo (s t : List ℕ) (i : ℕ) : Type 0 where
+  pub inside : i ≤ length s
+  pub agree : Agree s t i
+
+pub agreed-none : {s t : List ℕ} → AgreeUpTo s t 0
+agreed-none {s} {t} = record { inside = omega arith; agree = agree-none s t }
+
+module _ {s t : List ℕ} {i : ℕ} (w : AgreeUpTo s t i) (e : length s ≡ length t) where
+  pub agreed-all : length s ≤ i → 0 ≡ order s t
+  agreed-all l = let q = ext-getD 0 s t e (λ j m. w .agree .each j (omega arith)) in rw q (sym (order-refl t))
+
+  module _ (ks : Known s) (kt : Known t) where
+    hs : Bytes s
+    hs = known-bytes s ks
+
+    ht : Bytes t
+    ht = known-bytes t kt
+
+    -- x and y are the next bytes
+    module _ {x y : ℕ} (l : i < length s) (hx : x ≡ getD s i 0) (hy : y ≡ getD t i 0) where
+      pub byte-agrees : x ≡ y → AgreeUpTo s t (i + 1)
+      byte-agrees q = record { inside = omega arith; agree = agree-more (w .agree) hs ht 1 i (hx ∙ sym (word-one s i)) (hy ∙ sym (word-one t i)) (omega arith) q }
+
+      pub byte-decides : {r : ℕ} → (x ≡ y → ⊥) → r ≡ first x y 0 → r ≡ order s t
+      byte-decides d q = q ∙ order-by (w .agree) hs ht 1 i (hx ∙ sym (word-one s i)) (hy ∙ sym (word-one t i)) (omega arith) e (omega arith) (λ z. absurd (d z))
+
+    -- the next words
+    module _ {x y : ℕ} (l : i < length s - 8) (hx : x ≡ word 8 (take (length s - i) (drop i s)) 0 0) (hy : y ≡ word 8 (take (length t - i) (drop i t)) 0 0) where
+      pub word-agrees : x ≡ y → AgreeUpTo s t (i + 8)
+      word-agrees q = record { inside = omega arith; agree = agree-more (w .agree) hs ht 8 i (hx ∙ word-part 8 s i) (hy ∙ word-part 8 t i) (omega arith) q }
+
+      pub word-decides : {r : ℕ} → (x ≡ y → ⊥) → r ≡ first x y 0 → r ≡ order s t
+      word-decides d q = q ∙ order-by (w .agree) hs ht 8 i (hx ∙ word-part 8 s i) (hy ∙ word-part 8 t i) (omega arith) e (omega arith) (λ z. absurd (d z))
+
+    -- the last words
+    pub last-decides : {x y r : ℕ} → 8 ≤ length s → length s - 8 ≤ i → x ≡ word 8 (take (length s - (length s - 8)) (drop (length s - 8) s)) 0 0
+        → y ≡ word 8 (take (length t - (length s - 8)) (drop (length s - 8) t)) 0 0 → r ≡ first x y 0 → r ≡ order s t
+    last-decides m l hx hy q =
+        q ∙ order-by (w .agree) hs ht 8 (length s - 8) (hx ∙ word-part 8 s (length s - 8)) (hy ∙ word-part 8 t (length s - 8)) l e (omega arith) (λ z. omega arith)

@@ -16,10 +16,11 @@ use Rattle.meaning.specs.Types.{Storage, storages, codeFrom, storageOf, widthOf
 use Rattle.meaning.proofs.WhichLayout.{is-old, is-current}
 use Rattle.meaning.proofs.Tests.{both-left, both-right}
 use Rattle.meaning.proofs.SameText.{same-eq}
-use Rattle.types.specs.Row.{digitOf}
+use Rattle.types.specs.Row.{digitOf, Tells, found, rowsOf}
+use Rattle.types.proofs.Named.{named}
 use Rattle.types.specs.Known.{fieldAt, placeOfName, position, codeOr, unitNumber, dtypeCode, storageNames, logicalNames}
 
-pub position-most : (ns : List (List ℕ)) (k : List ℕ) → position ns k ≤ length ns
+position-most : (ns : List (List ℕ)) (k : List ℕ) → position ns k ≤ length ns
 unfolding position
 position-most [] k = omega arith
 position-most (n ∷ ns) k = go (same n k) (position-most ns k)
@@ -39,7 +40,7 @@ named-holds p (n ∷ ns) k h l = go (same n k) refl l (λ m. named-holds p ns k 
     go false e l later = later (omega arith)
 
 -- the place of a field, from its index among the names that are there
-pub place-of-name : (ns : Slots) (k : List ℕ) → placeOfName ns (position (somes ns) k) ≡ fieldAt ns k
+place-of-name : (ns : Slots) (k : List ℕ) → placeOfName ns (position (somes ns) k) ≡ fieldAt ns k
 unfolding placeOfName position fieldAt
 place-of-name [] k = refl
 place-of-name (none ∷ ns) k = ap suc (place-of-name ns k)
@@ -66,7 +67,7 @@ field-most (some n ∷ ns) k = go (same n k) (field-most ns k)
     go false h = omega arith
 
 module _ (k : List ℕ) where
-  pub code-position : (i : ℕ) (ss : List (List ℕ)) → codeOr (i + length ss) (codeFrom i ss k) ≡ i + position ss k
+  code-position : (i : ℕ) (ss : List (List ℕ)) → codeOr (i + length ss) (codeFrom i ss k) ≡ i + position ss k
   unfolding codeOr codeFrom position
   code-position i [] = refl
   code-position i (s ∷ ss) = go (same s k) (code-position (suc i) ss)
@@ -76,7 +77,7 @@ module _ (k : List ℕ) where
       go true h = omega arith
       go false h = let e : i + suc (length ss) ≡ suc i + length ss = omega arith in ap (λ (n : ℕ). codeOr n (codeFrom (suc i) ss k)) e ∙ h ∙ omega arith
 
-  pub listed-position : (ls : List Logical) → listed ls k ≡ getElem? ls (position (map (λ l. l .called) ls) k)
+  listed-position : (ls : List Logical) → listed ls k ≡ getElem? ls (position (map (λ l. l .called) ls) k)
   unfolding listed position
   listed-position [] = refl
   listed-position (l ∷ ls) = go (same (l .called) k) (listed-position ls)
@@ -87,12 +88,12 @@ module _ (k : List ℕ) where
       go false h = h
 
 module _ {A : Type 0} where
-  pub element-in : (l : List A) (i : ℕ) (d : A) → i < length l → getElem? l i ≡ some (getD l i d)
+  element-in : (l : List A) (i : ℕ) (d : A) → i < length l → getElem? l i ≡ some (getD l i d)
   element-in [] i d h = absurd (omega arith)
   element-in (a ∷ l) zero d h = refl
   element-in (a ∷ l) (suc i) d h = element-in l i d (omega arith)
 
-  pub element-out : (l : List A) (i : ℕ) → length l ≤ i → getElem? l i ≡ none
+  element-out : (l : List A) (i : ℕ) → length l ≤ i → getElem? l i ≡ none
   element-out [] i h = refl
   element-out (a ∷ l) zero h = absurd (omega arith)
   element-out (a ∷ l) (suc i) h = element-out l i (omega arith)
@@ -120,7 +121,7 @@ digits f table n e i h = eqb-true (digitOf table i) (f i) (below-at (λ i. eqb (
 thirteen-named : (L : Layout) → length (L .dtypes) ≡ 13
 thirteen-named L = L .allNamed ∙ thirteen
 
-pub storage-is : (L : Layout) (k : List ℕ) (r : ℕ) → r ≡ position (L .dtypes) k → r ≡ dtypeCode L k
+storage-is : (L : Layout) (k : List ℕ) (r : ℕ) → r ≡ position (L .dtypes) k → r ≡ dtypeCode L k
 unfolding dtypeCode
 storage-is L k r e =
     let n : 0 + length (L .dtypes) ≡ 13 = omega (arith, thirteen-named L) in
@@ -133,16 +134,16 @@ module _ (n : ℕ) (k : List ℕ) where
     unfolding old
     old-root r e = e ∙ all-named (somes (old .root)) k ∙ ap (λ L. fieldAt (L .root) k) (sym (is-old n is))
 
-    pub old-object : (i r table : ℕ) → i ≡ position (somes (old .object)) k → r ≡ digitOf table i
+    pub old-object : (i r table : ℕ) → r ≡ digitOf table i → i ≡ position (somes (old .object)) k
         → below (λ i. eqb (digitOf table i) (placeOfName (old .object) i)) (suc (length (somes (old .object)))) ≡ true → r ≡ fieldAt (layoutOf n .object) k
-    old-object i r table e d t =
+    old-object i r table d e t =
         let m = position-most (somes (old .object)) k in
         d ∙ digits (placeOfName (old .object)) table (suc (length (somes (old .object)))) t i (omega (arith, m, e))
         ∙ ap (placeOfName (old .object)) e ∙ place-of-name (old .object) k ∙ ap (λ L. fieldAt (L .object) k) (sym (is-old n is))
 
-    pub old-component : (i r table : ℕ) → i ≡ position (somes (old .component)) k → r ≡ digitOf table i
+    pub old-component : (i r table : ℕ) → r ≡ digitOf table i → i ≡ position (somes (old .component)) k
         → below (λ i. eqb (digitOf table i) (placeOfName (old .component) i)) (suc (length (somes (old .component)))) ≡ true → r ≡ fieldAt (layoutOf n .component) k
-    old-component i r table e d t =
+    old-component i r table d e t =
         let m = position-most (somes (old .component)) k in
         d ∙ digits (placeOfName (old .component)) table (suc (length (somes (old .component)))) t i (omega (arith, m, e))
         ∙ ap (placeOfName (old .component)) e ∙ place-of-name (old .component) k ∙ ap (λ L. fieldAt (L .component) k) (sym (is-old n is))
@@ -166,6 +167,19 @@ module _ (n : ℕ) (k : List ℕ) where
     pub new-dtype : (r : ℕ) → r ≡ position storageNames k → r ≡ dtypeCode (layoutOf n) k
     unfolding current
     new-dtype r e = storage-is current k r e ∙ ap (λ L. dtypeCode L k) (sym (is-current n other))
+
+-- how great what was found is
+module _ (k : List ℕ) (a b c : ℕ) {i : ℕ} where
+  pub few-object : i ≡ found (rowsOf (somes (old .object))) a b c → Tells a b c (take (length k - 0) (drop 0 k)) → i < 16
+  unfolding old
+  few-object e t = let p = named (somes (old .object)) k a b c e t refl in let m = position-most (somes (old .object)) k in omega arith
+
+  pub few-component : i ≡ found (rowsOf (somes (old .component))) a b c → Tells a b c (take (length k - 0) (drop 0 k)) → i < 16
+  unfolding old
+  few-component e t = let p = named (somes (old .component)) k a b c e t refl in let m = position-most (somes (old .component)) k in omega arith
+
+  pub few-new-object : i ≡ found (rowsOf objectNames) a b c → Tells a b c (take (length k - 0) (drop 0 k)) → i + 1 < 18446744073709551616
+  few-new-object e t = let p = named objectNames k a b c e t refl in let m = position-most objectNames k in omega arith
 
 -- ---------------------------------------------------------------- the tables of document 01
 
@@ -213,6 +227,9 @@ pub width-is : (c : ℕ) → getD (map (λ s. s .width) storages) c 0 ≡ widthO
 unfolding widthOf storageOf
 width-is c = List·getD-map (λ s. s .width) storages c (record { called = []; width = 0 })
 
+pub width-by-digit : (c table : ℕ) {d : ℕ} → d ≡ digitOf table c → c < 13 → below (λ i. eqb (digitOf table i) (widthOf i)) 13 ≡ true → d ≡ widthOf c
+width-by-digit c table e l t = e ∙ digits widthOf table 13 t c l
+
 pub width-none : (c : ℕ) → 13 ≤ c → 0 ≡ widthOf c
 unfolding storages
 width-none c h = sym (List·getD-eq-default (map (λ s. s .width) storages) 0 h) ∙ width-is c
@@ -225,16 +242,27 @@ module _ (k : List ℕ) (i : ℕ) (is : i ≡ position logicalNames (take (lengt
     listed-in : listed logicals k ≡ some (getD logicals i d)
     listed-in = type-is ∙ element-in logicals i d some-type
 
-    pub fits-in : (c : ℕ) → eqb (getD (map (λ l. l .needs) logicals) i (d .needs)) c ≡ fitsOver c (listed logicals k)
+    fits-in : (c : ℕ) → eqb (getD (map (λ l. l .needs) logicals) i (d .needs)) c ≡ fitsOver c (listed logicals k)
     unfolding fitsOver
     fits-in c = rw listed-in (ap (λ (n : ℕ). eqb n c) (List·getD-map (λ l. l .needs) logicals i d))
 
-    pub ratio-in : getD (map (λ l. l .ratio) logicals) i (d .ratio) ≡ codeOr 0 (ratioOf (listed logicals k))
+    ratio-in : getD (map (λ l. l .ratio) logicals) i (d .ratio) ≡ codeOr 0 (ratioOf (listed logicals k))
     unfolding ratioOf codeOr
     ratio-in = rw listed-in (List·getD-map (λ l. l .ratio) logicals i d)
 
-  module _ (no-type : length logicals ≤ i) where
+  -- a table's digit says it
+  module _ (some-type : i < 6) (table : ℕ) {r : ℕ} (digit : r ≡ digitOf table i) where
+    pub fits-by-digit : (c : ℕ) → below (λ i. eqb (digitOf table i) (getD (map (λ l. l .needs) logicals) i 0)) 6 ≡ true → eqb r c ≡ fitsOver c (listed logicals k)
+    unfolding logicals
+    fits-by-digit c t = ap (λ n. eqb n c) (digit ∙ digits (λ i. getD (map (λ l. l .needs) logicals) i 0) table 6 t i some-type) ∙ fits-in (record { called = []; needs = 0; ratio = 0 }) some-type c
+
+    pub ratio-by-digit : below (λ i. eqb (digitOf table i) (getD (map (λ l. l .ratio) logicals) i 0)) 6 ≡ true → r ≡ codeOr 0 (ratioOf (listed logicals k))
+    unfolding logicals
+    ratio-by-digit t = digit ∙ digits (λ i. getD (map (λ l. l .ratio) logicals) i 0) table 6 t i some-type ∙ ratio-in (record { called = []; needs = 0; ratio = 0 }) some-type
+
+  module _ (no-type : 6 ≤ i) where
     listed-out : listed logicals k ≡ none
+    unfolding logicals
     listed-out = type-is ∙ element-out logicals i no-type
 
     pub fits-out : (c : ℕ) → true ≡ fitsOver c (listed logicals k)
@@ -274,17 +302,17 @@ pub ratio-is : (k : List ℕ) → Ratio (ratioOf (listed logicals k))
 unfolding logicals
 ratio-is k = ratio-in-list k logicals refl
 
+pub width-small : (c : ℕ) {w : ℕ} → w ≡ widthOf c → w ≤ 8
+width-small c b = rw b (width-most c)
+
 -- the answer of `unit_of`, from a ratio r, 0 for none, and a width
 module _ (k : List ℕ) (c r w : ℕ) (a : r ≡ codeOr 0 (ratioOf (listed logicals (take (length k - 0) (drop 0 k))))) (b : w ≡ widthOf c) where
-  pub width-small : w ≤ 8
-  width-small = rw b (width-most c)
-
   ratio-here : r ≡ codeOr 0 (ratioOf (listed logicals k))
   ratio-here = a ∙ ap (λ k. codeOr 0 (ratioOf (listed logicals k))) (part-to-end k 0)
 
   pub unit-most : r * w ≤ 16
   unfolding codeOr
-  unit-most = mul-le-mul (go (ratioOf (listed logicals k)) (ratio-is k) ratio-here) width-small
+  unit-most = mul-le-mul (go (ratioOf (listed logicals k)) (ratio-is k) ratio-here) (width-small c b)
     where
       go : (o : Option ℕ) → Ratio o → r ≡ codeOr 0 o → r ≤ 2
       go o unlisted e = omega arith

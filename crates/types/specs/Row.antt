@@ -45,11 +45,6 @@ holds n = bytes n && leb (length n) 21
 abbrev pub Tells : ℕ → ℕ → ℕ → List ℕ → Type 0
 Tells a b c k = (n : List ℕ) → holds n ≡ true → hits n a b c ≡ same n k
 
--- the rows of these names
-pub record Rows (rows : List ℕ) (names : List (List ℕ)) : Type 0 where
-  pub are : rows ≡ rowsOf names
-  pub hold : all holds names ≡ true
-
 -- a hexadecimal digit of a number, counted from the lowest
 abbrev pub digitOf : ℕ → ℕ → ℕ
 digitOf table i = table / 2 ^ (4 * i) % 16

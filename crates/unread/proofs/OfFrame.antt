@@ -1,7 +1,7 @@
 -- A file that its frame refuses: the check that breaks, and the bytes that are shown.
 use Prim.Native.Nat.{ℕ, _+_, _-_, _≤_}
 use native.Mathlib.Omega.{arith}
-use mathlib.Core.List.{List, [], _++_}
+use mathlib.Core.List.{List, _++_}
 use mathlib.Core.Bool.{Bool, true, false, cond, _&&_}
 use mathlib.Core.Option.{Option, some}
 use mathlib.Core.Path.{_≡_, refl, sym, ap, _∙_}
@@ -20,6 +20,9 @@ use Rattle.frame.proofs.Frames.{old-footed, size-back}
 use Rattle.explained.specs.Step.{Step, first, _at_unless_}
 use Rattle.explained.specs.Explain.{span, frameSteps, explain, explanation, alone}
 use Rattle.explained.proofs.Stages.{unframed}
+use Rattle.sentence.specs.Given as given
+use Rattle.sentence.specs.declared.Explanation.{Explanation}
+use Rattle.unread.specs.Unread.{lone, Unframed}
 
 module _ (layout : ℕ) (file : List ℕ) where
   abbrev L : Layout
@@ -95,19 +98,20 @@ module _ (layout : ℕ) (file : List ℕ) where
     refused-with e room = unframed L file room k e ∙ ap (λ s. explanation s 0) (broken k e)
 
     -- by the tests of the number
-    pub the-file : k ≡ 1 → frame L file ≡ fault k → (room : ℕ) → explain L file room ≡ explanation (some (alone 1 (span 0 n))) 0
-    unfolding shownFor
-    the-file z e room = refused-with e room ∙ (rw z refl)
+    module _ (r : Explanation) where
+      pub the-file : k ≡ 1 → given.explanation r ≡ lone 1 0 n → Unframed layout file k r
+      unfolding shownFor
+      the-file z is e room = is ∙ sym (refused-with e room ∙ (rw z refl))
 
-    pub the-header : k ≡ 2 → frame L file ≡ fault k → (room : ℕ) → explain L file room ≡ explanation (some (alone 2 (span 0 8))) 0
-    unfolding shownFor
-    the-header z e room = refused-with e room ∙ (rw z refl)
+      pub the-header : k ≡ 2 → given.explanation r ≡ lone 2 0 8 → Unframed layout file k r
+      unfolding shownFor
+      the-header z is e room = is ∙ sym (refused-with e room ∙ (rw z refl))
 
-    pub the-footer : k ≡ 3 → frame L file ≡ fault k → (room : ℕ) → explain L file room ≡ explanation (some (alone 3 (span (n - 8) 8))) 0
-    unfolding shownFor
-    the-footer z e room = refused-with e room ∙ (rw z refl)
+      module _ (p : ℕ) where
+        pub the-footer : k ≡ 3 → p ≡ n - 8 → given.explanation r ≡ lone 3 p 8 → Unframed layout file k r
+        unfolding shownFor
+        the-footer z placed is e room = is ∙ ap (λ (i : ℕ). lone 3 i 8) placed ∙ sym (refused-with e room ∙ (rw z refl))
 
-    pub the-size : (k ≡ 1 → ⊥) → (k ≡ 2 → ⊥) → (k ≡ 3 → ⊥) → (b : ℕ) → b ≡ L .sizeBack → frame L file ≡ fault k → (room : ℕ)
-        → explain L file room ≡ explanation (some (alone k (span (n - b) 8))) 0
-    unfolding shownFor
-    the-size x y z b back e room = refused-with e room ∙ (rw (ne-eqb k 1 x, ne-eqb k 2 y, ne-eqb k 3 z, back) refl)
+        pub the-size : (k ≡ 1 → ⊥) → (k ≡ 2 → ⊥) → (k ≡ 3 → ⊥) → (b : ℕ) → b ≡ L .sizeBack → p ≡ n - b → given.explanation r ≡ lone k p 8 → Unframed layout file k r
+        unfolding shownFor
+        the-size x y z b back placed is e room = is ∙ ap (λ (i : ℕ). lone k i 8) placed ∙ sym (refused-with e room ∙ (rw (ne-eqb k 1 x, ne-eqb k 2 y, ne-eqb k 3 z, back) refl))

@@ -11,7 +11,7 @@ use Rattle.utf8.specs.declared.Lead.{Lead}
 use Rattle.utf8.proofs.Utf8Steps.{Says, says-all, says-any, lead-none, lead-some, next-under, next-over, next-right, ended-early, never-ends, ends-at, says-third, third-says}
 
 -- two bytes are right, and `need` must still come
-module _ {s : List ℕ} (need : ℕ) (so : utf8 s ≡ following (tails need) (drop 2 s)) (n : 1 ≤ need) where
+module _ {s : List ℕ} (need : ℕ) (so : utf8 s ≡ following (tails need) (drop 2 s)) (n : 1 ≤ need) (few : need ≤ 2) where
   third : Says s 2 need 128 191
   third = says-third so
 
@@ -32,7 +32,7 @@ module _ {s : List ℕ} (need : ℕ) (so : utf8 s ≡ following (tails need) (dr
       pub third-last : need ≡ 1 → Ends s 1 3
       third-last e = ends-at (says-any fourth (omega arith)) (omega arith) (omega arith) (omega arith)
 
-      module _ (two : need ≡ 2) where
+      module _ (two : need ≡ 1 → ⊥) where
         pub fourth-missing : length s < 4 → Ends s 1 0
         fourth-missing h = never-ends (ended-early fourth (omega arith) (omega arith))
 

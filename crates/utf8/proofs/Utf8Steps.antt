@@ -17,54 +17,64 @@ use Rattle.text.proofs.WithinRange.{in-range, under, over}
 
 -- ---------------------------------------------------------------- the first byte
 
-module _ {b : ℕ} where
-  pub lead-0 : b < 128 → Leads b (leadOf 0 128 191)
+-- 237 is left out by its own case before
+not-one : {b : ℕ} (k : ℕ) → (b ≡ k → ⊥) → within k k b ≡ false
+not-one {b} k h = go (ltb k b) refl
+  where
+    go : (t : Bool) → ltb k b ≡ t → within k k b ≡ false
+    go true q = over k k b (ltb-true k b q)
+    go false q = under k k b (omega (arith, ltb-false k b q))
+
+module _ {b : ℕ} {r : Lead} where
+  pub lead-0 : r ≡ leadOf 0 128 191 → b < 128 → Leads b r
   unfolding follow ranges
-  lead-0 l = record { few = omega arith; none-can = λ e. absurd (omega arith); some-can = λ _. rw (in-range 0 0x7f b (omega arith) (omega arith)) }
+  lead-0 q l = rw q (
+      record { few = omega arith; none-can = λ e. absurd (omega arith); some-can = λ _. rw (in-range 0 0x7f b (omega arith) (omega arith)) })
 
-  pub lead-bad : 128 ≤ b → b < 194 → Leads b (leadOf 4 128 191)
+  pub lead-bad : r ≡ leadOf 4 128 191 → 128 ≤ b → b < 194 → Leads b r
   unfolding follow
-  lead-bad l m = record { few = omega arith; some-can = λ e. absurd (e refl); none-can = λ _. rw (over 0 0x7f b (omega arith), under 0xc2 0xdf b (omega arith), under 0xe0 0xe0 b (omega arith), under 0xed 0xed b (omega arith), under 0xe1 0xef b (omega arith), under 0xf0 0xf0 b (omega arith), under 0xf1 0xf3 b (omega arith), under 0xf4 0xf4 b (omega arith)) }
+  lead-bad q l m = rw q (
+      record { few = omega arith; some-can = λ e. absurd (e refl); none-can = λ _. rw (over 0 0x7f b (omega arith), under 0xc2 0xdf b (omega arith), under 0xe0 0xe0 b (omega arith), under 0xed 0xed b (omega arith), under 0xe1 0xef b (omega arith), under 0xf0 0xf0 b (omega arith), under 0xf1 0xf3 b (omega arith), under 0xf4 0xf4 b (omega arith)) })
 
-  pub lead-1 : 194 ≤ b → b < 224 → Leads b (leadOf 1 128 191)
+  pub lead-1 : r ≡ leadOf 1 128 191 → 194 ≤ b → b < 224 → Leads b r
   unfolding follow ranges tails tail
-  lead-1 l m = record { few = omega arith; none-can = λ e. absurd (omega arith); some-can = λ _. rw (over 0 0x7f b (omega arith), in-range 0xc2 0xdf b (omega arith) (omega arith)) }
+  lead-1 q l m = rw q (
+      record { few = omega arith; none-can = λ e. absurd (omega arith); some-can = λ _. rw (over 0 0x7f b (omega arith), in-range 0xc2 0xdf b (omega arith) (omega arith)) })
 
-  pub lead-224 : b ≡ 224 → Leads b (leadOf 2 160 191)
+  pub lead-224 : r ≡ leadOf 2 160 191 → b ≡ 224 → Leads b r
   unfolding follow ranges tails tail
-  lead-224 e = record { few = omega arith; none-can = λ e. absurd (omega arith); some-can = λ _. rw (over 0 0x7f b (omega arith), over 0xc2 0xdf b (omega arith), in-range 0xe0 0xe0 b (omega arith) (omega arith)) }
+  lead-224 q e = rw q (
+      record { few = omega arith; none-can = λ e. absurd (omega arith); some-can = λ _. rw (over 0 0x7f b (omega arith), over 0xc2 0xdf b (omega arith), in-range 0xe0 0xe0 b (omega arith) (omega arith)) })
 
-  pub lead-237 : b ≡ 237 → Leads b (leadOf 2 128 159)
+  pub lead-237 : r ≡ leadOf 2 128 159 → b ≡ 237 → Leads b r
   unfolding follow ranges tails tail
-  lead-237 e = record { few = omega arith; none-can = λ e. absurd (omega arith); some-can = λ _. rw (over 0 0x7f b (omega arith), over 0xc2 0xdf b (omega arith), over 0xe0 0xe0 b (omega arith), in-range 0xed 0xed b (omega arith) (omega arith)) }
+  lead-237 q e = rw q (
+      record { few = omega arith; none-can = λ e. absurd (omega arith); some-can = λ _. rw (over 0 0x7f b (omega arith), over 0xc2 0xdf b (omega arith), over 0xe0 0xe0 b (omega arith), in-range 0xed 0xed b (omega arith) (omega arith)) })
 
-  -- 237 is left out by its own case before
-  not-one : (k : ℕ) → (b ≡ k → ⊥) → within k k b ≡ false
-  not-one k h = go (ltb k b) refl
-    where
-      go : (t : Bool) → ltb k b ≡ t → within k k b ≡ false
-      go true q = over k k b (ltb-true k b q)
-      go false q = under k k b (omega (arith, ltb-false k b q))
-
-  pub lead-2 : 224 < b → b < 240 → (b ≡ 237 → ⊥) → Leads b (leadOf 2 128 191)
+  pub lead-2 : r ≡ leadOf 2 128 191 → 224 ≤ b → (b ≡ 224 → ⊥) → b < 240 → (b ≡ 237 → ⊥) → Leads b r
   unfolding follow ranges tails tail
-  lead-2 l m h = record { few = omega arith; none-can = λ e. absurd (omega arith); some-can = λ _. rw (over 0 0x7f b (omega arith), over 0xc2 0xdf b (omega arith), over 0xe0 0xe0 b (omega arith), not-one 0xed h, in-range 0xe1 0xef b (omega arith) (omega arith)) }
+  lead-2 q l k m h = rw q (
+      record { few = omega arith; none-can = λ e. absurd (omega arith); some-can = λ _. rw (over 0 0x7f b (omega arith), over 0xc2 0xdf b (omega arith), over 0xe0 0xe0 b (omega arith), not-one 0xed h, in-range 0xe1 0xef b (omega arith) (omega arith)) })
 
-  pub lead-240 : b ≡ 240 → Leads b (leadOf 3 144 191)
+  pub lead-240 : r ≡ leadOf 3 144 191 → b ≡ 240 → Leads b r
   unfolding follow ranges tails tail
-  lead-240 e = record { few = omega arith; none-can = λ e. absurd (omega arith); some-can = λ _. rw (over 0 0x7f b (omega arith), over 0xc2 0xdf b (omega arith), over 0xe0 0xe0 b (omega arith), over 0xed 0xed b (omega arith), over 0xe1 0xef b (omega arith), in-range 0xf0 0xf0 b (omega arith) (omega arith)) }
+  lead-240 q e = rw q (
+      record { few = omega arith; none-can = λ e. absurd (omega arith); some-can = λ _. rw (over 0 0x7f b (omega arith), over 0xc2 0xdf b (omega arith), over 0xe0 0xe0 b (omega arith), over 0xed 0xed b (omega arith), over 0xe1 0xef b (omega arith), in-range 0xf0 0xf0 b (omega arith) (omega arith)) })
 
-  pub lead-3 : 240 < b → b < 244 → Leads b (leadOf 3 128 191)
+  pub lead-3 : r ≡ leadOf 3 128 191 → 240 ≤ b → (b ≡ 240 → ⊥) → b < 244 → Leads b r
   unfolding follow ranges tails tail
-  lead-3 l m = record { few = omega arith; none-can = λ e. absurd (omega arith); some-can = λ _. rw (over 0 0x7f b (omega arith), over 0xc2 0xdf b (omega arith), over 0xe0 0xe0 b (omega arith), over 0xed 0xed b (omega arith), over 0xe1 0xef b (omega arith), over 0xf0 0xf0 b (omega arith), in-range 0xf1 0xf3 b (omega arith) (omega arith)) }
+  lead-3 q l k m = rw q (
+      record { few = omega arith; none-can = λ e. absurd (omega arith); some-can = λ _. rw (over 0 0x7f b (omega arith), over 0xc2 0xdf b (omega arith), over 0xe0 0xe0 b (omega arith), over 0xed 0xed b (omega arith), over 0xe1 0xef b (omega arith), over 0xf0 0xf0 b (omega arith), in-range 0xf1 0xf3 b (omega arith) (omega arith)) })
 
-  pub lead-244 : b ≡ 244 → Leads b (leadOf 3 128 143)
+  pub lead-244 : r ≡ leadOf 3 128 143 → b ≡ 244 → Leads b r
   unfolding follow ranges tails tail
-  lead-244 e = record { few = omega arith; none-can = λ e. absurd (omega arith); some-can = λ _. rw (over 0 0x7f b (omega arith), over 0xc2 0xdf b (omega arith), over 0xe0 0xe0 b (omega arith), over 0xed 0xed b (omega arith), over 0xe1 0xef b (omega arith), over 0xf0 0xf0 b (omega arith), over 0xf1 0xf3 b (omega arith), in-range 0xf4 0xf4 b (omega arith) (omega arith)) }
+  lead-244 q e = rw q (
+      record { few = omega arith; none-can = λ e. absurd (omega arith); some-can = λ _. rw (over 0 0x7f b (omega arith), over 0xc2 0xdf b (omega arith), over 0xe0 0xe0 b (omega arith), over 0xed 0xed b (omega arith), over 0xe1 0xef b (omega arith), over 0xf0 0xf0 b (omega arith), over 0xf1 0xf3 b (omega arith), in-range 0xf4 0xf4 b (omega arith) (omega arith)) })
 
-  pub lead-high : 244 < b → Leads b (leadOf 4 128 191)
+  pub lead-high : r ≡ leadOf 4 128 191 → 244 ≤ b → (b ≡ 244 → ⊥) → Leads b r
   unfolding follow
-  lead-high l = record { few = omega arith; some-can = λ e. absurd (e refl); none-can = λ _. rw (over 0 0x7f b (omega arith), over 0xc2 0xdf b (omega arith), over 0xe0 0xe0 b (omega arith), over 0xed 0xed b (omega arith), over 0xe1 0xef b (omega arith), over 0xf0 0xf0 b (omega arith), over 0xf1 0xf3 b (omega arith), over 0xf4 0xf4 b (omega arith)) }
+  lead-high q l k = rw q (
+      record { few = omega arith; some-can = λ e. absurd (e refl); none-can = λ _. rw (over 0 0x7f b (omega arith), over 0xc2 0xdf b (omega arith), over 0xe0 0xe0 b (omega arith), over 0xed 0xed b (omega arith), over 0xe1 0xef b (omega arith), over 0xf0 0xf0 b (omega arith), over 0xf1 0xf3 b (omega arith), over 0xf4 0xf4 b (omega arith)) })
 
 -- ---------------------------------------------------------------- a step
 
@@ -124,9 +134,9 @@ module _ {t : List ℕ} {i need low high b : ℕ} (h : Says t i need low high) (
   lead-some k z q = record { says = first-now z ∙ first-some b _ _ (k .some-can q) }
 
   -- a byte below 128 asks nothing
-  pub lead-low : need ≡ 0 → b < 128 → Says t (i + 1) need low high
+  lead-low : need ≡ 0 → b < 128 → Says t (i + 1) need low high
   unfolding ranges
-  lead-low z m = record { says = rw z (first-now z ∙ first-some b _ _ (lead-0 m .some-can (λ q. omega arith))) }
+  lead-low z m = record { says = rw z (first-now z ∙ first-some b _ _ (lead-0 {r = leadOf 0 128 191} refl m .some-can (λ q. omega arith))) }
 
   pub next-under : 0 < need → b < low → false ≡ utf8 t
   next-under z q = sym (next-now z ∙ next-out b _ _ _ (under low high b q))
@@ -137,12 +147,45 @@ module _ {t : List ℕ} {i need low high b : ℕ} (h : Says t i need low high) (
   pub next-right : 0 < need → low ≤ b → b ≤ high → Says t (i + 1) (need - 1) 128 191
   next-right z p q = record { says = next-now z ∙ next-in b _ _ _ (in-range low high b p q) }
 
-pub says-end : {t : List ℕ} {i need low high : ℕ} → Says t i need low high → length t ≤ i → eqb need 0 ≡ utf8 t
+says-end : {t : List ℕ} {i need low high : ℕ} → Says t i need low high → length t ≤ i → eqb need 0 ≡ utf8 t
 says-end {t} {i} {need} {low} {high} h l = go need (h .says ∙ ap (following (ranges need low high)) (drop-of-length-le t l))
   where
     go : (need : ℕ) → utf8 t ≡ following (ranges need low high) [] → eqb need 0 ≡ utf8 t
     go zero e = sym (e ∙ (unfold ranges following in refl))
     go (suc k) e = ne-eqb (suc k) 0 (λ z. omega arith) ∙ sym (e ∙ (unfold ranges following in refl))
+
+-- ---------------------------------------------------------------- the loops: what has been passed lies in the text
+
+pub record Passed (t : List ℕ) (i need low high : ℕ) : Type 0 where
+  pub inside : i ≤ length t
+  pub left : Says t i need low high
+
+pub passed-none : {t : List ℕ} → Passed t 0 0 128 191
+passed-none {t} = record { inside = omega arith; left = says-all t }
+
+-- the byte b stands at i
+module _ {t : List ℕ} {i need low high : ℕ} (w : Passed t i need low high) (l : i < length t) {b : ℕ} (e : b ≡ getD t i 0) where
+  pub pass-low : need ≡ 0 → b < 128 → Passed t (i + 1) need low high
+  pass-low z m = record { inside = omega arith; left = lead-low (w .left) e l z m }
+
+  pub none-begins : {r : Lead} → Leads b r → need ≡ 0 → r .need ≡ 4 → false ≡ utf8 t
+  none-begins k z q = lead-none (w .left) e l k z q
+
+  pub one-begins : {r : Lead} → Leads b r → need ≡ 0 → (r .need ≡ 4 → ⊥) → Passed t (i + 1) (r .need) (r .low) (r .high)
+  one-begins k z q = record { inside = omega arith; left = lead-some (w .left) e l k z q }
+
+  module _ (more : need ≡ 0 → ⊥) where
+    pub too-low : b < low → false ≡ utf8 t
+    too-low q = next-under (w .left) e l (omega arith) q
+
+    pub too-high : high < b → false ≡ utf8 t
+    too-high q = next-over (w .left) e l (omega arith) q
+
+    pub pass-next : low ≤ b → b ≤ high → Passed t (i + 1) (need - 1) 128 191
+    pass-next p q = record { inside = omega arith; left = next-right (w .left) e l (omega arith) p q }
+
+pub passed-all : {t : List ℕ} {i need low high : ℕ} → Passed t i need low high → length t ≤ i → eqb need 0 ≡ utf8 t
+passed-all w = says-end (w .left)
 
 -- ---------------------------------------------------------------- the end of a character
 

@@ -5,7 +5,7 @@ use mathlib.Core.Bool.{Bool, true, false, not, _&&_, _||_}
 use Prim.Native.Nat.{ℕ, zero, suc, _+_, _-_, _≤_, _<_}
 use native.Mathlib.Numerals.{add-one}
 use native.Mathlib.Omega.{arith}
-use lib.ListN.{length, getD, drop, drop-of-length-le}
+use lib.ListN.{length, getD, drop, drop-of-length-le, List·getD-eq-default}
 use lib.Seq.{drop-cons}
 use lib.Dec.{ltb, leb, eqb}
 use borrow.Author.Tests.{eq-eqb, ne-eqb, lt-ltb, le-leb, lt-leb, leb-true, leb-false, eqb-true, eqb-false, ltb-true, ltb-false}
@@ -69,6 +69,20 @@ plain-fits (b ∷ r) = go (eqb b 48) refl
     go : (t : Bool) → eqb b 48 ≡ t → plainRun (b ∷ r) ≡ fits 9 (b ∷ r)
     go true q = zero-first b r q
     go false q = other-first b r q
+
+-- the room after a digit, by its tests
+module _ (room b : ℕ) where
+  pub one-less : (room ≡ 9 → ⊥) → room - 1 ≡ roomAfter room b
+  unfolding roomAfter
+  one-less h = rw (ne-eqb room 9 h)
+
+  pub none-left : room ≡ 9 → b ≡ 48 → 0 ≡ roomAfter room b
+  unfolding roomAfter
+  none-left e z = rw (eq-eqb room 9 e, eq-eqb b 48 z)
+
+  pub eight-left : room ≡ 9 → (b ≡ 48 → ⊥) → 8 ≡ roomAfter room b
+  unfolding roomAfter
+  eight-left e h = rw (eq-eqb room 9 e, ne-eqb b 48 h) (omega arith)
 
 -- ---------------------------------------------------------------- the runs of a text
 
@@ -141,16 +155,18 @@ module _ (dots room b : ℕ) (s : List ℕ) where
 -- ---------------------------------------------------------------- the loop over v, at i
 
 pub record Says (v : List ℕ) (i dots room : ℕ) : Type 0 where
+  pub inside : i ≤ length v
+  pub few : dots ≤ i
   pub says : versionShape v ≡ rest dots room (drop i v)
 
 shape-rest : (v : List ℕ) → versionShape v ≡ rest 0 9 v
 unfolding versionShape rest
 shape-rest v = let z : 0 + length (runs v) ≡ length (runs v) = omega arith in rw (z, all-fit v)
 
-pub says-all : (v : List ℕ) → Says v 0 0 9
-says-all v = record { says = shape-rest v }
+pub says-all : {v : List ℕ} → Says v 0 0 9
+says-all {v} = record { inside = omega arith; few = omega arith; says = shape-rest v }
 
-module _ {v : List ℕ} {i dots room b : ℕ} (h : Says v i dots room) (e : b ≡ getD v i 0) (l : i < length v) where
+module _ {v : List ℕ} {i dots room b : ℕ} (h : Says v i dots room) (l : i < length v) (e : b ≡ getD v i 0) where
   here : versionShape v ≡ rest dots room (b ∷ drop (i + 1) v)
   here = rw (add-one i, e) (h .says ∙ ap (rest dots room) (drop-cons v i 0 l))
 
@@ -158,7 +174,7 @@ module _ {v : List ℕ} {i dots room b : ℕ} (h : Says v i dots room) (e : b �
   empty-run q z = sym (here ∙ dot-early dots room b _ q z)
 
   pub next-run : b ≡ 46 → (room ≡ 9 → ⊥) → Says v (i + 1) (dots + 1) 9
-  next-run q z = record { says = here ∙ dot-right dots room b _ q z }
+  next-run q z = let f = h .few in record { inside = omega arith; few = omega arith; says = here ∙ dot-right dots room b _ q z }
 
   pub below-digits : (b ≡ 46 → ⊥) → b < 48 → false ≡ versionShape v
   unfolding digit
@@ -171,9 +187,9 @@ module _ {v : List ℕ} {i dots room b : ℕ} (h : Says v i dots room) (e : b �
   pub digit-too-many : 48 ≤ b → room ≡ 0 → false ≡ versionShape v
   digit-too-many m z = sym (here ∙ too-long dots room b _ (λ q. omega arith) z)
 
-  pub next-digit : {r : ℕ} → r ≡ roomAfter room b → 48 ≤ b → b ≤ 57 → 0 < room → Says v (i + 1) dots r
+  pub next-digit : {r : ℕ} → r ≡ roomAfter room b → 48 ≤ b → b ≤ 57 → (room ≡ 0 → ⊥) → Says v (i + 1) dots r
   unfolding digit
-  next-digit q m n z = rw q (record { says = here ∙ digit-right dots room b _ (λ q. omega arith) (in-range 48 57 b m n) z })
+  next-digit q m n z = let f = h .few in rw q (record { inside = omega arith; few = omega arith; says = here ∙ digit-right dots room b _ (λ q. omega arith) (in-range 48 57 b m n) (omega arith) })
 
 module _ {v : List ℕ} {i dots room : ℕ} (h : Says v i dots room) (l : length v ≤ i) where
   at-end : versionShape v ≡ (within 2 3 (dots + 1) && (not (eqb room 9) && true))
@@ -212,15 +228,18 @@ major-other (b ∷ s) h = go (eqb b 46) refl
     go true q = sym (rw (runs-dot b s (eqb-true b 46 q)))
     go false q = sym (major-first b s (eqb-false b 46 q) (split s) ∙ (rw (ne-eqb b 49 h)))
 
+pub major-none : (v : List ℕ) → length v ≡ 0 → false ≡ majorOne v
+major-none v l = major-other v (λ q. omega (arith, List·getD-eq-default v 0 {n = 0} (omega arith)))
+
 pub major-alone : (v : List ℕ) → length v ≡ 1 → getD v 0 0 ≡ 49 → true ≡ majorOne v
 major-alone [] l e = absurd (omega arith)
 major-alone (b ∷ []) l e = sym (major-first b [] (λ q. omega arith) (record { first = []; others = []; are = unfold runs in refl }) ∙ (rw (eq-eqb b 49 e)))
 major-alone (b ∷ c ∷ s) l e = absurd (omega arith)
 
-pub major-long : (v : List ℕ) → 1 < length v → getD v 0 0 ≡ 49 → eqb (getD v 1 0) 46 ≡ majorOne v
-major-long [] l e = absurd (omega arith)
-major-long (b ∷ []) l e = absurd (omega arith)
-major-long (b ∷ c ∷ s) l e = go (eqb c 46) refl
+pub major-long : (v : List ℕ) → (length v ≡ 0 → ⊥) → (length v ≡ 1 → ⊥) → getD v 0 0 ≡ 49 → eqb (getD v 1 0) 46 ≡ majorOne v
+major-long [] k l e = absurd (k refl)
+major-long (b ∷ []) k l e = absurd (l refl)
+major-long (b ∷ c ∷ s) k l e = go (eqb c 46) refl
   where
     go : (t : Bool) → eqb c 46 ≡ t → t ≡ majorOne (b ∷ c ∷ s)
     go true q = sym (major-first b (c ∷ s) (λ q. omega arith) (record { first = []; others = runs s; are = runs-dot c s (eqb-true c 46 q) }) ∙ (rw (eq-eqb b 49 e)))

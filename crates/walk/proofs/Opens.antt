@@ -1,5 +1,6 @@
 -- A value that was lent whole to `walk::map`, which answered x: how the whole ends if its entries end so. For every map walker.
-use Prim.Native.Nat.{ℕ, suc, _+_, _-_, _≤_, _<_}
+use Prim.Native.Nat.{ℕ, suc, _+_, _-_, _*_, _^_, _≤_, _<_}
+use native.Mathlib.Omega.{arith}
 use mathlib.Core.List.{List}
 use mathlib.Core.Path.{_≡_, sym, ap, _∙_, subst}
 use lib.ListN.{length, drop}
@@ -11,6 +12,10 @@ use Rattle.walk.specs.Places.{MapIs, OpenMap, Modes}
 use Rattle.walk.specs.declared.Opening.{Opening}
 use Rattle.walk.specs.declared.Opening.the-variants.{Opened}
 use Rattle.walk.proofs.Passed.{Here}
+
+-- an item that was passed over, where c was lent whole
+pub whole-ends : (c : List ℕ) (d e : ℕ) → e ≡ code (itemEnd d (Here c 0)) → e ≡ code (itemEnd d c)
+whole-ends c d e skipped = skipped ∙ ap (λ u. code (itemEnd d u)) (part-to-end c 0)
 
 module _ (c : List ℕ) (x : Opening) (h : MapIs (Here c 0) x) where
   pub opening : (y : Opening) → x ≡ y → MapIs c y
@@ -26,7 +31,14 @@ module _ (c : List ℕ) (x : Opening) (h : MapIs (Here c 0) x) where
     pub modes : Modes mode count
     modes = opened .modes
 
-    module _ (d : ℕ) (room : length c < FAULT) (e : ℕ) (passed : e ≡ code (rest mode count d (Here c size))) where
+    -- what ends among the entries ends inside
+    pub entries-inside : (e : ℕ) → e ≤ length c - size → size + e ≤ length c
+    entries-inside e l = let h = size-inside in omega arith
+
+    module _ (d : ℕ) (lent : length c * 1 < 2 ^ 63) (e : ℕ) (passed : e ≡ code (rest mode count d (Here c size))) where
+      room : length c < FAULT
+      room = omega arith
+
       passed-there : e ≡ code (rest mode count d (drop size c))
       passed-there = passed ∙ ap (λ u. code (rest mode count d u)) (part-to-end c size)
 

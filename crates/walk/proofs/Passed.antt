@@ -103,6 +103,13 @@ module _ {d mode count : ℕ} {s : List ℕ} where
             pub goes-on : at < at + k + e
             goes-on = turns.further-on snoc d mode count s [] (w .modes) (w .short) at n (w .done) (w .walking) k (turned (Value k) is) e ended l
 
+            pub next-inside : at + k + e ≤ length s
+            next-inside = let y = value-inside in omega arith
+
+            -- fewer bytes are left
+            pub nearer : length s - (at + k + e) < length s - at
+            nearer = let y = next-inside in let z = goes-on in omega arith
+
             pub one-more : {Q : List (Pair Ends) → Type 0}
                 → ((done : List (Pair Ends)) (p : Pair Ends) → length done ≤ at → Reads d (drop at s) (p .key) (drop (at + k) s) → Reads d (drop (at + k) s) (p .value) (drop (at + k + e) s) → P done → Q (done ++ p ∷ []))
                 → Passed d mode count s (at + k + e) (n - 2) Q

@@ -1,12 +1,14 @@
 -- A turn of the loop over the entries of the `objects` map: the sums so far, and one more object's; and the sums in the end.
-use Prim.Native.Nat.{ℕ, suc, _+_, _-_, _*_, _≤_, _<_}
+use Prim.Native.Nat.{ℕ, suc, _+_, _-_, _*_, _^_, _≤_, _<_}
 use native.Mathlib.Nat.{zero-add}
 use native.Mathlib.Omega.{arith}
 use mathlib.Core.List.{List, [], _∷_, _++_, append-assoc}
 use mathlib.Core.Path.{_≡_, refl, ap, ap₂, sym, _∙_, subst}
-use lib.ListN.{length, drop, getD, length-append, length-map}
+use lib.ListN.{length, drop, getD, replicate, length-append, length-map}
 use lib.Seq.{sets, sets-eq}
 use borrow.Rule.Slice.PartAt.{part-to-end}
+use mir.Syntax.{w64}
+use mir.Val.{Fits}
 use Rattle.meaning.specs.Columns.{objectWidth}
 use Rattle.meaning.specs.Tree.{Pair}
 use Rattle.meaning.specs.Check.{pass, refuse}
@@ -22,7 +24,7 @@ use Rattle.meaning.proofs.Lengths.{object-length}
 use Rattle.meaning.specs.Every.{Every}
 use Rattle.cbor.specs.Ending.{code, itemEnd}
 use Rattle.walk.specs.Reading.{Ends, Reads}
-use Rattle.walk.specs.Places.{MapIs, EntryIs}
+use Rattle.walk.specs.Places.{MapIs, EntryIs, Modes}
 use Rattle.walk.specs.declared.Opening.{Opening}
 use Rattle.walk.specs.declared.Opening.the-variants.{NotOpen, Opened}
 use Rattle.walk.specs.declared.Entry.{Entry}
@@ -40,13 +42,13 @@ use Rattle.table.proofs.MapEntries as entering
 use Rattle.table.proofs.RowLoop.{rows-in-length}
 use Rattle.window.specs.Sums.{namePairs}
 use Rattle.window.specs.Summed.{InWindow, Holds, Added, Sum, spans, SumOf, Summed, AllSummed, Measured}
-use Rattle.window.proofs.Window.{name-is}
+use Rattle.window.proofs.Window.{Small, name-is}
 use Rattle.window.proofs.Snoc as snoc
 
 pub mapped-in-window : (end : ℕ) (o : Object Ends) → InWindow o → InWindow (mapObject (spanOf end) o)
 mapped-in-window end o w = record { rank = w .rank; count = let a = w .count in omega (arith, a, length-map (o .components) (mapComponent (spanOf end))) }
 
-pub none-summed : (layout start end p n from : ℕ) (before : List ℕ) → p ≤ suc endLimit → n ≤ suc manifestLimit → Summed layout start end p n from before p n from before []
+none-summed : (layout start end p n from : ℕ) (before : List ℕ) → p ≤ suc endLimit → n ≤ suc manifestLimit → Summed layout start end p n from before p n from before []
 unfolding namePairs
 none-summed layout start end p n from before h k os e w =
     let z = entering.none-entered (entry layout start) os e in
@@ -108,26 +110,47 @@ module _ (layout start : ℕ) (s c t : List ℕ) {end p n from q j next : ℕ} {
 pub record Looping (layout start end mode count p n from : ℕ) (s before : List ℕ) (at due place total next : ℕ) (names rows t : List ℕ) : Type 0 where
   pub walking : Passed 30 mode count s at due (Summed layout start end p n from before place total next names)
   pub long : length names ≡ length before
-  pub small : (place ≤ suc endLimit) × (total ≤ suc manifestLimit)
+  pub small : Small place total
   pub window : length t ≡ 208
   pub room : length rows ≡ 64
 
-module _ {layout start end mode count p n from : ℕ} {s before : List ℕ} {place due q j next : ℕ} {after : List ℕ} (w : Passed 30 mode count s place due (Summed layout start end p n from before q j next after))
-    {x : Entry} (h : EntryIs 30 mode due (Here s place) x) where
-  pub all-summed : {e : ℕ} → x ≡ End e → AllSummed layout start end mode count p n from s before q j after
-  all-summed is = record { next = next; are = walked.holds-of-all w h is }
+pub loop-starts : (layout start end mode count p n from : ℕ) (s before : List ℕ) → Modes mode count → length s * 1 < 2 ^ 63 → Small p n
+    → Looping layout start end mode count p n from s before 0 count p n from before (replicate 64 0) (replicate 208 0)
+loop-starts layout start end mode count p n from s before modes lent small = record {
+  walking = walked.passed-starts modes (omega arith) (none-summed layout start end p n from before (small .0) (small .1));
+  long = refl;
+  small = small;
+  window = refl;
+  room = refl;
+}
 
-  -- where a value is faulty there are no pairs
-  pub none-read : {k : ℕ} → x ≡ Value k → {e : ℕ} → e ≡ code (itemEnd 30 (Here s (place + k))) → length s - (place + k) < e → {q′ j′ : ℕ} {after′ : List ℕ}
-      → AllSummed layout start end mode count p n from s before q′ j′ after′
-  none-read is ended l = record { next = next; are = walked.no-pairs w h is ended l _ }
+module _ {layout start end mode count p n from : ℕ} {s before : List ℕ} {at due place total next : ℕ} {names rows t : List ℕ}
+    (w : Looping layout start end mode count p n from s before at due place total next names rows t) where
+  pub still-wide : (t′ : List ℕ) → length t′ ≡ length t → 208 ≤ length t′
+  still-wide t′ same = let y = w .window in omega (arith, same, y)
+
+  module _ {x : Entry} (h : EntryIs 30 mode due (Here s at) x) where
+    pub all-summed : {e : ℕ} → x ≡ End e → AllSummed layout start end mode count p n from s before place total names
+    all-summed is = record { next = next; are = walked.holds-of-all (w .walking) h is }
+
+    module _ {k : ℕ} (is : x ≡ Value k) {e : ℕ} (ended : e ≡ code (itemEnd 30 (Here s (at + k)))) where
+      -- where a value is faulty there are no pairs
+      pub none-read : length s - (at + k) < e → AllSummed layout start end mode count p n from s before place total names
+      none-read l = record { next = next; are = walked.no-pairs (w .walking) h is ended l _ }
+
+      module _ (l : e ≤ length s - (at + k)) where
+        pub turn-fits : Fits w64 (at + k + e)
+        turn-fits = record { fits = (let d = w .walking .short in omega (arith, walked.value-inside (w .walking) h is, l, d)) }
+
+        pub turn-less : length s - (at + k + e) < length s - at
+        turn-less = omega (arith, walked.value-inside (w .walking) h is, walked.goes-on (w .walking) h is ended l, l)
 
 -- a turn, in the code's terms: the value at `at + k` takes e bytes, and its rows are left in t′
 module _ {layout start end mode count p n from : ℕ} {s before : List ℕ} {at due place total next : ℕ} {names rows t : List ℕ}
     (w : Looping layout start end mode count p n from s before at due place total next names rows t) {x : Entry} (h : EntryIs 30 mode due (Here s at) x) {k : ℕ} (is : x ≡ Value k)
     {e : ℕ} (ended : e ≡ code (itemEnd 30 (Here s (at + k)))) (l : e ≤ length s - (at + k)) where
   pub loops-on : {t′ : List ℕ} → WholePut layout (Here s at) (Here s (at + k)) start end 0 0 objectWidth t t′ → length t′ ≡ length t → {rows′ : List ℕ} → length rows′ ≡ length rows
-      → {place′ total′ : ℕ} → Added t′ place total place′ total′ × (place′ ≤ suc endLimit) × (total′ ≤ suc manifestLimit)
+      → {place′ total′ : ℕ} → Added t′ place total place′ total′ × Small place′ total′
       → {names′ : List ℕ} → names′ ≡ sets names next (getD t′ 0 0 ∷ getD t′ 1 0 ∷ []) → length names′ ≡ length names → {next′ : ℕ} → (next + 2 ≤ length names′ → next′ ≡ next + 2)
       → Looping layout start end mode count p n from s before (at + k + e) (due - 2) place′ total′ next′ names′ rows′ t′
   loops-on put window room sum {names′} named long further =
@@ -137,7 +160,7 @@ module _ {layout start end mode count p n from : ℕ} {s before : List ℕ} {at 
         walking = walked.one-more-lent (w .walking) h is ended l (λ done x key value so.
             one-more-summed layout start (Here s at) (Here s (at + k)) t (omega (arith, wide)) put (sum .0) named (λ h. further (omega (arith, h, long-so))) x key value so);
         long = long-so;
-        small = (sum .1, sum .2);
+        small = sum .1;
         window = window ∙ w .window;
         room = room ∙ w .room;
       }

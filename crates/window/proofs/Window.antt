@@ -6,8 +6,10 @@ use mathlib.Core.Option.{none}
 use mathlib.Core.Path.{_≡_, refl, sym, ap, _∙_}
 use lib.ListN.{length, drop, getD, length-drop}
 use borrow.Rule.Slice.PartAt.{part-to-end}
+use mir.Syntax.{w64}
+use mir.Val.{Fits}
 use Rattle.meaning.specs.Columns.{objectWidth, componentWidth, rankColumn, countColumn}
-use Rattle.meaning.specs.Limit.{endLimit}
+use Rattle.meaning.specs.Limit.{manifestLimit, endLimit}
 use Rattle.meaning.specs.Read.{Span}
 use Rattle.meaning.specs.Model.{Component, Object, Model}
 use Rattle.meaning.specs.Rows.{wordSpan, attributesSpan, objectRows, componentRows, rows, componentCount}
@@ -18,6 +20,7 @@ use Rattle.rows.specs.Turns.{turnLimit, reached, blobSizes}
 use Rattle.rows.proofs.Turns.{reached-above}
 use Rattle.walk.proofs.Passed.{Here}
 use Rattle.sizes.specs.Size.{capped, cappedEnd, headSize, componentsSize, objectSize}
+use Rattle.sizes.proofs.Heads.{head-small}
 use Rattle.window.specs.Sums.{blobsIn, entrySize}
 use Rattle.window.specs.Summed.{InWindow, Holds, Added}
 
@@ -76,24 +79,28 @@ module _ {t : List ℕ} {o : Object Span} (h : Holds t o) (w : InWindow o) where
   held-blobs : blobSizes (eachRow askedComponent componentWidth (getD t countColumn 0) (Here t objectWidth)) ≡ blobsIn o
   held-blobs = ap blobSizes held-parts ∙ sizes-are cs
 
+-- a place and a number of bytes that a sum may hold
+abbrev pub Small : ℕ → ℕ → Type 0
+Small p n = (p ≤ suc endLimit) × (n ≤ suc manifestLimit)
+
+abbrev partsIn : List ℕ → List AskedComponent
+partsIn t = eachRow askedComponent componentWidth (getD t countColumn 0) (Here t objectWidth)
+
 module _ (t : List ℕ) (p n : ℕ) where
-  abbrev parts : List AskedComponent
-  parts = eachRow askedComponent componentWidth (getD t countColumn 0) (Here t objectWidth)
+  pub too-many : 16 < getD t countColumn 0 → Added t p n p n
+  too-many l o h w = let a = w .count in absurd (omega (arith, l, a, count-is h w))
 
-  pub too-many : 16 < getD t countColumn 0 → (q k : ℕ) → Added t p n q k
-  too-many l q k o h w = let a = w .count in absurd (omega (arith, l, a, count-is h w))
-
-  pub too-ranked : 8 < getD t rankColumn 0 → (q k : ℕ) → Added t p n q k
-  too-ranked l q k o h w = let a = w .rank in absurd (omega (arith, l, a, rank-is h w))
+  pub too-ranked : 8 < getD t rankColumn 0 → Added t p n p n
+  too-ranked l o h w = let a = w .rank in absurd (omega (arith, l, a, rank-is h w))
 
   pub past-already : endLimit < p → p ≤ suc endLimit → Added t p n p n
   past-already l m o h w = record { ends = omega (arith, l, m, reached-above [] p (blobsIn o)); adds = λ g. absurd (omega (arith, l, g)) }
 
-  module _ (q : ℕ) (ended : q ≡ cappedEnd (reached [] p (blobSizes parts))) where
+  module _ (q : ℕ) (ended : q ≡ cappedEnd (reached [] p (blobSizes (partsIn t)))) where
     pub passes-limit : endLimit < q → Added t p n q n
     passes-limit l o h w = record { ends = ended ∙ ap (λ (ls : List ℕ). cappedEnd (reached [] p ls)) (held-blobs h w); adds = λ g. absurd (omega (arith, l, g)) }
 
-    pub added : (own head sizes k : ℕ) → own ≡ capped (objectSize (askedObject (Here t 0))) → head ≡ headSize (getD t countColumn 0) → sizes ≡ capped (componentsSize [] p parts)
+    pub added : (own head sizes k : ℕ) → own ≡ capped (objectSize (askedObject (Here t 0))) → head ≡ headSize (getD t countColumn 0) → sizes ≡ capped (componentsSize [] p (partsIn t))
         → k ≡ capped (n + (own + head) + sizes) → Added t p n q k
     unfolding entrySize
     added own head sizes k e f g r o h w = record {
@@ -111,11 +118,30 @@ module _ (t : List ℕ) (p n : ℕ) where
           );
     }
 
-  -- what the calls ask
-  pub object-there : 208 ≤ length t → getD t rankColumn 0 ≤ 8 → (objectWidth ≤ length (Here t 0)) × (getD (Here t 0) rankColumn 0 ≤ 8)
-  object-there l r = (rw (part-to-end t 0) (omega (arith, l)), rw (part-to-end t 0) r)
+-- what was capped is small
+pub end-small : (a q : ℕ) → q ≡ cappedEnd a → q ≤ suc endLimit
+end-small a q e = omega (arith, e)
 
-  pub parts-there : 208 ≤ length t → getD t countColumn 0 ≤ 16 → (q : ℕ) → q ≡ cappedEnd (reached [] p (blobSizes parts)) → q ≤ endLimit
-      → (componentWidth * getD t countColumn 0 ≤ length (Here t objectWidth)) × (reached [] p (blobSizes parts) ≤ turnLimit [])
-  unfolding turnLimit
-  parts-there l few q e low = (rw (part-to-end t objectWidth) (omega (arith, l, few, length-drop objectWidth t)), omega (arith, e, low))
+pub total-small : (a k : ℕ) → k ≡ capped a → k ≤ suc manifestLimit
+total-small a k e = omega (arith, e)
+
+-- what the calls ask
+pub object-there : (t : List ℕ) → 208 ≤ length t → getD t rankColumn 0 ≤ 8 → (objectWidth ≤ length (Here t 0)) × (getD (Here t 0) rankColumn 0 ≤ 8)
+object-there t l r = (rw (part-to-end t 0) (omega (arith, l)), rw (part-to-end t 0) r)
+
+pub parts-there : (t : List ℕ) (p : ℕ) → 208 ≤ length t → getD t countColumn 0 ≤ 16 → (q : ℕ) → q ≡ cappedEnd (reached [] p (blobSizes (partsIn t))) → q ≤ endLimit
+    → (componentWidth * getD t countColumn 0 ≤ length (Here t objectWidth)) × (reached [] p (blobSizes (partsIn t)) ≤ turnLimit [])
+unfolding turnLimit
+parts-there t p l few q e low = (rw (part-to-end t objectWidth) (omega (arith, l, few, length-drop objectWidth t)), omega (arith, e, low))
+
+-- the sums are numbers of 64 bits
+module _ (a b own head : ℕ) (own-is : own ≡ capped a) (head-is : head ≡ headSize b) where
+  pub own-fits : Fits w64 (own + head)
+  own-fits = record { fits = omega (arith, own-is, head-is, head-small b) }
+
+  module _ (n : ℕ) (few : n ≤ suc manifestLimit) where
+    pub total-fits : Fits w64 (n + (own + head))
+    total-fits = record { fits = omega (arith, own-is, head-is, few, head-small b) }
+
+    pub all-fits : (d sizes : ℕ) → sizes ≡ capped d → Fits w64 (n + (own + head) + sizes)
+    all-fits d sizes e = record { fits = omega (arith, own-is, head-is, few, e, head-small b) }

@@ -1,13 +1,15 @@
 -- What the writer answers, check by check.
 use Prim.Native.Nat.{ℕ, suc, _+_, _-_, _*_, _≤_, _<_, _^_, min}
 use native.Mathlib.Omega.{arith}
-use mathlib.Core.List.{List, [], _∷_, map, _++_}
-use mathlib.Core.Bool.{Bool, true, false}
+use mathlib.Core.List.{List, [], _∷_, _++_}
+use mathlib.Core.Bool.{Bool, true, false, not}
 use mathlib.Core.Logic.{⊎-elim}
 use mathlib.Core.Path.{_≡_, refl, sym, ap, _∙_, subst}
 use lib.ListN.{length, take, drop, getD, length-drop, length-map}
 use lib.Dec.{leb}
-use borrow.Author.Tests.{le-leb, lt-leb}
+use mir.Syntax.{w64}
+use mir.Val.{Fits as FitsIn}
+use borrow.Author.Tests.{not-true, not-false, le-leb, lt-leb}
 use borrow.Rule.Slice.PartAt.{part-to-end}
 use Rattle.endian.proofs.Which.{lt-or}
 use Rattle.meaning.specs.Refusal.{BIG, ROOM, PLAN}
@@ -17,7 +19,7 @@ use Rattle.meaning.specs.Columns.{objectWidth, componentWidth}
 use Rattle.meaning.specs.Layouts.{magic}
 use Rattle.meaning.specs.Read.{Span}
 use Rattle.meaning.specs.Asked.{AskedComponent, eachRow, askedComponent}
-use Rattle.meaning.specs.Described.{Described, blobs}
+use Rattle.meaning.specs.Described.{Described}
 use Rattle.meaning.specs.Sound.{rowsSound}
 use Rattle.meaning.specs.Placement.{placement, lastEnd}
 use Rattle.meaning.specs.Plan.{planned}
@@ -30,7 +32,7 @@ use Rattle.rows.specs.Turns.{begun, turnLimit, reached, blobSizes}
 use Rattle.rows.proofs.Turns.{last-is-reached, reached-counts, offsets-by-rule, offsets-as-planned}
 use Rattle.rows.proofs.Whole.{sound-lies}
 use Rattle.rows.proofs.Describes.{blob-lengths}
-use Rattle.sizes.specs.Measured.{Measurable}
+use Rattle.sizes.specs.Measured.{Measurable, EndIs, ManifestIs}
 use Rattle.sizes.proofs.Exact.{measurable}
 use Rattle.plan.specs.Earlier.{sizes, Judges}
 use Rattle.plan.specs.declared.Judged.{Judged}
@@ -57,8 +59,8 @@ module _ (rows : List ℕ) (i : ℕ) (before : (j : ℕ) → j < i → getD rows
   all-there h j k = before j (omega (arith, h, k))
 
 -- what the slices are
-pub lent : (rows buffer : List ℕ) → Numbers rows → length rows < 256 ^ 8 → length buffer < 256 ^ 8 → Lent rows buffer
-lent rows buffer numbers few small = record { numbers = every-by-index _ 0 rows numbers; few = few; small = small }
+pub lent : {rows buffer : List ℕ} → Numbers rows → length rows * 8 < 2 ^ 63 → length buffer * 1 < 2 ^ 63 → Lent rows buffer
+lent {rows} numbers few small = record { numbers = every-by-index _ 0 rows numbers; few = omega (arith, few); small = omega (arith, small) }
 
 -- ---- an answer
 
@@ -100,17 +102,16 @@ module _ (plan rows : List ℕ) (objects components place size : ℕ) (buffer : 
   abbrev manifest : ℕ
   manifest = length (manifestBytes d offsets)
 
-  module _ (sound : is-sound ≡ true) (numbers : Numbers rows) (few : length rows < 256 ^ 8) (small : length buffer < 256 ^ 8)
-      {ceiling : ℕ} (plan-is : Accepted ceiling offsets lengths) (turns : reached plan (begun plan) lengths ≤ turnLimit plan)
+  module _ (sound : is-sound ≡ true) (slices : Lent rows buffer) {ceiling : ℕ} (plan-is : Accepted ceiling offsets lengths) (turns : reached plan (begun plan) lengths ≤ turnLimit plan)
       (m : ℕ) (long : m ≡ min manifest (suc manifestLimit)) where
     steps : (room : ℕ) → answer-at room
         ≡ ((BIG unless leb manifest manifestLimit) >> (judged d >> ((ROOM unless leb (length (fileOf d offsets)) room) >> pass (fileOf d offsets))))
-    steps room = written-at-is d offsets (sound-is-fine buffer small rows (every-by-index _ 0 rows numbers) few objects components attributes sound) plan-is room
+    steps room = written-at-is d offsets (sound-is-fine buffer (slices .small) rows (slices .numbers) (slices .few) objects components attributes sound) plan-is room
 
-    pub big-at : manifestLimit < m → (room : ℕ) → answer-at room ≡ refuse BIG 0 0
+    big-at : manifestLimit < m → (room : ℕ) → answer-at room ≡ refuse BIG 0 0
     big-at h room = steps room ∙ rw (lt-leb manifest manifestLimit (omega (arith, long, h))) refl
 
-    pub fit-at : m ≤ manifestLimit → (e : ℕ) → e ≡ lastEnd offsets lengths → Fit plan rows objects components attributes buffer e m
+    fit-at : m ≤ manifestLimit → (e : ℕ) → e ≡ lastEnd offsets lengths → Fit plan rows objects components attributes buffer e m
     fit-at h e ends = record {
       sound = sound;
       turns = turns;
@@ -120,9 +121,31 @@ module _ (plan rows : List ℕ) (objects components place size : ℕ) (buffer : 
       is = λ room. steps room ∙ rw (le-leb manifest manifestLimit (omega (arith, long, h))) refl;
     }
 
+-- ---- rows that `sound` said b of
+
+module _ (rows : List ℕ) (objects components place size : ℕ) (buffer : List ℕ) {b : Bool} (is : b ≡ rowsSound buffer rows objects components (record { place = place; size = size })) (so : not b ≡ false) where
+  rows-sound : rowsSound buffer rows objects components (record { place = place; size = size }) ≡ true
+  rows-sound = sym is ∙ not-false b so
+
+  pub all-lie : objectWidth * objects + componentWidth * components ≤ length rows
+  all-lie = sound-lies buffer rows objects components (record { place = place; size = size }) rows-sound
+
+  pub objects-lie : objectWidth * objects ≤ length rows
+  objects-lie = omega (arith, all-lie)
+
+  pub rows-lent : componentWidth * components ≤ length (take (length rows - objectWidth * objects) (drop (objectWidth * objects) rows))
+  rows-lent = rw (part-to-end rows (objectWidth * objects)) (omega (arith, all-lie, length-drop (objectWidth * objects) rows))
+
+  module _ (room : length rows * 8 < 2 ^ 63) where
+    pub objects-fit : FitsIn w64 (objectWidth * objects)
+    objects-fit = record { fits = omega (arith, all-lie, room) }
+
+    pub objects-bytes-fit : FitsIn w64 (objectWidth * objects * 8)
+    objects-bytes-fit = record { fits = omega (arith, all-lie, room) }
+
 -- ---- without a plan
 
-module _ (rows : List ℕ) (objects components place size : ℕ) (buffer : List ℕ) where
+module _ (rows : List ℕ) (objects components place size : ℕ) (buffer : List ℕ) {b : Bool} (is : b ≡ rowsSound buffer rows objects components (record { place = place; size = size })) where
   abbrev plain-answer : ℕ → Check (List ℕ)
   plain-answer = written rows objects components (record { place = place; size = size }) buffer
 
@@ -135,12 +158,18 @@ module _ (rows : List ℕ) (objects components place size : ℕ) (buffer : List 
   abbrev end : ℕ
   end = lastEnd (placement rule-lengths) rule-lengths
 
-  pub row : is-sound [] rows objects components place size buffer ≡ false → Plain (No 25 0)
+  pub row : not b ≡ true → Plain (No 25 0)
   unfolding written
-  row e room = rw e refl
+  row e room = rw (← is, not-true b e) refl
 
-  module _ (sound : is-sound [] rows objects components place size buffer ≡ true) (numbers : Numbers rows) (few : length rows < 256 ^ 8) (small : length buffer < 256 ^ 8)
-      (e : ℕ) (ends : e ≡ min end (suc endLimit)) where
+  -- and `last_end` e
+  module _ (so : not b ≡ false) {e : ℕ} (ended : EndIs rows objects components e) where
+    sound : is-sound [] rows objects components place size buffer ≡ true
+    sound = sym is ∙ not-false b so
+
+    ends : e ≡ min end (suc endLimit)
+    ends = ended buffer (record { place = place; size = size }) sound
+
     pub count : endLimit < e → Plain (No 15 0)
     unfolding written writtenPlain
     count h room = rw (sound, lt-leb end endLimit (omega (arith, ends, h))) refl
@@ -155,25 +184,29 @@ module _ (rows : List ℕ) (objects components place size : ℕ) (buffer : List 
       by-rule : Accepted endLimit (offsets [] rows objects components place size buffer) rule-lengths
       by-rule = subst (λ (os : List ℕ). Accepted endLimit os rule-lengths) same (accepted endLimit (placement rule-lengths) rule-lengths (placement-accepted rule-lengths end-low))
 
-      pub turns-low : reached [] (begun []) rule-lengths ≤ turnLimit []
+      turns-low : reached [] (begun []) rule-lengths ≤ turnLimit []
       unfolding begun turnLimit magic
       turns-low = omega (arith, end-low, last-is-reached rule-lengths)
 
-      settled : (room : ℕ) → plain-answer room ≡ answer-at [] rows objects components place size buffer room
+      pub plain-measurable : Measurable [] rows objects components
+      plain-measurable =
+          measurable [] buffer rows objects components (record { place = place; size = size }) sound
+          (subst (λ (ls : List ℕ). reached [] (begun []) ls ≤ turnLimit []) (blob-lengths buffer rows objects components (record { place = place; size = size }) sound) turns-low)
+
+      pub settled : (room : ℕ) → plain-answer room ≡ answer-at [] rows objects components place size buffer room
       unfolding written writtenPlain
       settled room =
           rw (sound, le-leb end endLimit end-low) (ap (λ (os : List ℕ). writtenAt (d [] rows objects components place size buffer) os room) same)
 
-      module _ (m : ℕ) (long : m ≡ min (manifest [] rows objects components place size buffer) (suc manifestLimit)) where
+      -- and `manifest` m, of slices as they are lent
+      module _ (numbers : Numbers rows) (few : length rows * 8 < 2 ^ 63) (small : length buffer * 1 < 2 ^ 63) {m : ℕ} (long : ManifestIs [] rows objects components (record { place = place; size = size }) m) where
         pub big : manifestLimit < m → Plain (No 4 0)
-        big h room = settled room ∙ big-at [] rows objects components place size buffer sound numbers few small by-rule turns-low m long h room
+        big h room = settled room ∙ big-at [] rows objects components place size buffer sound (lent numbers few small) by-rule turns-low m (long buffer sound) h room
 
-        pub fit : m ≤ manifestLimit → Plain (Yes e m)
-        fit h = (
-          fit-at [] rows objects components place size buffer sound numbers few small by-rule turns-low m long h e
-              (let x : e ≡ end = omega (arith, ends, in-time) in x ∙ ap (λ (os : List ℕ). lastEnd os rule-lengths) same),
-          settled,
-        )
+        pub fit : m ≤ manifestLimit → Fit [] rows objects components (record { place = place; size = size }) buffer e m
+        fit h =
+            fit-at [] rows objects components place size buffer sound (lent numbers few small) by-rule turns-low m (long buffer sound) h e
+            (let x : e ≡ end = omega (arith, ends, in-time) in x ∙ ap (λ (os : List ℕ). lastEnd os rule-lengths) same)
 
 -- ---- by a plan
 
@@ -184,7 +217,12 @@ turns-counted [] [] e h = omega arith
 turns-counted [] (l ∷ ls) e h = absurd (omega (arith, e))
 turns-counted (o ∷ os) ls e h = omega (arith, h, reached-counts o os 0 ls)
 
-module _ (plan : List ℕ) (ceiling : ℕ) (rows : List ℕ) (objects components place size : ℕ) (buffer : List ℕ) where
+-- the components' rows, lent
+abbrev lent-rows : ℕ → List ℕ → List ℕ
+lent-rows objects rows = take (length rows - objectWidth * objects) (drop (objectWidth * objects) rows)
+
+module _ (plan : List ℕ) (ceiling : ℕ) (rows : List ℕ) (objects components place size : ℕ) (buffer : List ℕ) {b : Bool}
+    (is : b ≡ rowsSound buffer rows objects components (record { place = place; size = size })) where
   abbrev planned-answer : ℕ → Check (List ℕ)
   planned-answer = writtenBy rows objects components (record { place = place; size = size }) buffer plan ceiling
 
@@ -194,38 +232,32 @@ module _ (plan : List ℕ) (ceiling : ℕ) (rows : List ℕ) (objects components
   abbrev plan-lengths : List ℕ
   plan-lengths = lengths plan rows objects components place size buffer
 
-  -- the components' rows, lent
-  abbrev lent-rows : List ℕ
-  lent-rows = take (length rows - objectWidth * objects) (drop (objectWidth * objects) rows)
-
-  pub row-by : is-sound plan rows objects components place size buffer ≡ false → Planned (No 25 0)
+  pub row-by : not b ≡ true → Planned (No 25 0)
   unfolding writtenBy
-  row-by e room = rw e refl
+  row-by e room = rw (← is, not-true b e) refl
 
-  module _ (sound : is-sound plan rows objects components place size buffer ≡ true) where
-    same-lengths : sizes plan lent-rows components ≡ plan-lengths
+  -- and `plan::verdict` x
+  module _ (so : not b ≡ false) where
+    sound-by : is-sound plan rows objects components place size buffer ≡ true
+    sound-by = sym is ∙ not-false b so
+
+    same-lengths : sizes plan (lent-rows objects rows) components ≡ plan-lengths
     same-lengths =
         ap (λ (r : List ℕ). blobSizes (eachRow askedComponent componentWidth components r)) (part-to-end rows (objectWidth * objects))
-        ∙ sym (blob-lengths buffer rows objects components (record { place = place; size = size }) sound)
+        ∙ sym (blob-lengths buffer rows objects components (record { place = place; size = size }) sound-by)
 
-    pub rows-lent : componentWidth * components ≤ length lent-rows
-    rows-lent =
-        rw (part-to-end rows (objectWidth * objects))
-        (omega (arith, sound-lies buffer rows objects components (record { place = place; size = size }) sound, length-drop (objectWidth * objects) rows))
-
-    verdict-is : {k : Check (Unit {0})} → planned ceiling plan (sizes plan lent-rows components) ≡ k → planned ceiling plan plan-lengths ≡ k
+    verdict-is : {k : Check (Unit {0})} → planned ceiling plan (sizes plan (lent-rows objects rows) components) ≡ k → planned ceiling plan plan-lengths ≡ k
     verdict-is e = ap (planned ceiling plan) (sym same-lengths) ∙ e
 
-    pub refused-by : (i : ℕ) (x : Judged) → Judges plan lent-rows components ceiling x → x ≡ judged-as.No i → Planned (No 27 i)
+    pub refused-by : {x : Judged} {i : ℕ} → x ≡ judged-as.No i → Judges plan (lent-rows objects rows) components ceiling x → Planned (No 27 i)
     unfolding writtenBy writtenPlanned
-    refused-by i x j q room =
-        let e : planned ceiling plan (sizes plan lent-rows components) ≡ refuse PLAN i 0 = subst (Judges plan lent-rows components ceiling) q j in
-        rw (sound, verdict-is e) refl
+    refused-by {x} {i} q judges room =
+        let e : planned ceiling plan (sizes plan (lent-rows objects rows) components) ≡ refuse PLAN i 0 = subst (Judges plan (lent-rows objects rows) components ceiling) q judges in
+        rw (sound-by, verdict-is e) refl
 
-    module _ (numbers : Numbers rows) (few : length rows < 256 ^ 8) (small : length buffer < 256 ^ 8) (e : ℕ) (x : Judged)
-        (j : Judges plan lent-rows components ceiling x) (q : x ≡ judged-as.Yes e) where
-      both : (planned ceiling plan (sizes plan lent-rows components) ≡ pass tt) × (e ≡ lastEnd plan (sizes plan lent-rows components))
-      both = subst (Judges plan lent-rows components ceiling) q j
+    module _ {x : Judged} {e : ℕ} (q : x ≡ judged-as.Yes e) (judges : Judges plan (lent-rows objects rows) components ceiling x) (few : length rows * 8 < 2 ^ 63) where
+      both : (planned ceiling plan (sizes plan (lent-rows objects rows) components) ≡ pass tt) × (e ≡ lastEnd plan (sizes plan (lent-rows objects rows) components))
+      both = subst (Judges plan (lent-rows objects rows) components ceiling) q judges
 
       passed : planned ceiling plan plan-lengths ≡ pass tt
       passed = verdict-is (both .0)
@@ -239,56 +271,76 @@ module _ (plan : List ℕ) (ceiling : ℕ) (rows : List ℕ) (objects components
       by-plan : Accepted ceiling (offsets plan rows objects components place size buffer) plan-lengths
       by-plan = subst (λ (os : List ℕ). Accepted ceiling os plan-lengths) same-offsets as-it-is
 
-      pub turns-in-time : reached plan (begun plan) plan-lengths ≤ turnLimit plan
+      turns-in-time : reached plan (begun plan) plan-lengths ≤ turnLimit plan
       turns-in-time =
           turns-counted plan plan-lengths (as-many (as-it-is .follows))
           (omega (
             arith,
             few,
-            sound-lies buffer rows objects components (record { place = place; size = size }) sound,
+            sound-lies buffer rows objects components (record { place = place; size = size }) sound-by,
             ap length (sym same-lengths),
-            length-map (eachRow askedComponent componentWidth components lent-rows) (λ (c : AskedComponent). c .blob .size),
-            each-row-length askedComponent componentWidth components lent-rows,
+            length-map (eachRow askedComponent componentWidth components (lent-rows objects rows)) (λ (c : AskedComponent). c .blob .size),
+            each-row-length askedComponent componentWidth components (lent-rows objects rows),
           ))
 
       pub can-be-measured : Measurable plan rows objects components
       can-be-measured =
-          measurable plan buffer rows objects components (record { place = place; size = size }) sound
-          (subst (λ (ls : List ℕ). reached plan (begun plan) ls ≤ turnLimit plan) (blob-lengths buffer rows objects components (record { place = place; size = size }) sound) turns-in-time)
+          measurable plan buffer rows objects components (record { place = place; size = size }) sound-by
+          (subst (λ (ls : List ℕ). reached plan (begun plan) ls ≤ turnLimit plan) (blob-lengths buffer rows objects components (record { place = place; size = size }) sound-by) turns-in-time)
 
-      settled-by : (room : ℕ) → planned-answer room ≡ answer-at plan rows objects components place size buffer room
+      pub settled-by : (room : ℕ) → planned-answer room ≡ answer-at plan rows objects components place size buffer room
       unfolding writtenBy writtenPlanned
-      settled-by room = rw (sound, passed) (ap (λ (os : List ℕ). writtenAt (d plan rows objects components place size buffer) os room) same-offsets)
+      settled-by room = rw (sound-by, passed) (ap (λ (os : List ℕ). writtenAt (d plan rows objects components place size buffer) os room) same-offsets)
 
-      module _ (m : ℕ) (long : m ≡ min (manifest plan rows objects components place size buffer) (suc manifestLimit)) where
+      -- and `manifest` m, of slices as they are lent
+      module _ (numbers : Numbers rows) (small : length buffer * 1 < 2 ^ 63) {m : ℕ} (long : ManifestIs plan rows objects components (record { place = place; size = size }) m) where
         pub big-by : manifestLimit < m → Planned (No 4 0)
-        big-by h room = settled-by room ∙ big-at plan rows objects components place size buffer sound numbers few small by-plan turns-in-time m long h room
+        big-by h room = settled-by room ∙ big-at plan rows objects components place size buffer sound-by (lent numbers few small) by-plan turns-in-time m (long buffer sound-by) h room
 
-        pub fit-by : m ≤ manifestLimit → Planned (Yes e m)
-        fit-by h = (
-          fit-at plan rows objects components place size buffer sound numbers few small by-plan turns-in-time m long h e
-              (both .1 ∙ ap (lastEnd plan) same-lengths ∙ ap (λ (os : List ℕ). lastEnd os plan-lengths) same-offsets),
-          settled-by,
-        )
+        pub fit-by : m ≤ manifestLimit → Fit plan rows objects components (record { place = place; size = size }) buffer e m
+        fit-by h =
+            fit-at plan rows objects components place size buffer sound-by (lent numbers few small) by-plan turns-in-time m (long buffer sound-by) h e
+            (both .1 ∙ ap (lastEnd plan) same-lengths ∙ ap (λ (os : List ℕ). lastEnd os plan-lengths) same-offsets)
 
 -- ---- by the code's answers
 
-module _ (plan rows : List ℕ) (objects components place size : ℕ) (buffer : List ℕ) (answer : ℕ → Check (List ℕ)) where
+-- `measured` or `measured_by` said x of the whole answer
+module _ (answer : ℕ → Check (List ℕ)) (plan rows : List ℕ) (objects components place size : ℕ) (buffer : List ℕ) (x : Sized)
+    (h : Measures plan rows objects components (record { place = place; size = size }) buffer answer x) where
   abbrev Told : Sized → Type 0
   Told = Measures plan rows objects components (record { place = place; size = size }) buffer answer
 
-  module _ (x : Sized) (h : Told x) where
-    pub measured-no : (n o : ℕ) → x ≡ No n o → (r : Written) → r ≡ refused n o 0 → (out : List ℕ) → Answered (answer (length out)) r out out
-    measured-no n o e r is out =
-        let so : Told (No n o) = subst Told e h in
-        subst (λ (a : Written). Answered (answer (length out)) a out out) (sym is) (refused-answer n o 0 (so (length out)) out)
+  measured-no : {n o : ℕ} → x ≡ No n o → {r : Written} → r ≡ refused n o 0 → (out : List ℕ) → Answered (answer (length out)) r out out
+  measured-no {n} {o} e is out =
+      let so : Told (No n o) = subst Told e h in
+      subst (λ (a : Written). Answered (answer (length out)) a out out) (sym is) (refused-answer n o 0 (so (length out)) out)
 
-    module _ (e m : ℕ) (q : x ≡ Yes e m) where
-      so : Told (Yes e m)
-      so = subst Told q h
+  module _ {e m : ℕ} (q : x ≡ Yes e m) where
+    so : Told (Yes e m)
+    so = subst Told q h
 
-      pub measured-yes : Fit plan rows objects components (record { place = place; size = size }) buffer e m
-      measured-yes = so .0
+    pub measured-yes : Fit plan rows objects components (record { place = place; size = size }) buffer e m
+    measured-yes = so .0
 
-      pub filled : (r : Written) (out after : List ℕ) → Answered (answer-at plan rows objects components place size buffer (length out)) r out after → Answered (answer (length out)) r out after
-      filled r out after a = answer-of (answer-at plan rows objects components place size buffer (length out)) (so .1 (length out)) out after r a
+    filled : {r : Written} (out : List ℕ) {after : List ℕ} → Answered (answer-at plan rows objects components place size buffer (length out)) r out after → Answered (answer (length out)) r out after
+    filled {r} out {after} a = answer-of (answer-at plan rows objects components place size buffer (length out)) (so .1 (length out)) out after r a
+
+module _ (rows : List ℕ) (objects components place size : ℕ) (buffer : List ℕ) (x : Sized)
+    (h : Measures [] rows objects components (record { place = place; size = size }) buffer (written rows objects components (record { place = place; size = size }) buffer) x) where
+  pub plain-refused : {n o : ℕ} → x ≡ No n o → {r : Written} → r ≡ refused n o 0 → (out : List ℕ)
+      → Answered (written rows objects components (record { place = place; size = size }) buffer (length out)) r out out
+  plain-refused = measured-no (written rows objects components (record { place = place; size = size }) buffer) [] rows objects components place size buffer x h
+
+  pub plain-filled : {e m : ℕ} → x ≡ Yes e m → {r : Written} (out : List ℕ) {after : List ℕ} → Answered (answer-at [] rows objects components place size buffer (length out)) r out after
+      → Answered (written rows objects components (record { place = place; size = size }) buffer (length out)) r out after
+  plain-filled = filled (written rows objects components (record { place = place; size = size }) buffer) [] rows objects components place size buffer x h
+
+module _ (plan : List ℕ) (ceiling : ℕ) (rows : List ℕ) (objects components place size : ℕ) (buffer : List ℕ) (x : Sized)
+    (h : Measures plan rows objects components (record { place = place; size = size }) buffer (writtenBy rows objects components (record { place = place; size = size }) buffer plan ceiling) x) where
+  pub planned-refused : {n o : ℕ} → x ≡ No n o → {r : Written} → r ≡ refused n o 0 → (out : List ℕ)
+      → Answered (writtenBy rows objects components (record { place = place; size = size }) buffer plan ceiling (length out)) r out out
+  planned-refused = measured-no (writtenBy rows objects components (record { place = place; size = size }) buffer plan ceiling) plan rows objects components place size buffer x h
+
+  pub planned-filled : {e m : ℕ} → x ≡ Yes e m → {r : Written} (out : List ℕ) {after : List ℕ} → Answered (answer-at plan rows objects components place size buffer (length out)) r out after
+      → Answered (writtenBy rows objects components (record { place = place; size = size }) buffer plan ceiling (length out)) r out after
+  planned-filled = filled (writtenBy rows objects components (record { place = place; size = size }) buffer plan ceiling) plan rows objects components place size buffer x h

@@ -1,6 +1,7 @@
 -- `apart::compared` meets its contract: a law for each branch.
 use mathlib.Core.Logic.{⊎-elim}
 use native.Mathlib.Omega.{arith}
+use borrow.Author.Needs.{needs}
 use Rattle.apart.proofs.Counts as counting
 use Rattle.apart.proofs.compared.Statement.{statement}
 use Rattle.apart.proofs.compared.Tie as tie
@@ -9,14 +10,9 @@ pub compared-spec : {M : Type 1} → statement M
 compared-spec =
     tie.close
     (tie.spec
-    (λ c κs. let b4 = c .before .before in let a = b4 .args in
-    ((b4 .pre .both)))
-    (λ c.
-    let at7 = c .before .before .before .before .before in
-    counting.none-apart (at7 .args .x .now) (at7 .args .y .now) (at7 .pre) ((c .before .before .run .ensures)) (c .before .if1 .taken) (c .if2 .taken))
-    (λ c κs.
-    let at8 = c .before .before .before .before in
-    let r = (c .before .run .ensures) in ((at8 .pre .both), r .passed .most, r .passed .agree))
+    (λ c κs. search needs)
+    (λ c. search counting.none-apart)
+    (λ c κs. search needs)
     (λ c. omega (arith, (c .differing .ensures .1), (c .before .before .before .before .before .pre .sum)))
     (λ c.
     let at9 = c .before .before .before .before .before in

@@ -22,11 +22,11 @@ of-block-spec =
     Inv-loop
     μ-loop
     (λ c. let b2 = c .before .before in counting.count-begins (b2 .args .x .now) (b2 .args .y .now) (b2 .pre) (omega arith) (agree-none _ _))
-    (λ c. omega (arith, c .before .before .before .before .before .pre .first))
-    (λ c. omega (arith, c .before .before .before .before .before .before .pre .second))
+    (λ c. search needs)
+    (λ c. search needs)
     (λ c κs. search needs)
-    (λ c. omega (arith, c .differ .ensures .1, c .before .before .before .before .loop .inv .most))
     (λ c. search needs)
     (λ c. search needs)
-    (λ c. let b7 = c .before .before .before .before .before .before .before in counting.count-one (b7 .args .x .now) (b7 .args .y .now) (b7 .pre) (c .before .before .before .before .loop .inv) (omega arith) (c .differ .ensures))
+    (λ c. search needs)
+    (λ c. search counting.count-one)
     (λ c. let b4 = c .before .before .before .before in counting.counted-all (b4 .args .x .now) (b4 .args .y .now) (c .before .loop .inv) (omega arith)))

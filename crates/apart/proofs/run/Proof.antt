@@ -19,12 +19,10 @@ run-spec =
     (tie.spec
     Inv-loop
     μ-loop
-    (λ c κs. let b4 = c .before .before in let a = b4 .args in
-    ((b4 .pre)))
-    (λ c. let a = c .before .before .before .args in
-    ((c .run-of-blocks .ensures)))
-    (λ c. omega (arith, (c .before .before .before .before .before .before .pre .first)))
-    (λ c. omega (arith, (c .before .before .before .before .before .before .before .pre .second)))
+    (λ c κs. search needs)
+    (λ c. c .run-of-blocks .ensures)
+    (λ c. search needs)
+    (λ c. search needs)
     (λ c. record { passed = c .before .before .before .before .loop .inv; stops = λ l. (c .if1 .taken) })
     (λ c. search needs)
     (λ c. search needs)

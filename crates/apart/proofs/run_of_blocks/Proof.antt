@@ -22,10 +22,10 @@ run-of-blocks-spec =
     μ-loop
     (λ c. record { most = omega arith; agree = agree-none _ _ })
     (λ c. search needs)
-    (λ c. omega (arith, c .before .before .before .before .pre .first))
     (λ c. search needs)
     (λ c. search needs)
-    (λ c. omega (arith, c .before .before .before .before .before .pre .second))
+    (λ c. search needs)
+    (λ c. search needs)
     (λ c. search needs)
     (λ c. search needs)
     (λ c κs. let b6 = c .before .before .before .before .before .before in counting.both-from (b6 .args .x .now) (b6 .args .y .now) (c .before .before .before .loop .i) block (b6 .pre) (omega arith))

@@ -4,6 +4,7 @@ use Rattle.badcomponent.proofs.either.Statement.{statement}
 use Rattle.badcomponent.proofs.either.Tie as tie
 
 pub either-spec : {M : Type 1} → statement M
-either-spec = tie.close (tie.spec
-    (λ c. storage.none-there _ _ (c .if1 .taken))
-    (λ c. storage.one-there _ _ (c .if1 .left)))
+either-spec = tie.close
+    (tie.spec
+    (λ c. search storage.none-there)
+    (λ c. search storage.one-there))

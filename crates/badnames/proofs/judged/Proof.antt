@@ -1,4 +1,4 @@
-use native.Mathlib.Omega.{arith}
+-- `badnames::judged` meets its contract: a law for each branch.
 use Rattle.badnames.proofs.KeysNoted as noting
 use borrow.Author.Needs.{needs}
 use Rattle.badnames.proofs.judged.Statement.{statement}
@@ -9,18 +9,13 @@ judged-spec =
     tie.close
     (tie.spec
     (λ c κs. search needs)
-    (λ c. let i = c .before in let a = i .before .before .before .before .before .args in
-    noting.odd-judged _ (a .from) _ (a .n) _ _ _ (i .if1 .taken) (c .at .ensures))
+    (λ c. search noting.odd-judged)
     (λ c κs. search needs)
-    (λ c. let i = c .before in let o = i .before in let a = o .before .before .before .before .before .args in
-    noting.bad-judged _ (a .from) _ (a .n) _ _ _ (o .if1 .left) (i .if2 .taken) (c .at2 .ensures))
+    (λ c. search noting.bad-judged)
     (λ c κs. search needs)
-    (λ c. let b = c .before .before in let o = b .before in let a = o .before .before .before .before .before .args in
-    noting.many-judged _ (a .from) _ (a .n) _ _ _ (o .if1 .left) (b .if2 .left) (omega arith) (c .at3 .ensures))
+    (λ c. search noting.many-judged)
     (λ c κs. search needs)
-    (λ c. let i = c .before in let b = i .before .before in let o = b .before in let a = o .before .before .before .before .before .args in
-    noting.once-judged _ (a .from) _ (a .n) _ _ _ (o .if1 .left) (b .if2 .left) (omega arith) (i .if4 .taken) (c .at4 .ensures))
+    (λ c. search noting.once-judged)
     (λ c κs. search needs)
     (λ c. search needs)
-    (λ c. let r = c .before .before in let b = r .before .before .before .before in let o = b .before in let a = o .before .before .before .before .before .args in
-    noting.few-judged _ (a .from) _ (a .n) _ _ _ (o .if1 .left) (b .if2 .left) (omega arith) (r .repeated .ensures)))
+    (λ c. search noting.few-judged))

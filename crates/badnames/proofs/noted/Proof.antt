@@ -11,10 +11,8 @@ noted-spec =
     (λ c κs. search needs)
     (λ c. search needs)
     (λ c. search needs)
-    (λ c. let b4 = c .before .before .before .before in let b8 = b4 .before .before .before in let a = b8 .before .before .before .before .args in
-    untested.by-test (a .s .now) (a .t) (a .left .now) (a .size .now) (b8 .if1 .taken) (b4 .note .ensures))
+    (λ c. search untested.by-test)
     (λ c κs. search needs)
     (λ c. search needs)
     (λ c. search needs)
-    (λ c. let b4 = c .before .before .before .before in let b8 = b4 .before .before .before in let a = b8 .before .before .before .before .args in
-    untested.untested (a .s .now) (a .t) (a .left .now) (a .size .now) (b8 .if1 .left) (b4 .unread .ensures)))
+    (λ c. search untested.untested))

@@ -1,3 +1,4 @@
+-- `badnames::repeated` meets its contract: a law for each branch.
 use Rattle.badnames.proofs.KeysNoted as noting
 use borrow.Author.Needs.{needs}
 use Rattle.badnames.proofs.repeated.Statement.{statement}
@@ -13,8 +14,8 @@ repeated-spec =
     (λ c κs. search needs)
     (λ c κs. search needs)
     (λ c. search needs)
-    (λ c. noting.all-differ _ _ _ _ _ _ (c .before .before .before .before .leading .ensures) (c .before .if1 .taken) (c .at .ensures))
+    (λ c. search noting.all-differ)
     (λ c κs. search needs)
     (λ c κs. search needs)
     (λ c. search needs)
-    (λ c. noting.a-second _ _ _ _ _ _ (c .before .before .before .before .before .leading .ensures) (c .before .before .if1 .left) _ (c .before .entry .ensures) (c .at2 .ensures)))
+    (λ c. search noting.a-second))

@@ -11,8 +11,4 @@ at-value-spec =
     (λ c κs. search needs)
     (λ c κs. search needs)
     (λ c κs. search needs)
-    (λ c.
-    let c1 = c .before in
-    let c2 = c1 .before in
-    let c5 = c2 .before .before in
-    entries.at-value (c5 .args .s .now) (c5 .args .c) _ (c2 .entry .ensures) _ (c1 .at .ensures) _ (c .told .ensures)))
+    (λ c. search entries.at-value))

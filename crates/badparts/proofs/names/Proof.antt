@@ -11,6 +11,4 @@ names-spec =
     (λ c. search needs)
     (λ c. search needs)
     (λ c κs. search needs)
-    (λ c.
-    let c3 = c .before .before .before in
-    c3 .named .ensures))
+    (λ c. search needs))

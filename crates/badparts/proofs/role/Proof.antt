@@ -10,16 +10,7 @@ role-spec =
     (tie.spec
     (λ c κs. search needs)
     (λ c κs. search needs)
-    (λ c.
-    let c2 = c .before in
-    let c3 = c2 .before in
-    let c6 = c3 .before .before in
-    whole.index-shows (c6 .args .layout) (c6 .args .format) (c6 .args .code) (c6 .args .s .now) (c6 .args .start) (c6 .args .c) _ _ (c3 .to-blame .ensures) (c2 .if1 .taken) (c .at-value .ensures))
+    (λ c. search whole.index-shows)
     (λ c κs. search needs)
     (λ c κs. search needs)
-    (λ c.
-    let c1 = c .before in
-    let c2 = c1 .before in
-    let c3 = c2 .before in
-    let c6 = c3 .before .before in
-    whole.map-shows (c6 .args .layout) (c6 .args .format) (c6 .args .code) (c6 .args .s .now) (c6 .args .start) (c6 .args .c) _ _ (c3 .to-blame .ensures) (c2 .if1 .left) _ (c1 .at .ensures) (c .told .ensures)))
+    (λ c. search whole.map-shows))

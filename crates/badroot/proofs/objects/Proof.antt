@@ -1,7 +1,6 @@
 -- `badroot::objects` meets its contract.
 use Rattle.badroot.proofs.Roots as roots
 use Rattle.walk.proofs.Opens as opens
-use mathlib.Core.Path.{refl}
 use borrow.Author.Needs.{needs}
 use Rattle.badroot.proofs.objects.Statement.{statement}
 use Rattle.badroot.proofs.objects.Tie as tie
@@ -16,13 +15,11 @@ objects-spec =
     (λ c κs. search needs)
     (λ c. search needs)
     (λ c. search needs)
-    (λ c. let m = c .before .before .before in opens.size-inside (m .before .before .before .args .s .now) _ (m .map .ensures) _ _ _ (c .before .mode .given .1))
-    (λ c. let m = c .before .before .before in opens.size-inside (m .before .before .before .args .s .now) _ (m .map .ensures) _ _ _ (c .before .mode .given .1))
+    (λ c. search opens.size-inside)
+    (λ c. search opens.size-inside)
     (λ c. search needs)
     (λ c. search needs)
-    (λ c κs. let o = c .before .before .before in let m = o .before .before in let a = m .before .before .before .args in (roots.six-places (a .layout), opens.modes (a .s .now) _ (m .map .ensures) _ _ _ (o .mode .given .1)))
+    (λ c κs. search (roots.six-places, opens.modes))
     (λ c. search needs)
-    (λ c. let m = c .before .before in let a = m .before .before .before .args in roots.nothing-stands (a .layout) (a .s .now) _ (m .map .ensures) (c .enum-told .given .1))
-    (λ c.
-    let f = c .before in let o = f .before .before .before .before in let m = o .before .before in let a = m .before .before .before .args in
-    roots.objects-stand (a .layout) (a .s .now) _ (m .map .ensures) _ _ _ (o .mode .given .1) _ _ (f .first .ensures) _ refl))
+    (λ c. search roots.nothing-stands)
+    (λ c. search roots.objects-stand))

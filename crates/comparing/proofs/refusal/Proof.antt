@@ -1,7 +1,5 @@
 -- `comparing::refusal` meets its contract: a law for each way out. Assumes nothing.
 use Rattle.comparing.proofs.ComparedFiles as answering
-use Rattle.meaning.specs.Layouts.{layoutOf}
-use Rattle.meaning.specs.Frame.{reading}
 use Rattle.frame.proofs.Frames.{size-back}
 use borrow.Author.Needs.{needs}
 use Rattle.comparing.proofs.refusal.Statement.{statement}
@@ -12,10 +10,7 @@ refusal-spec =
     tie.close
     (tie.spec
     (λ c κs. search needs)
-    (λ c. let b5 = c .before .before .before .before .before in
-    answering.says-first (reading (layoutOf (b5 .args .layout)) (b5 .args .first .now)) (reading (layoutOf (b5 .args .other)) (b5 .args .second .now)) (c .before .before .accept-as .ensures) (c .if1 .taken))
+    (λ c. search answering.says-first)
     (λ c κs. search needs)
-    (λ c. let b3 = c .before .before .before in let b5 = b3 .before .before in let b8 = b5 .before .before .before in
-    answering.says-second (layoutOf (b8 .args .layout)) (layoutOf (b8 .args .other)) (size-back (b8 .args .layout)) (size-back (b8 .args .other)) (b8 .args .first .now) (b8 .args .second .now) (b5 .accept-as .ensures) (b3 .if1 .left) (c .before .before .accept-as2 .ensures) (c .if2 .taken))
-    (λ c. let b3 = c .before .before .before in let b5 = b3 .before .before in let b8 = b5 .before .before .before in
-    answering.says-room (layoutOf (b8 .args .layout)) (layoutOf (b8 .args .other)) (size-back (b8 .args .layout)) (size-back (b8 .args .other)) (b8 .args .first .now) (b8 .args .second .now) (b5 .accept-as .ensures) (b3 .if1 .left) (c .before .before .accept-as2 .ensures) (c .if2 .left)))
+    (λ c. search (answering.says-second, size-back))
+    (λ c. search (answering.says-room, size-back)))

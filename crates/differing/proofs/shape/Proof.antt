@@ -1,6 +1,5 @@
 -- `differing::shape` meets its contract.
 use borrow.Author.Needs.{needs}
-use mathlib.Core.Path.{refl}
 use Rattle.differing.proofs.Columns as columns
 use Rattle.differing.proofs.shape.Statement.{statement}
 use Rattle.differing.proofs.shape.Tie as tie
@@ -18,4 +17,4 @@ shape-spec =
     (λ c. search needs)
     (λ c. search needs)
     (λ c. search needs)
-    (λ c. columns.shape-is ((c .before .before .args .a .now)) ((c .before .before .args .p)) _ refl))
+    (λ c. search columns.shape-is))

@@ -7,5 +7,11 @@ use Rattle.emit.proofs.bytes_at.Tie as tie
 pub bytes-at-spec : {M : Type 1} → statement M
 bytes-at-spec =
     tie.close
-    (tie.spec (λ c. search needs) (λ c. search needs) (λ c. search needs) (λ c κs. search needs) (λ c. search needs) (λ c. search needs) (λ c. let b2 = c .before .before in
-    laying.lent (b2 .before .before .before .before .pre) (b2 .copy .ensures)))
+    (tie.spec
+    (λ c. search needs)
+    (λ c. search needs)
+    (λ c. search needs)
+    (λ c κs. search needs)
+    (λ c. search needs)
+    (λ c. search needs)
+    (λ c. search laying.lent))

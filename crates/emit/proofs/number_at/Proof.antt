@@ -1,9 +1,8 @@
 -- `emit::number_at` meets its contract: a law for each return. Assumes nothing.
-use native.Mathlib.Omega.{arith}
 use Rattle.meaning.specs.Manifest.{numberBytes}
 use borrow.Author.Needs.{needs}
 use Rattle.emit.proofs.number_at.Statement.{statement}
 use Rattle.emit.proofs.number_at.Tie as tie
 
 pub number-at-spec : {M : Type 1} → statement M
-number-at-spec = tie.close (tie.spec (λ c κs. unfold numberBytes in (omega arith, (c .before .before .pre))) (λ c. search needs) (λ c. unfold numberBytes in (c .before .before .head-at .ensures)))
+number-at-spec = tie.close (tie.spec (λ c κs. unfold numberBytes in search needs) (λ c. search needs) (λ c. unfold numberBytes in search))

@@ -1,5 +1,4 @@
 -- `emit::text_at` meets its contract: a law for each return. Assumes nothing.
-use native.Mathlib.Omega.{arith}
 use Rattle.meaning.specs.Manifest.{textBytes}
 use Rattle.emit.proofs.LaidPieces as laying
 use borrow.Author.Needs.{needs}
@@ -7,6 +6,4 @@ use Rattle.emit.proofs.text_at.Statement.{statement}
 use Rattle.emit.proofs.text_at.Tie as tie
 
 pub text-at-spec : {M : Type 1} → statement M
-text-at-spec = tie.close (tie.spec (λ c κs. unfold textBytes in (omega arith, laying.room-first _ (c .before .before .before .pre))) (λ c κs. let b3 = c .before .before .before in
-    unfold textBytes in laying.room-next (b3 .head-at .ensures) (b3 .before .before .before .before .pre)) (λ c. search needs) (λ c. let b2 = c .before .before in
-    unfold textBytes in laying.then (b2 .before .before .before .before .head-at .ensures) (b2 .bytes-at .ensures)))
+text-at-spec = tie.close (tie.spec (λ c κs. unfold textBytes in search (needs, laying.room-first)) (λ c κs. unfold textBytes in search laying.room-next) (λ c. search needs) (λ c. unfold textBytes in search laying.then))

@@ -17,9 +17,7 @@ explain-spec =
     (λ c. let a = c .before .before .before .before .before .args in omega (arith, frames.inside (a .layout) (a .file .now) _ (c .before .before .before .frame .ensures) _ _ (c .before .start .given .1)))
     (λ c. search needs)
     (λ c. search needs)
-    (λ c. let a = c .before .before .before .before .before .args in omega (arith, frames.inside (a .layout) (a .file .now) _ (c .before .before .before .frame .ensures) _ _ (c .before .start .given .1)))
+    (λ c. search (needs, frames.inside))
     (λ c κs. search needs)
-    (λ c. let b3 = c .before .before in let b5 = b3 .before .before in let a′ = b5 .before .before .args in
-    let a = a′ in answers.no-frame (a .layout) (a .file .now) (a .room) _ (b5 .frame .ensures) _ _ (b3 .n .given .1) (c .framed .ensures))
-    (λ c. let b3 = c .before .before .before in let b5 = b3 .before .before in let a′ = b5 .before .before .args in
-    let a = a′ in answers.a-frame (a .layout) (a .file .now) (a .room) _ (b5 .frame .ensures) _ _ _ (b3 .start .given .1) (c .manifest .ensures)))
+    (λ c. search answers.no-frame)
+    (λ c. search answers.a-frame))

@@ -18,5 +18,4 @@ refused-spec =
     (λ c. let a = c .before .before .before .before .args in
     answers.by-its-bytes (layoutOf (a .layout)) (a .m .now) (a .start) (a .end) (a .n) (a .o) (a .c) _ (size-back (a .layout)) (omega arith) (c .unread2 .ensures))
     (λ c κs. search needs)
-    (λ c. let a = c .before .before .before .before .args in
-    answers.by-its-tree (layoutOf (a .layout)) (a .m .now) (a .start) (a .end) (a .n) (a .o) (a .c) _ (size-back (a .layout)) (omega arith) (omega arith) (c .judged .ensures)))
+    (λ c. search (needs, answers.by-its-tree, size-back)))

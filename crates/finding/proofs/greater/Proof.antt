@@ -1,6 +1,4 @@
 -- `finding::greater` meets its contract: a law for each branch. Assumes nothing.
-use mathlib.Core.Path.{sym, ap}
-use mathlib.Core.Bool.{Bool, cond}
 use Rattle.finding.proofs.greater.Statement.{statement}
 use Rattle.finding.proofs.greater.Tie as tie
 
@@ -8,5 +6,5 @@ pub greater-spec : {M : Type 1} → statement M
 greater-spec =
     tie.close
     (tie.spec
-    (λ c. sym (ap (λ (t : Bool). cond t (c .before .args .x) (c .before .args .kept)) (c .if1 .taken)))
-    (λ c. sym (ap (λ (t : Bool). cond t (c .before .args .x) (c .before .args .kept)) (c .if1 .left))))
+    (λ c. rw (c .if1 .taken))
+    (λ c. rw (c .if1 .left)))

@@ -10,7 +10,7 @@ coo-lengths-spec =
     tie.close
     (tie.spec
     (λ c κs. search needs)
-    (λ c. let a = c .before .before .args in laws.coo-odd (a .rank) (a .v) (a .unit) (a .size) (a .x) (a .coords) (c .before .values-fit .ensures) (not-true _ (c .if1 .taken)))
+    (λ c. search (laws.coo-odd, not-true))
     (λ c κs. search needs)
-    (λ c. let a = c .before .before .before .before .args in laws.coo-coords (a .rank) (a .v) (a .unit) (a .size) (a .x) (a .coords) (c .before .before .before .values-fit .ensures) (not-false _ (c .before .before .if1 .left)) (c .before .coords-fit .ensures) (not-true _ (c .if2 .taken)))
-    (λ c. let a = c .before .before .before .before .args in laws.coo-right (a .rank) (a .v) (a .unit) (a .size) (a .x) (a .coords) (c .before .before .before .values-fit .ensures) (not-false _ (c .before .before .if1 .left)) (c .before .coords-fit .ensures) (not-false _ (c .if2 .left))))
+    (λ c. search (laws.coo-coords, not-false, not-true))
+    (λ c. search (laws.coo-right, not-false)))

@@ -1,6 +1,4 @@
 -- `formats::coords_fit` meets its contract: whether elements are counted, then the test. Assumes nothing.
-use native.Mathlib.Omega.{arith}
-use Prim.Native.Nat.{_*_}
 use Rattle.formats.proofs.Rules as laws
 use borrow.Author.Needs.{needs}
 use Rattle.formats.proofs.coords_fit.Statement.{statement}
@@ -11,7 +9,7 @@ coords-fit-spec =
     tie.close
     (tie.spec
     (λ c κs. search needs)
-    (λ c. let a = c .before .before .args in laws.index-free (a .unit) (a .size) (omega arith) (8 * a .rank) (a .coords) (c .is-whole .ensures))
+    (λ c. search (needs, laws.index-free))
     (λ c κs. search needs)
     (λ c κs. search needs)
-    (λ c. let a = c .before .before .before .args in laws.index-counted (a .unit) (a .size) (omega arith) (8 * a .rank) (a .coords) (c .before .count-of .ensures) (c .coordinate-length .ensures)))
+    (λ c. search (needs, laws.index-counted)))

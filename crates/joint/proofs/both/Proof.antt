@@ -5,12 +5,6 @@ use Rattle.emit.proofs.LaidPieces as laying
 use borrow.Author.Needs.{needs}
 use Rattle.joint.proofs.both.Statement.{statement}
 use Rattle.joint.proofs.both.Tie as tie
-use Rattle.joint.proofs.both.Reads as reads
-use Rattle.joint.proofs.both.Lts as lts
-use Rattle.emit.proofs.magic_at.Reads as magic-at-reads
-use Rattle.emit.proofs.size_at.Reads as size-at-reads
-use Rattle.joint.proofs.manifest.Reads as manifest-reads
-use Rattle.layout.proofs.components.blobs_at.Reads as blobs-at-reads
 
 pub both-spec : {M : Type 1} → statement M
 both-spec =
@@ -18,20 +12,15 @@ both-spec =
     (tie.spec
     (λ c. search needs)
     (λ c. search needs)
-    (λ c κs. let b7 = c .before .before .before .before .before .before .before in let a = b7 .args in
-    frames.room-magic ((a .attributes .now)) ((a .first .now)) ((a .rows .now)) ((a .second .now)) ((a .others .now)) ((a .place)) ((a .size)) ((a .n)) ((a .c)) ((a .k)) ((a .d)) ((a .turn))
-    ((b7 .pre .1 .1 .1)))
+    (λ c κs. search frames.room-magic)
     (λ c. search needs)
     (λ c. search needs)
     (λ c. search needs)
-    (λ c κs. let b4 = c .before .before .before .before in let b12 = b4 .before .before .before .before .before .before .before .before in let a = b12 .args in
-    ((b12 .pre .1 .0 .blobs), frames.room-blobs ((a .attributes .now)) ((a .first .now)) ((a .rows .now)) ((a .second .now)) ((a .others .now)) ((a .place)) ((a .size)) ((a .n)) ((a .c)) ((a .k)) ((a .d)) ((a .turn)) ((b12 .pre .1 .1 .1)) ((b4 .magic-at .ensures))))
+    (λ c κs. search frames.room-blobs)
     (λ c. search needs)
     (λ c. search needs)
     (λ c. search needs)
-    (λ c κs. let b4 = c .before .before .before .before in let b9 = b4 .before .before .before .before .before in let b17 = b9 .before .before .before .before .before .before .before .before in
-    let a = b17 .args in
-    ((b17 .pre .1 .1 .0 .blobs), frames.room-more ((a .attributes .now)) ((a .first .now)) ((a .rows .now)) ((a .second .now)) ((a .others .now)) ((a .place)) ((a .size)) ((a .n)) ((a .c)) ((a .k)) ((a .d)) ((a .turn)) ((b17 .pre .1 .1 .1)) ((b9 .magic-at .ensures)) ((b4 .blobs-at .ensures))))
+    (λ c κs. search frames.room-more)
     (λ c. search needs)
     (λ c. search needs)
     (λ c. search needs)

@@ -17,13 +17,6 @@ olds-spec =
     (λ c. search needs)
     (λ c. search needs)
     (λ c. search needs)
-    (λ c κs.
-    let at5 = c .before .before .before .before .before in
-    let at18 = at5 .before .before .before .before .before .before .before .before .before .before .before .before .before in (
-      (at18 .pre .0),
-      (c .before .before .before .before .before .before .before .before .before .before .before .put-starts .ensures .0),
-      (c .before .before .before .before .before .before .before .before .put-starts2 .ensures .0),
-      objects.known (at18 .pre .1) (at5 .sort .ensures .0) (at5 .sort .ensures .1),
-    ))
+    (λ c κs. search objects.known)
     (λ c. search needs)
     (λ c. search needs))

@@ -1,8 +1,6 @@
 -- `names::leading` meets its contract: the digests or the order answer. Assumes nothing.
-use native.Mathlib.Omega.{arith}
 use borrow.Author.Needs.{needs}
 use Rattle.names.proofs.ListedNames as listed
-use Rattle.names.proofs.NamedParts as parts
 use Rattle.names.proofs.leading.Statement.{statement}
 use Rattle.names.proofs.leading.Tie as tie
 
@@ -20,7 +18,7 @@ leading-spec =
     (λ c. search needs)
     (λ c. search needs)
     (λ c κs. search needs)
-    (λ c. listed.leading-all (listed.fewer-differ (omega (arith, c .if2 .taken)) (rw parts.from-wholes at (c .before .differ-by-digest .ensures .1))))
+    (λ c. search listed.all-lead)
     (λ c. search needs)
     (λ c. search needs)
     (λ c. search needs)
@@ -31,7 +29,7 @@ leading-spec =
     (λ c. search needs)
     (λ c. search needs)
     (λ c κs. search needs)
-    (λ c. listed.leading-some (c .before .before .before .before .before .before .differ-by-digest .ensures .0) (rw parts.from-wholes at (c .before .before .before .before .before .before .differ-by-digest .ensures .1)) (rw parts.from-wholes at ((c .before .is-copy .ensures) (c .if3 .taken))))
+    (λ c. search listed.some-lead)
     (λ c. search needs)
     (λ c. search needs)
     (λ c. search needs)
@@ -43,4 +41,4 @@ leading-spec =
     (λ c. search needs)
     (λ c κs. search needs)
     (λ c. search needs)
-    (λ c. rw parts.from-wholes at (c .before .before .differ-by-order .ensures)))
+    (λ c. search listed.wholes-lead))

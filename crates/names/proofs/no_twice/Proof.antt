@@ -1,7 +1,6 @@
 -- `names::no_twice` meets its contract. Assumes nothing.
 use borrow.Author.Needs.{needs}
 use Rattle.names.proofs.ListedNames as listed
-use Rattle.names.proofs.NamedParts as parts
 use Rattle.names.proofs.no_twice.Statement.{statement}
 use Rattle.names.proofs.no_twice.Tie as tie
 
@@ -20,4 +19,4 @@ no-twice-spec =
     (λ c. search needs)
     (λ c κs. search needs)
     (λ c. search needs)
-    (λ c. listed.leading-decides (rw parts.from-wholes at (c .before .before .leading .ensures))))
+    (λ c. search listed.leading-tells))

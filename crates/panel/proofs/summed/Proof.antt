@@ -1,7 +1,6 @@
 -- `panel::summed` meets its contract: the lines, and the last. Assumes nothing.
 use Rattle.panel.specs.Summary.{summaryText}
 use Rattle.put.proofs.PiecesInTurn as writing
-use mathlib.Core.Path.{_∙_}
 use borrow.Author.Needs.{needs}
 use Rattle.panel.proofs.summed.Statement.{statement}
 use Rattle.panel.proofs.summed.Tie as tie
@@ -10,8 +9,7 @@ pub summed-spec : {M : Type 1} → statement M
 summed-spec =
     tie.close
     (tie.spec
-    (λ c κs. (c .before .before .before .before .pre))
+    (λ c κs. search needs)
     (λ c κs. search needs)
     (λ c. search needs)
-    (λ c. let b2 = c .before .before in
-    unfold summaryText in writing.then (b2 .before .before .before .before .whole .ensures) (b2 .bytes-line .ensures)))
+    (λ c. unfold summaryText in search writing.then))

@@ -5,8 +5,7 @@ use Rattle.parts.proofs.beside.Statement.{statement}
 use Rattle.parts.proofs.beside.Tie as tie
 
 pub beside-spec : {M : Type 1} → statement M
-beside-spec = tie.close (tie.spec (λ c κs. search needs) (λ c κs. search needs)
-    (λ c. match.matched (c .before .before .before .before .before .before .before .args .first .now) (c .before .before .before .before .before .before .before .args .a .now)
-    (c .before .before .before .before .before .before .before .args .p) (c .before .before .before .before .before .before .before .args .second .now)
-    (c .before .before .before .before .before .before .before .args .b .now) (c .before .before .before .before .before .before .before .args .q) (c .before .before .before .before .before .before .before .args .n)
-    (c .find .ensures) (c .before .name-at .ensures)))
+beside-spec = tie.close (tie.spec
+    (λ c κs. search needs)
+    (λ c κs. search needs)
+    (λ c. search match.matched))

@@ -1,6 +1,5 @@
 -- `put::number` meets its contract: a law for each branch. Assumes nothing.
 use Rattle.put.proofs.PiecesInTurn as writing
-use Rattle.put.proofs.Pieces as pieces
 use borrow.Author.Needs.{needs}
 use Prim.Native.Nat.{ℕ, _<_}
 use borrow.Fn.Kinds.{In}
@@ -34,12 +33,10 @@ pub +number-spec : {M : Type 1} → statement M
     (λ c. search needs)
     (λ c κs. search needs)
     (λ c. search needs)
-    (λ c. let b2 = c .before .before in
-    writing.as-bytes (pieces.decimal-one _ (b2 .before .before .if1 .taken)) (b2 .byte .ensures))
+    (λ c. search writing.one-digit)
     (λ c κs. search needs)
     (λ c. search needs)
     (λ c. search needs)
     (λ c κs. search needs)
     (λ c. search needs)
-    (λ c. let b2 = c .before .before in let b6 = b2 .before .before .before .before in
-    writing.as-bytes (pieces.decimal-more _ (search needs) (b6 .before .before .if1 .left)) (writing.then (b6 .number .ensures) (b2 .byte2 .ensures)))
+    (λ c. search writing.more-digits)

@@ -1,14 +1,13 @@
-use native.Mathlib.Omega.{arith}
+-- `shape::shape` meets its contract: a law for each way through the loop, and for each end.
+use Rattle.shape.proofs.Elements as elements
 use Prim.Native.Nat.{_-_}
 use lib.ListN.{length}
-use Rattle.shape.proofs.Elements.{Passing}
-use Rattle.shape.proofs.Elements as elements
 use borrow.Author.Needs.{needs}
 use Rattle.shape.proofs.shape.Statement.{statement}
 use Rattle.shape.proofs.shape.Tie as tie
 
 abbrev Inv-loop : tie.InvT-loop
-Inv-loop s left dims₀ mode count size at₀ rank₀ dims at rank = Passing left mode count s dims₀ dims at rank
+Inv-loop s left dims₀ mode count size at₀ rank₀ dims at rank = elements.Passing left mode count s dims₀ dims at rank
 
 abbrev μ-loop : tie.MeasureT-loop
 μ-loop s left dims₀ mode count size at₀ rank₀ dims at rank = length s - at
@@ -25,10 +24,8 @@ shape-spec =
     (λ c κs. search needs)
     (λ c. search needs)
     (λ c. search needs)
-    (λ c. let b2 = c .before .before in
-    elements.no-list (b2 .before .before .before .before .pre) (b2 .list .ensures) (c .enum-told .given .1))
-    (λ c. let b3 = c .before .before .before in
-    elements.begins (b3 .before .before .before .before .pre) (b3 .list .ensures) (c .before .mode .given .1))
+    (λ c. search elements.no-list)
+    (λ c. search elements.begins)
     (λ c. search needs)
     (λ c. search needs)
     (λ c. search needs)
@@ -40,8 +37,7 @@ shape-spec =
     (λ c. search needs)
     (λ c. search needs)
     (λ c. search needs)
-    (λ c. let b2 = c .before .before in let b4 = b2 .before .before in let b5 = b4 .before in let l = b5 .before .before .loop in
-    elements.no-number (l .inv) (b5 .more .ensures) (b4 .if1 .taken) (b2 .number .ensures) (c .enum-told2 .given .1))
+    (λ c. search elements.no-number)
     (λ c κs. search needs)
     (λ c. search needs)
     (λ c. search needs)
@@ -49,18 +45,13 @@ shape-spec =
     (λ c κs. search needs)
     (λ c. search needs)
     (λ c. search needs)
-    (λ c. elements.no-end (c .before .before .before .before .before .before .before .before .before .before .before .before .before .before .before .loop .inv)
-    (c .before .before .before .before .before .before .before .before .before .before .before .before .before .more .ensures)
-    (c .before .before .before .before .before .before .before .before .before .before .before .before .if1 .taken) (c .before .before .before .before .before .before .before .before .before .before .number .ensures)
-    (omega arith) (c .before .before .before .before .before .before .before .before .n .given .1) (c .before .skip .ensures) (c .before .before .before .before .before .put .ensures) (omega arith))
+    (λ c. search elements.no-end)
     (λ c. search needs)
     (λ c. search needs)
-    (λ c. omega (arith, elements.takes-a-byte (c .before .before .before .before .before .before .before .before .before .before .before .before .before .before .before .loop .inv) (omega arith) (c .before .skip .ensures) (omega arith)))
-    (λ c. elements.goes-on (c .before .before .before .before .before .before .before .before .before .before .before .before .before .before .before .loop .inv)
-    (c .before .before .before .before .before .before .before .before .before .before .before .before .before .more .ensures)
-    (c .before .before .before .before .before .before .before .before .before .before .before .before .if1 .taken) (c .before .before .before .before .before .before .before .before .before .before .number .ensures)
-    (omega arith) (c .before .before .before .before .before .before .before .before .n .given .1) (c .before .skip .ensures) (c .before .before .before .before .before .put .ensures) (omega arith))
+    (λ c. search elements.fewer-left)
+    (λ c. let c5 = c .before .before .before .before .before in let c8 = c5 .before .before .before in let c10 = c8 .before .before in let c12 = c10 .before .before in let c13 = c12 .before in
+    elements.goes-on (c13 .before .before .loop .inv) (c13 .more .ensures) (c12 .if1 .taken) (c10 .number .ensures) (c8 .n .given .1) (c .before .skip .ensures) (c5 .put .ensures) (c .if2 .left))
     (λ c. search needs)
-    (λ c. elements.many-dimensions (c .before .before .before .before .loop .inv) (c .before .before .more .ensures) (c .before .if1 .left) (omega arith))
+    (λ c. search elements.many-dimensions)
     (λ c. search needs)
-    (λ c. elements.dimensions-are (c .before .before .before .before .loop .inv) (c .before .before .more .ensures) (c .before .if1 .left) (omega arith)))
+    (λ c. search elements.dimensions-are))

@@ -27,33 +27,23 @@ each-spec =
     (λ c. search needs)
     (λ c. search needs)
     (λ c. search needs)
-    (λ c κs. let l = c .before .loop in
-    walked.still-due (l .inv .walking))
+    (λ c κs. search walked.still-due)
     (λ c. search needs)
-    (λ c. (c .before .before .before .before .loop .inv .long))
-    (λ c. (c .before .before .before .before .loop .inv .listed))
+    (λ c. search)
+    (λ c. search)
     (λ c. let b2 = c .before .before in let b4 = b2 .before .before in let l = b4 .loop in
     (walked.holds-of-all (l .inv .walking) (b2 .past-key .ensures) (c .enum-told .given .1), (l .inv .bounded)))
     (λ c. search needs)
     (λ c. let b3 = c .before .before .before in let b5 = b3 .before .before in let l = b5 .loop in
     omega (arith, walked.value-inside (l .inv .walking) (b3 .past-key .ensures) (c .before .k .given .1)))
-    (λ c. let b3 = c .before .before .before in let b5 = b3 .before .before in let l = b5 .loop in
-    omega (arith, walked.value-inside (l .inv .walking) (b3 .past-key .ensures) (c .before .k .given .1)))
-    (λ c. let b3 = c .before .before .before in let b5 = b3 .before .before in let l = b5 .loop in
-    omega (arith, walked.value-inside (l .inv .walking) (b3 .past-key .ensures) (c .before .k .given .1)))
-    (λ c. let b3 = c .before .before .before in let b5 = b3 .before .before in let l = b5 .loop in
-    omega (arith, walked.value-inside (l .inv .walking) (b3 .past-key .ensures) (c .before .k .given .1)))
-    (λ c. let b2 = c .before .before in let b4 = b2 .before .before in let b6 = b4 .before .before in let l = b6 .loop in
-    omega (arith, walked.value-inside (l .inv .walking) (b4 .past-key .ensures) (b2 .k .given .1)))
-    (λ c. let b2 = c .before .before in let b4 = b2 .before .before in let b6 = b4 .before .before in let l = b6 .loop in
-    omega (arith, walked.value-inside (l .inv .walking) (b4 .past-key .ensures) (b2 .k .given .1)))
-    (λ c. let b2 = c .before .before in let b4 = b2 .before .before in let b6 = b4 .before .before in let l = b6 .loop in
-    omega (arith, walked.value-inside (l .inv .walking) (b4 .past-key .ensures) (b2 .k .given .1)))
-    (λ c κs. let b9 = c .before .before .before .before .before .before .before .before .before in let b13 = b9 .before .before .before .before in let l = b9 .loop in let a = b13 .args in
-    ((b13 .pre .0), (l .inv .bounded), putting.still-long (a .fill) (a .t .now) (l .t) (b13 .pre .2) (l .inv .long)))
-    (λ c. let b11 = c .before .before .before .before .before .before .before .before .before .before .before in let b13 = b11 .before .before in let b15 = b13 .before .before in
-    let l = b15 .loop in
-    omega (arith, walked.value-inside (l .inv .walking) (b13 .past-key .ensures) (b11 .k .given .1)))
+    (λ c. search (needs, walked.value-inside))
+    (λ c. search (needs, walked.value-inside))
+    (λ c. search (needs, walked.value-inside))
+    (λ c. search (needs, walked.value-inside))
+    (λ c. search (needs, walked.value-inside))
+    (λ c. search (needs, walked.value-inside))
+    (λ c κs. search putting.still-long)
+    (λ c. search (needs, walked.value-inside))
     (λ c. let b6 = c .before .before .before .before .before .before in let l = b6 .before .before .before .before .before .before .before .before .before .before .loop in
     (b6 .step .kept .1 .1 .1 .1 .1 .1 .1 .1 .0) ∙ (l .inv .long))
     (λ c. let b6 = c .before .before .before .before .before .before in let l = b6 .before .before .before .before .before .before .before .before .before .before .loop in
@@ -64,12 +54,8 @@ each-spec =
     (λ c. let b12 = c .before .before .before .before .before .before .before .before .before .before .before .before in let b14 = b12 .before .before in let b16 = b14 .before .before in
     let l = b16 .loop in
     omega (arith, walked.value-inside (l .inv .walking) (b14 .past-key .ensures) (b12 .k .given .1), c .if1 .left, l .inv .walking .short))
-    (λ c. let b6 = c .before .before .before .before .before .before in let b12 = b6 .before .before .before .before .before .before in let b14 = b12 .before .before in let b16 = b14 .before .before in
-    let l = b16 .loop in
-    omega (arith, walked.two-due (l .inv .walking) (b14 .past-key .ensures) (b12 .k .given .1) (b6 .step .ensures .0)))
+    (λ c. search (needs, walked.two-due))
     (λ c. let b6 = c .before .before .before .before .before .before in let b12 = b6 .before .before .before .before .before .before in let b14 = b12 .before .before in let b16 = b14 .before .before in
     let l = b16 .loop in
     omega (arith, walked.value-inside (l .inv .walking) (b14 .past-key .ensures) (b12 .k .given .1), walked.goes-on (l .inv .walking) (b14 .past-key .ensures) (b12 .k .given .1) (b6 .step .ensures .0) (c .if1 .left)))
-    (λ c. let b6 = c .before .before .before .before .before .before in let b12 = b6 .before .before .before .before .before .before in let b14 = b12 .before .before in let b16 = b14 .before .before in
-    sieving.loops-on (b16 .loop .inv) (b14 .past-key .ensures) (b12 .k .given .1) (b6 .step .ensures .0) (c .if1 .left) (b6 .step .ensures .1 .0) (b6 .step .ensures .1 .1)
-    (b6 .step .kept .1 .1 .1 .1 .1 .1 .1 .1 .0) (b6 .step .kept .1 .1 .1 .1 .1 .1 .1 .1 .1 .0)))
+    (λ c. search sieving.loops-on))

@@ -18,5 +18,4 @@ weigh-spec =
     (λ c κs. search needs)
     (λ c κs. search needs)
     (λ c. search needs)
-    (λ c. let b5 = c .before .before .before .before .before in let b13 = b5 .before .before .before .before .before .before .before .before in let a = b13 .args in
-    (putting.weighed (a .layout) (a .s .now) (a .c .now) (a .start) (a .end) (a .place) (a .total) (a .t .now) _ (b13 .pre .0) (b5 .object .ensures .2) _ _ (c .add .ensures .0), (c .add .ensures .1))))
+    (λ c. search putting.weighed))

@@ -18,11 +18,11 @@ all-zero-spec =
     (tie.spec
     Inv-loop
     μ-loop
-    (λ c. states.zeros-begin _)
+    (λ c. search states.zeros-begin)
     (λ c. search needs)
     (λ c. search needs)
     (λ c. search needs)
     (λ c. search needs)
-    (λ c. states.zeros-more _ _ (c .before .before .before .loop .inv) (c .before .before .loop-test .taken) (c .if1 .taken))
-    (λ c. states.zeros-not _ _ (c .before .before .before .loop .inv) (c .before .before .loop-test .taken) (c .if1 .left))
-    (λ c. states.zeros-all _ _ (c .before .loop .inv) (c .loop-test .left)))
+    (λ c. search states.zeros-more)
+    (λ c. search states.zeros-not)
+    (λ c. search states.zeros-all))

@@ -1,11 +1,8 @@
 -- `stop::pass` meets its contract. Each turn of its loop passes one of the items that are held, or the item stops where that one does. Fewer levels are left for what is held.
 use Rattle.stop.proofs.Held as items
 use Rattle.stop.proofs.Held.{Walk}
-use Rattle.stop.specs.Stop.{Reaches, Begins, Light}
-use lib.ListN.{length, length-drop}
-use native.Mathlib.Omega.{arith}
+use lib.ListN.{length}
 use borrow.Author.Needs.{needs}
-use mathlib.Core.Path.{refl}
 use Prim.Native.Nat.{ℕ, _-_, _<_}
 use borrow.Fn.Kinds.{In}
 use borrow.Fn.PlainCycle.{Measures, is, falls, and}
@@ -54,56 +51,34 @@ pub +pass-spec : {M : Type 1} → statement M
     (λ c κs. search needs)
     (λ c. search needs)
     (λ c. search needs)
-    (λ c. let c3 = c .before .before .before in let a = c3 .before .before .before .args in
-    items.begins (a .left) (a .s .now) _ (omega (arith, c3 .before .before .before .good)) (items.told (Begins (a .left)) (a .s .now) 0 (c3 .begin .ensures) (c .before .begun2 .given .1)))
-    (λ c. items.missing (c .before .before .loop .inv) (c .before .loop-test .taken) (c .if1 .taken))
-    (λ c. c .before .if1 .left)
-    (λ c κs. omega (arith, c .before .before .if1, c .before .before .before .before .before .before .before .before .before .before .before .good))
-    (λ c. omega (arith, c .before .before .before .before .if1))
-    (λ c. let c2 = c .before .before in let c5 = c2 .before .before .before in
-    items.break-stops (c5 .before .loop .inv) (c5 .loop-test .taken) (c2 .before .before .if1 .left) (c2 .if2 .taken) _ (c .before .broken .ensures) (c .if3 .taken))
-    (λ c. let c2 = c .before .before in let c5 = c2 .before .before .before in
-    items.break-passes (c5 .before .loop .inv) (c5 .loop-test .taken) (c2 .before .before .if1 .left) (c2 .if2 .taken) _ (c .before .broken .ensures) (c .if3 .left))
-    (λ c. omega (arith, c .before .before .if1))
-    (λ c. omega (arith, c .before .before .if1))
-    (λ c. omega (arith, c .before .before .if1))
-    (λ c. omega (arith, c .before .before .before .before .before .loop .inv .level))
+    (λ c. search items.begins)
+    (λ c. search items.missing)
+    (λ c. search needs)
     (λ c κs. search needs)
-    (λ c. omega (arith, c .before .before .before .before .if1))
-    (λ c. let c1 = c .before in let c3 = c1 .before .before in let c6 = c3 .before .before .before in let l = c6 .before .loop in
-    let a = c6 .before .before .before .before .before .before .before .before .args in
-    let p = items.item-passes (l .inv) (c6 .loop-test .taken) (c3 .before .before .if1 .left) (c3 .if2 .left) _ (items.told (Light (a .left - 1)) (a .s .now) (l .at) (c1 .light .ensures) refl (omega (arith, length-drop (l .at) (a .s .now), c .if4 .taken))) in
-    omega (arith, p .next .going .within, l .inv .room))
-    (λ c. omega (arith, c .before .before .before .before .before .before .loop-test))
-    (λ c. let c1 = c .before in let c3 = c1 .before .before in let c6 = c3 .before .before .before in let l = c6 .before .loop in
-    let a = c6 .before .before .before .before .before .before .before .before .args in
-    let p = items.item-passes (l .inv) (c6 .loop-test .taken) (c3 .before .before .if1 .left) (c3 .if2 .left) _ (items.told (Light (a .left - 1)) (a .s .now) (l .at) (c1 .light .ensures) refl (omega (arith, length-drop (l .at) (a .s .now), c .if4 .taken))) in
-    omega (arith, p .further-on, p .next .going .within))
-    (λ c. let c1 = c .before in let c3 = c1 .before .before in let c6 = c3 .before .before .before in let l = c6 .before .loop in
-    let a = c6 .before .before .before .before .before .before .before .before .args in
-    let p = items.item-passes (l .inv) (c6 .loop-test .taken) (c3 .before .before .if1 .left) (c3 .if2 .left) _ (items.told (Light (a .left - 1)) (a .s .now) (l .at) (c1 .light .ensures) refl (omega (arith, length-drop (l .at) (a .s .now), c .if4 .taken))) in
-    p .next)
-    (λ c. omega (arith, c .before .before .before .before .before .if1))
-    (λ c. omega (arith, c .before .before .before .before .before .if1))
-    (λ c. omega (arith, c .before .before .before .before .before .if1))
-    (λ c. omega (arith, c .before .before .before .before .before .before .before .before .loop .inv .level))
-    (λ c κs. let c8 = c .before .before .before .before .before .before .before .before in (omega (arith, c8 .loop .inv .level, c8 .before .before .before .before .before .before .before .pre .0), tt))
     (λ c. search needs)
-    (λ c. let c3 = c .before .before .before in let c8 = c3 .before .before .before .before .before in let c11 = c8 .before .before .before in let l = c11 .before .loop in
-    let a = c11 .before .before .before .before .before .before .before .before .args in
-    let p = items.item-passes (l .inv) (c11 .loop-test .taken) (c8 .before .before .if1 .left) (c8 .if2 .left) _ (items.told (Reaches (a .left - 1)) (a .s .now) (l .at) (c3 .pass .ensures) (c .before .next .given .1)) in
-    omega (arith, p .next .going .within, l .inv .room))
-    (λ c. omega (arith, c .before .before .before .before .before .before .before .before .before .before .before .loop-test))
-    (λ c. let c3 = c .before .before .before in let c8 = c3 .before .before .before .before .before in let c11 = c8 .before .before .before in let l = c11 .before .loop in
-    let a = c11 .before .before .before .before .before .before .before .before .args in
-    let p = items.item-passes (l .inv) (c11 .loop-test .taken) (c8 .before .before .if1 .left) (c8 .if2 .left) _ (items.told (Reaches (a .left - 1)) (a .s .now) (l .at) (c3 .pass .ensures) (c .before .next .given .1)) in
-    omega (arith, p .further-on, p .next .going .within))
-    (λ c. let c3 = c .before .before .before in let c8 = c3 .before .before .before .before .before in let c11 = c8 .before .before .before in let l = c11 .before .loop in
-    let a = c11 .before .before .before .before .before .before .before .before .args in
-    items.item-passes (l .inv) (c11 .loop-test .taken) (c8 .before .before .if1 .left) (c8 .if2 .left) _ (items.told (Reaches (a .left - 1)) (a .s .now) (l .at) (c3 .pass .ensures) (c .before .next .given .1)) .next)
+    (λ c. search items.break-stops)
+    (λ c. search items.break-passes)
     (λ c. search needs)
-    (λ c. let c3 = c .before .before .before in let c8 = c3 .before .before .before .before .before in let c11 = c8 .before .before .before in let l = c11 .before .loop in
-    let a = c11 .before .before .before .before .before .before .before .before .args in
-    items.item-stops (l .inv) (c11 .loop-test .taken) (c8 .before .before .if1 .left) (c8 .if2 .left) (items.told (Reaches (a .left - 1)) (a .s .now) (l .at) (c3 .pass .ensures) (c .before .next2 .given .1)))
-    (λ c. let c3 = c .before .before .before in let a = c3 .before .before .before .args in items.told (Begins (a .left)) (a .s .now) 0 (c3 .begin .ensures) (c .before .begun .given .1))
-    (λ c. items.all-passed (c .before .loop .inv) (omega (arith, c .loop-test)))
+    (λ c. search needs)
+    (λ c. search needs)
+    (λ c. search needs)
+    (λ c κs. search needs)
+    (λ c. search needs)
+    (λ c. search (items.next-fits, items.by-light))
+    (λ c. search needs)
+    (λ c. search (items.fewer-left, items.by-light))
+    (λ c. search (items.item-passes, items.by-light))
+    (λ c. search needs)
+    (λ c. search needs)
+    (λ c. search needs)
+    (λ c. search needs)
+    (λ c κs. search needs)
+    (λ c. search needs)
+    (λ c. search (items.next-fits, items.by-pass))
+    (λ c. search needs)
+    (λ c. search (items.fewer-left, items.by-pass))
+    (λ c. search (items.item-passes, items.by-pass))
+    (λ c. search needs)
+    (λ c. search items.item-stops)
+    (λ c. search items.ended)
+    (λ c. search items.all-passed)

@@ -1,8 +1,5 @@
 -- `stop::light` meets its contract: where it answers more than there are bytes, nothing is said; else `skip` tells.
 use Rattle.stop.proofs.Held as items
-use Rattle.cbor.specs.Ending.{code, itemEnd}
-use borrow.Rule.Slice.PartAt.{part-to-end}
-use mathlib.Core.Path.{ap, _∙_}
 use native.Mathlib.Omega.{arith}
 use borrow.Author.Needs.{needs}
 use Rattle.stop.proofs.light.Statement.{statement}
@@ -19,5 +16,4 @@ light-spec =
     (λ c. search needs)
     (λ c. search needs)
     (λ c κs. search needs)
-    (λ c. let a = c .before .before .before .before .before .before .args in let s = a .s .now in
-    items.passes _ s (omega arith) _ (c .skip .ensures ∙ ap (λ x. code (itemEnd (a .left) x)) (part-to-end s 0))))
+    (λ c. search items.skip-passes))

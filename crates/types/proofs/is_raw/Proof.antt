@@ -1,11 +1,8 @@
 -- `types::is_raw` meets its contract: a table of one name. Assumes nothing.
-use Rattle.types.proofs.Codes.{one-name}
 use Rattle.types.proofs.Named.{named}
-use Rattle.types.specs.Known.{rawNames}
 use Rattle.types.specs.Row.{tagged, rowsOf}
-use Rattle.meaning.specs.Text.{ascii}
-use mathlib.Core.Path.{refl}
 use borrow.Author.Needs.{needs}
+use Rattle.types.proofs.Codes as codes
 use Rattle.types.proofs.is_raw.Statement.{statement}
 use Rattle.types.proofs.is_raw.Tie as tie
 
@@ -19,4 +16,4 @@ is-raw-spec =
     (λ c κs. search needs)
     (λ c. search needs)
     (λ c κs. search needs)
-    (λ c. unfold tagged rowsOf in one-name (ascii "raw") (c .before .before .before .before .before .args .k .now) _ (named _ _ _ (c .before .before .before .before .before .args .k .now) _ _ rawNames (record { are = refl; hold = refl }) (c .before .before .words-of .ensures) (c .found .ensures))))
+    (λ c. unfold tagged rowsOf in search (codes.one-name, named)))

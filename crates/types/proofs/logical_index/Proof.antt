@@ -1,9 +1,7 @@
 -- `types::logical_index` meets its contract: the rows of the table are computed from the names. Assumes nothing.
 use Rattle.types.proofs.Named.{named}
-use Rattle.types.specs.Known.{logicalNames}
 use Rattle.types.specs.Row.{tagged, rowsOf}
 use Rattle.meaning.specs.Types.{logicals}
-use mathlib.Core.Path.{refl}
 use borrow.Author.Needs.{needs}
 use Rattle.types.proofs.logical_index.Statement.{statement}
 use Rattle.types.proofs.logical_index.Tie as tie
@@ -18,4 +16,4 @@ logical-index-spec =
     (λ c κs. search needs)
     (λ c. search needs)
     (λ c κs. search needs)
-    (λ c. unfold logicals tagged rowsOf in named _ _ _ (c .before .before .before .before .before .args .k .now) _ _ logicalNames (record { are = refl; hold = refl }) (c .before .before .any-words .ensures) (c .found .ensures)))
+    (λ c. unfold logicals tagged rowsOf in search named))

@@ -14,11 +14,7 @@ unit-of-spec =
     (λ c. search needs)
     (λ c κs. search needs)
     (λ c κs. search needs)
-    (λ c. let a = c .before .before .before .before .before .args in
-    let x = codes.width-small (a .k .now) (a .code) _ _ (c .before .before .ratio-of .ensures) (c .before .width-of .ensures) in omega arith)
-    (λ c. let b2 = c .before .before in let a = b2 .before .before .before .args in
-    codes.unit-unlisted (a .k .now) (a .code) _ _ (b2 .ratio-of .ensures) (c .before .width-of .ensures) (c .if1 .taken))
-    (λ c. let a = c .before .before .before .before .before .args in
-    let x = codes.unit-most (a .k .now) (a .code) _ _ (c .before .before .ratio-of .ensures) (c .before .width-of .ensures) in omega arith)
-    (λ c. let b2 = c .before .before in let a = b2 .before .before .before .args in
-    codes.unit-listed (a .k .now) (a .code) _ _ (b2 .ratio-of .ensures) (c .before .width-of .ensures) (c .if1 .left)))
+    (λ c. omega (arith, codes.width-small _ (c .before .width-of .ensures)))
+    (λ c. search codes.unit-unlisted)
+    (λ c. let a = c .before .before .before .before .before .args in omega (arith, codes.unit-most (a .k .now) _ _ _ (c .before .before .ratio-of .ensures) (c .before .width-of .ensures)))
+    (λ c. search codes.unit-listed))

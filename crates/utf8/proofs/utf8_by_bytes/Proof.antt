@@ -1,6 +1,5 @@
 -- `text::utf::utf8_by_bytes` meets its contract. The loop's invariant: what is left to say from i on, given the three numbers. Assumes nothing.
-use Prim.Native.Nat.{_-_, _≤_}
-use native.Mathlib.Omega.{arith}
+use Prim.Native.Nat.{_-_}
 use lib.ListN.{length}
 use borrow.Author.Needs.{needs}
 use Rattle.utf8.proofs.Utf8Steps as steps
@@ -8,7 +7,7 @@ use Rattle.utf8.proofs.utf8_by_bytes.Statement.{statement}
 use Rattle.utf8.proofs.utf8_by_bytes.Tie as tie
 
 abbrev Inv-loop : tie.InvT-loop
-Inv-loop t i₀ need₀ low₀ high₀ i need low high = (i ≤ length t) × steps.Says t i need low high
+Inv-loop t i₀ need₀ low₀ high₀ i need low high = steps.Passed t i need low high
 
 abbrev μ-loop : tie.MeasureT-loop
 μ-loop t i₀ need₀ low₀ high₀ i need low high = length t - i
@@ -19,21 +18,21 @@ utf8-by-bytes-spec =
     (tie.spec
     Inv-loop
     μ-loop
-    (λ c. (omega arith, steps.says-all _))
+    (λ c. search steps.passed-none)
     (λ c. search needs)
     (λ c κs. search needs)
     (λ c. search needs)
     (λ c. search needs)
-    (λ c. (omega arith, steps.lead-low (c .before .before .before .before .before .loop .inv .1) (c .before .before .wide .ensures .0) (omega arith) (omega arith) (omega arith)))
+    (λ c. search steps.pass-low)
     (λ c κs. search needs)
-    (λ c. steps.lead-none (c .before .before .before .before .before .before .before .before .loop .inv .1) (c .before .before .before .before .before .wide .ensures .0) (omega arith) (c .before .before .begins .ensures) (omega arith) (omega arith))
+    (λ c. search steps.none-begins)
     (λ c. search needs)
     (λ c. search needs)
-    (λ c. (omega arith, steps.lead-some (c .before .before .before .before .before .before .before .before .loop .inv .1) (c .before .before .before .before .before .wide .ensures .0) (omega arith) (c .before .before .begins .ensures) (omega arith) (c .if3 .left)))
-    (λ c. steps.next-under (c .before .before .before .before .before .loop .inv .1) (c .before .before .wide .ensures .0) (omega arith) (omega arith) (omega arith))
-    (λ c. steps.next-over (c .before .before .before .before .before .before .loop .inv .1) (c .before .before .before .wide .ensures .0) (omega arith) (omega arith) (omega arith))
+    (λ c. search steps.one-begins)
+    (λ c. search steps.too-low)
+    (λ c. search steps.too-high)
     (λ c. search needs)
     (λ c. search needs)
     (λ c. search needs)
-    (λ c. (omega arith, steps.next-right (c .before .before .before .before .before .before .loop .inv .1) (c .before .before .before .wide .ensures .0) (omega arith) (omega arith) (omega arith) (omega arith)))
-    (λ c. steps.says-end (c .before .loop .inv .1) (omega arith)))
+    (λ c. let l = c .before .before .before .before .before .before .loop in search (steps.pass-next (l .inv)))
+    (λ c. search steps.passed-all))

@@ -1,17 +1,14 @@
 -- `utf8::utf8_by_words` meets its contract. The loop's invariant: up to i all is whole characters; the last word overlaps. Assumes nothing.
-use Prim.Native.Nat.{_-_, _≤_}
-use mathlib.Core.Path.{_∙_}
+use Prim.Native.Nat.{_-_}
 use native.Mathlib.Omega.{arith}
 use lib.ListN.{length}
 use borrow.Author.Needs.{needs}
 use Rattle.utf8.proofs.AsciiWords as ascii
-use Rattle.utf8.proofs.Utf8Steps as steps
-use Rattle.text.proofs.WordsDecide as words
 use Rattle.utf8.proofs.utf8_by_words.Statement.{statement}
 use Rattle.utf8.proofs.utf8_by_words.Tie as tie
 
 abbrev Inv-loop : tie.InvT-loop
-Inv-loop t last i₀ i = (i ≤ length t) × ascii.Whole t i
+Inv-loop t last i₀ i = ascii.Whole t i
 
 abbrev μ-loop : tie.MeasureT-loop
 μ-loop t last i₀ i = length t - i
@@ -27,7 +24,7 @@ utf8-by-words-spec =
     (λ c. search needs)
     (λ c. search needs)
     (λ c κs. search needs)
-    (λ c. let r = ascii.rest-of-all (c .low-on .ensures) in (r .inside, ascii.rest-is-whole r))
+    (λ c. search ascii.whole-of-all)
     (λ c. search needs)
     (λ c. search needs)
     (λ c. search needs)
@@ -36,15 +33,13 @@ utf8-by-words-spec =
     (λ c. search needs)
     (λ c. search needs)
     (λ c κs. search needs)
-    (λ c. ascii.rest-wrong (c .before .before .before .before .before .before .before .loop .inv .1) (c .before .eight-on .ensures) (c .if2 .taken))
-    (λ c. let x = ascii.rest-inside (c .before .before .before .before .before .before .before .loop .inv .1) (omega arith) (c .before .eight-on .ensures) in omega arith)
-    (λ c. let x = ascii.rest-inside (c .before .before .before .before .before .before .before .loop .inv .1) (omega arith) (c .before .eight-on .ensures) in omega arith)
-    (λ c. let l = c .before .before .before .before .before .before .before .loop in
-    (ascii.rest-inside (l .inv .1) (omega arith) (c .before .eight-on .ensures), ascii.rest-whole (l .inv .1) (c .before .eight-on .ensures) (c .if2 .left)))
+    (λ c. search ascii.rest-wrong)
+    (λ c. omega (arith, ascii.rest-inside (c .before .before .before .before .before .before .before .loop .inv) (c .before .eight-on .ensures)))
+    (λ c. omega (arith, ascii.rest-inside (c .before .before .before .before .before .before .before .loop .inv) (c .before .eight-on .ensures)))
+    (λ c. let l = c .before .before .before .before .before .before .before .loop in ascii.rest-whole (l .inv) (c .before .eight-on .ensures) (c .if2 .left))
     (λ c. search needs)
     (λ c. search needs)
-    (λ c. let l = c .before .before .before .before .loop in
-    (omega arith, ascii.whole-word (l .inv .1) (λ j. omega (arith, (c .before .before .before .before .before .before .before .shared-slice-known .given) j)) 8 (l .i) ((c .before .be8 .ensures) ∙ words.word-part 8 _ (l .i)) (omega arith) (omega arith) (omega arith) (omega arith)))
+    (λ c. let l = c .before .before .before .before .loop in search (ascii.word-low (l .inv)))
     (λ c. search needs)
     (λ c. search needs)
     (λ c. search needs)
@@ -53,8 +48,5 @@ utf8-by-words-spec =
     (λ c. search needs)
     (λ c. search needs)
     (λ c κs. search needs)
-    (λ c. ascii.rest-decides (c .before .before .before .before .before .before .loop .inv .1) (c .utf8-by-bytes .ensures))
-    (λ c. let l = c .before .before .before .before .loop in let a = c .before .before .before .before .before .before .before .before .args in
-    steps.says-end
-    (ascii.whole-word (l .inv .1) (λ j. omega (arith, (c .before .before .before .before .before .before .before .shared-slice-known .given) j)) 8 (length (a .t .now) - 8) ((c .before .be82 .ensures) ∙ words.word-part 8 _ (length (a .t .now) - 8)) (omega arith) (omega arith) (omega arith) (omega arith))
-    (omega arith)))
+    (λ c. search ascii.rest-decides)
+    (λ c. search ascii.last-word-low))

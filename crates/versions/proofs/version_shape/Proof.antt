@@ -1,6 +1,5 @@
 -- `text::version::version_shape` meets its contract. The loop's invariant: what is left to say from i on, given dots and room. Assumes nothing.
-use Prim.Native.Nat.{_-_, _≤_}
-use native.Mathlib.Omega.{arith}
+use Prim.Native.Nat.{_-_}
 use lib.ListN.{length}
 use borrow.Author.Needs.{needs}
 use Rattle.versions.proofs.VersionSteps as steps
@@ -8,7 +7,7 @@ use Rattle.versions.proofs.version_shape.Statement.{statement}
 use Rattle.versions.proofs.version_shape.Tie as tie
 
 abbrev Inv-loop : tie.InvT-loop
-Inv-loop v dots₀ room₀ i₀ dots room i = (i ≤ length v) × (dots ≤ i) × steps.Says v i dots room
+Inv-loop v dots₀ room₀ i₀ dots room i = steps.Says v i dots room
 
 abbrev μ-loop : tie.MeasureT-loop
 μ-loop v dots₀ room₀ i₀ dots room i = length v - i
@@ -19,21 +18,21 @@ version-shape-spec =
     (tie.spec
     Inv-loop
     μ-loop
-    (λ c. (omega arith, omega arith, steps.says-all _))
+    (λ c. search steps.says-all)
     (λ c. search needs)
     (λ c κs. search needs)
-    (λ c. steps.empty-run (c .before .before .before .before .before .loop .inv .2) (c .before .before .wide .ensures .0) (omega arith) (omega arith) (omega arith))
+    (λ c. search steps.empty-run)
     (λ c. search needs)
     (λ c. search needs)
     (λ c. search needs)
-    (λ c. (omega arith, omega arith, steps.next-run (c .before .before .before .before .before .loop .inv .2) (c .before .before .wide .ensures .0) (omega arith) (omega arith) (c .if2 .left)))
-    (λ c. steps.below-digits (c .before .before .before .before .before .loop .inv .2) (c .before .before .wide .ensures .0) (omega arith) (c .before .if1 .left) (omega arith))
-    (λ c. steps.above-digits (c .before .before .before .before .before .before .loop .inv .2) (c .before .before .before .wide .ensures .0) (omega arith) (omega arith))
-    (λ c. steps.digit-too-many (c .before .before .before .before .before .before .before .loop .inv .2) (c .before .before .before .before .wide .ensures .0) (omega arith) (omega arith) (omega arith))
+    (λ c. search steps.next-run)
+    (λ c. search steps.below-digits)
+    (λ c. search steps.above-digits)
+    (λ c. search steps.digit-too-many)
     (λ c κs. search needs)
     (λ c. search needs)
     (λ c. search needs)
-    (λ c. (omega arith, omega arith, steps.next-digit (c .before .before .before .before .before .before .before .before .loop .inv .2) (c .before .before .before .before .before .wide .ensures .0) (omega arith) (c .room-after .ensures) (omega arith) (omega arith) (omega arith)))
-    (λ c. steps.ends-empty (c .before .before .loop .inv .2) (omega arith) (omega arith))
-    (λ c. steps.one-run (c .before .before .before .loop .inv .2) (omega arith) (omega arith))
-    (λ c. steps.some-runs (c .before .before .before .loop .inv .2) (omega arith) (c .before .if6 .left) (c .if7 .left)))
+    (λ c. search steps.next-digit)
+    (λ c. search steps.ends-empty)
+    (λ c. search steps.one-run)
+    (λ c. search steps.some-runs))

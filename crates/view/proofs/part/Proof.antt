@@ -11,16 +11,13 @@ part-spec =
     (λ c. search needs)
     (λ c. search needs)
     (λ c. search needs)
-    (λ c. let a = c .before .before .args in
-    parts.part-none (a .file .now) (a .place) (a .size) (c .before .if1 .taken))
+    (λ c. search parts.part-none)
     (λ c. search needs)
     (λ c. search needs)
     (λ c. search needs)
-    (λ c. let b2 = c .before .before in let a = b2 .before .args in
-    parts.part-rest (a .file .now) (a .place) (a .size) (b2 .if1 .left) (c .before .if2 .taken))
+    (λ c. search parts.part-rest)
     (λ c. search needs)
     (λ c. search needs)
     (λ c. search needs)
     (λ c. search needs)
-    (λ c. let a = c .before .before .before .args in
-    parts.part-whole (a .file .now) (a .place) (a .size)))
+    (λ c. search parts.part-whole))

@@ -1,6 +1,5 @@
 -- `view::view` meets its contract: a law for each branch. Assumes nothing.
-
-use native.Mathlib.Omega.{arith}
+use Rattle.meaning.proofs.Lengths.{place-fits}
 use Rattle.view.proofs.Extents as extents
 use borrow.Author.Needs.{needs}
 use Rattle.view.proofs.view.Statement.{statement}
@@ -17,11 +16,8 @@ view-spec =
     (λ c. search needs)
     (λ c. search needs)
     (λ c κs. search needs)
-    (λ c. let a = c .before .before .before .before .before .args in
-    omega (arith, extents.viewed-fits (a .file .now) (a .table .now) _ _ _ _ (c .range .ensures)))
+    (λ c. search (place-fits, extents.viewed-fits))
     (λ c. search needs)
     (λ c. search needs)
-    (λ c. let a = c .before .before .before .before .before .args in
-    omega (arith, extents.viewed-fits (a .file .now) (a .table .now) _ _ _ _ (c .range .ensures)))
-    (λ c. let a = c .before .before .before .before .before .before .args in
-    extents.viewed-is (a .file .now) (a .table .now) _ _ _ _ (c .before .range .ensures)))
+    (λ c. search extents.viewed-fits)
+    (λ c. search extents.viewed-is))

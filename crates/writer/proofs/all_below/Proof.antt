@@ -1,13 +1,10 @@
--- `writer::all_below` meets its contract: a law for each branch. Assumes nothing.
+-- `writer::all_below` meets its contract: a law for each way on and out of the loop.
 use Rattle.writer.proofs.Checks as checks
 use Prim.Native.Nat.{ℕ, _-_, _<_, _^_}
 use lib.ListN.{length, getD}
 use borrow.Author.Needs.{needs}
 use Rattle.writer.proofs.all_below.Statement.{statement}
 use Rattle.writer.proofs.all_below.Tie as tie
-use Rattle.writer.proofs.all_below.Reads as reads
-use Rattle.writer.proofs.all_below.Lts as lts
-use Rattle.writer.proofs.below.Reads as below-reads
 
 abbrev Inv-loop : tie.InvT-loop
 Inv-loop rows i₀ i = (j : ℕ) → j < i → getD rows j 0 < 256 ^ 8
@@ -27,5 +24,5 @@ all-below-spec =
     (λ c κs. search needs)
     (λ c. search needs)
     (λ c. search needs)
-    (λ c. checks.one-more ((c .before .before .before .before .before .args .rows .now)) _ ((c .before .before .before .loop .inv)) ((c .below .ensures)))
-    (λ c. checks.all-there ((c .before .before .before .args .rows .now)) _ ((c .before .loop .inv)) ((c .loop-test .left))))
+    (λ c. search checks.one-more)
+    (λ c. search checks.all-there))

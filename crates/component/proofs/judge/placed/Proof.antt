@@ -5,4 +5,4 @@ use Rattle.component.proofs.judge.placed.Statement.{statement}
 use Rattle.component.proofs.judge.placed.Tie as tie
 
 pub placed-spec : {M : Type 1} → statement M
-placed-spec = tie.close (tie.spec (λ c κs. search needs) (λ c. pieces.in-place _ _ _ _ _ _ _ (c .before .place .ensures) (c .if1 .taken)) (λ c. pieces.out-of-place _ _ _ _ _ _ _ (c .before .place .ensures) (c .if1 .left)))
+placed-spec = tie.close (tie.spec (λ c κs. search needs) (λ c. search pieces.in-place) (λ c. search pieces.out-of-place))

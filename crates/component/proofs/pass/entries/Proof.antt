@@ -1,8 +1,7 @@
 -- `component::pass::entries` meets its contract: a law for each branch. The loop's invariant is `Noting`: what was passed, what is due, and the slots of the pairs passed.
 use lib.ListN.{length}
 use Prim.Native.Nat.{_-_}
-use native.Mathlib.Omega.{arith}
-use Rattle.meaning.specs.Layouts.{layoutOf}
+use Rattle.meaning.proofs.Lengths.{place-fits}
 use Rattle.walk.proofs.Passed as passed
 use Rattle.component.proofs.Entries as entries
 use borrow.Author.Needs.{needs}
@@ -10,7 +9,7 @@ use Rattle.component.proofs.pass.entries.Statement.{statement}
 use Rattle.component.proofs.pass.entries.Tie as tie
 
 abbrev Inv-loop : tie.InvT-loop
-Inv-loop layout s mode count p₀ at₀ due₀ p at due = entries.Noting (layoutOf layout) mode count s p₀ at due p
+Inv-loop layout s mode count p₀ at₀ due₀ p at due = entries.Noting layout mode count s p₀ at due p
 
 abbrev μ-loop : tie.MeasureT-loop
 μ-loop layout s mode count p₀ at₀ due₀ p at due = length s - at
@@ -21,57 +20,34 @@ entries-spec =
     (tie.spec
     Inv-loop
     μ-loop
-    (λ c. entries.noting-starts (c .before .before .pre .1) (omega arith) (c .before .before .pre .0))
+    (λ c. search entries.noting-starts)
     (λ c. search needs)
     (λ c. search needs)
     (λ c. search needs)
-    (λ c κs. let l = c .before .loop in
-    passed.still-due (l .inv .walking))
+    (λ c κs. search passed.still-due)
     (λ c. search needs)
     (λ c. search needs)
     (λ c. search needs)
-    (λ c. let l = c .before .before .before .before .before .before .loop in
-    let y = passed.ends-faulty (l .inv .walking) (c .before .before .before .before .past-key .ensures) (c .before .before .e .given .1) (c .if1 .taken) in (y .0, λ ps r d. y .1 ps r d .is))
+    (λ c. search (entries.ends-faulty, entries.all-noted))
     (λ c. search needs)
     (λ c. search needs)
-    (λ c. let l = c .before .before .before .before .before .before .loop in
-    let y = passed.ends-inside (l .inv .walking) (c .before .before .before .before .past-key .ensures) (c .before .before .e .given .1) (c .if1 .left) in (y .0, λ ps r d. y .1 ps r d .is))
+    (λ c. search (entries.ends-inside, entries.all-noted))
     (λ c. search needs)
-    (λ c. let l = c .before .before .before .before .before .loop in
-    omega (arith, passed.value-inside (l .inv .walking) (c .before .before .before .past-key .ensures) (c .before .k .given .1)))
-    (λ c. let l = c .before .before .before .before .before .loop in
-    omega (arith, passed.value-inside (l .inv .walking) (c .before .before .before .past-key .ensures) (c .before .k .given .1)))
-    (λ c. let l = c .before .before .before .before .before .loop in
-    omega (arith, passed.value-inside (l .inv .walking) (c .before .before .before .past-key .ensures) (c .before .k .given .1)))
+    (λ c. search (place-fits, passed.value-inside))
+    (λ c. search (needs, passed.value-inside))
+    (λ c. search (needs, passed.value-inside))
     (λ c. search needs)
     (λ c κs. search needs)
-    (λ c. let l = c .before .before .before .before .before .before .before .loop in
-    omega (arith, passed.value-inside (l .inv .walking) (c .before .before .before .before .before .past-key .ensures) (c .before .before .before .k .given .1)))
+    (λ c. search (needs, passed.value-inside))
     (λ c. search needs)
-    (λ c. let l = c .before .before .before .before .before .before .before .before .loop in
-    (passed.value-fails (l .inv .walking) (c .before .before .before .before .before .before .past-key .ensures) (c .before .before .before .before .k .given .1) (c .before .skip .ensures) (c .if2 .taken), passed.no-pairs (l .inv .walking) (c .before .before .before .before .before .before .past-key .ensures) (c .before .before .before .before .k .given .1) (c .before .skip .ensures) (c .if2 .taken) _))
+    (λ c. search (passed.value-fails, entries.none-noted))
     (λ c. search needs)
     (λ c. search needs)
     (λ c. search needs)
     (λ c κs. search needs)
-    (λ c. let l = c .before .before .before .before .before .before .before .before .before .before .before .loop in
-    omega (arith, passed.value-inside (l .inv .walking) (c .before .before .before .before .before .before .before .before .before .past-key .ensures) (c .before .before .before .before .before .before .before .k .given .1)))
-    (λ c κs. (omega arith, (c .slot .ensures .0)))
-    (λ c. let l = c .before .before .before .before .before .before .before .before .before .before .before .before .before .before .loop in
-    omega (
-      arith,
-      passed.value-inside (l .inv .walking) (c .before .before .before .before .before .before .before .before .before .before .before .before .past-key .ensures) (c .before .before .before .before .before .before .before .before .before .before .k .given .1),
-    ))
-    (λ c. let l = c .before .before .before .before .before .before .before .before .before .before .before .before .before .before .loop in
-    omega (
-      arith,
-      passed.two-due (l .inv .walking) (c .before .before .before .before .before .before .before .before .before .before .before .before .past-key .ensures) (c .before .before .before .before .before .before .before .before .before .before .k .given .1) (c .before .before .before .before .before .before .before .skip .ensures),
-    ))
-    (λ c. let l = c .before .before .before .before .before .before .before .before .before .before .before .before .before .before .loop in
-    omega (
-      arith,
-      passed.value-inside (l .inv .walking) (c .before .before .before .before .before .before .before .before .before .before .before .before .past-key .ensures) (c .before .before .before .before .before .before .before .before .before .before .k .given .1),
-      passed.goes-on (l .inv .walking) (c .before .before .before .before .before .before .before .before .before .before .before .before .past-key .ensures) (c .before .before .before .before .before .before .before .before .before .before .k .given .1) (c .before .before .before .before .before .before .before .skip .ensures) (c .before .before .before .before .before .before .if2 .left),
-    ))
-    (λ c. let l = c .before .before .before .before .before .before .before .before .before .before .before .before .before .before .loop in
-    entries.noting-goes-on (l .inv) (c .before .before .before .before .before .before .before .before .before .before .before .before .past-key .ensures) (c .before .before .before .before .before .before .before .before .before .before .k .given .1) (c .before .before .before .before .before .before .before .skip .ensures) (c .before .before .before .before .before .before .if2 .left) (c .before .before .before .slot .ensures .1) (c .before .before .mark .ensures)))
+    (λ c. search (needs, passed.value-inside))
+    (λ c κs. search needs)
+    (λ c. search (place-fits, passed.next-inside))
+    (λ c. search (needs, passed.two-due))
+    (λ c. search passed.nearer)
+    (λ c. search entries.noting-goes-on))

@@ -1,7 +1,7 @@
 -- `component::pass::slot` meets its contract: a law for each branch.
-use native.Mathlib.Omega.{arith}
-use Rattle.meaning.specs.Layouts.{layoutOf}
-use Rattle.fields.proofs.Texts as texts
+use Rattle.meaning.proofs.Lengths.{place-fits}
+use Rattle.fields.proofs.Texts.{letters-in}
+use Rattle.component.proofs.Entries as entries
 use borrow.Author.Needs.{needs}
 use Rattle.component.proofs.pass.slot.Statement.{statement}
 use Rattle.component.proofs.pass.slot.Tie as tie
@@ -16,12 +16,10 @@ slot-spec =
     (λ c κs. search needs)
     (λ c. search needs)
     (λ c. search needs)
-    (λ c. omega (arith, texts.letters-in (c .before .before .before .before .before .before .args .s .now) _ (c .before .before .before .text .ensures .0) _ _ (c .before .at .given .1)))
+    (λ c. search (place-fits, letters-in))
     (λ c. search needs)
     (λ c. search needs)
-    (λ c. omega (arith, texts.letters-in (c .before .before .before .before .before .before .args .s .now) _ (c .before .before .before .text .ensures .0) _ _ (c .before .at .given .1)))
+    (λ c. search (needs, letters-in))
     (λ c κs. search needs)
-    (λ c. let a = c .before .before .before .before .before .args in
-    (omega arith, texts.slot-odd (a .s .now) _ (c .before .before .text .ensures .1) (c .enum-told .given .1) (layoutOf (a .layout) .component) 7 (layoutOf (a .layout) .componentPlaces)))
-    (λ c. let b3 = c .before .before .before in let b5 = b3 .before .before in let a = b5 .before .before .before .args in
-    texts.slot-known (a .s .now) _ (b5 .text .ensures .1) _ _ (b3 .at .given .1) _ 7 (layoutOf (a .layout) .componentPlaces) _ (c .component-key .ensures)))
+    (λ c. search (needs, entries.slot-odd))
+    (λ c. search (entries.slot-few, entries.slot-known)))

@@ -1,5 +1,4 @@
 -- `component::place::encoded` meets its contract: a law for each branch.
-use mathlib.Core.Path.{refl}
 use Rattle.meaning.specs.Judge.{raw}
 use Rattle.meaning.specs.Check.{optional}
 use Rattle.component.specs.Value.{passes}
@@ -12,11 +11,10 @@ pub encoded-spec : {M : Type 1} → statement M
 encoded-spec =
     tie.close
     (tie.spec
-    (λ c. places.nothing-there (c .before .before .args .s .now) (c .before .before .args .left) (λ o. passes (optional raw o)) _ (c .if1 .taken) refl)
+    (λ c. search (places.nothing-there (λ o. passes (optional raw o))))
     (λ c κs. search needs)
     (λ c. search needs)
     (λ c. search needs)
     (λ c. search needs)
     (λ c κs. search needs)
-    (λ c. let b2 = c .before .before in let b3 = b2 .before in let a = b3 .before .before .args in
-    places.something-there (a .s .now) (a .left) (λ o. passes (optional raw o)) _ _ (b2 .place-of .ensures) (b3 .if1 .left) (c .raw-of .ensures)))
+    (λ c. search (places.something-there (λ o. passes (optional raw o)))))

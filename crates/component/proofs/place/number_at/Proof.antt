@@ -1,7 +1,4 @@
 -- `component::place::number_at` meets its contract: a law for each branch.
-use mathlib.Core.Path.{_≡_}
-use Rattle.walk.specs.Places.{numeral}
-use Rattle.meaning.specs.Kind.{aNumber}
 use Rattle.fields.proofs.Places as places
 use borrow.Author.Needs.{needs}
 use Rattle.component.proofs.place.number_at.Statement.{statement}
@@ -16,5 +13,4 @@ number-at-spec =
     (λ c. search needs)
     (λ c. search needs)
     (λ c κs. search needs)
-    (λ c. let b2 = c .before .before in let a = b2 .before .before .args in
-    places.there (a .s .now) (a .left) _ (b2 .place-of .ensures) (λ t. aNumber t ≡ numeral (c .number .result)) (c .number .ensures)))
+    (λ c. search places.there))

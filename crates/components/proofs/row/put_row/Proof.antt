@@ -1,6 +1,5 @@
 use borrow.Author.Tests.{lt-ltb, le-ltb}
-use mathlib.Core.Path.{refl}
-use Rattle.components.proofs.Rows as rows
+use lib.ListN.{length-set}
 use native.Mathlib.Omega.{arith}
 use borrow.Author.Needs.{needs}
 use Rattle.components.proofs.row.put_row.Statement.{statement}
@@ -15,16 +14,13 @@ put-row-spec =
     (λ c. search needs)
     (λ c. search needs)
     (λ c. search needs)
-    (λ c. let a = c .before .args in
-    let z = (rows.sizes (a .rows .now) (c .before .pre) (a .j) (a .role) (a .unit) (a .plain) (a .size) .0) in omega arith)
+    (λ c. simp length-set (omega arith))
     (λ c. search needs)
     (λ c. search needs)
-    (λ c. let a = c .before .args in
-    let z = (rows.sizes (a .rows .now) (c .before .pre) (a .j) (a .role) (a .unit) (a .plain) (a .size) .1) in omega arith)
+    (λ c. simp length-set (omega arith))
     (λ c. search needs)
     (λ c. search needs)
-    (λ c. let a = c .before .args in
-    let z = (rows.sizes (a .rows .now) (c .before .pre) (a .j) (a .role) (a .unit) (a .plain) (a .size) .2) in omega arith)
+    (λ c. simp length-set (omega arith))
     (λ c. search needs)
-    (λ c. rw (lt-ltb ((c .before .args .j)) 16 (omega arith)) refl)
-    (λ c. rw (le-ltb ((c .before .args .j)) 16 (omega arith)) refl))
+    (λ c. search (needs, lt-ltb))
+    (λ c. search (needs, le-ltb)))

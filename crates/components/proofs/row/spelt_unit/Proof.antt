@@ -1,4 +1,4 @@
-use native.Mathlib.Omega.{arith}
+use Rattle.meaning.proofs.Lengths.{place-fits}
 use Rattle.fields.proofs.Texts.{letters-in}
 use Rattle.components.proofs.Units as units
 use borrow.Author.Needs.{needs}
@@ -15,12 +15,10 @@ spelt-unit-spec =
     (λ c κs. search needs)
     (λ c. search needs)
     (λ c. search needs)
-    (λ c. omega (arith, letters-in ((c .before .before .before .before .before .before .args .s .now)) _ ((c .before .before .before .text .ensures .0)) _ _ ((c .before .at .given .1))))
+    (λ c. search (place-fits, letters-in))
     (λ c. search needs)
     (λ c. search needs)
-    (λ c. omega (arith, letters-in ((c .before .before .before .before .before .before .args .s .now)) _ ((c .before .before .before .text .ensures .0)) _ _ ((c .before .at .given .1))))
+    (λ c. search (needs, letters-in))
     (λ c κs. search needs)
-    (λ c. let b2 = c .before .before in let a = b2 .before .before .before .args in
-    units.unit-kind ((a .s .now)) _ ((b2 .text .ensures .1)) ((a .code)) ((c .enum-told .given .1)))
-    (λ c. let b3 = c .before .before .before in let b5 = b3 .before .before in let a = b5 .before .before .before .args in
-    units.unit-word ((a .s .now)) _ ((b5 .text .ensures .1)) ((a .code)) _ _ ((b3 .at .given .1)) _ ((c .unit-of .ensures))))
+    (λ c. search units.unit-kind)
+    (λ c. search units.unit-word))

@@ -1,6 +1,4 @@
 -- `decimal::text::low_digits` meets its contract: it calls itself on one digit fewer. Assumes nothing.
-use native.Mathlib.Omega.{arith}
-use Rattle.put.proofs.PiecesInTurn as writing
 use Rattle.decimal.proofs.Letters as letters
 use borrow.Author.Needs.{needs}
 use Prim.Native.Nat.{ℕ, _<_}
@@ -45,7 +43,7 @@ low-digits-returns : (t : ℕ) → low-digits-lts.Need-returns (
   byte-reads.Asked,
   byte-reads.Learnt,
 ) (low-digits-at t) low-digits.Post
-low-digits-returns t c = let g = c .before .before .before .good in writing.as-bytes (letters.low-none (c .before .before .before .args .k) (c .before .before .before .args .n) (c .before .if1 .taken)) (writing.nothing _ (omega arith) (c .placed .ensures))
+low-digits-returns t c = search letters.low-none
 
 -- src/text.rt:17:46
 low-digits-sub-low-digits : (t : ℕ) → low-digits-lts.Need-sub-low-digits (
@@ -122,7 +120,7 @@ low-digits-returns-2 : (t : ℕ) → low-digits-lts.Need-returns-2 (
   byte-reads.Asked,
   byte-reads.Learnt,
 ) (low-digits-at t) low-digits.Post
-low-digits-returns-2 t c = writing.as-bytes (letters.low-more (c .before .before .before .before .before .before .before .before .before .before .args .k) (c .before .before .before .before .before .before .before .before .before .before .args .n) (c .before .before .before .before .before .before .before .before .if1 .left)) (writing.then (c .before .before .before .before .before .before .low-digits .ensures) (c .before .before .byte .ensures))
+low-digits-returns-2 t c = search (letters.both, letters.low-more)
 
 pub +low-digits-spec : {M : Type 1} → statement M
 +low-digits-spec = close μ-low-digits λ t. low-digits-lts.spec (

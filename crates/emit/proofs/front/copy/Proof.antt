@@ -1,6 +1,4 @@
 -- `emit::front::copy` meets its contract: the invariant says how many bytes stand. Assumes nothing.
-use native.Mathlib.Omega.{arith}
-use mathlib.Core.Path.{refl}
 use Prim.Native.Nat.{_-_}
 use lib.ListN.{length}
 use Rattle.emit.proofs.LaidPieces as laying
@@ -20,11 +18,11 @@ copy-spec =
     (tie.spec
     Inv-loop
     μ-loop
-    (λ c. laying.begin _ _ _ refl (c .pre))
+    (λ c. search laying.copy-none)
     (λ c. search needs)
     (λ c. search needs)
     (λ c. search needs)
     (λ c. search needs)
-    (λ c. laying.more (c .before .before .loop .inv) (c .before .loop-test .taken) refl)
-    (λ c. (c .before .loop .inv .long))
-    (λ c. laying.filled (c .before .loop .inv) (c .loop-test .left) (omega arith)))
+    (λ c. search laying.copy-more)
+    (λ c. search needs)
+    (λ c. search laying.copy-all))

@@ -1,8 +1,6 @@
 -- `emit::front::little` meets its contract: the invariant says how many bytes stand. Assumes nothing.
-use mathlib.Core.Path.{refl}
 use Prim.Native.Nat.{_-_}
 use Rattle.meaning.specs.WrittenFile.{littleBytes}
-use Rattle.meaning.proofs.Lengths.{little-length}
 use Rattle.emit.proofs.Numbers as numbers
 use Rattle.emit.proofs.LaidPieces as laying
 use borrow.Author.Needs.{needs}
@@ -21,13 +19,13 @@ little-spec =
     (tie.spec
     Inv-loop
     μ-loop
-    (λ c. laying.begin _ _ _ (little-length 8 _) (c .pre))
+    (λ c. search numbers.little-none)
     (λ c. search needs)
     (λ c. search needs)
     (λ c. search needs)
     (λ c. search needs)
     (λ c. search needs)
     (λ c. search needs)
-    (λ c. laying.more (c .before .loop .inv) (c .loop-test .taken) (numbers.little-at 8 _ _ (c .loop-test .taken)))
-    (λ c. (c .before .loop .inv .long))
-    (λ c. laying.filled (c .before .loop .inv) (c .loop-test .left) refl))
+    (λ c. search numbers.little-more)
+    (λ c. search needs)
+    (λ c. search laying.all-filled))

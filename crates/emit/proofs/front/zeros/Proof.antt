@@ -1,7 +1,6 @@
 -- `emit::front::zeros` meets its contract: the invariant says how many bytes stand. Assumes nothing.
-use mathlib.Core.Path.{refl, sym}
 use Prim.Native.Nat.{_-_}
-use lib.ListN.{replicate, length-replicate, getD-replicate}
+use lib.ListN.{replicate}
 use Rattle.emit.proofs.LaidPieces as laying
 use borrow.Author.Needs.{needs}
 use Rattle.emit.proofs.front.zeros.Statement.{statement}
@@ -19,10 +18,10 @@ zeros-spec =
     (tie.spec
     Inv-loop
     μ-loop
-    (λ c. laying.begin _ _ _ (length-replicate _ 0) (c .pre))
+    (λ c. search laying.no-zeros)
     (λ c. search needs)
     (λ c. search needs)
     (λ c. search needs)
-    (λ c. laying.more (c .before .loop .inv) (c .loop-test .taken) (sym (getD-replicate _ _ 0 0 (c .loop-test .taken))))
-    (λ c. (c .before .loop .inv .long))
-    (λ c. laying.filled (c .before .loop .inv) (c .loop-test .left) refl))
+    (λ c. search laying.one-zero)
+    (λ c. search needs)
+    (λ c. search laying.all-filled))

@@ -10,16 +10,9 @@ find-in-spec =
     tie.close
     (tie.spec
     (λ c κs. search needs)
-    (λ c. let b2 = c .before .before in let a = b2 .before .before .before .args in
-    omega (arith, rows.asked ((a .file .now)) ((a .table .now)) ((a .objects)) ((a .components)) ((a .index)) _ ((b2 .range .ensures)) .lies ((c .if1 .taken))))
-    (λ c. let b2 = c .before .before in let a = b2 .before .before .before .args in
-    omega (arith, rows.asked ((a .file .now)) ((a .table .now)) ((a .objects)) ((a .components)) ((a .index)) _ ((b2 .range .ensures)) .lies ((c .if1 .taken))))
-    (λ c. let b2 = c .before .before in let a = b2 .before .before .before .args in
-    omega (arith, rows.asked ((a .file .now)) ((a .table .now)) ((a .objects)) ((a .components)) ((a .index)) _ ((b2 .range .ensures)) .lies ((c .if1 .taken))))
-    (λ c κs. let b2 = c .before .before in let a = b2 .before .before .before .args in
-    omega (arith, rows.asked ((a .file .now)) ((a .table .now)) ((a .objects)) ((a .components)) ((a .index)) _ ((b2 .range .ensures)) .lies ((c .if1 .taken))))
-    (λ c. let b1 = c .before in let b3 = b1 .before .before in let a = b3 .before .before .before .args in
-    rows.asked ((a .file .now)) ((a .table .now)) ((a .objects)) ((a .components)) ((a .index)) _ ((b3 .range .ensures)) .some _ ((b1 .if1 .taken))
-    ((c .at-row .ensures)))
-    (λ c. let b2 = c .before .before in let a = b2 .before .before .before .args in
-    rows.asked ((a .file .now)) ((a .table .now)) ((a .objects)) ((a .components)) ((a .index)) _ ((b2 .range .ensures)) .none ((c .if1 .left))))
+    (λ c. omega (arith, rows.row-lies _ _ _ _ _ (c .before .before .range .ensures) (c .if1 .taken)))
+    (λ c. omega (arith, rows.row-lies _ _ _ _ _ (c .before .before .range .ensures) (c .if1 .taken)))
+    (λ c. omega (arith, rows.row-lies _ _ _ _ _ (c .before .before .range .ensures) (c .if1 .taken)))
+    (λ c κs. omega (arith, rows.row-lies _ _ _ _ _ (c .before .before .range .ensures) (c .if1 .taken)))
+    (λ c. search rows.row-found)
+    (λ c. search rows.none-found))

@@ -1,11 +1,7 @@
--- `layout::components::component_at` meets its contract: a law for each need.
-use native.Mathlib.Omega.{arith}
-use mathlib.Core.Path.{sym}
-use lib.ListN.{getD}
-use Rattle.meaning.specs.Columns.{typeColumn, typeLengthColumn, digestColumn, digestLengthColumn}
+-- `layout::components::component_at` meets its contract: its name, the head of its map, its fields.
 use Rattle.layout.specs.Pieces.{componentAt}
-use Rattle.layout.proofs.Present as laws
 use Rattle.emit.proofs.LaidPieces as laying
+use Rattle.layout.proofs.Present as law
 use borrow.Author.Needs.{needs}
 use Rattle.layout.proofs.components.component_at.Statement.{statement}
 use Rattle.layout.proofs.components.component_at.Tie as tie
@@ -14,40 +10,19 @@ pub component-at-spec : {M : Type 1} → statement M
 component-at-spec =
     tie.close
     (tie.spec
-    (λ c. omega (arith, (c .before .before .before .before .before .pre .0 .long)))
-    (λ c. omega (arith, (c .before .before .before .before .before .before .pre .0 .long)))
-    (λ c κs. unfold componentAt in ((c .before .before .before .before .before .before .pre .0 .name), laying.room-first _ (c .before .before .before .before .before .before .pre .1)))
-    (λ c. omega (arith, (c .before .before .before .before .before .before .before .before .before .before .pre .0 .long)))
-    (λ c. omega (arith, (c .before .before .before .before .before .before .before .before .before .before .before .pre .0 .long)))
-    (λ c κs. tt)
-    (λ c. omega (arith, (c .presence .ensures .1)))
-    (λ c. omega (arith, (c .before .before .before .before .before .before .before .before .before .before .before .before .before .pre .0 .long)))
-    (λ c. omega (arith, (c .before .before .before .before .before .before .before .before .before .before .before .before .before .before .pre .0 .long)))
-    (λ c κs. tt)
-    (λ c. omega (arith, (c .before .before .before .presence .ensures .1), (c .presence2 .ensures .1)))
-    (λ c κs. unfold componentAt in (
-      omega arith,
-      laying.room-as (sym (laws.two-present 3 (getD (c .before .before .before .before .before .before .before .before .before .before .before .before .before .before .before .before .args .row .now) typeColumn 0) (getD
-          (c .before .before .before .before .before .before .before .before .before .before .before .before .before .before .before .before .args .row .now) typeLengthColumn 0) (getD
-          (c .before .before .before .before .before .before .before .before .before .before .before .before .before .before .before .before .args .row .now) digestColumn 0) (getD
-          (c .before .before .before .before .before .before .before .before .before .before .before .before .before .before .before .before .args .row .now) digestLengthColumn 0) (c .before .before .before .before .presence .ensures .0) (c .before .presence2 .ensures .0))) (laying.room-first _
-          (laying.room-next (c .before .before .before .before .before .before .before .before .before .word-at .ensures) (c .before .before .before .before .before .before .before .before .before .before .before .before .before .before .before .before .pre .1))),
-    ))
-    (λ c κs. unfold componentAt in (
-      (c .before .before .before .before .before .before .before .before .before .before .before .before .before .before .before .before .before .before .before .before .pre .0),
-      laying.room-next (laying.as-bytes (laws.two-present 3 (getD
-          (c .before .before .before .before .before .before .before .before .before .before .before .before .before .before .before .before .before .before .before .before .args .row .now) typeColumn 0) (getD
-          (c .before .before .before .before .before .before .before .before .before .before .before .before .before .before .before .before .before .before .before .before .args .row .now) typeLengthColumn 0) (getD
-          (c .before .before .before .before .before .before .before .before .before .before .before .before .before .before .before .before .before .before .before .before .args .row .now) digestColumn 0) (getD
-          (c .before .before .before .before .before .before .before .before .before .before .before .before .before .before .before .before .before .before .before .before .args .row .now) digestLengthColumn 0) (c .before .before .before .before .before .before .before .before .presence .ensures .0)
-          (c .before .before .before .before .before .presence2 .ensures .0)) (c .before .before .before .head-at .ensures)) (laying.room-next (c .before .before .before .before .before .before .before .before .before .before .before .before .before .word-at .ensures)
-          (c .before .before .before .before .before .before .before .before .before .before .before .before .before .before .before .before .before .before .before .before .pre .1)),
-    ))
     (λ c. search needs)
-    (λ c. unfold componentAt in laying.then (c .before .before .before .before .before .before .before .before .before .before .before .before .before .before .before .before .word-at .ensures) (laying.then (laying.as-bytes (laws.two-present 3 (getD
-    (c .before .before .before .before .before .before .before .before .before .before .before .before .before .before .before .before .before .before .before .before .before .before .before .args .row .now) typeColumn 0) (getD
-    (c .before .before .before .before .before .before .before .before .before .before .before .before .before .before .before .before .before .before .before .before .before .before .before .args .row .now) typeLengthColumn 0) (getD
-    (c .before .before .before .before .before .before .before .before .before .before .before .before .before .before .before .before .before .before .before .before .before .before .before .args .row .now) digestColumn 0) (getD
-    (c .before .before .before .before .before .before .before .before .before .before .before .before .before .before .before .before .before .before .before .before .before .before .before .args .row .now) digestLengthColumn 0)
-    (c .before .before .before .before .before .before .before .before .before .before .before .presence .ensures .0) (c .before .before .before .before .before .before .before .before .presence2 .ensures .0)) (c .before .before .before .before .before .before .head-at .ensures))
-    (c .before .before .component-fields .ensures))))
+    (λ c. search needs)
+    (λ c κs. unfold componentAt in search laying.room-first)
+    (λ c. search needs)
+    (λ c. search needs)
+    (λ c κs. tt)
+    (λ c. search needs)
+    (λ c. search needs)
+    (λ c. search needs)
+    (λ c κs. tt)
+    (λ c. search needs)
+    (λ c κs. search (needs, law.room-component-head))
+    (λ c κs. let b3 = c .before .before .before in let b5 = b3 .before .before in let b8 = b5 .before .before .before in let b13 = b8 .before .before .before .before .before in let b20 = b13 .before .before .before .before .before .before .before in
+    (b20 .pre .0, law.room-component-fields _ _ _ (b20 .pre .1) (b13 .word-at .ensures) (b8 .presence .ensures .0) (b5 .presence2 .ensures .0) (b3 .head-at .ensures)))
+    (λ c. search needs)
+    (λ c. search law.component-laid))

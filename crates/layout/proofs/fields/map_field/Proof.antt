@@ -1,14 +1,14 @@
--- `layout::fields::map_field` meets its contract: a law for each need.
-use native.Mathlib.Omega.{arith}
+-- `layout::fields::map_field` meets its contract: the key, then the head.
 use Rattle.emit.proofs.LaidPieces as laying
 use borrow.Author.Needs.{needs}
 use Rattle.layout.proofs.fields.map_field.Statement.{statement}
 use Rattle.layout.proofs.fields.map_field.Tie as tie
 
 pub map-field-spec : {M : Type 1} → statement M
-map-field-spec = tie.close
+map-field-spec =
+    tie.close
     (tie.spec
-    (λ c κs. laying.room-first _ (c .before .before .before .pre))
-    (λ c κs. (omega arith, laying.room-next (c .before .before .before .text-at .ensures) (c .before .before .before .before .before .before .before .pre)))
+    (λ c κs. search laying.room-first)
+    (λ c κs. search (needs, laying.room-next))
     (λ c. search needs)
-    (λ c. laying.then (c .before .before .before .before .before .before .text-at .ensures) (c .before .before .head-at .ensures)))
+    (λ c. search laying.then))

@@ -1,9 +1,6 @@
--- `layout::framing::root` meets its contract: a law for each need.
-use native.Mathlib.Omega.{arith}
-use mathlib.Core.Path.{refl, sym}
-use Rattle.layout.specs.Pieces.{rootFront}
-use Rattle.layout.proofs.Present as laws
-use Rattle.emit.proofs.LaidPieces as laying
+-- `layout::framing::root` meets its contract: the head, and the root's fields in order.
+use mathlib.Core.Path.{refl}
+use Rattle.layout.proofs.Present as law
 use borrow.Author.Needs.{needs}
 use Rattle.layout.proofs.framing.root.Statement.{statement}
 use Rattle.layout.proofs.framing.root.Tie as tie
@@ -13,38 +10,16 @@ root-spec =
     tie.close
     (tie.spec
     (λ c κs. tt)
-    (λ c. omega (arith, (c .presence .ensures .1)))
-    (λ c κs. unfold rootFront in (omega arith, laying.room-as (sym (laws.one-present 2 (c .before .before .before .before .args .place) (c .before .before .before .before .args .size) (c .presence .ensures .0))) (laying.room-first _ (c .before .before .before .before .pre .1))))
-    (λ c. refl)
-    (λ c κs. unfold rootFront in laying.room-first _ (laying.room-next (laying.as-bytes (laws.one-present 2 (c .before .before .before .before .before .before .before .before .before .args .place) (c .before .before .before .before .before .before .before .before .before .args .size)
-    (c .before .before .before .before .before .presence .ensures .0)) (c .before .before .before .before .head-at .ensures)) (c .before .before .before .before .before .before .before .before .before .pre .1)))
-    (λ c. refl)
-    (λ c κs. unfold rootFront in laying.room-first _ (laying.room-next (c .before .before .before .before .text-at .ensures) (laying.room-next (laying.as-bytes (laws.one-present 2 (c .before .before .before .before .before .before .before .before .before .before .before .before .before .before .args .place)
-    (c .before .before .before .before .before .before .before .before .before .before .before .before .before .before .args .size) (c .before .before .before .before .before .before .before .before .before .before .presence .ensures .0))
-    (c .before .before .before .before .before .before .before .before .before .head-at .ensures)) (c .before .before .before .before .before .before .before .before .before .before .before .before .before .before .pre .1))))
-    (λ c. refl)
-    (λ c κs. unfold rootFront in (
-      (c .before .before .before .before .before .before .before .before .before .before .before .before .before .before .before .before .before .before .before .pre .0),
-      laying.room-first _ (laying.room-next (c .before .before .before .before .text-at2 .ensures) (laying.room-next
-          (c .before .before .before .before .before .before .before .before .before .text-at .ensures) (laying.room-next (laying.as-bytes (laws.one-present 2
-          (c .before .before .before .before .before .before .before .before .before .before .before .before .before .before .before .before .before .before .before .args .place)
-          (c .before .before .before .before .before .before .before .before .before .before .before .before .before .before .before .before .before .before .before .args .size)
-          (c .before .before .before .before .before .before .before .before .before .before .before .before .before .before .before .presence .ensures .0)) (c .before .before .before .before .before .before .before .before .before .before .before .before .before .before .head-at .ensures))
-          (c .before .before .before .before .before .before .before .before .before .before .before .before .before .before .before .before .before .before .before .pre .1)))),
-    ))
-    (λ c. refl)
-    (λ c κs. unfold rootFront in laying.room-next (c .before .before .before .before .optional-item .ensures) (laying.room-next (c .before .before .before .before .before .before .before .before .before .text-at2 .ensures) (laying.room-next
-    (c .before .before .before .before .before .before .before .before .before .before .before .before .before .before .text-at .ensures) (laying.room-next (laying.as-bytes (laws.one-present 2
-    (c .before .before .before .before .before .before .before .before .before .before .before .before .before .before .before .before .before .before .before .before .before .before .before .before .args .place)
-    (c .before .before .before .before .before .before .before .before .before .before .before .before .before .before .before .before .before .before .before .before .before .before .before .before .args .size)
-    (c .before .before .before .before .before .before .before .before .before .before .before .before .before .before .before .before .before .before .before .before .presence .ensures .0))
-    (c .before .before .before .before .before .before .before .before .before .before .before .before .before .before .before .before .before .before .before .head-at .ensures))
-    (c .before .before .before .before .before .before .before .before .before .before .before .before .before .before .before .before .before .before .before .before .before .before .before .before .pre .1)))))
     (λ c. search needs)
-    (λ c. unfold rootFront in laying.then (laying.as-bytes (laws.one-present 2
-    (c .before .before .before .before .before .before .before .before .before .before .before .before .before .before .before .before .before .before .before .before .before .before .before .before .before .before .before .args .place)
-    (c .before .before .before .before .before .before .before .before .before .before .before .before .before .before .before .before .before .before .before .before .before .before .before .before .before .before .before .args .size)
-    (c .before .before .before .before .before .before .before .before .before .before .before .before .before .before .before .before .before .before .before .before .before .before .before .presence .ensures .0))
-    (c .before .before .before .before .before .before .before .before .before .before .before .before .before .before .before .before .before .before .before .before .before .before .head-at .ensures)) (laying.then
-    (c .before .before .before .before .before .before .before .before .before .before .before .before .before .before .before .before .before .text-at .ensures) (laying.then (c .before .before .before .before .before .before .before .before .before .before .before .before .text-at2 .ensures)
-    (laying.then (c .before .before .before .before .before .before .before .optional-item .ensures) (c .before .before .map-field .ensures))))))
+    (λ c κs. search (needs, law.room-root-head))
+    (λ c. refl)
+    (λ c κs. search law.room-version-key)
+    (λ c. refl)
+    (λ c κs. search law.room-version)
+    (λ c. refl)
+    (λ c κs. let b4 = c .before .before .before .before in let b9 = b4 .before .before .before .before .before in let b14 = b9 .before .before .before .before .before in let b15 = b14 .before in let b19 = b15 .before .before .before .before in
+    (b19 .pre .0, law.room-attributes _ _ _ _ (b19 .pre .1) (b15 .presence .ensures .0) (b14 .head-at .ensures) (b9 .text-at .ensures) (b4 .text-at2 .ensures)))
+    (λ c. refl)
+    (λ c κs. search law.room-objects-head)
+    (λ c. search needs)
+    (λ c. search law.root-laid))

@@ -1,6 +1,6 @@
 -- `names::tabled::differ_by_digest` meets its contract. Assumes nothing.
 use borrow.Author.Needs.{needs}
-use Rattle.names.proofs.NamedParts as parts
+use Rattle.names.proofs.ListedNames as listed
 use Rattle.names.proofs.tabled.differ_by_digest.Statement.{statement}
 use Rattle.names.proofs.tabled.differ_by_digest.Tie as tie
 
@@ -19,4 +19,4 @@ differ-by-digest-spec =
     (λ c. search needs)
     (λ c. search needs)
     (λ c κs. search needs)
-    (λ c. rw parts.from-wholes at (c .before .claimed .ensures)))
+    (λ c. search listed.wholes-differ))

@@ -18,8 +18,6 @@ described-spec =
     (λ c. search needs)
     (λ c. search needs)
     (λ c κs. search needs)
-    (λ c. let b4 = c .before .before .before .before in let b6 = b4 .before .before in let a = b6 .before .before .before .args in
-    pieces.both-there (a .s .now) _ _ _ (b6 .format-at .ensures) _ (b4 .code .given .1) _ (c .before .attributes .ensures) (c .if1 .taken))
-    (λ c. pieces.no-format (c .before .before .before .before .before .before .args .s .now) _ _ _ (c .before .before .before .format-at .ensures) _ (c .before .n .given .1))
-    (λ c. let b4 = c .before .before .before .before in let b6 = b4 .before .before in let a = b6 .before .before .before .args in
-    pieces.no-attributes (a .s .now) _ _ _ (b6 .format-at .ensures) _ (b4 .code .given .1) _ (c .before .attributes .ensures) (c .if1 .left)))
+    (λ c. search pieces.both-there)
+    (λ c. search pieces.no-format)
+    (λ c. search pieces.no-attributes))

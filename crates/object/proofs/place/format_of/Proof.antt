@@ -1,7 +1,7 @@
 -- `object::place::format_of` meets its contract: a law for each branch.
 use Rattle.object.proofs.Places as places
 use Rattle.fields.proofs.Texts.{letters-in}
-use native.Mathlib.Omega.{arith}
+use Rattle.meaning.proofs.Lengths.{place-fits}
 use borrow.Author.Needs.{needs}
 use Rattle.object.proofs.place.format_of.Statement.{statement}
 use Rattle.object.proofs.place.format_of.Tie as tie
@@ -16,19 +16,15 @@ format-of-spec =
     (λ c κs. search needs)
     (λ c. search needs)
     (λ c. search needs)
-    (λ c. let t = c .before .before .before in omega (arith, letters-in (t .before .before .before .args .s .now) _ (t .text .ensures .0) _ _ (c .before .at .given .1)))
+    (λ c. search (place-fits, letters-in))
     (λ c. search needs)
     (λ c. search needs)
-    (λ c. let t = c .before .before .before in omega (arith, letters-in (t .before .before .before .args .s .now) _ (t .text .ensures .0) _ _ (c .before .at .given .1)))
+    (λ c. search (needs, letters-in))
     (λ c κs. search needs)
     (λ c. search needs)
     (λ c. search needs)
-    (λ c. let t = c .before .before .before .before .before in omega (arith, letters-in (t .before .before .before .args .s .now) _ (t .text .ensures .0) _ _ (c .before .before .before .at .given .1)))
-    (λ c κs. c .before .format-code .ensures)
-    (λ c.
-    let l = c .before in let f = l .before .before in let at = f .before .before .before in let t = at .before .before in
-    places.format-some (t .before .before .before .args .s .now) _ (t .text .ensures .1) _ _ (at .at .given .1) _ (l .legible .ensures) (c .if1 .taken) _ (f .format-code .ensures))
-    (λ c. let t = c .before .before in places.format-kind (t .before .before .before .args .s .now) _ (t .text .ensures .1) (c .enum-told .given .1))
-    (λ c.
-    let l = c .before in let at = l .before .before .before .before .before in let t = at .before .before in
-    places.format-other (t .before .before .before .args .s .now) _ (t .text .ensures .1) _ _ (at .at .given .1) _ (l .legible .ensures) (c .if1 .left)))
+    (λ c. search (needs, letters-in))
+    (λ c κs. search)
+    (λ c. search places.format-some)
+    (λ c. search places.format-kind)
+    (λ c. search places.format-other))

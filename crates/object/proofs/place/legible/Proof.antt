@@ -1,6 +1,4 @@
 -- `object::place::legible` meets its contract: the known formats are UTF-8. Assumes nothing.
-use mathlib.Core.Path.{sym}
-use native.Mathlib.Omega.{arith}
 use borrow.Author.Needs.{needs}
 use Rattle.object.proofs.Places.{known-format}
 use Rattle.object.proofs.place.legible.Statement.{statement}
@@ -10,6 +8,6 @@ pub legible-spec : {M : Type 1} → statement M
 legible-spec =
     tie.close
     (tie.spec
-    (λ c. sym (known-format (c .before .before .args .k .now) (omega arith)))
+    (λ c. search known-format)
     (λ c κs. search needs)
     (λ c. c .utf8 .ensures))

@@ -14,5 +14,4 @@ shape-at-spec =
     (λ c. search needs)
     (λ c κs. search needs)
     (λ c. search needs)
-    (λ c. let b2 = c .before .before in let b5 = b2 .before .before .before in let a = b5 .before .before .before .args in
-    places.shape-there (a .s .now) (a .left) _ (b5 .place-of .ensures) _ _ _ (b2 .shape .ensures)))
+    (λ c. search places.shape-there))

@@ -21,7 +21,7 @@ bytes-line-spec =
     (λ c κs. tt)
     (λ c κs. tt)
     (λ c. search needs)
-    (λ c. unfold line blanked bytesLine in writing.then (c .before .before .before .before .before .before .before .before .before .before .before .before .before .before .before .before .before .before .before .before .before .numbered .ensures)
-    (writing.then (c .before .before .before .before .before .before .before .before .before .before .before .before .before .before .before .before .numbered2 .ensures)
-    (writing.then (c .before .before .before .before .before .before .before .before .before .before .before .numbered3 .ensures)
-    (writing.then (c .before .before .before .before .before .before .numbered4 .ensures) (c .before .before .byte .ensures))))))
+    (λ c. let b2 = c .before .before in let b6 = b2 .before .before .before .before in let b11 = b6 .before .before .before .before .before in let b16 = b11 .before .before .before .before .before in
+    unfold line blanked bytesLine in
+    writing.then (b16 .before .before .before .before .before .numbered .ensures)
+    (writing.then (b16 .numbered2 .ensures) (writing.then (b11 .numbered3 .ensures) (writing.then (b6 .numbered4 .ensures) (b2 .byte .ensures))))))

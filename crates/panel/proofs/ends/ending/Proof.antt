@@ -11,9 +11,7 @@ ending-spec =
     (tie.spec
     (λ c κs. search needs)
     (λ c. search needs)
-    (λ c. let b2 = c .before .before in let b4 = b2 .before .before in let a = b4 .before .before .before .before .args in
-    writing.as-bytes (ends.with-found ((a .file .now)) ((a .table .now)) ((a .row)) ((a .summary)) ((b4 .if1 .taken))) ((b2 .found .ensures)))
+    (λ c. search (writing.as-bytes, ends.with-found))
     (λ c κs. search needs)
     (λ c. search needs)
-    (λ c. let b2 = c .before .before in let b4 = b2 .before .before in let a = b4 .before .before .before .before .args in
-    writing.as-bytes (ends.without ((a .file .now)) ((a .table .now)) ((a .row)) ((a .summary)) ((b4 .if1 .left))) ((b2 .byte .ensures))))
+    (λ c. search (writing.as-bytes, ends.without)))

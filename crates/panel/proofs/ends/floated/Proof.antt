@@ -1,6 +1,6 @@
 -- `panel::ends::floated` meets its contract: one piece after the other. Assumes nothing.
+use Rattle.panel.proofs.Pieces as writing
 use Rattle.panel.specs.Summary.{blankFloat}
-use Rattle.put.proofs.PiecesInTurn as writing
 use borrow.Author.Needs.{needs}
 use Rattle.panel.proofs.ends.floated.Statement.{statement}
 use Rattle.panel.proofs.ends.floated.Tie as tie
@@ -14,4 +14,4 @@ floated-spec =
     (λ c. search needs)
     (λ c κs. tt)
     (λ c. search needs)
-    (λ c. unfold blankFloat in writing.then (c .before .before .before .before .before .before .before .before .before .before .word .ensures) (writing.then (c .before .before .before .before .before .before .byte .ensures) (c .before .before .float .ensures))))
+    (λ c. unfold blankFloat in search writing.in-three))

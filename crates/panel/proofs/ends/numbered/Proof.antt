@@ -11,4 +11,4 @@ numbered-spec =
     (λ c κs. tt)
     (λ c κs. tt)
     (λ c. search needs)
-    (λ c. writing.then (c .before .before .before .before .before .before .word .ensures) (c .before .before .blank-number .ensures)))
+    (λ c. search writing.then))

@@ -1,7 +1,7 @@
 -- `panel::ends::only_nan` meets its contract: one piece after the other. Assumes nothing.
+use Rattle.panel.proofs.Pieces as writing
 use Rattle.meaning.specs.Listing.{blanked}
 use Rattle.panel.specs.Summary.{nanWords}
-use Rattle.put.proofs.PiecesInTurn as writing
 use mathlib.Core.Path.{refl}
 use borrow.Author.Needs.{needs}
 use Rattle.panel.proofs.ends.only_nan.Statement.{statement}
@@ -15,4 +15,4 @@ only-nan-spec =
     (λ c κs. tt)
     (λ c κs. tt)
     (λ c. search needs)
-    (λ c. unfold blanked nanWords in writing.then (c .before .before .before .before .before .before .numbered .ensures) (c .before .before .byte .ensures)))
+    (λ c. unfold blanked nanWords in search writing.in-two))

@@ -1,7 +1,7 @@
 -- `panel::ends::span` meets its contract: one piece after the other. Assumes nothing.
+use Rattle.panel.proofs.Pieces as writing
 use Rattle.meaning.specs.Listing.{blanked}
 use Rattle.panel.specs.Summary.{blankFloat, spanWords, nanWords}
-use Rattle.put.proofs.PiecesInTurn as writing
 use mathlib.Core.Path.{refl}
 use borrow.Author.Needs.{needs}
 use Rattle.panel.proofs.ends.span.Statement.{statement}
@@ -17,4 +17,4 @@ span-spec =
     (λ c κs. tt)
     (λ c κs. tt)
     (λ c. search needs)
-    (λ c. unfold blanked blankFloat spanWords nanWords in writing.then (c .before .before .before .before .before .before .before .before .before .before .before .floated .ensures) (writing.then (c .before .before .before .before .before .before .floated2 .ensures) (c .before .before .only-nan .ensures))))
+    (λ c. unfold blanked blankFloat spanWords nanWords in search writing.in-three))

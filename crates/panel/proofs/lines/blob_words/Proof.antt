@@ -16,5 +16,4 @@ blob-words-spec =
     (λ c κs. search needs)
     (λ c κs. search needs)
     (λ c. search needs)
-    (λ c. let b2 = c .before .before in let b6 = b2 .before .before .before .before in let b10 = b6 .before .before .before .before in let b14 = b10 .before .before .before .before in
-    unfold blobWords in writing.then (b14 .before .before .before .before .word .ensures) (writing.then (b14 .blank-text .ensures) (writing.then (b10 .blank-storage .ensures) (writing.then (b6 .blank-number .ensures) (b2 .blank-number2 .ensures))))))
+    (λ c. unfold blobWords in search writing.then))

@@ -1,6 +1,6 @@
 -- `panel::lines::refused` meets its contract: one piece after the other. Assumes nothing.
+use Rattle.panel.proofs.Pieces as writing
 use Rattle.meaning.specs.Listing.{line, blanked}
-use Rattle.put.proofs.PiecesInTurn as writing
 use mathlib.Core.Path.{refl}
 use borrow.Author.Needs.{needs}
 use Rattle.panel.proofs.lines.refused.Statement.{statement}
@@ -16,4 +16,4 @@ refused-spec =
     (λ c κs. tt)
     (λ c κs. tt)
     (λ c. search needs)
-    (λ c. unfold line blanked in writing.then (c .before .before .before .before .before .before .before .before .before .before .before .before .before .before .numbered .ensures) (writing.then (c .before .before .before .before .before .before .before .before .before .before .blank-number .ensures) (writing.then (c .before .before .before .before .before .before .blank-number2 .ensures) (c .before .before .byte .ensures)))))
+    (λ c. unfold line blanked in search writing.in-four))

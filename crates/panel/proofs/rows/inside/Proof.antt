@@ -10,12 +10,9 @@ inside-spec =
     (tie.spec
     (λ c. search needs)
     (λ c. search needs)
-    (λ c. let a = c .before .before .args in
-    rows.begins-past (a .file .now) (a .table .now) (a .i) (c .if1 .taken))
+    (λ c. search rows.begins-past)
     (λ c. search needs)
     (λ c. search needs)
     (λ c. search needs)
-    (λ c. let b2 = c .before .before in let a = b2 .before .before .args in
-    rows.ends-past (a .file .now) (a .table .now) (a .i) (b2 .if1 .left) (c .if2 .taken))
-    (λ c. let b2 = c .before .before in let a = b2 .before .before .args in
-    rows.lies (a .file .now) (a .table .now) (a .i) (b2 .if1 .left) (c .if2 .left)))
+    (λ c. search rows.ends-past)
+    (λ c. search rows.lies))

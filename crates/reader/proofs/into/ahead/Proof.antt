@@ -8,10 +8,11 @@ use Rattle.reader.proofs.into.ahead.Tie as tie
 pub ahead-spec : {M : Type 1} → statement M
 unfolding ahead
 ahead-spec =
-    tie.close (tie.spec
+    tie.close
+    (tie.spec
     (λ c. search needs)
     (λ c. search needs)
     (λ c. search needs)
     (λ c. search needs)
-    (λ c. answers.ahead-last _ _ _ (c .if1 .taken))
+    (λ c. search answers.ahead-last)
     (λ c. search needs))

@@ -1,6 +1,5 @@
 -- `reader::into::place` meets its contract: a law for each branch.
-use native.Mathlib.Omega.{arith}
-use mathlib.Core.Path.{refl}
+use Rattle.meaning.proofs.Lengths.{place-fits}
 use Rattle.reader.proofs.Frames as frames
 use Rattle.reader.proofs.Answers as answers
 use borrow.Author.Needs.{needs}
@@ -15,18 +14,13 @@ place-spec =
     (λ c. search needs)
     (λ c κs. search needs)
     (λ c. search needs)
-    (λ c. let b3 = c .before .before .before in let b7 = b3 .before .before .before in let a = b7 .args in
-    let g = (b7 .good) in omega (arith, frames.inside (a .layout) (a .file .now) _ (b3 .frame .ensures) _ _ (c .before .start .given .1)))
+    (λ c. search (place-fits, frames.inside))
     (λ c. search needs)
     (λ c. search needs)
-    (λ c. let b3 = c .before .before .before in let b7 = b3 .before .before .before in let a = b7 .args in
-    let g = (b7 .good) in omega (arith, frames.inside (a .layout) (a .file .now) _ (b3 .frame .ensures) _ _ (c .before .start .given .1)))
-    (λ c κs. answers.manifest-short (c .before .before .before .before .before .before .before .before .args .layout) (c .before .before .before .before .before .before .before .before .args .last)
-    (c .before .before .before .before .before .before .before .before .args .file .now) (c .before .before .before .before .before .before .before .before .args .t .now) _
-    (c .before .before .before .before .before .frame .ensures) _ _ (c .before .before .before .start .given .1)
-    (let g = (c .before .before .before .before .before .before .before .before .good) in omega arith))
+    (λ c. search frames.inside)
+    (λ c κs. search answers.manifest-short)
     (λ c. let b2 = c .before .before in let b4 = b2 .before .before in let a = b4 .before .before .before .args in
     answers.no-frame-read (a .layout) (a .last) (a .file .now) (a .t .now) _ (b4 .frame .ensures) _ (b2 .n .given .1) _ (c .refused .ensures))
     (λ c. search needs)
     (λ c. let b2 = c .before .before in let b6 = b2 .before .before .before .before in let b8 = b6 .before .before in let a = b8 .before .before .before .args in
-    answers.frame-read (a .layout) (a .last) (a .file .now) (a .t .now) _ (b8 .frame .ensures) _ _ (b6 .start .given .1) _ refl _ _ (b2 .fill .ensures)))
+    answers.frame-read (a .layout) (a .last) (a .file .now) (a .t .now) _ (b8 .frame .ensures) _ _ (b6 .start .given .1) _ _ (b2 .fill .ensures)))

@@ -1,6 +1,5 @@
 -- `reader::into::read_as` meets its contract: the rows stand at the beginning.
-use mathlib.Core.Path.{_∙_}
-use Rattle.reader.proofs.Answers.{at-beginning}
+use Rattle.reader.proofs.Answers as answers
 use borrow.Author.Needs.{needs}
 use Rattle.reader.proofs.into.read_as.Statement.{statement}
 use Rattle.reader.proofs.into.read_as.Tie as tie
@@ -11,4 +10,4 @@ read-as-spec =
     (tie.spec
     (λ c κs. search needs)
     (λ c. search needs)
-    (λ c. ((c .before .before .place .ensures .0), (c .before .before .place .ensures .1) ∙ at-beginning _ _)))
+    (λ c. let b2 = c .before .before in answers.read-at-beginning _ _ _ _ (b2 .place .ensures .0) (b2 .place .ensures .1)))

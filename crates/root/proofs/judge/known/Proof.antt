@@ -9,11 +9,9 @@ known-spec =
     tie.close
     (tie.spec
     (λ c. search needs)
-    (λ c. verdicts.odd-key (c .before .before .args .p .now) (c .if1 .taken))
+    (λ c. search verdicts.odd-key)
     (λ c. search needs)
-    (λ c. verdicts.repeated (c .before .before .before .before .args .p .now) (c .before .before .if1 .left) (c .if2 .taken))
+    (λ c. search verdicts.repeated)
     (λ c. search needs)
-    (λ c. let b2 = c .before .before in let b4 = b2 .before .before in let a = b4 .before .before .args in
-    verdicts.no-version (a .p .now) (b4 .if1 .left) (b2 .if2 .left) (c .if3 .taken))
-    (λ c. let b2 = c .before .before in let b4 = b2 .before .before in let a = b4 .before .before .args in
-    verdicts.all-known (a .p .now) (b4 .if1 .left) (b2 .if2 .left) (c .if3 .left)))
+    (λ c. search verdicts.no-version)
+    (λ c. search verdicts.all-known))

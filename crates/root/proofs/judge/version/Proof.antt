@@ -1,7 +1,7 @@
 -- `root::judge::version` meets its contract: a law for each branch.
 use Rattle.root.proofs.Versions as versions
 use Rattle.fields.proofs.Texts.{letters-in}
-use native.Mathlib.Omega.{arith}
+use Rattle.meaning.proofs.Lengths.{place-fits}
 use borrow.Author.Needs.{needs}
 use Rattle.root.proofs.judge.version.Statement.{statement}
 use Rattle.root.proofs.judge.version.Tie as tie
@@ -16,20 +16,16 @@ version-spec =
     (λ c κs. search needs)
     (λ c. search needs)
     (λ c. search needs)
-    (λ c. omega (arith, letters-in (c .before .before .before .before .before .before .args .s .now) _ (c .before .before .before .text .ensures .0) _ _ (c .before .at .given .1)))
+    (λ c. search (place-fits, letters-in))
     (λ c. search needs)
     (λ c. search needs)
-    (λ c. omega (arith, letters-in (c .before .before .before .before .before .before .args .s .now) _ (c .before .before .before .text .ensures .0) _ _ (c .before .at .given .1)))
+    (λ c. search (needs, letters-in))
     (λ c κs. search needs)
     (λ c. search needs)
     (λ c. search needs)
-    (λ c. let b4 = c .before .before .before .before in let b6 = b4 .before .before in let a = b6 .before .before .before .args in
-    omega (arith, letters-in (a .s .now) _ (b6 .text .ensures .0) _ _ (b4 .at .given .1)))
+    (λ c. search (needs, letters-in))
     (λ c κs. search needs)
-    (λ c. let b3 = c .before .before .before in let b4 = b3 .before in let b7 = b4 .before .before .before in let b9 = b7 .before .before in let a = b9 .before .before .before .args in
-    versions.major-one (a .s .now) _ (b9 .text .ensures .1) _ _ (b7 .at .given .1) _ (b4 .version-shape .ensures) (b3 .if1 .taken) _ (c .before .major-one .ensures) (c .if2 .taken))
-    (λ c. let b3 = c .before .before .before in let b4 = b3 .before in let b7 = b4 .before .before .before in let b9 = b7 .before .before in let a = b9 .before .before .before .args in
-    versions.other-major (a .s .now) _ (b9 .text .ensures .1) _ _ (b7 .at .given .1) _ (b4 .version-shape .ensures) (b3 .if1 .taken) _ (c .before .major-one .ensures) (c .if2 .left))
-    (λ c. versions.no-text (c .before .before .before .before .before .args .s .now) _ (c .before .before .text .ensures .1) (c .enum-told .given .1))
-    (λ c. let b4 = c .before .before .before .before in let b6 = b4 .before .before in let a = b6 .before .before .before .args in
-    versions.no-version (a .s .now) _ (b6 .text .ensures .1) _ _ (b4 .at .given .1) _ (c .before .version-shape .ensures) (c .if1 .left)))
+    (λ c. search versions.major-one)
+    (λ c. search versions.other-major)
+    (λ c. search versions.no-text)
+    (λ c. search versions.no-version))

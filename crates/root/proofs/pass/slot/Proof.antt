@@ -1,7 +1,7 @@
 -- `root::pass::slot` meets its contract: a law for each branch.
-use Rattle.fields.proofs.Texts as texts
-use Rattle.meaning.specs.Layouts.{layoutOf}
-use native.Mathlib.Omega.{arith}
+use Rattle.fields.proofs.Texts.{letters-in}
+use Rattle.meaning.proofs.Lengths.{place-fits}
+use Rattle.root.proofs.Walks as walks
 use borrow.Author.Needs.{needs}
 use Rattle.root.proofs.pass.slot.Statement.{statement}
 use Rattle.root.proofs.pass.slot.Tie as tie
@@ -16,11 +16,10 @@ slot-spec =
     (λ c κs. search needs)
     (λ c. search needs)
     (λ c. search needs)
-    (λ c. omega (arith, texts.letters-in (c .before .before .before .before .before .before .args .s .now) _ (c .before .before .before .text .ensures .0) _ _ (c .before .at .given .1)))
+    (λ c. search (place-fits, letters-in))
     (λ c. search needs)
     (λ c. search needs)
-    (λ c. omega (arith, texts.letters-in (c .before .before .before .before .before .before .args .s .now) _ (c .before .before .before .text .ensures .0) _ _ (c .before .at .given .1)))
+    (λ c. search (needs, letters-in))
     (λ c κs. search needs)
-    (λ c. (omega arith, texts.slot-odd (c .before .before .before .before .before .args .s .now) _ (c .before .before .text .ensures .1) (c .enum-told .given .1) (layoutOf (c .before .before .before .before .before .args .layout) .root) 3 (layoutOf (c .before .before .before .before .before .args .layout) .rootPlaces)))
-    (λ c. let b3 = c .before .before .before in let b5 = b3 .before .before in let a = b5 .before .before .before .args in
-    texts.slot-known (a .s .now) _ (b5 .text .ensures .1) _ _ (b3 .at .given .1) (layoutOf (a .layout) .root) 3 (layoutOf (a .layout) .rootPlaces) _ (c .root-key .ensures)))
+    (λ c. search (needs, walks.slot-odd))
+    (λ c. search (walks.slot-few, walks.slot-known)))

@@ -4,4 +4,8 @@ use Rattle.rows.proofs.judge.inside.Statement.{statement}
 use Rattle.rows.proofs.judge.inside.Tie as tie
 
 pub inside-spec : {M : Type 1} → statement M
-inside-spec = tie.close (tie.spec (λ c. law.begins-past ((c .before .args .n)) ((c .before .args .place)) ((c .before .args .size)) ((c .if1 .taken))) (λ c. law.by-size ((c .before .args .n)) ((c .before .args .place)) ((c .before .args .size)) ((c .if1 .left))))
+inside-spec =
+    tie.close
+    (tie.spec
+    (λ c. search law.begins-past)
+    (λ c. search law.by-size))

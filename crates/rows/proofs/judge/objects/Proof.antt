@@ -1,20 +1,14 @@
--- `rows::judge::objects` meets its contract: the invariant says what the rows that are left give.
+-- `rows::judge::objects` meets its contract: a law for each way into the loop, on and out of it.
 use Rattle.meaning.specs.Columns.{objectWidth}
-use borrow.Rule.Slice.PartAt.{part-to-end}
-use mathlib.Core.List.{List}
-use mathlib.Core.Path.{_≡_, refl, ap, sym, _∙_}
-use lib.ListN.{length, drop}
-use Prim.Native.Nat.{ℕ, _+_, _*_, _≤_}
 use Rattle.meaning.specs.Sound.{objectSound}
-use Rattle.meaning.specs.Asked.{eachRow, askedObject}
-use Rattle.meaning.specs.Text.{all}
+use Rattle.meaning.specs.Asked.{askedObject}
 use Rattle.rows.proofs.EachRow as law
 use borrow.Author.Needs.{needs}
 use Rattle.rows.proofs.judge.objects.Statement.{statement}
 use Rattle.rows.proofs.judge.objects.Tie as tie
 
 abbrev Inv-loop : tie.InvT-loop
-Inv-loop buffer rows n at₀ left₀ at left = (at + objectWidth * left ≤ length rows) × (all (objectSound buffer) (eachRow askedObject objectWidth n rows) ≡ all (objectSound buffer) (eachRow askedObject objectWidth left (drop at rows)))
+Inv-loop buffer rows n at₀ left₀ at left = law.Asking (objectSound buffer) askedObject objectWidth n rows at left
 
 abbrev μ-loop : tie.MeasureT-loop
 μ-loop buffer rows n at₀ left₀ at left = left
@@ -25,7 +19,7 @@ objects-spec =
     (tie.spec
     Inv-loop
     μ-loop
-    (λ c. (search needs, refl))
+    (λ c. search law.asking-begins)
     (λ c. search needs)
     (λ c. search needs)
     (λ c. search needs)
@@ -34,10 +28,6 @@ objects-spec =
     (λ c. search needs)
     (λ c. search needs)
     (λ c. search needs)
-    (λ c. let b3 = c .before .before .before in let b4 = b3 .before in let l = b4 .loop in let a = b4 .before .before .before .args in
-    (search needs, (l .inv .1) ∙ law.all-go (objectSound ((a .buffer .now))) askedObject objectWidth ((l .left)) ((l .at)) ((a .rows .now)) ((b3 .loop-test .taken)) (sym (ap (λ (r : List ℕ). objectSound ((a .buffer .now)) (askedObject r)) (part-to-end ((a .rows .now)) ((l .at)))) ∙ sym ((c .before .object .ensures)) ∙ (c .if1 .taken))))
-    (λ c. let b3 = c .before .before .before in let b4 = b3 .before in let l = b4 .loop in let a = b4 .before .before .before .args in
-    sym
-    ((l .inv .1) ∙ law.all-stop (objectSound ((a .buffer .now))) askedObject objectWidth ((l .left)) ((l .at)) ((a .rows .now)) ((b3 .loop-test .taken)) (sym (ap (λ (r : List ℕ). objectSound ((a .buffer .now)) (askedObject r)) (part-to-end ((a .rows .now)) ((l .at)))) ∙ sym ((c .before .object .ensures)) ∙ (c .if1 .left))))
-    (λ c. let l = c .before .loop in let a = c .before .before .before .before .args in
-    sym ((l .inv .1) ∙ law.all-of-none (objectSound ((a .buffer .now))) askedObject objectWidth ((l .left)) ((l .at)) ((a .rows .now)) ((c .loop-test .left)))))
+    (λ c. search law.one-more-holds)
+    (λ c. search law.one-fails)
+    (λ c. search law.all-asked))

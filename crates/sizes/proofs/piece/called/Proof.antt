@@ -10,4 +10,4 @@ use Rattle.sizes.proofs.piece.called.Statement.{statement}
 use Rattle.sizes.proofs.piece.called.Tie as tie
 
 pub called-spec : {M : Type 1} → statement M
-called-spec = tie.close (tie.spec (λ c. search needs) (λ c. search needs) (λ c. unfold storages storageOf in (digits (λ i. length (storageOf i .called)) _ 13 refl ((c .before .args .dtype)) ((c .if1 .taken)), omega arith)) (λ c. (law.called-none ((c .before .args .dtype)) ((c .if1 .left)), omega arith)))
+called-spec = tie.close (tie.spec (λ c. search needs) (λ c. search needs) (λ c. unfold storages storageOf in (digits (λ i. length (storageOf i .called)) _ 13 refl ((c .before .args .dtype)) ((c .if1 .taken)), omega arith)) (λ c. (search law.called-none, omega arith)))

@@ -1,4 +1,5 @@
-use native.Mathlib.Omega.{arith}
+-- `table::stored::role` meets its contract: a law for each branch.
+use Rattle.meaning.proofs.Lengths.{place-fits}
 use Rattle.fields.proofs.Texts.{letters-in}
 use Rattle.table.proofs.Roles as rows
 use borrow.Author.Needs.{needs}
@@ -15,11 +16,10 @@ role-spec =
     (λ c κs. search needs)
     (λ c. search needs)
     (λ c. search needs)
-    (λ c. omega (arith, letters-in ((c .before .before .before .before .before .before .args .s .now)) _ ((c .before .before .before .text .ensures .0)) _ _ ((c .before .at .given .1))))
+    (λ c. search (place-fits, letters-in))
     (λ c. search needs)
     (λ c. search needs)
-    (λ c. omega (arith, letters-in ((c .before .before .before .before .before .before .args .s .now)) _ ((c .before .before .before .text .ensures .0)) _ _ ((c .before .at .given .1))))
+    (λ c. search (needs, letters-in))
     (λ c κs. search needs)
-    (λ c. rows.role-odd ((c .before .before .before .before .before .args .s .now)) _ ((c .before .before .text .ensures .1)) ((c .enum-told .given .1)))
-    (λ c. let b3 = c .before .before .before in let b5 = b3 .before .before in let a = b5 .before .before .before .args in
-    rows.role-named ((a .s .now)) _ ((b5 .text .ensures .1)) _ _ ((b3 .at .given .1)) _ ((c .role-code .ensures))))
+    (λ c. search rows.role-odd)
+    (λ c. search rows.role-named))

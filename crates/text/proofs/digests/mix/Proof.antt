@@ -1,6 +1,5 @@
 -- `text::digests::mix` meets its contract, and its sum fits. Assumes nothing.
 use mathlib.Core.Path.{refl}
-use native.Mathlib.Omega.{arith}
 use borrow.Author.Needs.{needs}
 use Rattle.text.proofs.DigestSteps as steps
 use Rattle.text.specs.Digest.{mixed}
@@ -8,4 +7,4 @@ use Rattle.text.proofs.digests.mix.Statement.{statement}
 use Rattle.text.proofs.digests.mix.Tie as tie
 
 pub mix-spec : {M : Type 1} → statement M
-mix-spec = tie.close (tie.spec (λ c. search needs) (λ c. record { fits = steps.mix-fits (c .args .h) (c .args .w) (omega arith) (omega arith) }) (λ c. unfold mixed in refl))
+mix-spec = tie.close (tie.spec (λ c. search needs) (λ c. search steps.mix-fits) (λ c. unfold mixed in refl))

@@ -1,5 +1,4 @@
 -- `text::frame::little` meets its contract: two fours are eight. Assumes nothing.
-use native.Mathlib.Omega.{arith}
 use borrow.Author.Needs.{needs}
 use Rattle.text.proofs.LittleEndian as bytes
 use Rattle.text.proofs.frame.little.Statement.{statement}
@@ -19,4 +18,4 @@ little-spec =
     (λ c κs. search needs)
     (λ c. search needs)
     (λ c. search needs)
-    (λ c. omega (arith, bytes.little-halves (c .before .before .before .before .before .args .part .now) (omega arith))))
+    (λ c. search bytes.halves-make))

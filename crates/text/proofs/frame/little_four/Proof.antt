@@ -23,4 +23,4 @@ little-four-spec =
     (λ c κs. search needs)
     (λ c. search needs)
     (λ c. search needs)
-    (λ c. (omega (arith, bytes.little-four (c .before .before .before .before .before .before .before .before .before .args .s .now) (omega arith)), omega arith)))
+    (λ c. (search bytes.four-make, omega arith)))
