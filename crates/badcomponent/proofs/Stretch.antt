@@ -13,7 +13,7 @@ use Rattle.meaning.specs.Refusal.{ALIGN, BOUNDS}
 use Rattle.meaning.specs.Limit.{alignment}
 use Rattle.meaning.specs.Kind.{aNumber, aText, present}
 use Rattle.meaning.specs.Judge.{raw}
-use Rattle.lengths.specs.Place.{placed, number}
+use Rattle.lengths.specs.Place.{placeRule, number}
 use Rattle.walk.specs.Reading.{Ends}
 use Rattle.walk.specs.declared.Numeral.{Numeral}
 use Rattle.walk.specs.declared.Numeral.the-variants.{NoNumber, Number}
@@ -35,9 +35,9 @@ use Rattle.badcomponent.specs.Steps.{blobSteps, extraSteps, extentSteps,
 
 -- ---------------------------------------------------------------- where the bytes lie
 
-module _ (start o l left n : ℕ) (is : n ≡ number (placed start o l)) (r : Spot) where
+module _ (start o l left n : ℕ) (is : n ≡ number (placeRule start o l)) (r : Spot) where
   pub in-place : n ≡ 0 → r ≡ spot 0 0 → BlobIs start o l left r
-  unfolding placed blobSteps shown
+  unfolding placeRule blobSteps shown
   in-place z e offset k = e ∙ go (eqb (o % alignment) 0) (leb alignment o && leb (o + l) start) is
     where
       go : (a b : Bool) → n ≡ number (checks._>>_ (checks._unless_ ALIGN a) (checks._unless_ BOUNDS b)) → spot 0 0 ≡ shown (first ((ALIGN at noteOf offset unless a) ++ (BOUNDS at noteOf offset unless b)))
@@ -46,7 +46,7 @@ module _ (start o l left n : ℕ) (is : n ≡ number (placed start o l)) (r : Sp
       go false b h = absurd (omega (arith, h, z))
 
   pub out-of-place : (n ≡ 0 → ⊥) → r ≡ spot n left → BlobIs start o l left r
-  unfolding placed blobSteps shown
+  unfolding placeRule blobSteps shown
   out-of-place z e offset k = e ∙ go (eqb (o % alignment) 0) (leb alignment o && leb (o + l) start) is
     where
       go : (a b : Bool) → n ≡ number (checks._>>_ (checks._unless_ ALIGN a) (checks._unless_ BOUNDS b)) → spot n left ≡ shown (first ((ALIGN at noteOf offset unless a) ++ (BOUNDS at noteOf offset unless b)))

@@ -17,15 +17,15 @@ use Rattle.walk.proofs.Puts.{length-put}
 use Rattle.naming.specs.NotedNames.{tally, Tallied, Noted}
 use Rattle.naming.specs.declared.Tally.{Tally}
 use Rattle.naming.proofs.NameNoted.{noted-odd, noted-good, noted-bad, inside}
-use Rattle.badnames.specs.Keys.{spelt, Known, NotedIf}
+use Rattle.badnames.specs.Keys.{withLetters, Known, NotedIf}
 
 module _ {m : List ℕ} {done : List (Pair Ends)} {t : Tally} {left size : List ℕ} where
-  respelt : Tallied m done t left size → Tallied m done (spelt t done) left size
-  respelt h = record { counted = h .counted; oddly = h .oddly; badly = refl; same-room = h .same-room; listed-are = h .listed-are }
+  letters-tested : Tallied m done t left size → Tallied m done (withLetters t done) left size
+  letters-tested h = record { counted = h .counted; oddly = h .oddly; badly = refl; same-room = h .same-room; listed-are = h .listed-are }
 
   -- tested, a tally is all that is known
   known-whole : Tallied m done t left size → Known true m done t left size
-  known-whole h = record { tallied = respelt h; badly = h .badly }
+  known-whole h = record { tallied = letters-tested h; badly = h .badly }
 
   whole-known : Known true m done t left size → Tallied m done t left size
   whole-known k = let h = k .tallied in record { counted = h .counted; oddly = h .oddly; badly = k .badly; same-room = h .same-room; listed-are = h .listed-are }
@@ -48,7 +48,7 @@ module _ (s : List ℕ) (t : Tally) (left size : List ℕ) (v : Letters) (h : Te
   pub unread-odd : v ≡ NoText → {left′ size′ : List ℕ} → left′ ≡ put left (t .count) 0 → size′ ≡ put size (t .count) 0 → NotedIf false s t left size (tally (t .count + 1) true (t .bad)) left′ size′
   unread-odd e b c = as-put s t left size b c (
     length-put left (t .count) 0,
-    λ m at within is done d p r x y. record { tallied = respelt (noted-odd s (spelt t done) left size v h e .1 m at within is done d p r x (y .tallied)); badly = y .badly },
+    λ m at within is done d p r x y. record { tallied = letters-tested (noted-odd s (withLetters t done) left size v h e .1 m at within is done d p r x (y .tallied)); badly = y .badly },
   )
 
   module _ (lie : Inside (Here s 0) v) (a n : ℕ) (e : v ≡ Text a n) where
@@ -61,11 +61,11 @@ module _ (s : List ℕ) (t : Tally) (left size : List ℕ) (v : Letters) (h : Te
       λ m at within is done d p r x y. record { tallied = either m at within is done d p r x (y .tallied) (utf8 (take (a + n - a) (drop a s))) refl; badly = y .badly },
     )
       where
-        either : (m : List ℕ) (at : ℕ) → at ≤ length m → s ≡ drop at m → (done : List (Pair Ends)) (d : ℕ) (p : Pair Ends) (r : List ℕ) → Reads (suc d) s (p .key) r → Tallied m done (spelt t done) left size
+        either : (m : List ℕ) (at : ℕ) → at ≤ length m → s ≡ drop at m → (done : List (Pair Ends)) (d : ℕ) (p : Pair Ends) (r : List ℕ) → Reads (suc d) s (p .key) r → Tallied m done (withLetters t done) left size
             → (b : Bool) → b ≡ utf8 (take (a + n - a) (drop a s))
-            → Tallied m (done ++ p ∷ []) (spelt (tally (t .count + 1) (t .odd) (t .bad)) (done ++ p ∷ [])) (put left (t .count) (length s - a)) (put size (t .count) n)
-        either m at within is done d p r x y true g = respelt (noted-good s (spelt t done) left size v h a n e fits g .1 m at within is done d p r x y)
-        either m at within is done d p r x y false g = respelt (noted-bad s (spelt t done) left size v h a n e fits g .1 m at within is done d p r x y)
+            → Tallied m (done ++ p ∷ []) (withLetters (tally (t .count + 1) (t .odd) (t .bad)) (done ++ p ∷ [])) (put left (t .count) (length s - a)) (put size (t .count) n)
+        either m at within is done d p r x y true g = letters-tested (noted-good s (withLetters t done) left size v h a n e fits g .1 m at within is done d p r x y)
+        either m at within is done d p r x y false g = letters-tested (noted-bad s (withLetters t done) left size v h a n e fits g .1 m at within is done d p r x y)
 
 -- ---------------------------------------------------------------- as the code notes it
 

@@ -38,12 +38,12 @@ abbrev pub legible : List (Pair Ends) → Bool
 legible = all (λ p. utf8 (lettersOf p))
 
 -- the tally, but for UTF-8, of which it says what is true
-abbrev pub spelt : Tally → List (Pair Ends) → Tally
-spelt t done = tally (t .count) (t .odd) (not (legible done))
+abbrev pub withLetters : Tally → List (Pair Ends) → Tally
+withLetters t done = tally (t .count) (t .odd) (not (legible done))
 
 -- what is noted of the pairs `done` of a map in m: of UTF-8 nothing, unless it is tested
 pub record Known (tested : Bool) (m : List ℕ) (done : List (Pair Ends)) (t : Tally) (left size : List ℕ) : Type 0 where
-  pub tallied : Tallied m done (spelt t done) left size
+  pub tallied : Tallied m done (withLetters t done) left size
   pub badly : t .bad ≡ (tested && not (legible done))
 
 -- one more pair, whose key begins s, a part that runs to the end of m

@@ -27,9 +27,9 @@ use Rattle.badcomponent.specs.Steps as component
 use Rattle.badparts.specs.declared.Owned.{Owned}
 use Rattle.badparts.specs.Parts.{owned, keyOf, InsideIs, ValueIs, LengthIs}
 
-spelt-noted : (t : Node Ends) (w : Word Ends) → aWord t ≡ pass w → w .note ≡ noteOf t
+passed-word-noted : (t : Node Ends) (w : Word Ends) → aWord t ≡ pass w → w .note ≡ noteOf t
 unfolding aWord asWord
-spelt-noted t w e = go (kind t) refl e
+passed-word-noted t w e = go (kind t) refl e
   where
     go : (k : Kind Ends) → kind t ≡ k → asWord k ≡ pass w → w .note ≡ noteOf t
     go (number n) h e = absurd (let z : _≡_ {A = ℕ} 0 1 = cc in omega arith)
@@ -44,7 +44,7 @@ module _ (s : List ℕ) (c : ℕ) (e : Places) (h : EntryIs 28 s c e) where
   found t q r ns k n at = named-entry 28 s t q r componentLimit ns k c n at e (h)
 
   key-is : (n : Named Ends) → EntryAt 28 s n e → e .key ≡ keyOf n
-  key-is n x = x .key-stands .left-is ∙ sym (ap (λ (i : Ends). length (i .start)) (spelt-noted (x .key) (n .name) (x .spells)))
+  key-is n x = x .key-stands .left-is ∙ sym (ap (λ (i : Ends). length (i .start)) (passed-word-noted (x .key) (n .name) (x .spells)))
 
   pub at-value : (z : Spot) → z ≡ spot 22 (e .value) → (r : Owned) → r ≡ owned z (e .key) → ValueIs s c r
   at-value z i r k t q y ns m n at = let x = found t q y ns m n at in k ∙ (rw (i, x .value-stands .left-is, key-is n x) refl)

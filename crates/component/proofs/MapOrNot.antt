@@ -33,7 +33,7 @@ module _ (L : Layout) (above : Option ℕ) (c : List ℕ) (start : ℕ) (x : Ope
   no-map e t q r n = rw (opens.opening c x h NotOpen e 27 t q r) refl
 
   pub entries-judged : (mode count size : ℕ) → x ≡ Opened mode count size → (p : List ℕ) → Placed L mode count (Here c size) (replicate 10 0) p → (v : Judged) → VerdictIs L above (Here c size) start p v → ComponentIs L above c start v
-  entries-judged mode count size is p placed v judged t q r n =
+  entries-judged mode count size is p slots v judged t q r n =
       let m = opens.opened c x h mode count size is .trees 27 t q r in
-      let pl = subst (λ u. Placed L mode count u (replicate 10 0) p) (part-to-end c size) placed in
+      let pl = subst (λ u. Placed L mode count u (replicate 10 0) p) (part-to-end c size) slots in
       subst (λ u. VerdictIs L above u start p v) (part-to-end c size) judged 26 (m .pairs) (m .last) (m .due .chain) (pl (m .pairs) (m .last) (m .due)) t (m .kind-is) n

@@ -14,7 +14,7 @@ use Rattle.meaning.specs.Notes.{mapCheck}
 use Rattle.meaning.specs.Kind.{aNumber, present}
 use Rattle.meaning.specs.Layouts.{Layout}
 use Rattle.meaning.specs.Judge.{aType, raw}
-use Rattle.lengths.specs.Place.{placed, number}
+use Rattle.lengths.specs.Place.{placeRule, number}
 use Rattle.walk.specs.Reading.{Ends}
 use Rattle.walk.specs.declared.Numeral.{Numeral}
 use Rattle.walk.specs.declared.Numeral.the-variants.{NoNumber, Number}
@@ -30,7 +30,7 @@ use Rattle.component.specs.declared.value.Fine.the-variants.{No as Bad, 
 use Rattle.component.specs.declared.value.Spot.{Spot}
 use Rattle.component.specs.declared.value.Spot.the-variants.{No as NoSpot, Yes as At}
 use Rattle.component.specs.Value.{leftWord, DtypeAt, NumberAt, Typed, Digested, Unpacked, Encoded}
-use Rattle.component.specs.Verdict.{storage, StorageAt, extent, ExtentAt, extras, ExtrasAt, placedAt}
+use Rattle.component.specs.Verdict.{storage, StorageAt, extent, ExtentAt, extras, ExtrasAt, judgedPlace}
 
 -- ---------------------------------------------------------------- a check, from the outcome that is known
 
@@ -120,20 +120,20 @@ module _ (s : List ℕ) (a b c : ℕ) (r₁ : Fine) (h₁ : Unpacked (Here s 0) 
 
 -- ---------------------------------------------------------------- the blob's place
 
-module _ (start code t o l g n : ℕ) (is : n ≡ number (placed start o l)) where
-  pub in-place : n ≡ 0 → Yes code t o l g ≡ placedAt start code t o l g
-  unfolding placed
+module _ (start code t o l g n : ℕ) (is : n ≡ number (placeRule start o l)) where
+  pub in-place : n ≡ 0 → Yes code t o l g ≡ judgedPlace start code t o l g
+  unfolding placeRule
   in-place z = go (eqb (o % 64) 0) refl (leb 64 o) refl (leb (o + l) start) refl
     where
-      go : (x : Bool) → eqb (o % 64) 0 ≡ x → (y : Bool) → leb 64 o ≡ y → (w : Bool) → leb (o + l) start ≡ w → Yes code t o l g ≡ placedAt start code t o l g
+      go : (x : Bool) → eqb (o % 64) 0 ≡ x → (y : Bool) → leb 64 o ≡ y → (w : Bool) → leb (o + l) start ≡ w → Yes code t o l g ≡ judgedPlace start code t o l g
       go false ex y ey w ew = absurd (let q = rw ex at is in omega arith)
       go true ex false ey w ew = absurd (let q = rw (ex, ey) at is in omega arith)
       go true ex true ey false ew = absurd (let q = rw (ex, ey, ew) at is in omega arith)
       go true ex true ey true ew = rw (ex, ey, ew) refl
 
-  pub out-of-place : (n ≡ 0 → ⊥) → No n ≡ placedAt start code t o l g
-  out-of-place z = go (placed start o l) refl
+  pub out-of-place : (n ≡ 0 → ⊥) → No n ≡ judgedPlace start code t o l g
+  out-of-place z = go (placeRule start o l) refl
     where
-      go : (k : Check (Unit {0})) → placed start o l ≡ k → No n ≡ placedAt start code t o l g
+      go : (k : Check (Unit {0})) → placeRule start o l ≡ k → No n ≡ judgedPlace start code t o l g
       go (pass v) e = absurd (z (is ∙ ap number e))
       go (refuse m i j) e = rw e (ap No (is ∙ ap number e))

@@ -9,7 +9,7 @@ use Rattle.meaning.specs.Check.{Check, pass, refuse, _>>_}
 use Rattle.meaning.specs.Notes.{mapCheck}
 use Rattle.meaning.specs.Model.{Component}
 use Rattle.meaning.specs.Layouts.{Layout}
-use Rattle.lengths.specs.Place.{placed}
+use Rattle.lengths.specs.Place.{placeRule}
 use Rattle.walk.specs.Reading.{Ends}
 use Rattle.fields.proofs.Texts.{Here}
 use Rattle.component.specs.declared.Judged.{Judged}
@@ -21,7 +21,7 @@ use Rattle.component.specs.declared.judge.Stretch.the-variants.{No as No
 use Rattle.component.specs.declared.value.Spot.{Spot}
 use Rattle.component.specs.declared.value.Spot.the-variants.{No as NoSpot, Yes as At}
 use Rattle.component.specs.Value.{leftWord, placeOf, spot}
-use Rattle.component.specs.Verdict.{storage, placesOf, stored, StorageAt, extent, reached, ExtentAt, extras, ExtrasAt, judged, unlessNo, placedAt, Fields, Found, sound, SoundIs}
+use Rattle.component.specs.Verdict.{storage, placesOf, stored, StorageAt, extent, reached, ExtentAt, extras, ExtrasAt, judged, unlessNo, judgedPlace, Fields, Found, sound, SoundIs}
 use Rattle.component.proofs.Pieces.{refused-so, Passed, passed-so}
 
 judged-placed : (k : Check (Unit {0})) (c : Component Ends) → unlessNo k (judged (pass c)) ≡ judged (k >> pass c)
@@ -59,11 +59,11 @@ module _ (L : Layout) (above : Option ℕ) (s : List ℕ) (start : ℕ) (p : Lis
       no-extras n e d f x w v =
           rw (has-storage d f x .is) (rw (extent-is d f x (Reaching o l) e₂) (rw (refused-so leftWord (extras (f .unpacked) (f .encoding) (f .digest)) n (extras-are d f x (NoSpot n) e)) refl))
 
-      pub all-placed : (g : ℕ) → r₃ ≡ At g → (r : Judged) → r ≡ placedAt start code t o l g → SoundIs L above s start p r
+      pub all-placed : (g : ℕ) → r₃ ≡ At g → (r : Judged) → r ≡ judgedPlace start code t o l g → SoundIs L above s start p r
       unfolding sound
       all-placed g e r is d f x w v =
           let y = has-storage d f x in
           let z = passed-so leftWord (extras (f .unpacked) (f .encoding) (f .digest)) g (extras-are d f x (At g) e) in
           rw (y .is) (rw (extent-is d f x (Reaching o l) e₂) (rw (z .is)
-          (is ∙ ap (λ (k : ℕ × ℕ). placedAt start (k .0) (k .1) o l g) (sym (y .shown)) ∙ ap (λ (i : ℕ). placedAt start (y .value .dtype) (leftWord (y .value .type)) o l i) (sym (z .shown))
-          ∙ judged-placed (placed start o l) (record { name = w; dtype = y .value .dtype; type = y .value .type; offset = o; length = l; digest = z .value; entry = v }))))
+          (is ∙ ap (λ (k : ℕ × ℕ). judgedPlace start (k .0) (k .1) o l g) (sym (y .shown)) ∙ ap (λ (i : ℕ). judgedPlace start (y .value .dtype) (leftWord (y .value .type)) o l i) (sym (z .shown))
+          ∙ judged-placed (placeRule start o l) (record { name = w; dtype = y .value .dtype; type = y .value .type; offset = o; length = l; digest = z .value; entry = v }))))

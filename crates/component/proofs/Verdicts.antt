@@ -21,7 +21,7 @@ use Rattle.meaning.specs.Layouts.{slot, somes, Layout, dtypeAt, current, old, l
 use Rattle.meaning.specs.Judge as judge
 use Rattle.meaning.proofs.CurrentIsBase.{bind-assoc}
 use Rattle.meaning.proofs.Tests.{not-both, both-left, both-right}
-use Rattle.lengths.specs.Place.{placed}
+use Rattle.lengths.specs.Place.{placeRule}
 use Rattle.walk.specs.Reading.{Ends, Chain, foldl}
 use Rattle.fields.specs.Slots.{marks, Holds}
 use Rattle.fields.proofs.Stands.{hold-none, Item, hold-some, keys-are-text, none-twice, field-stands}
@@ -178,7 +178,7 @@ module _ (L : Layout) (above : Option ℕ) (start : ℕ) (t : Node Ends) (ps : L
             found = record { dtype = at 0; type = at 1; offset = offset; length = size; unpacked = at 4; encoding = at 5; digest = at 6 }
 
             judged-sound : the ≡ sound L above start n (noteOf t) found
-            unfolding judge.component field.componentFields field.fields aMapping asMapping sound storage codeOf extent extras placed
+            unfolding judge.component field.componentFields field.fields aMapping asMapping sound storage codeOf extent extras placeRule
             judged-sound = rw kt (rw (a, b) (rw (g₁, g₂, g₃)
                 (sym (bind-assoc (optional (judge.aDtype L) (at 0)) (λ own. required (judge.orElse own above)) _)
                 ∙ regroup (λ d u o l g. record { name = n; dtype = d; type = u; offset = o; length = l; digest = g; entry = noteOf t })

@@ -14,7 +14,7 @@ use Rattle.meaning.specs.Model.{Word, Component}
 use Rattle.meaning.specs.Kind.{kind, mapping, aNumber, aText, present}
 use Rattle.meaning.specs.Layouts.{Layout}
 use Rattle.meaning.specs.Judge.{aType, raw, component}
-use Rattle.lengths.specs.Place.{placed}
+use Rattle.lengths.specs.Place.{placeRule}
 use Rattle.walk.specs.Reading.{Ends, Reads, Chain, Due, foldl}
 use Rattle.fields.specs.Slots.{marks, Stands, Holds}
 use Rattle.component.specs.declared.Judged.{Judged}
@@ -109,8 +109,8 @@ abbrev pub unlessNo : Check (Unit {0}) → Judged → Judged
 unlessNo (pass a) r = r
 unlessNo (refuse n o c) r = No n
 
-abbrev pub placedAt : ℕ → ℕ → ℕ → ℕ → ℕ → ℕ → Judged
-placedAt start code t o l g = unlessNo (placed start o l) (Yes code t o l g)
+abbrev pub judgedPlace : ℕ → ℕ → ℕ → ℕ → ℕ → ℕ → Judged
+judgedPlace start code t o l g = unlessNo (placeRule start o l) (Yes code t o l g)
 
 -- the fields of a component that has all it needs, and where they stand
 pub record Fields : Type 0 where
@@ -137,7 +137,7 @@ sound L above start n e f = do
   k ← storage L above (f .dtype) (f .type)
   x ← extent (f .offset) (f .length)
   g ← extras (f .unpacked) (f .encoding) (f .digest)
-  placed start (x .offset) (x .length)
+  placeRule start (x .offset) (x .length)
   pass (record { name = n; dtype = k .dtype; type = k .type; offset = x .offset; length = x .length; digest = g; entry = e })
 
 abbrev pub SoundIs : Layout → Option ℕ → List ℕ → ℕ → List ℕ → Judged → Type 0

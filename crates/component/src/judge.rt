@@ -101,8 +101,8 @@ fn extras(s: &[u8], a: usize, b: usize, c: usize) -> Spot
 }
 
 // A component of this dtype, type, offset, length and digest, in a file whose manifest begins at `start`.
-fn placed(start: u64, code: u64, t: usize, o: u64, l: u64, g: usize) -> Judged
-    ensures { λ r. ⌜ r ≡ is.placedAt start code t o l g ⌝ }
+fn judge_place(start: u64, code: u64, t: usize, o: u64, l: u64, g: usize) -> Judged
+    ensures { λ r. ⌜ r ≡ is.judgedPlace start code t o l g ⌝ }
 {
     let n = lengths::place(start, o, l);
     if n == 0 {
@@ -122,7 +122,7 @@ fn sound(layout: u64, above: u64, s: &[u8], start: u64, p: &[usize]) -> Judged
             Stretch::No(n) => Judged::No(n),
             Stretch::Yes(o, l) => match extras(&s[0..], p[4], p[5], p[6]) {
                 Spot::No(n) => Judged::No(n),
-                Spot::Yes(g) => placed(start, code, t, o, l, g),
+                Spot::Yes(g) => judge_place(start, code, t, o, l, g),
             },
         },
     }

@@ -21,13 +21,13 @@ use Rattle.component.specs.Value.{leftWord}
 use Rattle.fields.proofs.Places as places
 use Rattle.fields.proofs.Texts.{Here, no-word, word, letters}
 use Rattle.table.specs.WordAt.{bare, lettered}
-use Rattle.components.specs.Typed.{SpeltUnit, UnitIs}
+use Rattle.components.specs.Typed.{TypeUnit, UnitIs}
 
 module _ (s : List ℕ) (l : Letters) (h : TextIs (Here s 0) l) (code : ℕ) where
-  pub unit-kind : l ≡ NoText → SpeltUnit s code 0
+  pub unit-kind : l ≡ NoText → TypeUnit s code 0
   unit-kind e d t q r w x = absurd (let z : pass w ≡ fault KIND = sym x ∙ no-word s l h e d t q r in let y : _≡_ {A = ℕ} 0 1 = cc in omega arith)
 
-  pub unit-word : (at n : ℕ) (e : l ≡ Text at n) (u : ℕ) → u ≡ unitNumber (ratioOf (listed logicals (letters s l h at n e))) (widthOf code) → SpeltUnit s code u
+  pub unit-word : (at n : ℕ) (e : l ≡ Text at n) (u : ℕ) → u ≡ unitNumber (ratioOf (listed logicals (letters s l h at n e))) (widthOf code) → TypeUnit s code u
   unit-word at n e u is d t q r w x = is ∙ ap (λ (v : Word Ends). unitNumber (ratioOf (listed logicals (v .letters))) (widthOf code)) (pass-same (sym (word s l h at n e d t q r) ∙ x))
 
 module _ (c : List ℕ) (code left u : ℕ) where
@@ -36,7 +36,7 @@ module _ (c : List ℕ) (code left u : ℕ) where
   unit-none z is k (bare b) e f = is ∙ ap widthOf (sym e) ∙ sym (unit-bare (part k) (ap lettersOf b))
   unit-none z is k (lettered w b d t x a) e f = let y = x .0 in let v : length (w .note .start) ≡ left = sym (ap leftWord b) ∙ f in absurd (omega arith)
 
-  pub unit-some : (left ≡ 0 → ⊥) → (at : ℕ) → at ≡ length c - left → SpeltUnit (Here c at) code u → UnitIs c code left u
+  pub unit-some : (left ≡ 0 → ⊥) → (at : ℕ) → at ≡ length c - left → TypeUnit (Here c at) code u → UnitIs c code left u
   unfolding part lettersOf
   unit-some n at is h k (bare b) e f = absurd (n (sym f ∙ ap leftWord b))
   unit-some n at is h k (lettered w b d t x a) e f =

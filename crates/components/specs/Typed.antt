@@ -15,8 +15,8 @@ use Rattle.component.specs.Value.{leftWord}
 use Rattle.table.specs.WordAt.{WordAt}
 
 -- bytes of one element, as `types::unit_of` gives them, over the storage with this code, of the logical type that begins s
-abbrev pub SpeltUnit : List ℕ → ℕ → ℕ → Type 0
-SpeltUnit s code r = Whatever s λ d t q. (w : Word Ends) → aWord t ≡ pass w → r ≡ unitNumber (ratioOf (listed logicals (w .letters))) (widthOf code)
+abbrev pub TypeUnit : List ℕ → ℕ → ℕ → Type 0
+TypeUnit s code r = Whatever s λ d t q. (w : Word Ends) → aWord t ≡ pass w → r ≡ unitNumber (ratioOf (listed logicals (w .letters))) (widthOf code)
 
 -- the same of a component in c, whose type has `left` bytes left, 0 for none
 abbrev pub UnitIs : List ℕ → ℕ → ℕ → ℕ → Type 0

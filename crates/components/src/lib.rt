@@ -7,7 +7,7 @@ use naming::Tally;
 use row::plain;
 use row::unit;
 use table::Place;
-use table::lay::ahead;
+use table::lay::next_row;
 use table::row::put_row;
 use table::stored::role;
 use table::stored::stored;
@@ -153,7 +153,7 @@ fn entries(
                     next,
                     t,
                 );
-                next = ahead(next, columns::COMPONENT, t.len());
+                next = next_row(next, columns::COMPONENT, t.len());
                 names = naming::note(&s[at..], names, left, size);
                 at = v + w.end;
                 due -= 2;

@@ -10,8 +10,8 @@ ghost use Rattle.components.specs.Typed as is;
 ghost use Rattle.components.specs.Row.{putRow};
 
 // Bytes of one element of the logical type that begins s, as types::unit_of has them.
-fn spelt_unit(s: &[u8], code: u64) -> u64
-    ensures { λ r. ⌜ is.SpeltUnit (now (s .entry)) code r ⌝ }
+fn type_unit(s: &[u8], code: u64) -> u64
+    ensures { λ r. ⌜ is.TypeUnit (now (s .entry)) code r ⌝ }
 {
     match walk::text(&s[0..]) {
         Letters::NoText => 0,
@@ -30,7 +30,7 @@ pub fn unit(c: &[u8], code: u64, left: usize) -> u64
         return types::width_of(code);
     }
     let at = place_of(c.len(), left);
-    spelt_unit(&c[at..], code)
+    type_unit(&c[at..], code)
 }
 
 // Puts the row of component j, if there is room: the code of its role, bytes of one element, 1 for plain u64, and its length.

@@ -11,7 +11,7 @@ fn low_digits(out: &mut [u8], at: usize, n: u64, k: u64) -> usize
     ensures { λ r. ⌜ Wrote (is.lowDigits k n) at (now (out .entry)) (now (out .exit)) r ⌝ }
 {
     if k == 0 {
-        return put::placed(at);
+        return put::capped_place(at);
     }
     let before = low_digits(out, at, n / 10, k - 1);
     put::byte(out, before, 48 + (n % 10) as u8)

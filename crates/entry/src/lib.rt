@@ -11,7 +11,7 @@ pub struct Places {
     pub value: usize,
 }
 
-fn placed(key: usize, value: usize) -> Places
+fn places_of(key: usize, value: usize) -> Places
     ensures { λ r. ⌜ r ≡ is.places key value ⌝ }
 {
     Places {
@@ -25,7 +25,7 @@ fn chosen(index: usize, n: usize, key: usize, value: usize, held: Places) -> Pla
     ensures { λ r. ⌜ r ≡ is.chosen index n key value held ⌝ }
 {
     if n == index {
-        return placed(key, value);
+        return places_of(key, value);
     }
     held
 }
@@ -38,7 +38,7 @@ fn entries(s: &[u8], left: u64, mode: u64, count: u64, index: usize) -> Places
     let mut at = 0;
     let mut due = count;
     let mut n = 0;
-    let mut held = placed(0, 0);
+    let mut held = places_of(0, 0);
     loop {
         match walk::past_key(&s[at..], mode, due, left) {
             Entry::End(_) => return held,
@@ -62,7 +62,7 @@ pub fn entry(s: &[u8], left: u64, index: usize) -> Places
     ensures { λ r. ⌜ is.EntryIs left (now (s .entry)) index r ⌝ }
 {
     match walk::map(&s[0..]) {
-        Opening::NotOpen => placed(0, 0),
+        Opening::NotOpen => places_of(0, 0),
         Opening::Opened(mode, count, size) => entries(&s[size..], left, mode, count, index),
     }
 }

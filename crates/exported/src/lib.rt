@@ -16,7 +16,7 @@ ghost use Rattle.meaning.specs.Layouts as layouts;
 ghost use Rattle.meaning.specs.Types as types;
 ghost use Rattle.meaning.specs.Format as format;
 ghost use Rattle.types.specs.Known as known;
-ghost use Rattle.lengths.specs.Place.{placed, number};
+ghost use Rattle.lengths.specs.Place.{placeRule, number};
 ghost use Rattle.formats.specs.Parts.{partRows};
 ghost use Rattle.reader.specs.Verdict.{verdict};
 ghost use Rattle.put.specs.Wrote.{Wrote};
@@ -206,7 +206,7 @@ pub extern "C" fn leaf_coordinate_length(n: u64, rank: u64, count: u64) -> bool
 
 #[no_mangle]
 pub extern "C" fn leaf_place(start: u64, offset: u64, length: u64) -> u64
-    ensures { λ r. ⌜ r ≡ number (placed start offset length) ⌝ }
+    ensures { λ r. ⌜ r ≡ number (placeRule start offset length) ⌝ }
 {
     lengths::place(start, offset, length)
 }

@@ -82,15 +82,15 @@ named-table limit t ns e = go (aMapping t) refl e
     go (pass ps) h e = go₂ ps h (each (λ i. nameOf) 0 ps) refl e
 
 -- a name's key and value
-record Spelt (p : Pair Ends) (n : Named Ends) : Type 0 where
+record IsNamed (p : Pair Ends) (n : Named Ends) : Type 0 where
   pub key : aWord (p .key) ≡ pass (n .name)
   pub value : p .value ≡ n .value
 
-spelt : (p : Pair Ends) (n : Named Ends) → nameOf p ≡ pass n → Spelt p n
+is-named : (p : Pair Ends) (n : Named Ends) → nameOf p ≡ pass n → IsNamed p n
 unfolding nameOf nameKind aWord asWord
-spelt p n e = go (kind (p .key)) refl e
+is-named p n e = go (kind (p .key)) refl e
   where
-    go : (k : Kind Ends) → kind (p .key) ≡ k → nameKind (p .value) k ≡ pass n → Spelt p n
+    go : (k : Kind Ends) → kind (p .key) ≡ k → nameKind (p .value) k ≡ pass n → IsNamed p n
     go (number x) h e = absurd (impossible e)
     go (words w) h e = let x : w ≡ n .name = cc in let y : p .value ≡ n .value = cc in record { key = ap asWord h ∙ ap {B = Check (Word Ends)} pass x; value = y }
     go (list x) h e = absurd (impossible e)
@@ -105,7 +105,7 @@ unfolding inTable leftBoth
 named-entry d s t q e limit ns h j n at r told =
     let m = named-table limit t ns h in
     let p = named-nth (m .0) ns 0 (m .2) j n (the-nth at) in
-    let w = spelt (p .0) n (p .2) in
+    let w = is-named (p .0) n (p .2) in
     let c = chained d s t q e (m .0) (m .1) in
     let a = nth-stands d s (m .0) (c .at) (c .within) (c .rest) (c .chain) j (p .0) (p .1) in
     let z : r ≡ leftBoth (some (p .0)) = told t q e ∙ ap (inTable j) (m .1) ∙ ap leftBoth (p .1) in

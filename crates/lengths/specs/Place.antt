@@ -6,8 +6,8 @@ use Rattle.meaning.specs.Check.{Check, pass, refuse, _>>_, _unless_}
 use Rattle.meaning.specs.Refusal.{ALIGN, BOUNDS}
 use Rattle.meaning.specs.Limit.{alignment}
 
-unfoldable pub placed : ℕ → ℕ → ℕ → Check (Unit {0})
-placed start o l = do
+unfoldable pub placeRule : ℕ → ℕ → ℕ → Check (Unit {0})
+placeRule start o l = do
   ALIGN unless eqb (o % alignment) 0
   BOUNDS unless (leb alignment o && leb (o + l) start)
 

@@ -3,7 +3,7 @@ ghost use mathlib.Core.Path.{_≡_};
 ghost use Prim.Native.Nat.{_+_, _*_, _/_, _%_};
 ghost use lib.Dec.{ltb, eqb};
 ghost use Rattle.meaning.specs.Types.{product};
-ghost use Rattle.lengths.specs.Place.{placed, number};
+ghost use Rattle.lengths.specs.Place.{placeRule, number};
 
 const MOST: u64 = 0xffff_ffff_ffff_ffff;
 
@@ -107,7 +107,7 @@ pub fn coordinate_length(n: u64, rank: u64, count: u64) -> bool
 
 // The refusal of a component's place, 0 for none: ALIGN, then BOUNDS.
 pub fn place(start: u64, offset: u64, length: u64) -> u64
-    ensures { λ r. ⌜ r ≡ number (placed start offset length) ⌝ }
+    ensures { λ r. ⌜ r ≡ number (placeRule start offset length) ⌝ }
 {
     if offset % 64 != 0 {
         return numbers::ALIGN;

@@ -223,10 +223,10 @@ module _ {P : Type 0} where
       bind (required (o .components)) _ (taken (o .components)) λ components at-components.
       bind (optional (aDtype current) dtype) _ (anyhow (optional (aDtype current) dtype)) λ d u₅.
       bind (shapeOf shape) _ (anyhow (shapeOf shape)) λ s u₂.
-      bind (aText format) _ (text-weighs format) λ f spelt.
+      bind (aText format) _ (text-weighs format) λ f text.
       bind (optional attributesOf (o .attributes)) _ (anyhow (optional attributesOf (o .attributes))) λ a u₃.
       bind (componentsOf current start (inherited (f .letters) d) components) _ (components-weigh start (inherited (f .letters) d) components) λ cs all.
-      then (formatRules (f .letters) s (map part cs)) _ (passes _ (let b = p .both in omega (arith, b, at-format, at-components, spelt, all)))
+      then (formatRules (f .letters) s (map part cs)) _ (passes _ (let b = p .both in omega (arith, b, at-format, at-components, text, all)))
 
   objects-weigh : (start : ℕ) (t : Node P) → If (Within (sumOf objectWeight) (weight t)) (objectsOf current start t)
   unfolding objectsOf

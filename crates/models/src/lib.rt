@@ -124,7 +124,7 @@ fn of_first(
         );
         i += 1;
     }
-    put::placed(past)
+    put::capped_place(past)
 }
 
 // The object j of the second if the m of the first lack its name.
@@ -149,7 +149,7 @@ fn of_new(
     if m <= i {
         return entries::entry(list, at, 2, 0, j as u64, 0, 0, 0, 0, 0);
     }
-    put::placed(at)
+    put::capped_place(at)
 }
 
 // All of the second's objects.
@@ -174,7 +174,7 @@ fn of_second(
         past = of_new(second, b, n, j, first, a, m, ix, sorted, list, past);
         j += 1;
     }
-    put::placed(past)
+    put::capped_place(past)
 }
 
 // The entries of the first's objects, from the list's beginning on.

@@ -3,7 +3,7 @@ use naming::Named;
 use naming::Tally;
 use object::Judged;
 use table::Place;
-use table::lay::ahead;
+use table::lay::next_row;
 use walk::Entry;
 use walk::Opening;
 ghost use mathlib.Core.Bool.{true};
@@ -99,7 +99,7 @@ fn beyond(v: Judged, from: usize, room: usize) -> usize
             if 16 < n {
                 return from;
             }
-            ahead(from, columns::COMPONENT * n, room)
+            next_row(from, columns::COMPONENT * n, room)
         }
     }
 }
@@ -166,7 +166,7 @@ fn entries(
                 }
                 let judged = w.verdict;
                 first = keep(judged, names.count, first);
-                row = ahead(row, columns::OBJECT, t.len());
+                row = next_row(row, columns::OBJECT, t.len());
                 next = beyond(judged, next, t.len());
                 names = naming::note(&s[at..], names, left, size);
                 at = v + w.end;

@@ -20,7 +20,7 @@ fn past_one(at: usize) -> usize
     ensures { λ r. ⌜ r ≡ capped (at + 8) ⌝ }
 {
     if at < MOST {
-        return put::placed(at + 8);
+        return put::capped_place(at + 8);
     }
     MOST
 }
@@ -124,7 +124,7 @@ pub fn of_pair(
     let s = of_components(first, a, c, m, second, b, d, n, i, j, list, past_one(at));
     let what = own + s.names + s.dtypes + s.kinds + s.bytes;
     if what == 0 {
-        return put::placed(at);
+        return put::capped_place(at);
     }
     entries::entry(list, at, 3, i, j, 0, 0, what, 0, 0);
     s.at

@@ -12,7 +12,7 @@ use put::blank_number;
 use put::blank_storage;
 use put::blank_text;
 use put::byte;
-use put::placed;
+use put::capped_place;
 use put::word;
 use view::part;
 ghost use mathlib.Core.Path.{_≡_};
@@ -94,7 +94,7 @@ fn blobs(
         row += columns::COMPONENT;
         left -= 1;
     }
-    placed(past)
+    capped_place(past)
 }
 
 fn object_words(name: &[u8], format: &[u8], out: &mut [u8], at: usize) -> usize
@@ -141,7 +141,7 @@ fn objects_of(
         row += columns::OBJECT;
         left -= 1;
     }
-    placed(past)
+    capped_place(past)
 }
 
 pub fn whole(

@@ -77,7 +77,7 @@ fn of_shared(
     let what = d.dtype + d.kind + d.bytes;
     if what == 0 {
         return Seen {
-            at: put::placed(at),
+            at: put::capped_place(at),
             names: 0,
             dtypes: 0,
             kinds: 0,
@@ -181,7 +181,7 @@ pub fn of_first(
         k += 1;
     }
     Seen {
-        at: put::placed(past),
+        at: put::capped_place(past),
         names: names,
         dtypes: dtypes,
         kinds: kinds,
@@ -215,7 +215,7 @@ fn of_lone(
         return Lone { at: past, names: 4 };
     }
     Lone {
-        at: put::placed(at),
+        at: put::capped_place(at),
         names: 0,
     }
 }
@@ -266,7 +266,7 @@ pub fn of_second(
         l += 1;
     }
     Lone {
-        at: put::placed(past),
+        at: put::capped_place(past),
         names: names,
     }
 }

@@ -16,7 +16,7 @@ use Rattle.fields.proofs.Texts.{Here}
 use Rattle.component.specs.Value.{leftWord}
 use Rattle.table.specs.WordAt.{WordAt}
 use Rattle.table.specs.declared.span.Span as found
-use Rattle.table.specs.Spans.{spanOf, spanned, spanOfOption, SpeltAt}
+use Rattle.table.specs.Spans.{spanOf, spanned, spanOfOption, TextSpanAt}
 use Rattle.explained.specs.Step.{Step}
 use Rattle.explained.specs.Notes.{mapStep}
 use Rattle.explained.specs.Explain.{span, explanation}
@@ -44,17 +44,17 @@ module _ (m : List ℕ) (end : ℕ) where
       let y : size ≡ length (p .at .start) - length (p .at .rest) = b ∙ ap (λ u. passed u left) (part-to-end m 0) ∙ ap (passed m) (sym l) ∙ size-is p in
       rw (x, y) refl
 
-  spelt : (left : ℕ) (r : found.Span) → SpeltAt (Here m 0) left end r → (o : Option (Word Ends)) → WordAt m o → leftWord o ≡ left → spanned r ≡ spanOfOption end o
-  spelt left r told o w = told o (subst (λ u. WordAt u o) (sym (part-to-end m 0)) w)
+  name-span : (left : ℕ) (r : found.Span) → TextSpanAt (Here m 0) left end r → (o : Option (Word Ends)) → WordAt m o → leftWord o ≡ left → spanned r ≡ spanOfOption end o
+  name-span left r told o w = told o (subst (λ u. WordAt u o) (sym (part-to-end m 0)) w)
 
   pub is-explained : (n o c object role left : ℕ) (s : Step Ends) → Met m n o c object role left s
-      → (a b : found.Span) → SpeltAt (Here m 0) object end a → SpeltAt (Here m 0) role end b → (place size : ℕ) → place ≡ end - left → size ≡ passed (Here m 0) left
+      → (a b : found.Span) → TextSpanAt (Here m 0) object end a → TextSpanAt (Here m 0) role end b → (place size : ℕ) → place ≡ end - left → size ≡ passed (Here m 0) left
       → _≡_ {A = explain.Explanation} (record { number = n; object = o; component = c; objectName = spanned a; componentName = spanned b; place = span place size; room = 0 })
       (explanation (some (mapStep (spanOf end) s)) 0)
   unfolding explanation
   is-explained n o c object role left s k a b ha hb place size hp hs =
-      let x : spanned a ≡ spanOfOption end (s .objectName) = spelt object a ha (s .objectName) (k .name) (k .name-left) in
-      let y : spanned b ≡ spanOfOption end (s .componentName) = spelt role b hb (s .componentName) (k .part) (k .part-left) in
+      let x : spanned a ≡ spanOfOption end (s .objectName) = name-span object a ha (s .objectName) (k .name) (k .name-left) in
+      let y : spanned b ≡ spanOfOption end (s .componentName) = name-span role b hb (s .componentName) (k .part) (k .part-left) in
       let w : s .place ≡ k .stands .it .place .at = ap (λ t. t .place) (k .stands .is) in
       let z : span place size ≡ spanOf end (s .place) = place-is (k .stands .it .place) place size left (sym (ap (λ e. length (e .start)) w) ∙ k .place-left) hp hs ∙ ap (spanOf end) (sym w) in
       rw (x, y, z, ← k .number, ← k .ofObject, ← k .ofComponent) refl

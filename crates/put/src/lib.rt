@@ -12,7 +12,7 @@ ghost use Rattle.put.specs.Wrote.{Wrote, capped};
 // No text is as long as this, and no place is above it.
 const MOST: usize = 0x8000_0000_0000_0000;
 
-pub fn placed(at: usize) -> usize
+pub fn capped_place(at: usize) -> usize
     ensures { λ r. ⌜ r ≡ capped at ⌝ }
 {
     if at < MOST { at } else { MOST }
@@ -40,7 +40,7 @@ pub fn word(out: &mut [u8], at: usize, w: &[u8]) -> usize
         past = byte(out, past, w[i]);
         i += 1;
     }
-    placed(past)
+    capped_place(past)
 }
 
 const DIGITS: [u8; 16] = *b"0123456789abcdef";
@@ -85,7 +85,7 @@ pub fn text(out: &mut [u8], at: usize, t: &[u8]) -> usize
         past = shown(out, past, t[i]);
         i += 1;
     }
-    placed(past)
+    capped_place(past)
 }
 
 fn number(out: &mut [u8], at: usize, n: u64) -> usize
@@ -112,7 +112,7 @@ fn storage(out: &mut [u8], at: usize, code: u64) -> usize
         let end = from + NAMES[first] as usize;
         return word(out, at, &NAMES[from..end]);
     }
-    placed(at)
+    capped_place(at)
 }
 
 // The same, each after a blank.

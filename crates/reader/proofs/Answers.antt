@@ -38,7 +38,7 @@ use Rattle.reader.specs.declared.Told.{Told}
 use Rattle.reader.specs.declared.Told.the-variants.{No, Yes}
 use Rattle.reader.specs.declared.into.Answer.{Answer}
 use Rattle.reader.specs.Verdict.{manifestReading, Accepted, ManifestIs}
-use Rattle.reader.specs.Answer.{refused, read, answered, AttributesIs, ahead, laidOver, placed, Filled}
+use Rattle.reader.specs.Answer.{refused, read, answered, AttributesIs, beforeRows, laidOver, placed, Filled}
 use Rattle.reader.proofs.Frames.{at-zero, framed, inside, manifest-read}
 use Rattle.reader.proofs.RootParts.{attributesAt, rooted, field-holds}
 
@@ -84,28 +84,28 @@ back-is first t l =
     let h : length (drop first t) ≤ length t - first = omega (arith, length-drop first t) in
     ap (λ (z : List ℕ). take first t ++ (l ++ z)) (drop-of-length-le (drop first t) h) ∙ ap (λ (z : List ℕ). take first t ++ z) (append-nil l)
 
-part-room : (last : Bool) (t : List ℕ) (needed first : ℕ) → needed ≤ length t → first ≡ ahead last (length t) needed → needed ≤ length (lentPart first t)
-unfolding ahead
+part-room : (last : Bool) (t : List ℕ) (needed first : ℕ) → needed ≤ length t → first ≡ beforeRows last (length t) needed → needed ≤ length (lentPart first t)
+unfolding beforeRows
 part-room false t needed first h e = omega (arith, part-length first t, e, h)
 part-room true t needed first h e = omega (arith, part-length first t, e, h)
 
 -- the first number of the part
 module _ (last : Bool) (room needed : ℕ) where
-  pub ahead-last : last ≡ true → room - needed ≡ ahead last room needed
-  unfolding ahead
-  ahead-last e = rw e refl
+  pub before-rows-last : last ≡ true → room - needed ≡ beforeRows last room needed
+  unfolding beforeRows
+  before-rows-last e = rw e refl
 
-  pub ahead-inside : (first : ℕ) → first ≡ ahead last room needed → first ≤ room
-  unfolding ahead
-  ahead-inside first = by last
+  pub before-rows-inside : (first : ℕ) → first ≡ beforeRows last room needed → first ≤ room
+  unfolding beforeRows
+  before-rows-inside first = by last
     where
-      by : (b : Bool) → first ≡ ahead b room needed → first ≤ room
+      by : (b : Bool) → first ≡ beforeRows b room needed → first ≤ room
       by false e = omega (arith, e)
       by true e = omega (arith, e)
 
-rows-laid : (last : Bool) (t l : List ℕ) (needed first : ℕ) → needed ≤ length t → first ≡ ahead last (length t) needed
+rows-laid : (last : Bool) (t l : List ℕ) (needed first : ℕ) → needed ≤ length t → first ≡ beforeRows last (length t) needed
     → lentBack first t (l ++ drop needed (lentPart first t)) ≡ laidOver last t needed l
-unfolding ahead laidOver
+unfolding beforeRows laidOver
 rows-laid false t l needed first h e =
     back-is first t (l ++ drop needed (lentPart first t))
     ∙ (rw e refl) ∙ ap (λ (z : List ℕ). l ++ drop needed z) (part-to-end t 0)
@@ -165,9 +165,9 @@ module _ (layout start : ℕ) (m : List ℕ) (before : List ℕ) where
             let v : s .size ≡ attributesSpan (mapOption (mapP (spanOf (start + length m))) (a .model .attributes)) .size = ap (λ (s : spans.Span). s .size) z in
             rw (x, y, u, v) refl
 
-        module _ (last : Bool) (first : ℕ) (before-rows : first ≡ ahead last (length before) (objectWidth * objects + componentWidth * components)) where
-          rows-ahead : first ≡ ahead last (length before) (roomFor (mapModel (spanOf (start + length m)) (a .model)))
-          rows-ahead = before-rows ∙ ap (ahead last (length before)) (sym room-is)
+        module _ (last : Bool) (first : ℕ) (before-rows : first ≡ beforeRows last (length before) (objectWidth * objects + componentWidth * components)) where
+          rows-before : first ≡ beforeRows last (length before) (roomFor (mapModel (spanOf (start + length m)) (a .model)))
+          rows-before = before-rows ∙ ap (beforeRows last (length before)) (sym room-is)
 
           enough-mapped : roomFor (mapModel (spanOf (start + length m)) (a .model)) ≤ length before
           enough-mapped = let x = leb-true (objectWidth * objects + componentWidth * components) (length before) (sym fits) in omega (arith, x, room-is)
@@ -188,7 +188,7 @@ module _ (layout start : ℕ) (m : List ℕ) (before : List ℕ) where
               let from : objectWidth * objects ≡ objectWidth * length (a .model .objects) = ap (λ n. objectWidth * n) (a .objects-are) in (
                 answer-is s h ∙ ap answered (sym reading-is),
                 ap (lentBack first before) (w (parts .objects) (o .0) (o .1) (a .model) (parts .objects-judged) from part-enough)
-                    ∙ rows-laid last before (rows M) (roomFor M) first enough-mapped rows-ahead ∙ ap (placed last before) (sym reading-is),
+                    ∙ rows-laid last before (rows M) (roomFor M) first enough-mapped rows-before ∙ ap (placed last before) (sym reading-is),
               )
 
 -- ---------------------------------------------------------------- as the code has it
@@ -208,11 +208,11 @@ module _ (layout : ℕ) (last : Bool) (start : ℕ) (m before : List ℕ) (x : T
           (no-room layout start m before objects components left at (told-there (Yes objects components left at) e) last (sym (not-true roomy-so f) ∙ by))
 
       pub filled-so : start + length m < FAULT → not roomy-so ≡ false
-          → (first : ℕ) → first ≡ ahead last (length before) (objectWidth * objects + componentWidth * components) → (place : ℕ) → place ≡ length m - at → (after : List ℕ)
+          → (first : ℕ) → first ≡ beforeRows last (length before) (objectWidth * objects + componentWidth * components) → (place : ℕ) → place ≡ length m - at → (after : List ℕ)
           → Written layout (Here m place) start (start + length m) (objectWidth * objects) (lentPart first before) after → (s : Span) → AttributesIs m left (start + length m) s
           → Filled (layoutOf layout) last start m before (read objects components start s) (lentBack first before after)
-      filled-so room f first ahead-is place here after w s a =
-          written layout start m before objects components left at (told-there (Yes objects components left at) e) (omega arith) (sym (not-false roomy-so f) ∙ by) last first ahead-is place here after w s a
+      filled-so room f first before-rows-are place here after w s a =
+          written layout start m before objects components left at (told-there (Yes objects components left at) e) (omega arith) (sym (not-false roomy-so f) ∙ by) last first before-rows-are place here after w s a
 
 -- the room for the rows
 module _ (objects components : ℕ) (t : List ℕ) (roomy-so : Bool) (by : roomy-so ≡ leb (objectWidth * objects + componentWidth * components) (length t)) (f : not roomy-so ≡ false) where

@@ -47,9 +47,9 @@ abbrev into : Layout → ℕ → List ℕ → List ℕ → Check Reading
 into L start m before = manifestReading L (start + length m) start m >>= roomy (length before)
 
 -- how many numbers of a table stand before rows that need so many: none, or all that is left where the rows are its last
-unfoldable pub ahead : Bool → ℕ → ℕ → ℕ
-ahead false room needed = 0
-ahead true room needed = room - needed
+unfoldable pub beforeRows : Bool → ℕ → ℕ → ℕ
+beforeRows false room needed = 0
+beforeRows true room needed = room - needed
 
 -- a table with rows that need so many numbers laid over its beginning, or over its end
 unfoldable pub laidOver : Bool → List ℕ → ℕ → List ℕ → List ℕ

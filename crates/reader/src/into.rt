@@ -58,9 +58,9 @@ pub fn attributes(m: &[u8], left: usize, end: usize) -> Span
 }
 
 // The numbers of a table that stand before the rows of so many objects and components: none, or where the rows are its last all that they don't need.
-fn ahead(last: bool, room: usize, objects: usize, components: usize) -> usize
+fn before_rows(last: bool, room: usize, objects: usize, components: usize) -> usize
     requires { ⌜ objectWidth * objects + componentWidth * components ≤ room ⌝ }
-    ensures { λ r. ⌜ r ≡ is.ahead last room (objectWidth * objects + componentWidth * components) ⌝ }
+    ensures { λ r. ⌜ r ≡ is.beforeRows last room (objectWidth * objects + componentWidth * components) ⌝ }
 {
     if last {
         return room - (columns::OBJECT * objects + columns::COMPONENT * components);
@@ -81,7 +81,7 @@ fn fill(layout: u64, m: &[u8], start: usize, last: bool, t: &mut [u64]) -> Answe
             }
             let end = start + m.len();
             let place = place_of(m.len(), at);
-            let first = ahead(last, t.len(), objects, components);
+            let first = before_rows(last, t.len(), objects, components);
             objects::lay(
                 layout,
                 &m[place..],

@@ -170,10 +170,10 @@ module _ {P : Type 0} where
       bind (required (o .components)) _ (anyhow (required (o .components))) λ components u₄.
       bind (optional (aDtype L) dtype) _ (anyhow (optional (aDtype L) dtype)) λ d u₈.
       bind (shapeOf shape) _ (anyhow (shapeOf shape)) λ s u₅.
-      bind (aText format) _ (text-held format) λ f spelt.
+      bind (aText format) _ (text-held format) λ f text.
       bind (optional attributesOf (o .attributes)) _ (anyhow (optional attributesOf (o .attributes))) λ a u₆.
       bind (componentsOf L start (inherited (f .letters) d) components) _ (components-held L start (inherited (f .letters) d) components) λ cs good.
-      then-held (formatRules (f .letters) s (map part cs)) _ λ rules. passes _ (refl, record { format = spelt; components = good; rules = rules })
+      then-held (formatRules (f .letters) s (map part cs)) _ λ rules. passes _ (refl, record { format = text; components = good; rules = rules })
 
   pub record GoodModel (m : Model P) : Type 0 where
     pub names : judgedNames objectLimit (map (λ o. o .name .letters) (m .objects)) ≡ pass tt

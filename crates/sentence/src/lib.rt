@@ -115,7 +115,7 @@ fn belongs(what: &[u8], name: &[u8], place: u64, size: u64, out: &mut [u8], at: 
         let past = word(out, at, what);
         return blank_text(out, past, name);
     }
-    put::placed(at)
+    put::capped_place(at)
 }
 
 // The bytes at fault, or the room that is needed.

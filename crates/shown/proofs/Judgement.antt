@@ -95,13 +95,13 @@ module _ (L : Layout) (file : List ℕ) (start : ℕ) where
   abbrev Pairing : ℕ → Pair Span → Type 0
   Pairing = PlacedPair L file start
 
-  abbrev Spelt : Word Span → Type 0
-  Spelt = WordStands L file start
+  abbrev WordHere : Word Span → Type 0
+  WordHere = WordStands L file start
 
   -- what is taken out of a placed node
   abbrev Kinds : ℕ → Kind Span → Type 0
   Kinds d (number n) = Unit {0}
-  Kinds d (words w) = Spelt w
+  Kinds d (words w) = WordHere w
   Kinds d (list l) = Unit {0}
   Kinds d (mapping ps) = Every (Pairing (less d)) ps
   Kinds d null = Unit {0}
@@ -138,7 +138,7 @@ module _ (L : Layout) (file : List ℕ) (start : ℕ) where
   asNumber-so null = faults KIND tt
   asNumber-so another = faults KIND tt
 
-  asWord-so : (d : ℕ) (k : Kind Span) → Kinds d k → Judged Spelt (asWord k)
+  asWord-so : (d : ℕ) (k : Kind Span) → Kinds d k → Judged WordHere (asWord k)
   unfolding asWord
   asWord-so d (number n) h = faults KIND tt
   asWord-so d (words w) h = passes w h
@@ -175,7 +175,7 @@ module _ (L : Layout) (file : List ℕ) (start : ℕ) where
   presentKind-so d t another h = h
 
   abbrev pub Naming : ℕ → Named Span → Type 0
-  Naming d n = Spelt (n .name) × At d (n .value)
+  Naming d n = WordHere (n .name) × At d (n .value)
 
   nameKind-so : (d : ℕ) (v : Node Span) (k : Kind Span) → At d v → Kinds d k → Judged (Naming d) (nameKind v k)
   unfolding nameKind
@@ -190,7 +190,7 @@ module _ (L : Layout) (file : List ℕ) (start : ℕ) where
   unfolding aNumber
   number-so t = asNumber-so (kind t)
 
-  word-so : (d : ℕ) (t : Node Span) → At d t → Judged Spelt (aWord t)
+  word-so : (d : ℕ) (t : Node Span) → At d t → Judged WordHere (aWord t)
   unfolding aWord
   word-so d t h = asWord-so d (kind t) (kind-so d t h)
 
@@ -198,7 +198,7 @@ module _ (L : Layout) (file : List ℕ) (start : ℕ) where
   unfolding aMapping
   table-so d t h = asTable-so d (kind t) (kind-so d t h)
 
-  text-so : (d : ℕ) (t : Node Span) → At d t → Judged Spelt (aText t)
+  text-so : (d : ℕ) (t : Node Span) → At d t → Judged WordHere (aText t)
   unfolding aText
   text-so d t h = bind (aWord t) _ (word-so d t h) λ w q. tested TEXT (utf8 (w .letters)) _ tt λ e. passes w q
 
@@ -251,7 +251,7 @@ module _ (L : Layout) (file : List ℕ) (start : ℕ) where
   unfolding aDtype
   dtype-so d t h = bind (aWord t) _ (word-so d t h) λ w q. codeOr-so _ (codes-below (w .letters))
 
-  type-so : (d : ℕ) (t : Node Span) → At 27 t → Judged Spelt (aType d t)
+  type-so : (d : ℕ) (t : Node Span) → At 27 t → Judged WordHere (aType d t)
   unfolding aType
   type-so d t h = bind (aText t) _ (text-so 27 t h) λ w q. tested TYPE (fitsOver d (listed logicals (w .letters))) _ tt λ e. passes w q
 
@@ -287,10 +287,10 @@ module _ (L : Layout) (file : List ℕ) (start : ℕ) where
     named : n .name ≡ c .name
     noted : c .entry ≡ noteOf (n .value)
     map : AttributesStand L file start 28 (n .value)
-    name : Spelt (c .name)
+    name : WordHere (c .name)
     storage : c .dtype < 13
-    type : IfAny Spelt (c .type)
-    digest : IfAny Spelt (c .digest)
+    type : IfAny WordHere (c .type)
+    digest : IfAny WordHere (c .digest)
     blob : BlobLies start c
 
   found-so : (above : Option ℕ) → Stored above → (n : Named Span) → Naming 28 n → Judged (Found n) (component L start above n)
@@ -409,12 +409,12 @@ module _ (L : Layout) (file : List ℕ) (start : ℕ) where
       bind (optional (aDtype L) dtype) _ (with-verdict (optional (aDtype L) dtype) (if-any (aDtype L) dtype (at-dtype .1) (dtype-so 29))) λ d code.
       let ungiven : place ≡ none → d ≡ none = λ e. absent (aDtype L) dtype d (code .0) (absent-in place (o .dtype) dtype (at-dtype .0) e (p .ungiven e)) in
       bind (shapeOf shape) _ (shape-so shape) λ s rank.
-      bind (aText format) _ (text-so 29 format at-format) λ f spelt.
+      bind (aText format) _ (text-so 29 format at-format) λ f text.
       bind (optional attributesOf (o .attributes)) _ (if-any attributesOf (o .attributes) (p .attributes) (attributes-so 29)) λ a lie.
       bind (componentsOf L start (inherited (f .letters) d) components) _
       (components-so (inherited (f .letters) d) (λ role. record { stored = inherited-so (f .letters) d role (code .1); ungiven = λ e. ap (λ (d : Option ℕ). inherited (f .letters) d role) (ungiven e) }) components at-components) λ cs accepted.
       then (formatRules (f .letters) s (map part cs)) _ (format-so (f .letters) s (map part cs))
-      (passes _ (record { name = h .0; rank = rank; format = spelt; attributes = lie; components = accepted }))
+      (passes _ (record { name = h .0; rank = rank; format = text; attributes = lie; components = accepted }))
 
   objects-so : (t : Node Span) → At 31 t → Judged (Every (ObjectAccepted L file start)) (objectsOf L start t)
   unfolding objectsOf

@@ -31,7 +31,7 @@ use Rattle.table.proofs.Storage.{withCode, stored-so}
 use Rattle.table.proofs.Lettered.{named-so, type-at, digest-at, entered-so}
 use Rattle.fields.proofs.Texts.{Here}
 use Rattle.table.specs.declared.span.Span.{Span}
-use Rattle.table.specs.Spans.{spanOf, spanned, spanOfWord, spanOfOption, SpeltIs, SpeltAt, WholeFrom}
+use Rattle.table.specs.Spans.{spanOf, spanned, spanOfWord, spanOfOption, TextSpanIs, TextSpanAt, WholeFrom}
 use Rattle.table.specs.Row.{twelve, rowIn, RowPut}
 use Rattle.table.proofs.Runs as laying
 
@@ -103,7 +103,7 @@ module _ (layout format : ℕ) (s c : List ℕ) (v : Judged) (size end owner i :
       let j : No m ≡ judged (pass (own .own)) = sym e ∙ says (p .value) r value (n .name) ∙ ap judged (ap (component (layoutOf layout) start (given code)) (sym (so .is)) ∙ own .is) in
       absurd (let z : _≡_ {A = ℕ} 0 1 = cc in omega arith)
 
-  pub a-row : (code t o l g : ℕ) → v ≡ Yes code t o l g → (x y z w : Span) → SpeltIs (Here s 0) end x → SpeltAt (Here c 0) t end y → SpeltAt (Here c 0) g end z → WholeFrom (Here c 0) size end w
+  pub a-row : (code t o l g : ℕ) → v ≡ Yes code t o l g → (x y z w : Span) → TextSpanIs (Here s 0) end x → TextSpanAt (Here c 0) t end y → TextSpanAt (Here c 0) g end z → WholeFrom (Here c 0) size end w
       → (kept : ℕ) → StorageIs layout format s code kept → length c * 1 < 2 ^ 63
       → after ≡ sets before i (twelve (spanned x) kept (spanned y) o l (spanned z) owner (spanned w)) → RowPut layout format s c v size end owner i before after
   unfolding componentRow
@@ -127,11 +127,11 @@ module _ (layout format : ℕ) (s c : List ℕ) (v : Judged) (size end owner i :
       let length-is : l ≡ k .length = own-length ∙ ap (λ (c : Component Ends). c .length) (own .recoded) in
       let digest-is : leftWord (k .digest) ≡ g = ap (λ (c : Component Ends). leftWord (c .digest)) (sym (own .recoded)) ∙ own-digest in
       let a : spanned x ≡ spanOfWord end (k .name) =
-      subst (λ u. SpeltIs u end x) (part-to-end s 0) sx d (p .key) q key (n .name) (so .word) ∙ ap (spanOfWord end) (named-so c room (p .value) r value (layoutOf layout) A start (n .name) k is) in
+      subst (λ u. TextSpanIs u end x) (part-to-end s 0) sx d (p .key) q key (n .name) (so .word) ∙ ap (spanOfWord end) (named-so c room (p .value) r value (layoutOf layout) A start (n .name) k is) in
       let b : spanned y ≡ spanOfOption end (k .type) =
-      subst (λ u. SpeltAt u t end y) (part-to-end c 0) sy (k .type) (type-at c room (p .value) r value (layoutOf layout) A start (n .name) k is) type-is in
+      subst (λ u. TextSpanAt u t end y) (part-to-end c 0) sy (k .type) (type-at c room (p .value) r value (layoutOf layout) A start (n .name) k is) type-is in
       let f : spanned z ≡ spanOfOption end (k .digest) =
-      subst (λ u. SpeltAt u g end z) (part-to-end c 0) sz (k .digest) (digest-at c room (p .value) r value (layoutOf layout) A start (n .name) k is) digest-is in
+      subst (λ u. TextSpanAt u g end z) (part-to-end c 0) sz (k .digest) (digest-at c room (p .value) r value (layoutOf layout) A start (n .name) k is) digest-is in
       let m : spanned w ≡ spanOf end (k .entry) =
       subst (λ u. WholeFrom u size end w) (part-to-end c 0) sw .is 28 (p .value) r value sized ∙ ap (spanOf end) (entered-so c room (p .value) r value (layoutOf layout) A start (n .name) k is) in
       let same : twelve (spanned x) kept (spanned y) o l (spanned z) owner (spanned w) ≡ rowIn end owner k =

@@ -25,7 +25,7 @@ use Rattle.shape.specs.declared.Shaped.the-variants.{No, Yes}
 use Rattle.fields.specs.Slots.{Stands}
 use Rattle.fields.proofs.Texts.{Here}
 use Rattle.table.specs.declared.span.Span.{Span}
-use Rattle.table.specs.Spans.{spanOf, spanned, spanOfWord, SpeltIs, SpeltAt, ItemIs}
+use Rattle.table.specs.Spans.{spanOf, spanned, spanOfWord, TextSpanIs, TextSpanAt, ItemIs}
 use Rattle.table.specs.Object.{eight, DimensionsAt, sixteen, objectIn, ObjectPut}
 use Rattle.table.proofs.Runs as laying
 use Rattle.table.proofs.ComponentRow as rows
@@ -101,12 +101,12 @@ module _ (s m p : List ℕ) (count end i : ℕ) (before : List ℕ) where
   pub row-beyond : length before ≤ i → ObjectPut s m p count end i before before
   row-beyond h e t q key o name des counted = sym (laying.sets-out (objectIn end o) before i h)
 
-  pub row-put : (after : List ℕ) (d : List ℕ) (rank : ℕ) → DimensionsAt (Here m 0) (getD p 1 0) d rank → (x : Span) → SpeltIs (Here s 0) end x → (y : Span) → SpeltAt (Here m 0) (getD p 2 0) end y
+  pub row-put : (after : List ℕ) (d : List ℕ) (rank : ℕ) → DimensionsAt (Here m 0) (getD p 1 0) d rank → (x : Span) → TextSpanIs (Here s 0) end x → (y : Span) → TextSpanAt (Here m 0) (getD p 2 0) end y
       → (z : Span) → ItemIs 29 (Here m 0) (getD p 3 0) end z → after ≡ sets before i (sixteen (spanned x) rank (eight d) (spanned y) (spanned z) count) → ObjectPut s m p count end i before after
   unfolding objectRow optionalSpan
   row-put after d rank dims x sx y sy z sz put e t q key o name des counted =
-      let a : spanned x ≡ spanOfWord end (o .name) = subst (λ u. SpeltIs u end x) (part-to-end s 0) sx e t q key (o .name) name in
-      let b : spanned y ≡ spanOfWord end (o .format) = subst (λ u. SpeltAt u (getD p 2 0) end y) (part-to-end m 0) sy (some (o .format)) (des .format-at) (des .format-left) in
+      let a : spanned x ≡ spanOfWord end (o .name) = subst (λ u. TextSpanIs u end x) (part-to-end s 0) sx e t q key (o .name) name in
+      let b : spanned y ≡ spanOfWord end (o .format) = subst (λ u. TextSpanAt u (getD p 2 0) end y) (part-to-end m 0) sy (some (o .format)) (des .format-at) (des .format-left) in
       let c : spanned z ≡ attributesSpan (mapOption (mapP (spanOf end)) (o .attributes)) = subst (λ u. ItemIs 29 u (getD p 3 0) end z) (part-to-end m 0) sz (o .attributes) (des .attributes-held) in
       let f = subst (λ u. DimensionsAt u (getD p 1 0) d rank) (part-to-end m 0) dims .are (des .shape) (des .shape-stands) (o .shape) (des .shape-is) in
       let g : count ≡ length (map (mapComponent (spanOf end)) (o .components)) = counted ∙ sym (length-map (o .components) (mapComponent (spanOf end))) in

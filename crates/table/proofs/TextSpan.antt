@@ -30,7 +30,7 @@ use Rattle.table.specs.WordAt.{bare, lettered}
 use Rattle.fields.proofs.Places as places
 use Rattle.fields.proofs.Texts.{Here}
 use Rattle.table.specs.declared.span.Span.{Span}
-use Rattle.table.specs.Spans.{spanOf, spanned, spanOfWord, SpeltIs, SpeltAt, WholeIs}
+use Rattle.table.specs.Spans.{spanOf, spanned, spanOfWord, TextSpanIs, TextSpanAt, WholeIs}
 
 pub record Lettered (s r : List ℕ) (w : Word Ends) : Type 0 where
   pub note-is : w .note ≡ ends s r
@@ -72,14 +72,14 @@ module _ (s : List ℕ) (end : ℕ) (h : Argued) (is : h ≡ headOf (Here s 0)) 
   head-is : h ≡ headOf s
   head-is = is ∙ ap headOf (part-to-end s 0)
 
-  pub short-spelt : length s < h .size → (r : Span) → SpeltIs s end r
-  short-spelt l r d t q e w k =
+  pub short-text : length s < h .size → (r : Span) → TextSpanIs s end r
+  short-text l r d t q e w k =
       let z = lettered-so d s t q e w k .fits in
       let y : h .size ≡ headOf s .size = ap (λ (a : Argued). a .size) head-is in absurd (omega arith)
 
-  pub head-spelt : (at : ℕ) → at ≡ end - length s → SpeltIs s end (span (at + h .size) (h .value))
+  pub text-after-head : (at : ℕ) → at ≡ end - length s → TextSpanIs s end (span (at + h .size) (h .value))
   unfolding wordSpan spanTo
-  head-spelt at there d t q e w k =
+  text-after-head at there d t q e w k =
       let z = lettered-so d s t q e w k in
       let f = z .fits in
       let start-is : length (w .note .start) ≡ length s = ap (λ (p : Ends). length (p .start)) (z .note-is) in
@@ -92,15 +92,15 @@ module _ (s : List ℕ) (end : ℕ) (h : Argued) (is : h ≡ headOf (Here s 0)) 
       ap₂ (λ a b. record { place = a; size = b }) place-is value-is
 
 module _ (c : List ℕ) (left end : ℕ) where
-  pub none-spelt : left ≡ 0 → SpeltAt c left end (span 0 0)
+  pub no-text : left ≡ 0 → TextSpanAt c left end (span 0 0)
   unfolding optionalSpan
-  none-spelt z o (bare b) e = rw b refl
-  none-spelt z o (lettered w b d t x a) e = let y = x .0 in let v : length (w .note .start) ≡ left = sym (ap leftWord b) ∙ e in absurd (omega arith)
+  no-text z o (bare b) e = rw b refl
+  no-text z o (lettered w b d t x a) e = let y = x .0 in let v : length (w .note .start) ≡ left = sym (ap leftWord b) ∙ e in absurd (omega arith)
 
-  pub some-spelt : (left ≡ 0 → ⊥) → (at : ℕ) → at ≡ length c - left → (r : Span) → SpeltIs (Here c at) end r → SpeltAt c left end r
+  pub text-there : (left ≡ 0 → ⊥) → (at : ℕ) → at ≡ length c - left → (r : Span) → TextSpanIs (Here c at) end r → TextSpanAt c left end r
   unfolding optionalSpan
-  some-spelt n at is r h o (bare b) e = absurd (n (sym e ∙ ap leftWord b))
-  some-spelt n at is r h o (lettered w b d t x a) e =
+  text-there n at is r h o (bare b) e = absurd (n (sym e ∙ ap leftWord b))
+  text-there n at is r h o (lettered w b d t x a) e =
       let v : length (w .note .start) ≡ left = sym (ap leftWord b) ∙ e in
       let z = places.there c (length (w .note .start)) at (is ∙ ap (λ i. length c - i) (sym v)) (λ t. (w : Word Ends) → kinds.aWord t ≡ pass w → spanned r ≡ spanOfWord end w) h d t (x .1) w a in
       rw b z

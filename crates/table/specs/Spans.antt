@@ -34,12 +34,12 @@ abbrev pub spanOfOption : ℕ → Option (Word Ends) → read.Span
 spanOfOption end o = optionalSpan (mapOption (mapWord (spanOf end)) o)
 
 -- the text that begins s
-abbrev pub SpeltIs : List ℕ → ℕ → Span → Type 0
-SpeltIs s end r = Whatever s λ d t q. (w : Word Ends) → aWord t ≡ pass w → spanned r ≡ spanOfWord end w
+abbrev pub TextSpanIs : List ℕ → ℕ → Span → Type 0
+TextSpanIs s end r = Whatever s λ d t q. (w : Word Ends) → aWord t ≡ pass w → spanned r ≡ spanOfWord end w
 
 -- the text in c that has `left` bytes left, 0 for none
-abbrev pub SpeltAt : List ℕ → ℕ → ℕ → Span → Type 0
-SpeltAt c left end r = (o : Option (Word Ends)) → WordAt c o → leftWord o ≡ left → spanned r ≡ spanOfOption end o
+abbrev pub TextSpanAt : List ℕ → ℕ → ℕ → Span → Type 0
+TextSpanAt c left end r = (o : Option (Word Ends)) → WordAt c o → leftWord o ≡ left → spanned r ≡ spanOfOption end o
 
 -- how many bytes an item takes
 abbrev pub SizeIs : Node Ends → ℕ → Type 0

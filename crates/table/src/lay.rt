@@ -38,7 +38,7 @@ pub fn five(t: &mut [u64], i: usize, a: u64, b: u64, c: u64, d: u64, e: u64)
 }
 
 // Where the next row begins, if this one begins at i and takes n numbers of a table with `room` numbers.
-pub fn ahead(i: usize, n: usize, room: usize) -> usize
+pub fn next_row(i: usize, n: usize, room: usize) -> usize
     ensures { λ r. ⌜ (i + n ≤ room → r ≡ i + n) ⌝ }
 {
     if i <= room {

@@ -3,8 +3,8 @@ use crate::lay::five;
 use crate::lay::put;
 use crate::span::Span;
 use crate::span::item_at;
-use crate::span::spelt;
-use crate::span::spelt_at;
+use crate::span::text_span;
+use crate::span::text_span_at;
 use fields::place_of;
 use shape::Shaped;
 ghost use mathlib.Core.Path.{_≡_};
@@ -78,8 +78,8 @@ pub fn put_object(
     }
     let mut d = [0u64; 8];
     let rank = dimensions_at(&m[0..], p[1], &mut d);
-    let name = spelt(&s[0..], end);
-    let format = spelt_at(&m[0..], p[2], end);
+    let name = text_span(&s[0..], end);
+    let format = text_span_at(&m[0..], p[2], end);
     let attributes = item_at(&m[0..], p[3], numbers::IN_OBJECT, end);
     put_sixteen(
         t,

@@ -2,8 +2,8 @@
 use crate::lay::five;
 use crate::lay::two;
 use crate::span::Span;
-use crate::span::spelt;
-use crate::span::spelt_at;
+use crate::span::text_span;
+use crate::span::text_span_at;
 use crate::span::whole_from;
 use crate::stored::storage;
 use component::Judged;
@@ -64,9 +64,9 @@ pub fn put_row(
     match v {
         Judged::No(_) => {}
         Judged::Yes(code, kind, offset, length, digest) => {
-            let name = spelt(&s[0..], end);
-            let typed = spelt_at(&c[0..], kind, end);
-            let digested = spelt_at(&c[0..], digest, end);
+            let name = text_span(&s[0..], end);
+            let typed = text_span_at(&c[0..], kind, end);
+            let digested = text_span_at(&c[0..], digest, end);
             let entry = whole_from(&c[0..], size, end);
             let kept = storage(layout, format, s, code);
             put_twelve(

@@ -9,8 +9,8 @@ pub struct Span {
 }
 
 // The letters of the text that begins s.
-pub fn spelt(s: &[u8], end: usize) -> Span
-    ensures { λ r. ⌜ is.SpeltIs (now (s .entry)) end r ⌝ }
+pub fn text_span(s: &[u8], end: usize) -> Span
+    ensures { λ r. ⌜ is.TextSpanIs (now (s .entry)) end r ⌝ }
 {
     let h = cbor::head(&s[0..]);
     if s.len() < h.size {
@@ -24,14 +24,14 @@ pub fn spelt(s: &[u8], end: usize) -> Span
 }
 
 // The letters of the text that has `left` bytes left in c.
-pub fn spelt_at(c: &[u8], left: usize, end: usize) -> Span
-    ensures { λ r. ⌜ is.SpeltAt (now (c .entry)) left end r ⌝ }
+pub fn text_span_at(c: &[u8], left: usize, end: usize) -> Span
+    ensures { λ r. ⌜ is.TextSpanAt (now (c .entry)) left end r ⌝ }
 {
     if left == 0 {
         return Span { place: 0, size: 0 };
     }
     let at = place_of(c.len(), left);
-    spelt(&c[at..], end)
+    text_span(&c[at..], end)
 }
 
 // The whole item that takes `size` bytes where `left` bytes are left.

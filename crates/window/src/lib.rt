@@ -116,7 +116,7 @@ fn each(
                 lay::two(names, next, t[NAME], t[NAME_LENGTH]);
                 place = sum.place;
                 total = sum.total;
-                next = lay::ahead(next, 2, names.len());
+                next = lay::next_row(next, 2, names.len());
                 at = v + w.end;
                 due -= 2;
             }

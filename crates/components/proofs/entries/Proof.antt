@@ -79,7 +79,7 @@ entries-spec =
     (λ c. let inside = c .before .before .before .before .before .before .before .before .before .before .before .before .before .before .before .before .before .before .before .before .before .before in let judged = inside .before .before in let key = judged .before .before .before in let asked = key .before .before in
     walked.nearer (asked .before .before .loop .inv .walking) (asked .past-key .ensures) (key .k .given .1) (judged .component .ensures .0) (inside .if2 .left))
     (λ c.
-    let noted = c .before .before .before .before .before in let ahead = noted .before .before .before .before in let put = ahead .before .before .before in let kept = put .before .before .before .before .before .before in let inside = kept .before .before .before .before in let judged = inside .before .before in
+    let noted = c .before .before .before .before .before in let next = noted .before .before .before .before in let put = next .before .before .before in let kept = put .before .before .before .before .before .before in let inside = kept .before .before .before .before in let judged = inside .before .before in
     let key = judged .before .before .before in let asked = key .before .before in
     looping.loops-on (asked .before .before .loop .inv) (asked .past-key .ensures) (key .k .given .1) (judged .component .ensures .0) (inside .if2 .left) (judged .component .ensures .1)
-    (kept .keep .ensures .0) (kept .keep .ensures .1) (put .put-row .ensures) (put .put-row .kept .1 .1 .1 .1 .1 .1 .1 .1 .1 .0) (ahead .ahead .ensures) (noted .note .ensures)))
+    (kept .keep .ensures .0) (kept .keep .ensures .1) (put .put-row .ensures) (put .put-row .kept .1 .1 .1 .1 .1 .1 .1 .1 .1 .0) (next .next-row .ensures) (noted .note .ensures)))

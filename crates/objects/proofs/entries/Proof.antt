@@ -67,4 +67,4 @@ entries-spec =
     looping.turn-less (b25 .before .before .loop .inv) (b25 .past-key .ensures) (b23 .k .given .1) (b17 .one .ensures .0) (b12 .if2 .left))
     (λ c. let b12 = c .before .before .before .before .before .before .before .before .before .before .before .before in let b17 = b12 .before .before .before .before .before in let b23 = b17 .before .before .before .before .before .before in let b25 = b23 .before .before in
     looping.loops-on (b25 .before .before .loop .inv) (b25 .past-key .ensures) (b23 .k .given .1) (b17 .one .ensures .0) (b12 .if2 .left) (b17 .one .ensures .1) (b17 .one .ensures .2)
-    (b17 .one .kept .1 .1 .1 .1 .1 .1 .1 .0) (b17 .one .kept .1 .1 .1 .1 .1 .1 .0) (c .before .before .before .before .before .before .before .before .before .before .before .keep .ensures) (c .before .before .before .before .before .before .before .before .before .before .ahead .ensures) (c .before .before .before .before .before .before .before .before .before .beyond .ensures) (c .before .before .before .before .before .note .ensures)))
+    (b17 .one .kept .1 .1 .1 .1 .1 .1 .1 .0) (b17 .one .kept .1 .1 .1 .1 .1 .1 .0) (c .before .before .before .before .before .before .before .before .before .before .before .keep .ensures) (c .before .before .before .before .before .before .before .before .before .before .next-row .ensures) (c .before .before .before .before .before .before .before .before .before .beyond .ensures) (c .before .before .before .before .before .note .ensures)))

@@ -57,4 +57,4 @@ each-spec =
     summing.turn-less (b20 .before .before .loop .inv) (b20 .past-key .ensures) (b18 .k .given .1) (b12 .object .ensures .0) (b8 .if1 .left))
     (λ c. let b6 = c .before .before .before .before .before .before in let b8 = b6 .before .before in let b12 = b8 .before .before .before .before in let b18 = b12 .before .before .before .before .before .before in let b20 = b18 .before .before in
     summing.loops-on (b20 .before .before .loop .inv) (b20 .past-key .ensures) (b18 .k .given .1) (b12 .object .ensures .0) (b8 .if1 .left) (b12 .object .ensures .2) (b12 .object .kept .1 .1 .1 .1 .1 .1 .0)
-    (b12 .object .kept .1 .1 .1 .1 .1 .0) (b6 .add .ensures) (c .before .before .before .before .two .ensures) (c .before .before .before .before .two .kept .0) (c .before .ahead .ensures)))
+    (b12 .object .kept .1 .1 .1 .1 .1 .0) (b6 .add .ensures) (c .before .before .before .before .two .ensures) (c .before .before .before .before .two .kept .0) (c .before .next-row .ensures)))

@@ -8,7 +8,7 @@ use Rattle.decimal.proofs.text.low_digits.Reads as low-digits
 use Rattle.decimal.proofs.text.low_digits.Kinds as low-digits-kinds
 use Rattle.decimal.proofs.text.+low_digits.Lts-low_digits as low-digits-lts
 use Rattle.put.proofs.byte.Reads as byte-reads
-use Rattle.put.proofs.placed.Reads as placed-reads
+use Rattle.put.proofs.capped_place.Reads as capped-place-reads
 use Rattle.decimal.proofs.text.+low_digits.{statement}
 use Rattle.decimal.proofs.text.+low_digits.Tie.{close}
 
@@ -24,20 +24,20 @@ low-digits-below t =
     and 1 low-digits-kinds.ps (falls 1 low-digits-kinds.ps _<_ μ-low-digits t) low-digits.Pre
 
 -- src/text.rt:15:9
-low-digits-placed-requires : (t : ℕ) → low-digits-lts.Need-placed-requires (
-  placed-reads.Asked,
-  placed-reads.Learnt,
+low-digits-capped-place-requires : (t : ℕ) → low-digits-lts.Need-capped-place-requires (
+  capped-place-reads.Asked,
+  capped-place-reads.Learnt,
   low-digits-below t,
   low-digits.Post,
   byte-reads.Asked,
   byte-reads.Learnt,
 ) (low-digits-at t) low-digits.Post
-low-digits-placed-requires t c κs = search needs
+low-digits-capped-place-requires t c κs = search needs
 
 -- src/text.rt:15:9
 low-digits-returns : (t : ℕ) → low-digits-lts.Need-returns (
-  placed-reads.Asked,
-  placed-reads.Learnt,
+  capped-place-reads.Asked,
+  capped-place-reads.Learnt,
   low-digits-below t,
   low-digits.Post,
   byte-reads.Asked,
@@ -47,8 +47,8 @@ low-digits-returns t c = search letters.low-none
 
 -- src/text.rt:17:46
 low-digits-sub-low-digits : (t : ℕ) → low-digits-lts.Need-sub-low-digits (
-  placed-reads.Asked,
-  placed-reads.Learnt,
+  capped-place-reads.Asked,
+  capped-place-reads.Learnt,
   low-digits-below t,
   low-digits.Post,
   byte-reads.Asked,
@@ -58,8 +58,8 @@ low-digits-sub-low-digits t c = search needs
 
 -- src/text.rt:17:9
 low-digits-low-digits-requires : (t : ℕ) → low-digits-lts.Need-low-digits-requires (
-  placed-reads.Asked,
-  placed-reads.Learnt,
+  capped-place-reads.Asked,
+  capped-place-reads.Learnt,
   low-digits-below t,
   low-digits.Post,
   byte-reads.Asked,
@@ -69,8 +69,8 @@ low-digits-low-digits-requires t c κs = search needs
 
 -- src/text.rt:18:40
 low-digits-cast-byte : (t : ℕ) → low-digits-lts.Need-cast-byte (
-  placed-reads.Asked,
-  placed-reads.Learnt,
+  capped-place-reads.Asked,
+  capped-place-reads.Learnt,
   low-digits-below t,
   low-digits.Post,
   byte-reads.Asked,
@@ -80,8 +80,8 @@ low-digits-cast-byte t c = search needs
 
 -- src/text.rt:18:35
 low-digits-add-byte : (t : ℕ) → low-digits-lts.Need-add-byte (
-  placed-reads.Asked,
-  placed-reads.Learnt,
+  capped-place-reads.Asked,
+  capped-place-reads.Learnt,
   low-digits-below t,
   low-digits.Post,
   byte-reads.Asked,
@@ -91,8 +91,8 @@ low-digits-add-byte t c = search needs
 
 -- src/text.rt:18:5
 low-digits-byte-requires : (t : ℕ) → low-digits-lts.Need-byte-requires (
-  placed-reads.Asked,
-  placed-reads.Learnt,
+  capped-place-reads.Asked,
+  capped-place-reads.Learnt,
   low-digits-below t,
   low-digits.Post,
   byte-reads.Asked,
@@ -102,8 +102,8 @@ low-digits-byte-requires t c κs = search needs
 
 -- src/text.rt:11:1
 low-digits-same-length : (t : ℕ) → low-digits-lts.Need-same-length (
-  placed-reads.Asked,
-  placed-reads.Learnt,
+  capped-place-reads.Asked,
+  capped-place-reads.Learnt,
   low-digits-below t,
   low-digits.Post,
   byte-reads.Asked,
@@ -113,8 +113,8 @@ low-digits-same-length t c = search needs
 
 -- src/text.rt:11:1
 low-digits-returns-2 : (t : ℕ) → low-digits-lts.Need-returns-2 (
-  placed-reads.Asked,
-  placed-reads.Learnt,
+  capped-place-reads.Asked,
+  capped-place-reads.Learnt,
   low-digits-below t,
   low-digits.Post,
   byte-reads.Asked,
@@ -124,8 +124,8 @@ low-digits-returns-2 t c = search (letters.both, letters.low-more)
 
 pub +low-digits-spec : {M : Type 1} → statement M
 +low-digits-spec = close μ-low-digits λ t. low-digits-lts.spec (
-  placed-reads.Asked,
-  placed-reads.Learnt,
+  capped-place-reads.Asked,
+  capped-place-reads.Learnt,
   low-digits-below t,
   low-digits.Post,
   byte-reads.Asked,
@@ -133,7 +133,7 @@ pub +low-digits-spec : {M : Type 1} → statement M
 )
     (low-digits-at t)
     low-digits.Post
-    (low-digits-placed-requires t)
+    (low-digits-capped-place-requires t)
     (low-digits-returns t)
     (low-digits-sub-low-digits t)
     (low-digits-low-digits-requires t)

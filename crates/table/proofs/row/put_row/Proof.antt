@@ -33,5 +33,5 @@ put-row-spec =
     (λ c. search rows.no-row)
     (λ c. search needs)
     (λ c. let b5 = c .before .before .before .before .before in let b9 = b5 .before .before .before .before in let b14 = b9 .before .before .before .before .before in let b20 = b14 .before .before .before .before .before .before in let a = b20 .args in
-    rows.a-row (a .layout) (a .format) (a .s .now) (a .c .now) (a .v) (a .size) (a .end) (a .owner) (a .i) (a .t .now) _ _ _ _ _ _ (b14 .v .given .1) _ _ _ _ (b9 .before .before .spelt .ensures)
-    (b9 .spelt-at .ensures) (b5 .before .before .spelt-at2 .ensures) (b5 .whole-from .ensures) _ (c .before .before .before .before .storage .ensures) (omega (arith, b20 .good)) (c .before .before .put-twelve .ensures)))
+    rows.a-row (a .layout) (a .format) (a .s .now) (a .c .now) (a .v) (a .size) (a .end) (a .owner) (a .i) (a .t .now) _ _ _ _ _ _ (b14 .v .given .1) _ _ _ _ (b9 .before .before .text-span .ensures)
+    (b9 .text-span-at .ensures) (b5 .before .before .text-span-at2 .ensures) (b5 .whole-from .ensures) _ (c .before .before .before .before .storage .ensures) (omega (arith, b20 .good)) (c .before .before .put-twelve .ensures)))

@@ -2,11 +2,11 @@ use Rattle.meaning.proofs.Lengths.{place-fits}
 use Rattle.fields.proofs.Texts.{letters-in}
 use Rattle.components.proofs.Units as units
 use borrow.Author.Needs.{needs}
-use Rattle.components.proofs.row.spelt_unit.Statement.{statement}
-use Rattle.components.proofs.row.spelt_unit.Tie as tie
+use Rattle.components.proofs.row.type_unit.Statement.{statement}
+use Rattle.components.proofs.row.type_unit.Tie as tie
 
-pub spelt-unit-spec : {M : Type 1} → statement M
-spelt-unit-spec =
+pub type-unit-spec : {M : Type 1} → statement M
+type-unit-spec =
     tie.close
     (tie.spec
     (λ c. search needs)

@@ -1,8 +1,0 @@
--- `put::placed` meets its contract: a law for each branch. Assumes nothing.
-use mathlib.Core.Path.{sym}
-use Rattle.put.proofs.PiecesInTurn as writing
-use Rattle.put.proofs.placed.Statement.{statement}
-use Rattle.put.proofs.placed.Tie as tie
-
-pub placed-spec : {M : Type 1} → statement M
-placed-spec = tie.close (tie.spec (λ c. sym (writing.capped-low _ (c .if1 .taken))) (λ c. sym (writing.capped-high _ (c .if1 .left))))
