@@ -1,22 +1,23 @@
 -- What a reading's answer tells the account, and the account's own answer.
-use Prim.Native.Nat.{ℕ, zero, suc, _+_, _-_, _*_, _≤_, _<_}
+use Prim.Native.Nat.{ℕ, suc, _+_, _-_, _*_, _≤_, _<_, _^_}
 use native.Mathlib.Omega.{arith}
 use mathlib.Core.List.{List, [], _∷_, _++_}
 use mathlib.Core.Option.{some}
 use mathlib.Core.Path.{_≡_, refl, sym, ap, _∙_, subst, subst₂}
 use lib.ListN.{length, take, drop, getElem?, length-append, take-append-drop}
 use lib.Seq.{length-take-le}
-use Rattle.meaning.specs.Columns.{objectWidth, componentWidth}
+use mir.Syntax.{w64}
+use mir.Val.{Fits}
+use Rattle.meaning.specs.Columns.{objectWidth}
 use Rattle.meaning.specs.Check.{Check, pass, refuse}
-use Rattle.meaning.specs.Read.{Span}
-use Rattle.meaning.specs.Model.{Component}
-use Rattle.meaning.specs.Layouts.{Layout}
+use Rattle.meaning.specs.Layouts.{Layout, layoutOf}
 use Rattle.meaning.specs.Frame.{Reading, reading}
-use Rattle.meaning.specs.Rows.{rows, roomFor, componentCount, answer, tableAfter, readInto}
+use Rattle.meaning.specs.Rows.{rows, roomFor, answer, tableAfter, readInto}
 use Rattle.meaning.specs.Every.{Every}
 use Rattle.view.specs.All.{allComponents}
 use Rattle.reader.specs.declared.into.Answer.{Answer}
 use Rattle.reader.specs.Answer.{answered}
+use Rattle.frame.proofs.Frames.{size-back}
 use Rattle.shown.specs.Accepted.{Framing, BlobLies}
 use Rattle.shown.proofs.AcceptedFile.{accepted, accepted-blobs}
 use Rattle.shown.proofs.AfterReading.{read-accepts, read-zero}
@@ -65,63 +66,99 @@ module _ {table : List ℕ} {first n most : ℕ} {b : List ℕ} (r : Rows table 
 
 -- ---- the whole
 
-pub record Read (L : Layout) (file work table : List ℕ) (a : Answer) : Type 0 where
-  pub reading-is : Reading
-  pub reads : readInto L file (length work) ≡ pass reading-is
-  pub lies : Placed L file reading-is
-  pub begins : a .start ≡ reading-is .start
-  pub rows-lie : Rows table (objectWidth * a .objects) (a .components) (a .start)
-  pub within : inside (ranges table (objectWidth * a .objects) (a .components)) (a .start) ≡ is.insideBytes L file reading-is
+record Read (L : Layout) (file work table : List ℕ) (a : Answer) : Type 0 where
+  reading-is : Reading
+  reads : readInto L file (length work) ≡ pass reading-is
+  lies : Placed L file reading-is
+  answers : a ≡ answered (pass reading-is)
+  begins : a .start ≡ reading-is .start
+  holds : table ≡ rows (reading-is .model) ++ drop (roomFor (reading-is .model)) work
 
-module _ (L : Layout) (framing : Framing L) (file work table : List ℕ) (a : Answer) (e : a ≡ answered (readInto L file (length work))) (t : table ≡ tableAfter work (readInto L file (length work))) where
-  pub read : length file < 9223372036854775808 → a .number ≡ 0 → Read L file work table a
-  unfolding answer tableAfter
-  read short z =
-      let y = read-zero L file (length work) framing (ap (λ (x : Answer). x .number) (sym e) ∙ z) in
-      let r = y .0 in
-      let q = y .1 in
-      let p = placed L framing file r (read-accepts L file (length work) r q) in
-      let f : a ≡ answered (pass r) = e ∙ ap answered q in
-      let l : table ≡ rows (r .model) ++ drop (roomFor (r .model)) work = t ∙ ap (tableAfter work) q in
-      let s = p .size in
-      record {
-        reading-is = r;
-        reads = q;
-        lies = p;
-        begins = ap (λ (x : Answer). x .start) f;
-        rows-lie = subst₂ (λ (x : List ℕ) (y : Answer). Rows x (objectWidth * y .objects) (y .components) (y .start)) (sym l) (sym f) (rows-of (r .start) (r .model) (drop (roomFor (r .model)) work) (p .blobs) (omega (arith, s, short)));
-        within = subst₂ (λ (x : List ℕ) (y : Answer). inside (ranges x (objectWidth * y .objects) (y .components)) (y .start) ≡ is.insideBytes L file r) (sym l) (sym f) (ap (λ (x : List ℕ). inside x (r .start)) (ranges-are (r .model) (drop (roomFor (r .model)) work)) ∙ inside-is L file r p);
-      }
+-- what a reading that refuses nothing left
+read : (L : Layout) → Framing L → (file work table : List ℕ) (a : Answer) → a ≡ answered (readInto L file (length work)) → table ≡ tableAfter work (readInto L file (length work)) → a .number ≡ 0
+    → Read L file work table a
+unfolding answer tableAfter
+read L framing file work table a e t z =
+    let y = read-zero L file (length work) framing (ap (λ (x : Answer). x .number) (sym e) ∙ z) in
+    let f : a ≡ answered (pass (y .0)) = e ∙ ap answered (y .1) in
+    record {
+      reading-is = y .0;
+      reads = y .1;
+      lies = placed L framing file (y .0) (read-accepts L file (length work) (y .0) (y .1));
+      answers = f;
+      begins = ap (λ (x : Answer). x .start) f;
+      holds = t ∙ ap (tableAfter work) (y .1);
+    }
 
-  -- accepted
-  module _ (k : Read L file work table a) {i : ℕ} (c : i ≡ inside (ranges table (objectWidth * a .objects) (a .components)) (a .start)) where
-    pub fits : (a .start + L .sizeBack ≤ length file) × ((8 ≤ a .start) × (i ≤ a .start - 8))
-    fits =
-        let s = k .lies .size in
-        let h = k .lies .header in
-        let b = k .begins in
-        let w = k .within in
-        let o = both L file (k .reading-is) (k .lies) in
-        (omega (arith, s, b), (omega (arith, h, b), omega (arith, c, w, o, b)))
+module _ {L : Layout} {file work table : List ℕ} {a : Answer} (k : Read L file work table a) where
+  abbrev r : Reading
+  r = k .reading-is
 
-    pub accounted-is : (back : ℕ) → back ≡ L .sizeBack
+  rows-lie : length file * 1 < 2 ^ 63 → Rows table (objectWidth * a .objects) (a .components) (a .start)
+  unfolding answer
+  rows-lie short =
+      subst₂ (λ (x : List ℕ) (y : Answer). Rows x (objectWidth * y .objects) (y .components) (y .start)) (sym (k .holds)) (sym (k .answers))
+      (rows-of (r .start) (r .model) (drop (roomFor (r .model)) work) (k .lies .blobs) (omega (arith, k .lies .size, short)))
+
+  within : inside (ranges table (objectWidth * a .objects) (a .components)) (a .start) ≡ is.insideBytes L file r
+  unfolding answer
+  within =
+      subst₂ (λ (x : List ℕ) (y : Answer). inside (ranges x (objectWidth * y .objects) (y .components)) (y .start) ≡ is.insideBytes L file r) (sym (k .holds)) (sym (k .answers))
+      (ap (λ (x : List ℕ). inside x (r .start)) (ranges-are (r .model) (drop (roomFor (r .model)) work)) ∙ inside-is L file r (k .lies))
+
+  module _ {i : ℕ} (c : i ≡ inside (ranges table (objectWidth * a .objects) (a .components)) (a .start)) where
+    between-is : i + is.betweenBytes L file r ≡ a .start - 8
+    between-is = omega (arith, c, within, both L file r (k .lies), k .begins)
+
+    all-accounted : (back : ℕ) → back ≡ L .sizeBack
         → _≡_ {A = Bytes} (record { number = 0; object = 0; component = 0; frame = 8 + back; manifest = length file - back - a .start; inside = i; between = a .start - 8 - i })
         (is.accounted L file (readInto L file (length work)))
     unfolding is.accounted is.frameBytes is.manifestBytes
-    accounted-is back so =
-        let o = both L file (k .reading-is) (k .lies) in
-        let w : i ≡ is.insideBytes L file (k .reading-is) = c ∙ k .within in
-        let v : k .reading-is .start - 8 - is.insideBytes L file (k .reading-is) ≡ is.betweenBytes L file (k .reading-is) = omega (arith, o) in
+    all-accounted back so =
+        let w : i ≡ is.insideBytes L file (k .reading-is) = c ∙ within in
+        let v : k .reading-is .start - 8 - is.insideBytes L file (k .reading-is) ≡ is.betweenBytes L file (k .reading-is) = omega (arith, both L file (k .reading-is) (k .lies)) in
         rw (so, k .reads, w, k .begins, v) refl
+
+module _ (layout : ℕ) (file work : List ℕ) (a : Answer) (e : a ≡ answered (readInto (layoutOf layout) file (length work))) where
+  -- accepted: the reading left `table`
+  module _ (z : a .number ≡ 0) (table : List ℕ) (t : table ≡ tableAfter work (readInto (layoutOf layout) file (length work))) where
+    known : Read (layoutOf layout) file work table a
+    known = read (layoutOf layout) (size-back layout) file work table a e t z
+
+    module _ (short : length file * 1 < 2 ^ 63) where
+      pub rows-asked : Rows table (objectWidth * a .objects) (a .components) (a .start)
+      rows-asked = rows-lie known short
+
+      pub first-fits : length table ≡ length work → length work * 8 < 2 ^ 63 → Fits w64 (objectWidth * a .objects)
+      first-fits same room = record { fits = omega (arith, rows-asked .lie, same, room) }
+
+    pub past-header : 8 ≤ a .start
+    past-header = omega (arith, known .lies .header, known .begins)
+
+    module _ (back : ℕ) (so : back ≡ layoutOf layout .sizeBack) where
+      pub size-inside : back ≤ length file
+      size-inside = omega (arith, known .lies .size, so)
+
+      pub manifest-inside : a .start ≤ length file - back
+      manifest-inside = omega (arith, known .lies .size, known .begins, so)
+
+    module _ {i : ℕ} (c : i ≡ inside (ranges table (objectWidth * a .objects) (a .components)) (a .start)) where
+      pub inside-before : i ≤ a .start - 8
+      inside-before = omega (arith, between-is known c)
+
+      pub accounted-is : (back : ℕ) → back ≡ layoutOf layout .sizeBack
+          → _≡_ {A = Bytes} (record { number = 0; object = 0; component = 0; frame = 8 + back; manifest = length file - back - a .start; inside = i; between = a .start - 8 - i })
+          (is.accounted (layoutOf layout) file (readInto (layoutOf layout) file (length work)))
+      accounted-is = all-accounted known c
 
   -- refused
   pub refused : (a .number ≡ 0 → ⊥)
       → _≡_ {A = Bytes} (record { number = a .number; object = a .object; component = a .component; frame = 0; manifest = 0; inside = 0; between = 0 })
-      (is.accounted L file (readInto L file (length work)))
-  refused h = by (readInto L file (length work)) e
+      (is.accounted (layoutOf layout) file (readInto (layoutOf layout) file (length work)))
+  refused h = by (readInto (layoutOf layout) file (length work)) e
     where
       by : (x : Check Reading) → a ≡ answered x
-          → _≡_ {A = Bytes} (record { number = a .number; object = a .object; component = a .component; frame = 0; manifest = 0; inside = 0; between = 0 }) (is.accounted L file x)
+          → _≡_ {A = Bytes} (record { number = a .number; object = a .object; component = a .component; frame = 0; manifest = 0; inside = 0; between = 0 }) (is.accounted (layoutOf layout) file x)
       by (pass r) f = absurd (h (unfold answer in ap (λ (y : Answer). y .number) f))
       by (refuse n o c) f = unfold answer is.accounted in rw f refl
 

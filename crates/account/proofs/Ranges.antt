@@ -1,13 +1,14 @@
 -- The components' ranges, gathered row by row. A range is put before the rows that are still to be read.
-use Prim.Native.Nat.{ℕ, zero, suc, _+_, _-_, _*_, _≤_, _<_}
-use native.Mathlib.Numerals.{add-one}
+use Prim.Native.Nat.{ℕ, suc, _+_, _-_, _*_, _^_, _≤_, _<_}
 use native.Mathlib.Omega.{arith}
 use mathlib.Core.List.{List, [], _∷_, _++_, append-assoc, append-nil}
 use mathlib.Core.Path.{_≡_, refl, sym, ap, _∙_, subst}
-use lib.ListN.{length, take, drop, getD, set, length-set, length-append, length-drop}
-use lib.Seq.{take-suc-set, getD-set-other, length-take-le}
+use lib.ListN.{length, take, getD, set, length-set}
+use lib.Seq.{take-suc-set, getD-set-other}
+use mir.Syntax.{w64}
+use mir.Val.{Fits}
 use Rattle.meaning.specs.Columns.{componentWidth, offsetColumn, lengthColumn}
-use Rattle.covering.specs.Order.{Begin, End}
+use Rattle.covering.specs.Order.{End}
 use Rattle.account.specs.Ranges.{ranges, Rows, Gathered}
 
 pub record Gathering (table : List ℕ) (first n most : ℕ) (b : List ℕ) (i : ℕ) : Type 0 where
@@ -27,8 +28,40 @@ module _ {table : List ℕ} {first n most : ℕ} {b : List ℕ} {i : ℕ} (r : R
   abbrev row : ℕ
   row = first + componentWidth * i
 
-  pub row-lies : row + componentWidth ≤ length b
+  row-lies : row + componentWidth ≤ length b
   row-lies = let a = r .lie in let c = w .long in omega (arith, a, c, h)
+
+  pub offset-lies : row + offsetColumn < length b
+  offset-lies = omega (arith, row-lies)
+
+  pub length-lies : row + lengthColumn < length b
+  length-lies = omega (arith, row-lies)
+
+  pub range-lies : 2 * i + 2 ≤ length b
+  range-lies = omega (arith, row-lies)
+
+  -- the places are numbers of 64 bits, scaled too
+  module _ (room : length table * 8 < 2 ^ 63) where
+    pub rows-fit : Fits w64 (componentWidth * i)
+    rows-fit = record { fits = omega (arith, row-lies, w .long, room) }
+
+    pub row-fits : Fits w64 (first + componentWidth * i)
+    row-fits = record { fits = omega (arith, row-lies, w .long, room) }
+
+    pub offset-fits : Fits w64 (first + componentWidth * i + offsetColumn)
+    offset-fits = record { fits = omega (arith, row-lies, w .long, room) }
+
+    pub offset-scaled : Fits w64 ((first + componentWidth * i + offsetColumn) * 8)
+    offset-scaled = record { fits = omega (arith, row-lies, w .long, room) }
+
+    pub length-fits : Fits w64 (first + componentWidth * i + lengthColumn)
+    length-fits = record { fits = omega (arith, row-lies, w .long, room) }
+
+    pub length-scaled : Fits w64 ((first + componentWidth * i + lengthColumn) * 8)
+    length-scaled = record { fits = omega (arith, row-lies, w .long, room) }
+
+    pub range-fits : Fits w64 (2 * i)
+    range-fits = record { fits = omega (arith, row-lies, w .long, room) }
 
   abbrev begins : ℕ
   begins = getD b (row + offsetColumn) 0
@@ -52,8 +85,11 @@ module _ {table : List ℕ} {first n most : ℕ} {b : List ℕ} {i : ℕ} (r : R
       let z : n - i ≡ suc (n - (i + 1)) = omega (arith, h) in
       rw (z, begins-is, size-is, next-row) refl
 
-  pub past-most : past ≤ most
+  past-most : past ≤ most
   past-most = subst (End most) left (w .end) .0
+
+  pub past-fits : Fits w64 (getD b (first + componentWidth * i + offsetColumn) 0 + getD b (first + componentWidth * i + lengthColumn) 0)
+  past-fits = record { fits = omega (arith, past-most, r .small) }
 
   abbrev rest : List ℕ
   rest = ranges table (first + componentWidth * (i + 1)) (n - (i + 1))

@@ -1,5 +1,5 @@
 -- Numbers made 0, one after the other.
-use Prim.Native.Nat.{ℕ, suc, _+_, _≤_, _<_}
+use Prim.Native.Nat.{ℕ, _+_, _≤_, _<_}
 use native.Mathlib.Numerals.{add-one}
 use native.Mathlib.Omega.{arith}
 use mathlib.Core.List.{List, [], _∷_, _++_}
@@ -31,7 +31,3 @@ module _ {a b : List ℕ} {i : ℕ} (w : Clearing a b i) where
       let l = w .long in
       let z : i ≡ length a = omega (arith, h, m, l) in
       sym (take-all i b h) ∙ w .front ∙ ap (λ (k : ℕ). replicate k 0) z
-
--- as many as there were
-pub as-many : (a b : List ℕ) {z : List ℕ} → z ≡ replicate (length a) 0 → length a ≡ length b → z ≡ replicate (length b) 0
-as-many a b e f = e ∙ ap (λ (k : ℕ). replicate k 0) f

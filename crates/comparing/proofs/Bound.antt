@@ -4,13 +4,13 @@ use native.Mathlib.Omega.{arith}
 use mathlib.Core.List.{List, [], _∷_, _++_, map}
 use mathlib.Core.Bool.{Bool, true, false, cond}
 use mathlib.Core.Option.{Option, none, some}
-use mathlib.Core.Path.{_≡_, refl, sym, ap, _∙_}
+use mathlib.Core.Path.{_≡_, refl, ap, _∙_}
 use lib.ListN.{length, drop, length-append, length-map}
 use lib.Dec.{eqb}
 use Rattle.meaning.specs.Columns.{objectWidth, componentWidth}
 use Rattle.meaning.specs.Limit.{componentLimit}
 use Rattle.meaning.specs.Text.{same}
-use Rattle.meaning.specs.Asked.{askedObject, askedComponent}
+use Rattle.meaning.specs.Asked.{askedComponent}
 use Rattle.meaning.specs.Described.{DescribedComponent, DescribedObject, describedComponent, describedObject}
 use Rattle.meaning.proofs.Lengths.{each-row-length}
 use Rattle.meaning.specs.Every.{Every}

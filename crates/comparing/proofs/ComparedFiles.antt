@@ -1,5 +1,5 @@
 -- What comparing answers: of the list that two tables have, of a refusal, and of two files that were read one after the other into one room.
-use Prim.Native.Nat.{ℕ, _+_, _-_, _*_, _/_, _≤_, _<_}
+use Prim.Native.Nat.{ℕ, _+_, _-_, _*_, _/_, _^_, _≤_, _<_}
 use native.Mathlib.Nat.{zero-add}
 use native.Mathlib.Omega.{arith}
 use mathlib.Core.List.{List, [], _∷_, _++_, append-assoc, append-nil}
@@ -8,29 +8,32 @@ use mathlib.Core.Path.{_≡_, refl, sym, ap, ap₂, _∙_, subst₂}
 use lib.ListN.{length, take, drop, replicate, length-append, length-drop}
 use lib.Seq.{length-take-le, sets, sets-eq, take-at, drop-at}
 use lib.Dec.{leb}
+use mir.Syntax.{w64}
+use mir.Val.{Fits}
 use borrow.Rule.Slice.PartAt.{part-to-end}
 use borrow.Author.Tests.{le-leb, lt-leb, leb-true, leb-false}
 use Rattle.text.proofs.SameIsEqual.{whole}
 use Rattle.meaning.specs.Columns.{objectWidth, componentWidth}
 use Rattle.meaning.specs.Check.{Check, pass, refuse}
 use Rattle.meaning.specs.Refusal.{ROOM}
-use Rattle.meaning.specs.Layouts.{Layout}
+use Rattle.meaning.specs.Layouts.{Layout, layoutOf}
 use Rattle.meaning.specs.Frame.{Reading, reading}
 use Rattle.meaning.specs.Rows.{rows, roomFor, roomy, componentCount, answer, tableAfter, readInto}
 use Rattle.meaning.specs.Described.{DescribedObject, describedBy}
 use Rattle.meaning.proofs.Lengths.{rows-fill}
 use Rattle.reader.specs.declared.into.Answer.{Answer}
 use Rattle.reader.specs.Answer.{answered}
+use Rattle.frame.proofs.Frames.{size-back}
 use Rattle.shown.specs.Accepted.{Framing}
 use Rattle.reader.specs.declared.Verdict.{Verdict}
 use Rattle.reader.specs.Verdict.{verdict}
 use Rattle.shown.proofs.AcceptedFile.{refusals-of-reading}
 use Rattle.shown.proofs.AfterReading.{read-accepts, read-zero}
-use Rattle.put.specs.Wrote.{most, capped}
+use Rattle.put.specs.Wrote.{capped, Wrote}
 use Rattle.put.proofs.PiecesInTurn.{capped-low}
-use Rattle.changes.specs.Changes.{Entry, flat, entry, changes, changeNumbers, across, object, ofObject, ifAbsent, olds, news}
+use Rattle.changes.specs.Changes.{Entry, flat, entry, changes, changeNumbers, across, object, ofObject, ifAbsent}
 use Rattle.parts.proofs.Turns.{across-same}
-use Rattle.models.specs.Tables.{Table, objectsFrom, changesOf, oldsFrom, newsFrom}
+use Rattle.models.specs.Tables.{Table, objectsFrom, changesOf}
 use Rattle.comparing.specs.declared.Changes.{Changes}
 use Rattle.comparing.specs.Comparison as is
 use Rattle.comparing.proofs.Bound.{numbers-few}
@@ -44,24 +47,44 @@ Answered ns r xs ys = (r ≡ is.fitting ns (length xs)) × (ys ≡ is.listAfter 
 abbrev listing : ℕ → Changes
 listing k = record { number = 0; file = 0; object = 0; component = 0; entries = k / 8 }
 
-module _ (ns xs : List ℕ) (k : ℕ) (few : length ns < most) (counted : k ≡ capped (0 + length ns)) where
+-- by the tables of both: a list of one number told how many there are
+module _ (first a : List ℕ) (m : ℕ) (second b : List ℕ) (n : ℕ) (s : Table a m) (t : Table b n) {scrap scrap′ : List ℕ} {k : ℕ}
+    (counted : Wrote (is.numbersOf first a m second b n) 0 scrap scrap′ k) (xs : List ℕ) where
+  abbrev ns : List ℕ
+  ns = is.numbersOf first a m second b n
+
   exact : k ≡ length ns
-  exact = counted ∙ ap capped (zero-add (length ns)) ∙ capped-low (length ns) few
+  exact = counted .past ∙ ap capped (zero-add (length ns)) ∙ capped-low (length ns) (numbers-few first a m second b n s t)
 
-  pub too-long : length xs < k → Answered ns (is.noRoom (k / 8)) xs xs
-  unfolding is.fitting is.listAfter
-  too-long h = let over = lt-leb (length ns) (length xs) (let e = exact in omega (arith, h, e)) in (rw (over, exact) refl, rw over refl)
+  module _ (h : length xs < k) where
+    over : leb (length ns) (length xs) ≡ false
+    over = lt-leb (length ns) (length xs) (let e = exact in omega (arith, h, e))
 
-  pub listed-whole : k ≤ length xs → (ys : List ℕ) → ys ≡ sets xs 0 ns → Answered ns (listing k) xs ys
-  unfolding is.fitting is.listAfter
-  listed-whole h ys w =
-      let fits : length ns ≤ length xs = let e = exact in omega (arith, h, e) in
-      let t = le-leb (length ns) (length xs) fits in
-      (rw (t, exact) refl, rw t (w ∙ sets-eq ns xs 0 (omega (arith, fits)) ∙ ap (λ (j : ℕ). ns ++ drop j xs) (zero-add (length ns))))
+    pub too-long-told : is.noRoom (k / 8) ≡ is.fitting ns (length xs)
+    unfolding is.fitting
+    too-long-told = rw (over, exact) refl
+
+    pub too-long-kept : xs ≡ is.listAfter ns xs
+    unfolding is.listAfter
+    too-long-kept = rw over refl
+
+  fitted : k ≤ length xs → leb (length ns) (length xs) ≡ true
+  fitted h = le-leb (length ns) (length xs) (let e = exact in omega (arith, h, e))
+
+  pub whole-told : k ≤ length xs → listing k ≡ is.fitting ns (length xs)
+  unfolding is.fitting
+  whole-told h = rw (fitted h, exact) refl
+
+  stored : k ≤ length xs → {ys : List ℕ} → ys ≡ sets xs 0 ns → ys ≡ is.listAfter ns xs
+  unfolding is.listAfter
+  stored h w = rw (fitted h) (w ∙ sets-eq ns xs 0 (let e = exact in omega (arith, h, e)) ∙ ap (λ (j : ℕ). ns ++ drop j xs) (zero-add (length ns)))
+
+  pub whole-written : k ≤ length xs → {ys : List ℕ} {j : ℕ} → Wrote ns 0 xs ys j → ys ≡ is.listAfter ns xs
+  whole-written h w = stored h (w .stored)
 
   -- where there are none, the list is as if they were written
-  pub listed-none : k ≤ 0 → Answered ns (listing k) xs xs
-  listed-none h = listed-whole (omega arith) xs (by ns (let e = exact in omega (arith, h, e)))
+  pub none-written : k ≤ 0 → xs ≡ is.listAfter ns xs
+  none-written h = stored (omega arith) (by ns (let e = exact in omega (arith, h, e)))
     where
       by : (ms : List ℕ) → length ms ≤ 0 → xs ≡ sets xs 0 ms
       by [] l = refl
@@ -73,7 +96,7 @@ abbrev W : List ℕ → List ℕ
 W s = take (length s - 0) (drop 0 s)
 
 -- the first's part ends, and the second's begins, at `room`
-module _ (first second work : List ℕ) (room m n : ℕ) (l : room ≤ length work) where
+module _ (work : List ℕ) (room : ℕ) where
   abbrev front-part : List ℕ
   front-part = take (room - 0) (drop 0 work)
 
@@ -83,12 +106,20 @@ module _ (first second work : List ℕ) (room m n : ℕ) (l : room ≤ length wo
   front-is : front-part ≡ take room work
   front-is = let z : room - 0 ≡ room = omega arith in ap (λ (i : ℕ). take i work) z
 
-  pub lent-parts : Table (take room work) m → Table (drop room work) n → Table front-part m × Table back-part n
-  lent-parts s t = rw (front-is, part-to-end work room) (s, t)
+  pub lent-front : {m : ℕ} → Table (take room work) m → Table front-part m
+  lent-front s = rw front-is s
 
-  pub lent-answered : {c : Changes} (list : List ℕ) {list′ : List ℕ} → Answered (is.numbersOf first front-part m second back-part n) c list list′
-      → Answered (is.numbersOf first (take room work) m second (drop room work) n) c list list′
-  lent-answered list w = rw (front-is, part-to-end work room) at w
+  pub lent-back : {n : ℕ} → Table (drop room work) n → Table back-part n
+  lent-back t = rw (part-to-end work room) t
+
+  module _ (first second : List ℕ) (m n : ℕ) where
+    pub lent-told : {c : Changes} (list : List ℕ) → c ≡ is.fitting (is.numbersOf first front-part m second back-part n) (length list)
+        → c ≡ is.fitting (is.numbersOf first (take room work) m second (drop room work) n) (length list)
+    lent-told list w = rw (front-is, part-to-end work room) at w
+
+    pub lent-written : {list′ : List ℕ} (list : List ℕ) → list′ ≡ is.listAfter (is.numbersOf first front-part m second back-part n) list
+        → list′ ≡ is.listAfter (is.numbersOf first (take room work) m second (drop room work) n) list
+    lent-written list w = rw (front-is, part-to-end work room) at w
 
 -- ---- a refusal
 
@@ -303,15 +334,20 @@ refused-keeps before (pass r) e t h = absurd (h (ap (λ (x : Answer). x .number)
 zeros : {z : List ℕ} (m n : ℕ) → z ≡ replicate m 0 → m ≡ n → z ≡ replicate n 0
 zeros m n e f = e ∙ ap (λ (k : ℕ). replicate k 0) f
 
-pub first-cleared : (L : Layout) (first work table : List ℕ) {a : Answer} → a ≡ answered (readInto L first (length work)) → table ≡ tableAfter work (readInto L first (length work)) → (a .number ≡ 0 → ⊥)
-    → {z : List ℕ} → z ≡ replicate (length table) 0 → z ≡ replicate (length work) 0
-first-cleared L first work table e t h w = zeros (length table) (length work) w (refused-keeps work (readInto L first (length work)) e t h)
+-- the first is refused
+module _ (L : Layout) (first work : List ℕ) {a : Answer} (e : a ≡ answered (readInto L first (length work))) (n : a .number ≡ 0 → ⊥) where
+  pub first-told : (M : Layout) (second list : List ℕ) {c : Changes} → c ≡ is.refusedBy (reading L first) (reading M second)
+      → c ≡ is.told (is.compared L first M second (length work)) (length list)
+  first-told M second list g = first-refused L M first second work list e n g .0
+
+  pub first-kept : (M : Layout) (second list : List ℕ) → list ≡ is.after (is.compared L first M second (length work)) list
+  first-kept M second list = first-refused L M first second work list e n refl .1
 
 -- ---- the call: what the first's reading left is `table`, of whose end the second's left `left`
-module _ (L M : Layout) (framing : Framing L) (framed : Framing M) (first second work table : List ℕ) (a : Answer)
-    (e : a ≡ answered (readInto L first (length work))) (t : table ≡ tableAfter work (readInto L first (length work))) (z : a .number ≡ 0) where
-  abbrev first-held : Held L first work table a
-  first-held = held L framing first work table a e t z
+module _ (layout : ℕ) (first work : List ℕ) (a : Answer) (e : a ≡ answered (readInto (layoutOf layout) first (length work))) (z : a .number ≡ 0)
+    (table : List ℕ) (t : table ≡ tableAfter work (readInto (layoutOf layout) first (length work))) where
+  abbrev first-held : Held (layoutOf layout) first work table a
+  first-held = held (layoutOf layout) (size-back layout) first work table a e t z
 
   abbrev room : ℕ
   room = objectWidth * a .objects + componentWidth * a .components
@@ -322,15 +358,28 @@ module _ (L M : Layout) (framing : Framing L) (framed : Framing M) (first second
   pub room-within : objectWidth * a .objects + componentWidth * a .components ≤ length table
   room-within = room-lies first-held
 
+  module _ (lent : length work * 8 < 2 ^ 63) where
+    pub objects-fit : Fits w64 (objectWidth * a .objects)
+    objects-fit = record { fits = omega (arith, room-within, as-long first-held, lent) }
+
+    pub components-fit : Fits w64 (componentWidth * a .components)
+    components-fit = record { fits = omega (arith, room-within, as-long first-held, lent) }
+
+    pub room-small : Fits w64 (objectWidth * a .objects + componentWidth * a .components)
+    room-small = record { fits = omega (arith, room-within, as-long first-held, lent) }
+
+    pub room-scaled : Fits w64 ((objectWidth * a .objects + componentWidth * a .components) * 8)
+    room-scaled = record { fits = omega (arith, room-within, as-long first-held, lent) }
+
   part-long : length part ≡ length table - room
   part-long = ap length (part-to-end table room) ∙ length-drop room table
 
-  module _ (left : List ℕ) (b : Answer) (f : b ≡ answered (readInto M second (length part))) where
-    abbrev now : List ℕ
-    now = take room table ++ (left ++ drop (length table - room) (drop room table))
+  module _ (other : ℕ) (second : List ℕ) (b : Answer) (f : b ≡ answered (readInto (layoutOf other) second (length part))) where
+    abbrev now : List ℕ → List ℕ
+    now left = take room table ++ (left ++ drop (length table - room) (drop room table))
 
-    now-long : length left ≡ length part → length now ≡ length work
-    now-long g =
+    now-long : (left : List ℕ) → length left ≡ length part → length (now left) ≡ length work
+    now-long left g =
         let r = room-within in
         let p = part-long in
         let l = as-long first-held in
@@ -341,23 +390,46 @@ module _ (L M : Layout) (framing : Framing L) (framed : Framing M) (first second
         let y = length-append left (drop (length table - room) (drop room table)) in
         omega (arith, g, r, p, l, d, q, c, x, y)
 
-    module _ (u : left ≡ tableAfter part (readInto M second (length part))) (y : b .number ≡ 0) where
-      abbrev second-held : Held M second part left b
-      second-held = held M framed second part left b f u y
+    -- the second is refused
+    module _ (n : b .number ≡ 0 → ⊥) where
+      pub second-told : {c : Changes} (list : List ℕ) → c ≡ is.refusedBy (reading (layoutOf layout) first) (reading (layoutOf other) second)
+          → c ≡ is.told (is.compared (layoutOf layout) first (layoutOf other) second (length work)) (length list)
+      second-told list g = second-refused (layoutOf layout) (layoutOf other) first second work list part first-held refl part-long f n g .0
 
-      pub beside-asks : (room ≤ length (W now)) × Table (take room (W now)) (a .objects) × Table (drop room (W now)) (b .objects)
-      beside-asks = rw (whole now) (both-asked framing framed first-held refl second-held part-long (drop (length table - room) (drop room table)))
+      pub second-kept : (list : List ℕ) → list ≡ is.after (is.compared (layoutOf layout) first (layoutOf other) second (length work)) list
+      second-kept list = second-refused (layoutOf layout) (layoutOf other) first second work list part first-held refl part-long f n refl .1
 
-      pub beside-tells : {c : Changes} (list : List ℕ) {list′ : List ℕ} → Answered (is.numbersOf first (take room (W now)) (a .objects) second (drop room (W now)) (b .objects)) c list list′
-          → (c ≡ is.told (is.compared L first M second (length work)) (length list)) × (list′ ≡ is.after (is.compared L first M second (length work)) list)
-      beside-tells list w = both-told framing framed first-held refl second-held part-long (drop (length table - room) (drop room table)) list (rw (whole now) at w)
+      pub second-cleared : (left : List ℕ) → left ≡ tableAfter part (readInto (layoutOf other) second (length part)) → {z : List ℕ} → z ≡ replicate (length (now left)) 0 → z ≡ replicate (length work) 0
+      second-cleared left u w = zeros (length (now left)) (length work) w (now-long left (refused-keeps part (readInto (layoutOf other) second (length part)) f u n))
 
-      pub both-cleared : {z : List ℕ} → z ≡ replicate (length now) 0 → z ≡ replicate (length work) 0
-      both-cleared w = zeros (length now) (length work) w (now-long (as-long second-held))
+    -- both are read
+    module _ (y : b .number ≡ 0) (left : List ℕ) (u : left ≡ tableAfter part (readInto (layoutOf other) second (length part))) where
+      abbrev second-held : Held (layoutOf other) second part left b
+      second-held = held (layoutOf other) (size-back other) second part left b f u y
 
-    pub second-cleared : left ≡ tableAfter part (readInto M second (length part)) → (b .number ≡ 0 → ⊥) → {z : List ℕ} → z ≡ replicate (length now) 0 → z ≡ replicate (length work) 0
-    second-cleared u n w = zeros (length now) (length work) w (now-long (refused-keeps part (readInto M second (length part)) f u n))
+      beside-asks : (room ≤ length (W (now left))) × Table (take room (W (now left))) (a .objects) × Table (drop room (W (now left))) (b .objects)
+      beside-asks = rw (whole (now left)) (both-asked (size-back layout) (size-back other) first-held refl second-held part-long (drop (length table - room) (drop room table)))
 
-    pub second-tells : {c : Changes} (list : List ℕ) → (b .number ≡ 0 → ⊥) → c ≡ is.refusedBy (reading L first) (reading M second)
-        → (c ≡ is.told (is.compared L first M second (length work)) (length list)) × (list ≡ is.after (is.compared L first M second (length work)) list)
-    second-tells list n g = second-refused L M first second work list part first-held refl part-long f n g
+      pub room-inside : room ≤ length (W (now left))
+      room-inside = beside-asks .0
+
+      pub first-table : Table (take room (W (now left))) (a .objects)
+      first-table = beside-asks .1
+
+      pub second-table : Table (drop room (W (now left))) (b .objects)
+      second-table = beside-asks .2
+
+      beside-tells : {c : Changes} (list : List ℕ) {list′ : List ℕ} → Answered (is.numbersOf first (take room (W (now left))) (a .objects) second (drop room (W (now left))) (b .objects)) c list list′
+          → (c ≡ is.told (is.compared (layoutOf layout) first (layoutOf other) second (length work)) (length list)) × (list′ ≡ is.after (is.compared (layoutOf layout) first (layoutOf other) second (length work)) list)
+      beside-tells list w = both-told (size-back layout) (size-back other) first-held refl second-held part-long (drop (length table - room) (drop room table)) list (rw (whole (now left)) at w)
+
+      pub beside-told : {c : Changes} (list : List ℕ) → c ≡ is.fitting (is.numbersOf first (take room (W (now left))) (a .objects) second (drop room (W (now left))) (b .objects)) (length list)
+          → c ≡ is.told (is.compared (layoutOf layout) first (layoutOf other) second (length work)) (length list)
+      beside-told list w = beside-tells list (w, refl) .0
+
+      pub beside-written : {list′ : List ℕ} (list : List ℕ) → list′ ≡ is.listAfter (is.numbersOf first (take room (W (now left))) (a .objects) second (drop room (W (now left))) (b .objects)) list
+          → list′ ≡ is.after (is.compared (layoutOf layout) first (layoutOf other) second (length work)) list
+      beside-written list w = beside-tells list (refl, w) .1
+
+      pub both-cleared : {z : List ℕ} → z ≡ replicate (length (now left)) 0 → z ≡ replicate (length work) 0
+      both-cleared w = zeros (length (now left)) (length work) w (now-long left (as-long second-held))

@@ -1,5 +1,5 @@
 -- A table that begins with the rows of an accepted file's model: its rows lie in it, and by their places they are what the file describes.
-use Prim.Native.Nat.{ℕ, zero, suc, _+_, _-_, _*_, _≤_, _<_}
+use Prim.Native.Nat.{ℕ, suc, _+_, _-_, _*_, _≤_, _<_}
 use native.Mathlib.Omega.{arith}
 use mathlib.Core.List.{List, [], _∷_, _++_, map}
 use mathlib.Core.Path.{_≡_, refl, sym, ap, ap₂, _∙_}
@@ -14,16 +14,15 @@ use Rattle.meaning.specs.Read.{Span}
 use Rattle.meaning.specs.Model.{Object}
 use Rattle.meaning.specs.Layouts.{Layout}
 use Rattle.meaning.specs.Frame.{Reading, reading}
-use Rattle.meaning.specs.Rows.{rows, roomFor, componentCount, attributesSpan}
+use Rattle.meaning.specs.Rows.{rows, roomFor, componentCount}
 use Rattle.meaning.specs.Asked.{AskedObject, Asked, eachRow, askedObject, asked}
 use Rattle.meaning.specs.Described.{DescribedObject, Described, describedObject, describedObjects, described, describedBy}
 use Rattle.meaning.proofs.AcceptedModel.{ObjectSound, ModelSound, reading-sound}
 use Rattle.meaning.proofs.Lengths.{rows-length}
 use Rattle.meaning.specs.Every.{Every}
-use Rattle.readback.specs.Spelled.{SpelledObject, askedOfObject, askedOfModel}
+use Rattle.readback.specs.Spelled.{askedOfObject, askedOfModel}
 use Rattle.readback.proofs.RowsOfModel.{rows-asked}
 use Rattle.shown.specs.Accepted.{Framing}
-use Rattle.roundtrip.proofs.AcceptedSpelled.{accepted-spelled}
 use Rattle.roundtrip.proofs.WrittenAgain as again
 use Rattle.rows.specs.Placed.{objectsAt, componentsAt}
 use Rattle.rows.proofs.Describes.{described-none, described-next}

@@ -1,5 +1,5 @@
 -- From what the walk over a root answered to what is answered of the manifest; then from the frame on.
-use Prim.Native.Nat.{ℕ, _+_, _-_, _≤_, _<_}
+use Prim.Native.Nat.{ℕ, _+_, _-_, _*_, _^_, _≤_, _<_}
 use native.Mathlib.Omega.{arith}
 use mathlib.Core.List.{List}
 use mathlib.Core.Bool.{false}
@@ -37,18 +37,15 @@ use Rattle.opening.proofs.RootNames.{Parts, passedModel}
 -- ---- the walk over the manifest s, lent whole, ended at e
 
 module _ (L : Layout) (end start : ℕ) (s : List ℕ) (e : ℕ) (ended : e ≡ code (itemEnd 32 s)) where
-  pub a-fault : length s < e → FAULT ≤ e
-  a-fault l = filling.faulty end s e ended l .high
-
   pub malformed : length s < e → manifestSifted L end start s ≡ refuse (e - FAULT) 0 0
   malformed l = rw (filling.faulty end s e ended l .is) refl
 
-  pub left-over : length s < FAULT → e < length s → manifestSifted L end start s ≡ refuse 6 0 0
-  left-over room l = rw (filling.left-over end s e ended room l) refl
+  pub left-over : length s * 1 < 2 ^ 63 → e < length s → manifestSifted L end start s ≡ refuse 6 0 0
+  left-over lent l = rw (filling.left-over end s e ended (omega arith) l) refl
 
-  module _ (room : length s < FAULT) (l : length s ≡ e) (u : Judged) (says : WholeIs false L s 0 u) where
+  module _ (lent : length s * 1 < 2 ^ 63) (low : e ≤ length s) (high : length s ≤ e) (u : Judged) (says : WholeIs false L s 0 u) where
     abbrev f : Filling end s
-    f = filling.filling end s e ended room l
+    f = filling.filling end s e ended (omega arith) (omega arith)
 
     verdict : (v : Judged) → u ≡ v → v ≡ judged (mapCheck (passedModel L 0) (opened L (f .tree)))
     verdict v same =
@@ -81,7 +78,7 @@ module _ (L : Layout) (end start : ℕ) (s : List ℕ) (e : ℕ) (ended : e ≡ 
               is = rw (f .is, naming.opened-spanned L end (f .tree), h) refl;
               attributes-hold =
                   subst (λ l. Holds 31 s l (p .attributes)) (sym left-is)
-                  (field-holds s room (f .tree) (f .rest) (f .reads) (parts .pairs) (parts .kind-is) (slot attributesAt (L .root)) (p .attributes) (sym (parts .attributes-are)));
+                  (field-holds s (omega arith) (f .tree) (f .rest) (f .reads) (parts .pairs) (parts .kind-is) (slot attributesAt (L .root)) (p .attributes) (sym (parts .attributes-are)));
               objects-hold =
                   subst (Holds 31 s at) (parts .objects-there)
                   (stand (f .tree) (f .rest) (f .reads) (parts .pairs) (parts .kind-is));
@@ -164,7 +161,7 @@ module _ (layout : ℕ) (file : List ℕ) (r : Framed) (asked : frame (layoutOf 
     sized : length m ≡ size
     sized = length-take-le (start + size - start) (drop start file) (omega (arith, length-drop start file, low)) ∙ as-sized
 
-    pub short : length file < FAULT → start + length m < FAULT
+    pub short : length file * 1 < 2 ^ 63 → start + length m < FAULT
     short l = omega (arith, low, sized, l)
 
     sifted-is : sifted (layoutOf layout) file ≡ manifestSifted (layoutOf layout) (start + length m) start m

@@ -1,24 +1,22 @@
 -- A drop: of an idle engine it does nothing, of a loaded one it stores zeros over its rows and its state.
-use Prim.Native.Nat.{ℕ, zero, suc, _+_, _-_, _*_, _≤_}
+use Prim.Native.Nat.{ℕ, zero, _+_, _-_, _*_, _≤_}
 use native.Mathlib.Omega.{arith}
-use mathlib.Core.List.{List, [], _∷_, _++_, append-nil}
+use mathlib.Core.List.{List, _++_, append-nil}
 use mathlib.Core.Bool.{true}
-use mathlib.Core.Path.{_≡_, refl, sym, ap, ap₂, _∙_}
+use mathlib.Core.Path.{_≡_, sym, ap, ap₂, _∙_}
 use lib.Dec.{eqb}
 use lib.ListN.{length, replicate}
 use lib.Seq.{sets, length-sets}
-use Rattle.meaning.specs.Check.{Check, pass, refuse}
 use Rattle.engines.specs.Shared.{Who, first, second, Engine, flagOf, heldOf, nothing, Shared, own, closed, opened}
-use Rattle.engines.specs.Calls.{Call, drops, Said, gone, placeOf, told, given, after, answered, leaves}
+use Rattle.engines.specs.Calls.{drops, placeOf, told, given, after, answered, leaves}
 use Rattle.engines.specs.Runs.{numberOf}
 use Rattle.sharing.specs.EngineAnswers.{number}
 use Rattle.states.specs.Places.{standing}
-use Rattle.states.specs.declared.Place.{Place}
 use Rattle.states.specs.declared.Place.the-variants.{Nowhere, Idle, Loaded}
-use Rattle.engines.proofs.Kept.{OkEngine, Ok, idle-is-nothing}
+use Rattle.engines.proofs.Kept.{Ok, idle-is-nothing}
 use Rattle.engines.proofs.Opens.{Opened, opened-closed}
 use Rattle.engines.proofs.EachCall.{leaves-is, answered-is}
-use Rattle.states.proofs.Stands.{IdleAt, LoadedAt, idle-at, loaded-at, nowhere-at, told-there, inside, whole}
+use Rattle.states.proofs.Stands.{LoadedAt, idle-at, loaded-at, nowhere-at, told-there, inside, whole}
 use Rattle.engines.proofs.Writes.{first-drop-writes, second-drop-writes}
 
 -- an engine's number is 0 or 1

@@ -41,10 +41,7 @@ settled size engine layout o c s p z l q at y k w e f g =
     lent-part at 8 l (1 ∷ (objectWidth * o + componentWidth * c) ∷ o ∷ c ∷ s ∷ p ∷ z ∷ y ∷ []) refl (omega (arith, k, w, e)) q g
     ∙ ap₂ {A = ℕ} {B = ℕ} (λ i j. sets l i (1 ∷ (objectWidth * o + componentWidth * c) ∷ o ∷ c ∷ s ∷ p ∷ z ∷ j ∷ [])) e f
 
-module _ (size engine free layout : ℕ) (file l : List ℕ) where
-  abbrev Lays : Answer → List ℕ → Type 0
-  Lays a after = (a ≡ read.answered (readInto (layoutOf layout) file free)) × (after ≡ laid size engine l (readInto (layoutOf layout) file free))
-
+module _ (size free layout : ℕ) (file l : List ℕ) where
   abbrev into : List ℕ → Check Reading
   into t = readInto (layoutOf layout) file (length t)
 
@@ -57,53 +54,69 @@ module _ (size engine free layout : ℕ) (file l : List ℕ) where
   fitting : Fitting (readInto (layoutOf layout) file free)
   fitting r e = read-fits (layoutOf layout) file free r e
 
-  -- the first engine's
-  module _ (z : engine ≡ 0) (h : free ≤ length l) where
-    first-laid : (k : Check Reading) → Fitting k → tableAfter (take free l) k ++ drop free l ≡ laid size engine l k
-    unfolding tableAfter laid rowsAt
-    first-laid (refuse n o c) f = take-append-drop free l
-    first-laid (pass r) f =
-        front-is free (needed r) l (rows (r .model)) (rows-needed r) (f r refl) h ∙ ap (λ (e : ℕ). sets l (rowsAt size e (needed r)) (rows (r .model))) (sym z)
+  module _ (room : free ≤ size) (lent : length l ≡ size + 16) where
+    -- the first engine's
+    abbrev front : List ℕ
+    front = take (free - 0) (drop 0 l)
 
-    pub lays-first : (a : Answer) (q : List ℕ)
-        → (a ≡ read.answered (into (take (free - 0) (drop 0 l)))) × (q ≡ tableAfter (take (free - 0) (drop 0 l)) (into (take (free - 0) (drop 0 l)))) → Lays a (q ++ postOf 0 (free - 0) l)
-    lays-first a q e =
-        let n : free - 0 ≡ free = omega arith in
-        let t = into-is (take (free - 0) l) (ap (λ (i : ℕ). length (take i l)) n ∙ length-take-le free l h) in (
-          e .0 ∙ ap read.answered t,
-          ap (λ (x : List ℕ). x ++ postOf 0 (free - 0) l) (e .1)
-              ∙ ap₂ {A = ℕ} {B = Check Reading} (λ i k. tableAfter (take i l) k ++ drop i l) n t ∙ first-laid (readInto (layoutOf layout) file free) fitting,
-        )
+    in-front : free ≤ length l
+    in-front = omega (arith, room, lent)
 
-  -- the second's
-  module _ (z : engine ≡ 0 → ⊥) (h : free ≤ size) (w : size ≤ length l) where
-    second-rows : (e n : ℕ) → (e ≡ 0 → ⊥) → rowsAt size e n ≡ size - n
-    unfolding rowsAt
-    second-rows zero n f = absurd (f refl)
-    second-rows (suc e) n f = refl
+    front-read : into front ≡ readInto (layoutOf layout) file free
+    front-read = let n : free - 0 ≡ free = omega arith in into-is front (ap (λ (i : ℕ). length (take i l)) n ∙ length-take-le free l in-front)
 
-    tail-long : length (take free (drop (size - free) l)) ≡ free
-    tail-long = let d : length (drop (size - free) l) ≡ length l - (size - free) = length-drop (size - free) l in length-take-le free (drop (size - free) l) (omega (arith, d, h, w))
+    pub first-told : (a : Answer) → a ≡ read.answered (into front) → a ≡ read.answered (readInto (layoutOf layout) file free)
+    first-told a answers = answers ∙ ap read.answered front-read
 
-    second-laid : (k : Check Reading) → Fitting k → putMid (size - free) free l (endAfter (take free (drop (size - free) l)) k) ≡ laid size engine l k
-    unfolding laid placed laidOver
-    second-laid (refuse n o c) f = put-same (size - free) free l
-    second-laid (pass r) f =
-        let n : ℕ = needed r in
-        let i = f r refl in
-        let m : size - free + (free - n) ≡ rowsAt size engine n = let y = second-rows engine n z in omega (arith, y, i, h) in
-        ap (λ (j : ℕ). putMid (size - free) free l (take (j - n) (take free (drop (size - free) l)) ++ rows (r .model))) tail-long
-        ∙ end-is (size - free) free n l (rows (r .model)) (rows-needed r) i (omega (arith, h, w)) ∙ ap (λ (j : ℕ). sets l j (rows (r .model))) m
+    module _ (engine : ℕ) (z : engine ≡ 0) where
+      first-laid : (k : Check Reading) → Fitting k → tableAfter (take free l) k ++ drop free l ≡ laid size engine l k
+      unfolding tableAfter laid rowsAt
+      first-laid (refuse n o c) f = take-append-drop free l
+      first-laid (pass r) f =
+          front-is free (needed r) l (rows (r .model)) (rows-needed r) (f r refl) in-front ∙ ap (λ (e : ℕ). sets l (rowsAt size e (needed r)) (rows (r .model))) (sym z)
 
+      pub first-left : (q : List ℕ) → q ≡ tableAfter front (into front) → q ++ postOf 0 (free - 0) l ≡ laid size engine l (readInto (layoutOf layout) file free)
+      first-left q after =
+          let n : free - 0 ≡ free = omega arith in
+          ap (λ (x : List ℕ). x ++ postOf 0 (free - 0) l) after
+          ∙ ap₂ {A = ℕ} {B = Check Reading} (λ i k. tableAfter (take i l) k ++ drop i l) n front-read ∙ first-laid (readInto (layoutOf layout) file free) fitting
+
+    -- the second's
     abbrev tail : List ℕ
     tail = take (size - (size - free)) (drop (size - free) l)
 
-    pub lays-last : (a : Answer) (q : List ℕ) → (a ≡ read.answered (into tail)) × (q ≡ endAfter tail (into tail)) → Lays a (putMid (size - free) (size - (size - free)) l q)
-    lays-last a q e =
-        let n : size - (size - free) ≡ free = omega (arith, h) in
-        let t = into-is tail (ap (λ (i : ℕ). length (take i (drop (size - free) l))) n ∙ tail-long) in (
-          e .0 ∙ ap read.answered t,
-          ap (λ (x : List ℕ). putMid (size - free) (size - (size - free)) l x) (e .1)
-              ∙ ap₂ {A = ℕ} {B = Check Reading} (λ i k. putMid (size - free) i l (endAfter (take i (drop (size - free) l)) k)) n t
-              ∙ second-laid (readInto (layoutOf layout) file free) fitting,
-        )
+    tail-long : length (take free (drop (size - free) l)) ≡ free
+    tail-long =
+        let d : length (drop (size - free) l) ≡ length l - (size - free) = length-drop (size - free) l in
+        length-take-le free (drop (size - free) l) (omega (arith, d, room, lent))
+
+    size-back : size - (size - free) ≡ free
+    size-back = omega (arith, room)
+
+    tail-read : into tail ≡ readInto (layoutOf layout) file free
+    tail-read = into-is tail (ap (λ (i : ℕ). length (take i (drop (size - free) l))) size-back ∙ tail-long)
+
+    pub last-told : (a : Answer) → a ≡ read.answered (into tail) → a ≡ read.answered (readInto (layoutOf layout) file free)
+    last-told a answers = answers ∙ ap read.answered tail-read
+
+    module _ (engine : ℕ) (z : engine ≡ 0 → ⊥) where
+      second-rows : (e n : ℕ) → (e ≡ 0 → ⊥) → rowsAt size e n ≡ size - n
+      unfolding rowsAt
+      second-rows zero n f = absurd (f refl)
+      second-rows (suc e) n f = refl
+
+      second-laid : (k : Check Reading) → Fitting k → putMid (size - free) free l (endAfter (take free (drop (size - free) l)) k) ≡ laid size engine l k
+      unfolding laid placed laidOver
+      second-laid (refuse n o c) f = put-same (size - free) free l
+      second-laid (pass r) f =
+          let n : ℕ = needed r in
+          let i = f r refl in
+          let m : size - free + (free - n) ≡ rowsAt size engine n = let y = second-rows engine n z in omega (arith, y, i, room) in
+          ap (λ (j : ℕ). putMid (size - free) free l (take (j - n) (take free (drop (size - free) l)) ++ rows (r .model))) tail-long
+          ∙ end-is (size - free) free n l (rows (r .model)) (rows-needed r) i (omega (arith, room, lent)) ∙ ap (λ (j : ℕ). sets l j (rows (r .model))) m
+
+      pub last-left : (q : List ℕ) → q ≡ endAfter tail (into tail) → putMid (size - free) (size - (size - free)) l q ≡ laid size engine l (readInto (layoutOf layout) file free)
+      last-left q after =
+          ap (λ (x : List ℕ). putMid (size - free) (size - (size - free)) l x) after
+          ∙ ap₂ {A = ℕ} {B = Check Reading} (λ i k. putMid (size - free) i l (endAfter (take i (drop (size - free) l)) k)) size-back tail-read
+          ∙ second-laid (readInto (layoutOf layout) file free) fitting

@@ -4,3 +4,4 @@ pub mod Lent
 pub mod Drops
 pub mod Loads
 pub mod Laid
+pub mod ByPlace

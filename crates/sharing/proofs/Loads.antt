@@ -1,11 +1,11 @@
 -- A load: refused, nothing changes; accepted, the rows are stored next to the engine's end of the table, then its state.
-use Prim.Native.Nat.{ℕ, zero, suc, _+_, _-_, _*_, _≤_, _<_}
+use Prim.Native.Nat.{ℕ, zero, _+_, _-_, _*_, _≤_, _<_}
 use native.Mathlib.Omega.{arith}
-use mathlib.Core.List.{List, [], _∷_, _++_}
+use mathlib.Core.List.{List}
 use mathlib.Core.Bool.{Bool, true, false}
 use mathlib.Core.Path.{_≡_, refl, sym, ap, ap₂, _∙_, subst}
 use lib.Dec.{eqb, leb}
-use lib.ListN.{length, take, drop, replicate}
+use lib.ListN.{length, take}
 use lib.Seq.{sets, length-sets}
 use borrow.Author.Tests.{leb-true, eq-eqb, ne-eqb}
 use Rattle.meaning.specs.Check.{Check, pass, refuse, _>>=_, _>>_, _unless_}
@@ -18,18 +18,17 @@ use Rattle.frame.proofs.Frames.{size-back}
 use Rattle.reader.specs.Answer as read
 use Rattle.reader.specs.declared.into.Answer.{Answer}
 use Rattle.shown.proofs.AfterReading.{read-zero}
-use Rattle.engines.specs.Shared.{Who, first, second, Engine, flagOf, heldOf, Shared, own, closed, opened}
-use Rattle.engines.specs.Calls.{Call, load, Said, took, readingAs, needed, layoutNumber, engineOf, loading, told, taken, after, answered, leaves}
+use Rattle.engines.specs.Shared.{Who, first, second, Engine, flagOf, Shared, own, closed, opened}
+use Rattle.engines.specs.Calls.{Call, load, took, readingAs, needed, layoutNumber, engineOf, loading, told, taken, after, answered, leaves}
 use Rattle.engines.specs.Runs.{numberOf}
 use Rattle.sharing.specs.EngineAnswers as is
 use Rattle.sharing.specs.EngineAnswers.{rowsAt, laid, stateWith}
 use Rattle.states.specs.Places.{standing}
-use Rattle.states.specs.declared.Place.{Place}
 use Rattle.states.specs.declared.Place.the-variants.{Nowhere, Idle, Loaded}
-use Rattle.engines.proofs.Kept.{OkEngine, Ok, Fits}
+use Rattle.engines.proofs.Kept.{Fits}
 use Rattle.engines.proofs.Opens.{Opened, opened-closed}
 use Rattle.engines.proofs.EachCall.{leaves-is, answered-is, refused-changes-nothing}
-use Rattle.states.proofs.Stands.{IdleAt, LoadedAt, idle-at, loaded-at, nowhere-at, told-there, opened-whole}
+use Rattle.states.proofs.Stands.{IdleAt, idle-at, loaded-at, nowhere-at, told-there, opened-whole}
 use Rattle.engines.proofs.Writes.{first-load-writes, second-load-writes}
 use Rattle.sharing.proofs.Drops.{small}
 
@@ -123,7 +122,7 @@ module _ (size engine layout : ℕ) (file l : List ℕ) where
         ap (λ (n : ℕ). leaves size n asks l) (at .number-is) ∙ leaves-is size (at .who) asks l (at .shared) (at .opens)
         ∙ ap (λ (k : Check Reading). closed (taken (at .who) layout k (at .shared))) loading-is
 
-    answer-found : is.answer (answered size engine asks l) ≡ read.answered found
+    pub answer-found : is.answer (answered size engine asks l) ≡ read.answered found
     answer-found = ap is.answer answered-found ∙ answer-took found
 
     -- the reader refuses: nothing was laid

@@ -1,10 +1,10 @@
 -- View, listing and what is held, from where an engine's rows stand.
-use Prim.Native.Nat.{ℕ, zero, suc, _+_, _-_, _*_}
+use Prim.Native.Nat.{ℕ, _+_, _-_, _*_}
 use native.Mathlib.Omega.{arith}
 use mathlib.Core.List.{List, [], _∷_, _++_}
-use mathlib.Core.Bool.{Bool, true, false, cond, not}
-use mathlib.Core.Path.{_≡_, refl, sym, ap, ap₂, _∙_, subst}
-use lib.Dec.{eqb, leb}
+use mathlib.Core.Bool.{Bool, true, false, cond}
+use mathlib.Core.Path.{_≡_, refl, sym, ap, ap₂, _∙_}
+use lib.Dec.{leb}
 use lib.ListN.{length, take, drop, getD, replicate}
 use borrow.Rule.Slice.PartAt.{part-to-end}
 use Rattle.meaning.specs.Check.{Check, pass, refuse, _>>=_, _>>_, _unless_}
@@ -18,7 +18,7 @@ use Rattle.panel.specs.ListedText as panels
 use Rattle.panel.specs.declared.Listed.{Listed}
 use Rattle.sharing.specs.declared.Held.{Held}
 use Rattle.engines.specs.Runs.{numberOf}
-use Rattle.engines.specs.Shared.{Who, first, second, partOf, Engine, flagOf, heldOf, objectsOf, componentsOf, Shared, own, opened}
+use Rattle.engines.specs.Shared.{Who, first, second, partOf, Engine, objectsOf, componentsOf, Shared, own, opened}
 use Rattle.engines.specs.Calls.{Call, holds, view, list, Said, has, range, text, placeOf, holding, told, answered}
 use Rattle.sharing.specs.EngineAnswers.{number, heldWith, held, extent, listing, listed, textAfter}
 use Rattle.states.specs.Places.{standing}
@@ -26,7 +26,7 @@ use Rattle.states.specs.declared.Place.{Place}
 use Rattle.states.specs.declared.Place.the-variants.{Nowhere, Idle, Loaded}
 use Rattle.engines.proofs.EachCall.{answered-is, part-opened}
 use Rattle.states.proofs.Tested.{back-is}
-use Rattle.states.proofs.Stands.{IdleAt, LoadedAt, idle-at, loaded-at, nowhere-at, rows-there, told-there, inside, whole}
+use Rattle.states.proofs.Stands.{IdleAt, LoadedAt, idle-at, loaded-at, nowhere-at, rows-there, told-there, whole}
 
 module _ (size engine : ℕ) (l : List ℕ) where
   -- the code asks with the whole list lent on

@@ -1,13 +1,15 @@
 -- One object more, judged for itself: what is kept and dropped, the sums, the table and the list are those of one verdict more.
-use Prim.Native.Nat.{ℕ, suc, _+_, _-_, _*_, _≤_, _<_}
+use Prim.Native.Nat.{ℕ, suc, _+_, _-_, _*_, _^_, _≤_, _<_}
 use native.Mathlib.Nat.{zero-add}
 use native.Mathlib.Omega.{arith}
 use mathlib.Core.List.{List, [], _∷_, _++_, map, append-nil, append-assoc}
 use mathlib.Core.Bool.{Bool, true}
 use mathlib.Core.Path.{_≡_, refl, sym, ap, ap₂, _∙_, subst}
-use lib.ListN.{length, drop, length-append, length-map}
+use lib.ListN.{length, length-append, length-map}
 use lib.Seq.{sets}
 use borrow.Author.Tests.{le-leb}
+use mir.Val.{Fits}
+use mir.Syntax.{w64}
 use borrow.Rule.Slice.PartAt.{part-to-end}
 use Rattle.meaning.specs.Columns.{objectWidth, componentWidth}
 use Rattle.meaning.specs.Limit.{objectLimit}
@@ -25,11 +27,11 @@ use Rattle.meaning.proofs.Lengths.{object-length, objects-length, components-le
 use Rattle.meaning.specs.Every.{Every}
 use Rattle.cbor.specs.Ending.{code, itemEnd}
 use Rattle.walk.specs.Reading.{Ends, Reads}
-use Rattle.walk.specs.Places.{MapIs, EntryIs}
+use Rattle.walk.specs.Places.{Modes, MapIs, EntryIs}
 use Rattle.walk.specs.declared.Opening.{Opening}
 use Rattle.walk.specs.declared.Opening.the-variants.{NotOpen, Opened}
 use Rattle.walk.specs.declared.Entry.{Entry}
-use Rattle.walk.specs.declared.Entry.the-variants.{Value}
+use Rattle.walk.specs.declared.Entry.the-variants.{End, Value}
 use Rattle.walk.proofs.Opens as opens
 use Rattle.walk.proofs.Passed as walked
 use Rattle.walk.proofs.Passed.{Here, Passed}
@@ -54,7 +56,7 @@ use Rattle.rescuing.specs.Rescue.{entryWidth, entries}
 use Rattle.rescuing.proofs.Parted.{all-counted}
 use Rattle.sieve.specs.declared.Sieve.{Sieve}
 use Rattle.sieve.specs.Sieved.{more, Bounded, Keeps, Omits, SieveOf, Steps, own, Sieved, AllSieved, Sifted}
-use Rattle.sieve.proofs.ObjectPut.{one-more}
+use Rattle.sieve.proofs.ObjectPut.{one-more, none-bounded}
 
 -- ---- one verdict more
 
@@ -136,6 +138,10 @@ module _ (end from : ℕ) (before : List ℕ) (os : List (Object Ends)) (o : Obj
       ∙ sym (laying.sets-append B R (sets (sets before 0 A) (0 + length A) O) from)
       ∙ ap (λ (t : List ℕ). sets t from (B ++ R)) (sym (laying.sets-append A O before 0))
       ∙ ap₂ (λ (x y : List ℕ). sets (sets before 0 x) from y) (sym rows-so) (sym parts-so)
+
+-- where a value that is lent whole ends
+pub lent-end : (c : List ℕ) (e : ℕ) → e ≡ code (itemEnd 30 (Here c 0)) → e ≡ code (itemEnd 30 c)
+lent-end c e h = h ∙ ap (λ (s : List ℕ). code (itemEnd 30 s)) (part-to-end c 0)
 
 -- ---- an object that is refused
 
@@ -219,7 +225,7 @@ module _ (layout : ℕ) (s c : List ℕ) (start end : ℕ) (fill : Bool) (from :
 
 -- ---------------------------------------------------------------- a turn of the loop over the entries of the `objects` map
 
-pub none-sieved : (layout start end : ℕ) (fill : Bool) (from : ℕ) (t list : List ℕ) → Sieved layout start end fill from t list (record { kept = 0; dropped = 0; components = 0; place = 8; total = 0 }) t list []
+none-sieved : (layout start end : ℕ) (fill : Bool) (from : ℕ) (t list : List ℕ) → Sieved layout start end fill from t list (record { kept = 0; dropped = 0; components = 0; place = 8; total = 0 }) t list []
 unfolding kept dropped componentCount entries objectRows componentRows
 none-sieved layout start end fill from t list ks e few =
     let z = entering.none-entered (own layout start) ks e in
@@ -255,17 +261,32 @@ pub record Looping (layout start end mode count : ℕ) (fill : Bool) (from : ℕ
   pub listed : length list ≡ length list₀
   pub bounded : Bounded have
 
--- a turn, in the code's terms: the value at `at + k` takes e bytes
+pub loop-starts : (layout start end mode count : ℕ) (fill : Bool) (from : ℕ) (s before list₀ : List ℕ) → Modes mode count → length s * 1 < 2 ^ 63
+    → Looping layout start end mode count fill from s before list₀ 0 count (record { kept = 0; dropped = 0; components = 0; place = 8; total = 0 }) before list₀
+loop-starts layout start end mode count fill from s before list₀ modes lent =
+    record { walking = walked.passed-starts modes (omega arith) (none-sieved layout start end fill from before list₀); long = refl; listed = refl; bounded = none-bounded }
+
 module _ {layout start end mode count : ℕ} {fill : Bool} {from : ℕ} {s before list₀ : List ℕ} {at due : ℕ} {have : Sieve} {t list : List ℕ} (w : Looping layout start end mode count fill from s before list₀ at due have t list)
-    {x : Entry} (h : EntryIs 30 mode due (Here s at) x) {k : ℕ} (is : x ≡ Value k) {e : ℕ} (ended : e ≡ code (itemEnd 30 (Here s (at + k)))) (l : e ≤ length s - (at + k)) where
-  pub loops-on : {z : Sieve} {t′ list′ : List ℕ} → Steps layout (Here s at) (Here s (at + k)) start end fill from have t list z t′ list′ → Bounded z → length t′ ≡ length t → length list′ ≡ length list
-      → Looping layout start end mode count fill from s before list₀ (at + k + e) (due - 2) z t′ list′
-  loops-on steps bounded long listed = record {
-    walking = walked.one-more-lent (w .walking) h is ended l (λ done x key value so. one-more-sieved layout start (Here s at) (Here s (at + k)) (w .long) (w .listed) steps x key value so);
-    long = long ∙ w .long;
-    listed = listed ∙ w .listed;
-    bounded = bounded;
-  }
+    {x : Entry} (h : EntryIs 30 mode due (Here s at) x) where
+  pub all-sieved : {e : ℕ} → x ≡ End e → AllSieved layout start end mode count fill from s before list₀ have t list
+  all-sieved is = walked.holds-of-all (w .walking) h is
+
+  -- a turn, in the code's terms: the value at `at + k` takes e bytes
+  module _ {k : ℕ} (is : x ≡ Value k) {e : ℕ} (ended : e ≡ code (itemEnd 30 (Here s (at + k)))) where
+    pub none-there : length s - (at + k) < e → (z : Sieve) (t′ list′ : List ℕ) → AllSieved layout start end mode count fill from s before list₀ z t′ list′
+    none-there l z t′ list′ = walked.no-pairs (w .walking) h is ended l _
+
+    pub next-fits : e ≤ length s - (at + k) → Fits w64 (at + k + e)
+    next-fits l = record { fits = let y = walked.next-inside (w .walking) h is ended l in let z = w .walking .short in omega arith }
+
+    pub loops-on : e ≤ length s - (at + k) → {z : Sieve} {t′ list′ : List ℕ} → Steps layout (Here s at) (Here s (at + k)) start end fill from have t list z t′ list′ → Bounded z → length t′ ≡ length t → length list′ ≡ length list
+        → Looping layout start end mode count fill from s before list₀ (at + k + e) (due - 2) z t′ list′
+    loops-on l steps bounded long listed = record {
+      walking = walked.one-more-lent (w .walking) h is ended l (λ done x key value so. one-more-sieved layout start (Here s at) (Here s (at + k)) (w .long) (w .listed) steps x key value so);
+      long = long ∙ w .long;
+      listed = listed ∙ w .listed;
+      bounded = bounded;
+    }
 
 -- ---------------------------------------------------------------- the whole map, lent whole to `walk::map`, which answered x
 

@@ -11,7 +11,7 @@ use lib.Dec.{leb}
 use borrow.Author.Tests.{lt-ltb, le-ltb, leb-true}
 use borrow.Rule.Slice.PartAt.{part-to-end}
 use Rattle.meaning.specs.Columns.{objectWidth, componentWidth}
-use Rattle.meaning.specs.Limit.{objectLimit, manifestLimit, endLimit}
+use Rattle.meaning.specs.Limit.{objectLimit}
 use Rattle.endian.proofs.Which.{lt-or}
 use Rattle.objects.specs.Firsts.{plus}
 use Rattle.walk.specs.Reading.{Reads}
@@ -57,69 +57,66 @@ plus-bounded total m h = by (leb m 16) (leb total 16368) refl refl
     by true false e f = h
     by false b e f = h
 
+pub counted-bounded : (n d : ℕ) → d ≡ more n → n ≤ 1024 → d ≤ 1024
+counted-bounded n d e h = omega (arith, more-bounded n h)
+
+pub held-bounded : (total m parts : ℕ) → parts ≡ plus total m → total ≤ 16384 → parts ≤ 16384
+held-bounded total m parts e h = omega (arith, plus-bounded total m h)
+
+pub still-bounded : {have : Sieve} → Bounded have → (m : ℕ) {k parts : ℕ} → k ≡ more (have .kept) → parts ≡ plus (have .components) m
+    → Bounded (record { kept = k; dropped = have .dropped; components = parts; place = have .place; total = have .total })
+still-bounded {have} b m {k} {parts} e f =
+    record { kept = counted-bounded (have .kept) k e (b .kept); dropped = b .dropped; components = held-bounded (have .components) m parts f (b .components); place = b .place; total = b .total }
+
 -- ---- an object that is refused
 
-module _ (fill : Bool) (n c : ℕ) (have : Sieve) (b : Bounded have) (l l′ : List ℕ) (d : ℕ) (counted : d ≡ more (have .dropped)) where
+module _ (fill : Bool) (n c : ℕ) (have : Sieve) (l : List ℕ) (d : ℕ) (counted : d ≡ more (have .dropped)) where
   abbrev after-omit : Sieve
   after-omit = record { kept = have .kept; dropped = d; components = have .components; place = have .place; total = have .total }
 
-  omit-bounded : Bounded after-omit
-  omit-bounded = let m = more-bounded (have .dropped) (b .dropped) in record { kept = b .kept; dropped = omega (arith, m, counted); components = b .components; place = b .place; total = b .total }
+  pub omits-listed : (l′ : List ℕ) → l′ ≡ sets l (3 * have .dropped) ((have .kept + have .dropped) ∷ n ∷ c ∷ []) → Omits fill n c have l after-omit l′
+  omits-listed l′ h = record { kept = refl; dropped = counted; components = refl; place = refl; total = refl; lists = λ e. h }
 
-  pub omits-listed : l′ ≡ sets l (3 * have .dropped) ((have .kept + have .dropped) ∷ n ∷ c ∷ []) → Omits fill n c have l after-omit l′ × Bounded after-omit
-  omits-listed h = (record { kept = refl; dropped = counted; components = refl; place = refl; total = refl; lists = λ e. h }, omit-bounded)
-
-  pub omits-counted : fill ≡ false → Omits fill n c have l after-omit l × Bounded after-omit
-  omits-counted f = (record { kept = refl; dropped = counted; components = refl; place = refl; total = refl; lists = λ e. absurd (let z : true ≡ false = sym e ∙ f in let y : _≡_ {A = ℕ} 0 1 = cc in omega (arith, y)) }, omit-bounded)
+  pub omits-counted : fill ≡ false → Omits fill n c have l after-omit l
+  omits-counted f = record { kept = refl; dropped = counted; components = refl; place = refl; total = refl; lists = λ e. absurd (let z : true ≡ false = sym e ∙ f in let y : _≡_ {A = ℕ} 0 1 = cc in omega (arith, y)) }
 
 -- ---- an object that passes
 
-module _ (layout : ℕ) (s c : List ℕ) (start end : ℕ) (fill : Bool) (from m : ℕ) (have : Sieve) (b : Bounded have) (t t′ : List ℕ) (k parts : ℕ) (counted : k ≡ more (have .kept)) (held : parts ≡ plus (have .components) m) where
+module _ (layout : ℕ) (s c : List ℕ) (start end : ℕ) (fill : Bool) (from m : ℕ) (have : Sieve) (t t′ : List ℕ) (k parts : ℕ) (counted : k ≡ more (have .kept)) (held : parts ≡ plus (have .components) m) where
   abbrev with-sums : ℕ → ℕ → Sieve
   with-sums place total = record { kept = k; dropped = have .dropped; components = parts; place = place; total = total }
 
-  keep-bounded : (place total : ℕ) → place ≤ suc endLimit → total ≤ suc manifestLimit → Bounded (with-sums place total)
-  keep-bounded place total p q =
-      let x = more-bounded (have .kept) (b .kept) in let y = plus-bounded (have .components) m (b .components) in
-      record { kept = omega (arith, x, counted); dropped = b .dropped; components = omega (arith, y, held); place = p; total = q }
-
   pub keeps-put : fill ≡ true → WholePut layout (Here s 0) (Here c 0) start end (have .kept) (objectWidth * have .kept) (from + componentWidth * have .components) t t′
-      → Keeps layout s c start end fill from m have t (with-sums (have .place) (have .total)) t′ × Bounded (with-sums (have .place) (have .total))
-  keeps-put f put = (
-    record {
-      kept = counted;
-      dropped = refl;
-      components = held;
-      one = λ x d u r key value n named o passes. record {
-        weighs = λ g. absurd (let z : true ≡ false = sym f ∙ g in let y : _≡_ {A = ℕ} 0 1 = cc in omega (arith, y));
-        lays = λ g low room.
-            put x d u r (subst (λ v. Reads (suc d) v (x .key) u) (sym (part-to-end s 0)) key) (subst (λ v. Reads 30 v (x .value) r) (sym (part-to-end c 0)) value) n named o passes
-            (omega (arith, low)) room;
-      };
-    },
-    keep-bounded (have .place) (have .total) (b .place) (b .total),
-  )
+      → Keeps layout s c start end fill from m have t (with-sums (have .place) (have .total)) t′
+  keeps-put f put = record {
+    kept = counted;
+    dropped = refl;
+    components = held;
+    one = λ x d u r key value n named o passes. record {
+      weighs = λ g. absurd (let z : true ≡ false = sym f ∙ g in let y : _≡_ {A = ℕ} 0 1 = cc in omega (arith, y));
+      lays = λ g low room.
+          put x d u r (subst (λ v. Reads (suc d) v (x .key) u) (sym (part-to-end s 0)) key) (subst (λ v. Reads 30 v (x .value) r) (sym (part-to-end c 0)) value) n named o passes
+          (omega (arith, low)) room;
+    };
+  }
 
-  pub keeps-weighed : fill ≡ false → (place total : ℕ) → Weighed layout (Here s 0) (Here c 0) start end (have .place) (have .total) place total → (place ≤ suc endLimit) × (total ≤ suc manifestLimit)
-      → Keeps layout s c start end fill from m have t (with-sums place total) t′ × Bounded (with-sums place total)
-  keeps-weighed f place total weighs small = (
-    record {
-      kept = counted;
-      dropped = refl;
-      components = held;
-      one = λ x d u r key value n named o passes. record {
-        weighs = λ g seen.
-            weighs x d u r (subst (λ v. Reads (suc d) v (x .key) u) (sym (part-to-end s 0)) key) (subst (λ v. Reads 30 v (x .value) r) (sym (part-to-end c 0)) value) n named o passes seen;
-        lays = λ g low room. absurd (let z : true ≡ false = sym g ∙ f in let y : _≡_ {A = ℕ} 0 1 = cc in omega (arith, y));
-      };
-    },
-    keep-bounded place total (small .0) (small .1),
-  )
+  pub keeps-weighed : fill ≡ false → (place total : ℕ) → Weighed layout (Here s 0) (Here c 0) start end (have .place) (have .total) place total
+      → Keeps layout s c start end fill from m have t (with-sums place total) t′
+  keeps-weighed f place total weighs = record {
+    kept = counted;
+    dropped = refl;
+    components = held;
+    one = λ x d u r key value n named o passes. record {
+      weighs = λ g seen.
+          weighs x d u r (subst (λ v. Reads (suc d) v (x .key) u) (sym (part-to-end s 0)) key) (subst (λ v. Reads 30 v (x .value) r) (sym (part-to-end c 0)) value) n named o passes seen;
+      lays = λ g low room. absurd (let z : true ≡ false = sym g ∙ f in let y : _≡_ {A = ℕ} 0 1 = cc in omega (arith, y));
+    };
+  }
 
 -- what is asked of a window
-pub window-long : (fill : Bool) (t : List ℕ) (have : Sieve) → Bounded have → 208 ≤ length t + when fill → fill ≡ false → (208 ≤ length t) × ((have .place ≤ suc endLimit) × (have .total ≤ suc manifestLimit))
-window-long false t have b h e = (omega (arith, h), (b .place, b .total))
-window-long true t have b h e = absurd (let y : _≡_ {A = ℕ} 0 1 = cc in omega (arith, y))
+pub window-long : (fill : Bool) (t : List ℕ) → 208 ≤ length t + when fill → fill ≡ false → 208 ≤ length t
+window-long false t h e = omega (arith, h)
+window-long true t h e = absurd (let y : _≡_ {A = ℕ} 0 1 = cc in omega (arith, y))
 
 pub still-long : (fill : Bool) (t₀ t : List ℕ) → 208 ≤ length t₀ + when fill → length t ≡ length t₀ → 208 ≤ length t + when fill
 still-long fill t₀ t h e = omega (arith, h, e)

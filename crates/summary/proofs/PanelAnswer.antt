@@ -6,15 +6,15 @@ use mathlib.Core.Bool.{Bool, true, false, cond}
 use mathlib.Core.Path.{_≡_, refl, sym, ap, _∙_, subst}
 use lib.ListN.{length, replicate, length-replicate}
 use lib.Dec.{leb}
-use Rattle.meaning.specs.Check.{Check, pass, refuse, _>>=_, _>>_, _unless_}
+use Rattle.meaning.specs.Check.{Check, pass, refuse, _>>=_, _>>_}
 use Rattle.meaning.specs.Refusal.{ROOM}
-use Rattle.meaning.specs.Layouts.{Layout}
+use Rattle.meaning.specs.Layouts.{Layout, layoutOf}
 use Rattle.meaning.specs.Frame.{Reading}
 use Rattle.meaning.specs.Rows.{componentCount, answer, tableAfter, readInto}
 use Rattle.meaning.specs.Listing.{listing}
 use Rattle.reader.specs.declared.into.Answer.{Answer}
 use Rattle.reader.specs.Answer.{answered}
-use Rattle.shown.specs.Accepted.{Framing}
+use Rattle.frame.proofs.Frames.{size-back}
 use Rattle.shown.proofs.AfterReading.{read-zero, read-listing}
 use Rattle.account.specs.Account.{accounted, frameBytes, manifestBytes, insideBytes, betweenBytes}
 use Rattle.account.specs.declared.Bytes.{Bytes}
@@ -83,13 +83,20 @@ told-pass t n = by (leb (length t) n)
 abbrev summary : List ℕ → Bytes → List ℕ → Answer → Check (List ℕ)
 summary file b table a = summarised file table (a .objects) (a .components) (bytesLine (b .frame) (b .manifest) (b .inside) (b .between))
 
-module _ (L : Layout) (framing : Framing L) (file work zeros table : List ℕ) (b : Bytes) (a : Answer) (e : b ≡ accounted L file (readInto L file (length work))) (w : zeros ≡ replicate (length work) 0)
-    (f : a ≡ answered (readInto L file (length zeros))) (g : table ≡ tableAfter zeros (readInto L file (length zeros))) (z : b .number ≡ 0) where
+module _ (layout : ℕ) (file work zeros table : List ℕ) (b : Bytes) (a : Answer) (e : b ≡ accounted (layoutOf layout) file (readInto (layoutOf layout) file (length work)))
+    (w : zeros ≡ replicate (length work) 0) (f : a ≡ answered (readInto (layoutOf layout) file (length zeros)))
+    (g : table ≡ tableAfter zeros (readInto (layoutOf layout) file (length zeros))) (z : b .number ≡ 0) where
+  abbrev L : Layout
+  L = layoutOf layout
+
+  found : (r : Reading) × (readInto L file (length work) ≡ pass r)
+  found = read-zero L file (length work) (size-back layout) (sym (number-same L file (readInto L file (length work))) ∙ sym (ap (λ (x : Bytes). x .number) e) ∙ z)
+
   abbrev r : Reading
-  r = read-zero L file (length work) framing (sym (number-same L file (readInto L file (length work))) ∙ sym (ap (λ (x : Bytes). x .number) e) ∙ z) .0
+  r = found .0
 
   reads : readInto L file (length work) ≡ pass r
-  reads = read-zero L file (length work) framing (sym (number-same L file (readInto L file (length work))) ∙ sym (ap (λ (x : Bytes). x .number) e) ∙ z) .1
+  reads = found .1
 
   as-long : length zeros ≡ length work
   as-long = ap length w ∙ length-replicate (length work) 0
@@ -101,7 +108,7 @@ module _ (L : Layout) (framing : Framing L) (file work zeros table : List ℕ) (
   unfolding answer
   sound-rows =
       sound-of file (tableAfter zeros (pass r)) (length (r .model .objects)) (componentCount (r .model .objects)) (listing (r .model))
-      (subst (λ (k : Check Reading). listed file (tableAfter zeros k) (answer k .objects) (answer k .components) ≡ pass (listing (r .model))) again (read-listing L framing file zeros r again))
+      (subst (λ (k : Check Reading). listed file (tableAfter zeros k) (answer k .objects) (answer k .components) ≡ pass (listing (r .model))) again (read-listing L (size-back layout) file zeros r again))
 
   abbrev last : List ℕ
   last = bytesLine (frameBytes L file r) (manifestBytes L file r) (insideBytes L file r) (betweenBytes L file r)
@@ -113,7 +120,7 @@ module _ (L : Layout) (framing : Framing L) (file work zeros table : List ℕ) (
       ∙ ap (λ (x : List ℕ). summary file (accounted L file (pass r)) x a) (g ∙ ap (tableAfter zeros) again)
       ∙ ap (λ (x : Answer). summary file (accounted L file (pass r)) (tableAfter zeros (pass r)) x) (f ∙ ap answered again)
 
-  pub text-is : summary file b table a ≡ pass (panelText L file (length work) r)
+  text-is : summary file b table a ≡ pass (panelText L file (length work) r)
   unfolding panelText
   text-is =
       of-reading ∙ all-summarised file (tableAfter zeros (pass r)) (length (r .model .objects)) (componentCount (r .model .objects)) last sound-rows

@@ -7,8 +7,6 @@ use Prim.Native.Nat.{_-_}
 use borrow.Author.Needs.{needs}
 use Rattle.account.proofs.clear.Statement.{statement}
 use Rattle.account.proofs.clear.Tie as tie
-use Rattle.account.proofs.clear.Reads as reads
-use Rattle.account.proofs.clear.Lts as lts
 
 abbrev Inv-loop : tie.InvT-loop
 Inv-loop a₀ i₀ a i = Clearing a₀ a i
@@ -22,11 +20,11 @@ clear-spec =
     (tie.spec
     Inv-loop
     μ-loop
-    (λ c. clearing.clearing-first _)
+    (λ c. search clearing.clearing-first)
     (λ c. search needs)
     (λ c. search needs)
     (λ c. search needs)
-    (λ c. omega (arith, (c .loop-test .taken), (c .before .loop .inv .long)))
-    (λ c. clearing.clearing-next ((c .before .loop .inv)) ((c .loop-test .taken)))
-    (λ c. (c .before .loop .inv .long))
-    (λ c. clearing.clearing-done ((c .before .loop .inv)) ((c .loop-test .left))))
+    (λ c. omega arith)
+    (λ c. search clearing.clearing-next)
+    (λ c. search)
+    (λ c. search clearing.clearing-done))

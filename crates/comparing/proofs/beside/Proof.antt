@@ -15,8 +15,6 @@ beside-spec =
     (λ c. search needs)
     (λ c. search needs)
     (λ c. search needs)
-    (λ c κs. let b7 = c .before .before .before .before .before .before .before in
-    answering.lent-parts (b7 .args .first .now) (b7 .args .second .now) (b7 .args .work .now) (b7 .args .room) (b7 .args .m) (b7 .args .n) (b7 .pre .0) (b7 .pre .1) (b7 .pre .2))
+    (λ c κs. search (answering.lent-front, answering.lent-back))
     (λ c. search needs)
-    (λ c. let b10 = c .before .before .before .before .before .before .before .before .before .before in
-    answering.lent-answered (b10 .args .first .now) (b10 .args .second .now) (b10 .args .work .now) (b10 .args .room) (b10 .args .m) (b10 .args .n) (b10 .pre .0) (b10 .args .list .now) (c .before .before .compared .ensures)))
+    (λ c. search (answering.lent-told, answering.lent-written)))

@@ -1,5 +1,5 @@
--- `explain::explain` meets its contract.
-use native.Mathlib.Omega.{arith}
+-- `explain::explain` meets its contract: a law for each need.
+use Rattle.meaning.proofs.Lengths.{place-fits}
 use Rattle.reader.proofs.Frames as frames
 use Rattle.explaining.proofs.Answers as answers
 use borrow.Author.Needs.{needs}
@@ -14,7 +14,7 @@ explain-spec =
     (λ c. search needs)
     (λ c κs. search needs)
     (λ c. search needs)
-    (λ c. let a = c .before .before .before .before .before .args in omega (arith, frames.inside (a .layout) (a .file .now) _ (c .before .before .before .frame .ensures) _ _ (c .before .start .given .1)))
+    (λ c. search (place-fits, frames.inside))
     (λ c. search needs)
     (λ c. search needs)
     (λ c. search (needs, frames.inside))

@@ -1,6 +1,6 @@
--- `explain::manifest` meets its contract.
+-- `explain::manifest` meets its contract: a law for each need.
+use Rattle.explain.proofs.OwnCheck as own
 use Rattle.explaining.proofs.Answers as answers
-use Rattle.meaning.specs.Layouts.{layoutOf}
 use borrow.Author.Needs.{needs}
 use Rattle.explain.proofs.manifest.Statement.{statement}
 use Rattle.explain.proofs.manifest.Tie as tie
@@ -13,6 +13,6 @@ manifest-spec =
     (λ c. search needs)
     (λ c κs. search needs)
     (λ c. search needs)
-    (λ c κs. let a = c .before .before .before .before .before .args in answers.counted (layoutOf (a .layout)) (a .m .now) (a .start) (a .end) (a .room) _ (c .before .before .before .manifest .ensures) _ _ _ _ (c .before .objects .given .1))
+    (λ c κs. own.counted _ _ _ (c .before .before .before .manifest .ensures) (c .before .objects .given .1))
     (λ c. search answers.no-manifest)
     (λ c. search answers.a-manifest))

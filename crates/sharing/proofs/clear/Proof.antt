@@ -15,5 +15,4 @@ clear-spec =
     (λ c. search needs)
     (λ c κs. search needs)
     (λ c. search needs)
-    (λ c. let b2 = c .before .before in let b5 = b2 .before .before .before in let a = b5 .args in
-    laid.lent-zeros (a .from) (a .count) (a .shared .now) _ (b5 .pre) (b2 .zero .ensures)))
+    (λ c. search laid.lent-zeros))

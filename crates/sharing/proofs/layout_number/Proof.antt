@@ -5,4 +5,4 @@ use Rattle.sharing.proofs.layout_number.Statement.{statement}
 use Rattle.sharing.proofs.layout_number.Tie as tie
 
 pub layout-number-spec : {M : Type 1} → statement M
-layout-number-spec = tie.close (tie.spec (λ c. layout-one _ (c .if1 .taken)) (λ c. layout-other _ (c .if1 .left)))
+layout-number-spec = tie.close (tie.spec (λ c. search layout-one) (λ c. search layout-other))

@@ -20,6 +20,4 @@ settle-spec =
     (λ c κs. search needs)
     (λ c κs. search needs)
     (λ c. search needs)
-    (λ c. let b2 = c .before .before in let b3 = b2 .before in let b5 = b3 .before .before in let b7 = b5 .before .before in let a = b7 .args in
-    laid.settled 65536 (a .engine) (a .layout) (a .objects) (a .components) (a .start) (a .place) (a .size) (a .shared .now) _ _ _ (b7 .pre .0) (b7 .pre .1 .1) (b5 .state-at .ensures)
-    (b3 .layout-number .ensures) (b2 .keep .ensures)))
+    (λ c. search (laid.settled 65536)))

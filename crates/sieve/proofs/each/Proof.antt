@@ -1,8 +1,8 @@
 -- `sieve::each` meets its contract: a law for each need.
 use Prim.Native.Nat.{_-_}
 use lib.ListN.{length}
-use mathlib.Core.Path.{refl, _∙_}
-use native.Mathlib.Omega.{arith}
+use mathlib.Core.Path.{_∙_}
+use Rattle.meaning.proofs.Lengths.{place-fits}
 use Rattle.walk.proofs.Passed as walked
 use Rattle.sieve.proofs.ObjectPut as putting
 use Rattle.sieve.proofs.ObjectJudged as sieving
@@ -23,7 +23,7 @@ each-spec =
     (tie.spec
     Inv-loop
     μ-loop
-    (λ c. record { walking = walked.passed-starts (c .before .before .before .pre .1) (omega arith) (sieving.none-sieved _ _ _ _ _ _ _); long = refl; listed = refl; bounded = putting.none-bounded })
+    (λ c. search sieving.loop-starts)
     (λ c. search needs)
     (λ c. search needs)
     (λ c. search needs)
@@ -31,31 +31,21 @@ each-spec =
     (λ c. search needs)
     (λ c. search)
     (λ c. search)
-    (λ c. let b2 = c .before .before in let b4 = b2 .before .before in let l = b4 .loop in
-    (walked.holds-of-all (l .inv .walking) (b2 .past-key .ensures) (c .enum-told .given .1), (l .inv .bounded)))
+    (λ c. (search sieving.all-sieved, search))
     (λ c. search needs)
-    (λ c. let b3 = c .before .before .before in let b5 = b3 .before .before in let l = b5 .loop in
-    omega (arith, walked.value-inside (l .inv .walking) (b3 .past-key .ensures) (c .before .k .given .1)))
+    (λ c. search (place-fits, walked.value-inside))
     (λ c. search (needs, walked.value-inside))
     (λ c. search (needs, walked.value-inside))
+    (λ c. search needs)
     (λ c. search (needs, walked.value-inside))
     (λ c. search (needs, walked.value-inside))
-    (λ c. search (needs, walked.value-inside))
-    (λ c. search (needs, walked.value-inside))
+    (λ c. search needs)
     (λ c κs. search putting.still-long)
     (λ c. search (needs, walked.value-inside))
-    (λ c. let b6 = c .before .before .before .before .before .before in let l = b6 .before .before .before .before .before .before .before .before .before .before .loop in
-    (b6 .step .kept .1 .1 .1 .1 .1 .1 .1 .1 .0) ∙ (l .inv .long))
-    (λ c. let b6 = c .before .before .before .before .before .before in let l = b6 .before .before .before .before .before .before .before .before .before .before .loop in
-    (b6 .step .kept .1 .1 .1 .1 .1 .1 .1 .1 .1 .0) ∙ (l .inv .listed))
-    (λ c. let b6 = c .before .before .before .before .before .before in let b12 = b6 .before .before .before .before .before .before in let b14 = b12 .before .before in let b16 = b14 .before .before in
-    let l = b16 .loop in
-    (walked.no-pairs (l .inv .walking) (b14 .past-key .ensures) (b12 .k .given .1) (b6 .step .ensures .0) (c .if1 .taken) _, (b6 .step .ensures .1 .1)))
-    (λ c. let b12 = c .before .before .before .before .before .before .before .before .before .before .before .before in let b14 = b12 .before .before in let b16 = b14 .before .before in
-    let l = b16 .loop in
-    omega (arith, walked.value-inside (l .inv .walking) (b14 .past-key .ensures) (b12 .k .given .1), c .if1 .left, l .inv .walking .short))
+    (λ c. let s = c .before .before .before .before .before .before in s .step .kept .1 .1 .1 .1 .1 .1 .1 .1 .0 ∙ s .before .before .before .before .before .before .before .before .before .before .loop .inv .long)
+    (λ c. let s = c .before .before .before .before .before .before in s .step .kept .1 .1 .1 .1 .1 .1 .1 .1 .1 .0 ∙ s .before .before .before .before .before .before .before .before .before .before .loop .inv .listed)
+    (λ c. (search sieving.none-there, search))
+    (λ c. search sieving.next-fits)
     (λ c. search (needs, walked.two-due))
-    (λ c. let b6 = c .before .before .before .before .before .before in let b12 = b6 .before .before .before .before .before .before in let b14 = b12 .before .before in let b16 = b14 .before .before in
-    let l = b16 .loop in
-    omega (arith, walked.value-inside (l .inv .walking) (b14 .past-key .ensures) (b12 .k .given .1), walked.goes-on (l .inv .walking) (b14 .past-key .ensures) (b12 .k .given .1) (b6 .step .ensures .0) (c .if1 .left)))
+    (λ c. search walked.nearer)
     (λ c. search sieving.loops-on))
