@@ -39,10 +39,10 @@ use Rattle.joint.specs.Joint.{Rows, wholeOf}
 use Rattle.joint.proofs.Meant as meant
 use Rattle.window.specs.Sums.{allBlobs}
 use Rattle.window.specs.Summed.{InWindow}
-use Rattle.summed.proofs.OfFile as of-file
-use Rattle.merge.specs.Checked.{span, Ready, Cases, CheckedIs}
-use Rattle.merge.specs.declared.Verdict.{Verdict}
-use Rattle.merge.specs.declared.Verdict.the-variants.{No, Yes}
+use Rattle.merger.proofs.SumsOfFile as of-file
+use Rattle.merger.specs.Checked.{span, Ready, Cases, CheckedIs}
+use Rattle.merger.specs.declared.checks.Verdict.{Verdict}
+use Rattle.merger.specs.declared.checks.Verdict.the-variants.{No, Yes}
 use Rattle.merger.specs.declared.Merged.{Merged}
 use Rattle.merger.specs.MergedFile.{answered, joinedOf, Enough}
 

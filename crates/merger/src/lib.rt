@@ -1,5 +1,8 @@
 // Document 02, Req 10: two files, each of either layout, into one of 1.2.0. The lent rows hold both files' tables, and end as zeros.
-use merge::Verdict;
+mod checks;
+mod weigh;
+
+use checks::Verdict;
 ghost use mathlib.Core.Path.{_≡_};
 ghost use mathlib.Core.Bool.{_&&_};
 ghost use Prim.Native.Nat.{_+_, _*_, _≤_};
@@ -11,7 +14,7 @@ ghost use Rattle.emit.specs.Laid.{Room, Laid};
 ghost use Rattle.layout.specs.Rows.{Within};
 ghost use Rattle.joint.specs.Joint.{Rows};
 ghost use Rattle.merging.specs.Merge as is;
-ghost use Rattle.merge.specs.Checked.{Ready};
+ghost use Rattle.merger.specs.Checked.{Ready};
 ghost use Rattle.merger.specs.MergedFile.{answered, joinedOf, Enough};
 
 // A refusal's number, which file it is about (1 or 2, or 0 for the merged one), object and component; or 0, or ROOM, and the merged file's length.
@@ -146,7 +149,7 @@ pub fn merge(
     ensures output { λ r. ⌜ now (out .exit) ≡ is.mergeOutput (now (out .entry)) (is.merge (layoutOf one) (now (first .entry)) (layoutOf two) (now (second .entry)) (length (now (rows .entry))) (length (now (out .entry)))) ⌝ }
     ensures cleared { λ r. ⌜ now (rows .exit) ≡ is.mergeRows (now (rows .entry)) ⌝ }
 {
-    match merge::checked(one, first, two, second) {
+    match checks::checked(one, first, two, second) {
         Verdict::No(x, f, o, y) => {
             account::clear(rows);
             Merged {

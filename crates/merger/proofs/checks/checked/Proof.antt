@@ -1,10 +1,10 @@
--- `merge::checked` meets its contract: a law for each way out.
+-- `merger::checks::checked` meets its contract: a law for each way out.
 use mathlib.Core.Path.{refl}
 use native.Mathlib.Omega.{arith}
-use Rattle.merge.proofs.BeforeRoom as checking
+use Rattle.merger.proofs.BeforeRoom as checking
 use borrow.Author.Needs.{needs}
-use Rattle.merge.proofs.checked.Statement.{statement}
-use Rattle.merge.proofs.checked.Tie as tie
+use Rattle.merger.proofs.checks.checked.Statement.{statement}
+use Rattle.merger.proofs.checks.checked.Tie as tie
 
 pub checked-spec : {M : Type 1} → statement M
 checked-spec =

@@ -1,9 +1,10 @@
-// Two files in one (document 02, Req 10). What comes before ROOM is found without the lent rows.
+// Every check of a merge that comes before ROOM, found without the lent rows.
+use crate::weigh;
+use crate::weigh::Weighed;
 use sizes::piece;
-use weigh::Weighed;
 ghost use mathlib.Core.Path.{_≡_};
 ghost use Rattle.sizes.specs.Size.{capped};
-ghost use Rattle.merge.specs.Checked.{attributesSize, CheckedIs};
+ghost use Rattle.merger.specs.Checked.{attributesSize, CheckedIs};
 
 // The bytes of the kept attributes with their key: the first's if it has any, else the second's.
 fn attributes(place: u64, size: u64, other: u64, length: u64) -> u64

@@ -18,8 +18,8 @@ use Rattle.rows.specs.Turns.{reached}
 use Rattle.sizes.specs.Size.{optionalCopy}
 use Rattle.roundtrip.specs.Again.{plainFile}
 use Rattle.merging.specs.Merge.{merged, refused, merge, roomed}
-use Rattle.merge.specs.declared.Verdict.{Verdict}
-use Rattle.merge.specs.declared.Verdict.the-variants.{No, Yes}
+use Rattle.merger.specs.declared.checks.Verdict.{Verdict}
+use Rattle.merger.specs.declared.checks.Verdict.the-variants.{No, Yes}
 
 abbrev pub span : ℕ → ℕ → Span
 span place size = record { place = place; size = size }

@@ -1,10 +1,10 @@
--- `weigh::file` meets its contract: a law for each need.
+-- `merger::weigh::file` meets its contract: a law for each need.
 use Rattle.meaning.proofs.Lengths.{place-fits}
 use Rattle.reader.proofs.Frames as frames
-use Rattle.weigh.proofs.WeighedFile as law
+use Rattle.merger.proofs.WeighedFile as law
 use borrow.Author.Needs.{needs}
-use Rattle.weigh.proofs.file.Statement.{statement}
-use Rattle.weigh.proofs.file.Tie as tie
+use Rattle.merger.proofs.weigh.file.Statement.{statement}
+use Rattle.merger.proofs.weigh.file.Tie as tie
 
 pub file-spec : {M : Type 1} → statement M
 file-spec =

@@ -1,8 +1,8 @@
--- `weigh::manifest` meets its contract: a law for each need.
-use Rattle.weigh.proofs.WeighedFile as law
+-- `merger::weigh::manifest` meets its contract: a law for each need.
+use Rattle.merger.proofs.WeighedFile as law
 use borrow.Author.Needs.{needs}
-use Rattle.weigh.proofs.manifest.Statement.{statement}
-use Rattle.weigh.proofs.manifest.Tie as tie
+use Rattle.merger.proofs.weigh.manifest.Statement.{statement}
+use Rattle.merger.proofs.weigh.manifest.Tie as tie
 
 pub manifest-spec : {M : Type 1} → statement M
 manifest-spec =

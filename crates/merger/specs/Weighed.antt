@@ -13,8 +13,8 @@ use Rattle.meaning.specs.Rows.{attributesSpan, componentCount}
 use Rattle.meaning.specs.Every.{Every}
 use Rattle.window.specs.Sums.{namePairs}
 use Rattle.window.specs.Summed.{InWindow, Sum}
-use Rattle.weigh.specs.declared.Weighed.{Weighed}
-use Rattle.weigh.specs.declared.Weighed.the-variants.{No, Yes}
+use Rattle.merger.specs.declared.weigh.Weighed.{Weighed}
+use Rattle.merger.specs.declared.weigh.Weighed.the-variants.{No, Yes}
 
 -- the sums from a place p and n bytes on, and the names' places
 pub record Sums (m : Model Span) (p n from : ℕ) (before : List ℕ) (q k : ℕ) (after : List ℕ) : Type 0 where

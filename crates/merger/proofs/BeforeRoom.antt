@@ -35,14 +35,14 @@ use Rattle.merging.specs.Merge.{orElse, merged, about, merge}
 use Rattle.unshared.specs.Unshared.{noneOf}
 use Rattle.window.specs.Sums.{namePairs}
 use Rattle.window.proofs.Snoc.{names-length}
-use Rattle.weigh.specs.Weighed.{Sums, Weighs, WeighedIs, Cases}
-use Rattle.weigh.specs.declared.Weighed.{Weighed}
-use Rattle.weigh.specs.declared.Weighed.the-variants.{No, Yes}
-use Rattle.summed.proofs.OfFile as of-file
-use Rattle.summed.proofs.Answer as answer
-use Rattle.summed.proofs.Names as names
-use Rattle.merge.specs.declared.Verdict.the-variants as verdict
-use Rattle.merge.specs.Checked.{span, attributesSize, Ready, CheckedIs}
+use Rattle.merger.specs.Weighed.{Sums, Weighs, WeighedIs, Cases}
+use Rattle.merger.specs.declared.weigh.Weighed.{Weighed}
+use Rattle.merger.specs.declared.weigh.Weighed.the-variants.{No, Yes}
+use Rattle.merger.proofs.SumsOfFile as of-file
+use Rattle.merger.proofs.AnswerFromSums as answer
+use Rattle.merger.proofs.NamesOfBoth as names
+use Rattle.merger.specs.declared.checks.Verdict.the-variants as verdict
+use Rattle.merger.specs.Checked.{span, attributesSize, Ready, CheckedIs}
 
 -- ---- the kept attributes
 

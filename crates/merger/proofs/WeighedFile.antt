@@ -27,9 +27,9 @@ use Rattle.reader.specs.declared.Told.the-variants.{No, Yes}
 use Rattle.reader.proofs.Frames.{framed, inside, manifest-read}
 use Rattle.reader.proofs.Answers.{parts, objects-read, attributes-hold}
 use Rattle.window.specs.Summed.{InWindow, spans, Measured}
-use Rattle.weigh.specs.declared.Weighed.{Weighed}
-use Rattle.weigh.specs.declared.Weighed.the-variants as weighed
-use Rattle.weigh.specs.Weighed.{WeighedIs}
+use Rattle.merger.specs.declared.weigh.Weighed.{Weighed}
+use Rattle.merger.specs.declared.weigh.Weighed.the-variants as weighed
+use Rattle.merger.specs.Weighed.{WeighedIs}
 
 unmapped-in-window : (end : ℕ) (os : List (Object Ends)) → Every InWindow (spans end os) → Every InWindow os
 unmapped-in-window end [] w = tt

@@ -10,7 +10,7 @@ ghost use Rattle.meaning.specs.Layouts.{layoutOf};
 ghost use Rattle.meaning.specs.Frame.{reading};
 ghost use Rattle.reader.specs.Verdict.{manifestReading};
 ghost use Rattle.cbor.specs.Ending.{FAULT};
-ghost use Rattle.weigh.specs.Weighed.{WeighedIs};
+ghost use Rattle.merger.specs.Weighed.{WeighedIs};
 
 // A refusal with its object and component; or how many objects and components there are, place and length of the root's attributes, where the last blob ends (or 2^40 + 1), and how many
 // bytes the objects' entries take with those before (or the limit and 1).

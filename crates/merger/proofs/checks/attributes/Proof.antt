@@ -1,8 +1,8 @@
--- `merge::attributes` meets its contract: the first's if it has any, else the second's.
-use Rattle.merge.proofs.BeforeRoom as checking
+-- `merger::checks::attributes` meets its contract: the first's if it has any, else the second's.
+use Rattle.merger.proofs.BeforeRoom as checking
 use borrow.Author.Needs.{needs}
-use Rattle.merge.proofs.attributes.Statement.{statement}
-use Rattle.merge.proofs.attributes.Tie as tie
+use Rattle.merger.proofs.checks.attributes.Statement.{statement}
+use Rattle.merger.proofs.checks.attributes.Tie as tie
 
 pub attributes-spec : {M : Type 1} → statement M
 attributes-spec =

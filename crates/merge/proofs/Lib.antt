@@ -1,2 +1,0 @@
--- Laws behind the checks.
-pub mod BeforeRoom

@@ -1,2 +1,0 @@
--- What is known of two files before ROOM.
-pub mod Checked

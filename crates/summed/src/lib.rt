@@ -1,1 +1,0 @@
-// No code: what was weighed of accepted files is what the writer's definitions say of their merge.

@@ -1,2 +1,0 @@
--- Laws behind the answer: from the manifest, and from the frame.
-pub mod WeighedFile

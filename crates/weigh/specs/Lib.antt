@@ -1,2 +1,0 @@
--- What is answered of a weighed file.
-pub mod Weighed
