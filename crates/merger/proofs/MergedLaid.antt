@@ -3,13 +3,15 @@ use Prim.Native.Nat.{ℕ, _+_, _-_, _*_, _≤_, _<_}
 use native.Mathlib.Omega.{arith}
 use native.Mathlib.Nat.{zero-add}
 use mathlib.Core.List.{List, [], _∷_, _++_, map}
-use mathlib.Core.Bool.{Bool, true, false, cond, _&&_}
+use mathlib.Core.Bool.{Bool, true, false, cond, not, _&&_}
 use mathlib.Core.Path.{_≡_, refl, sym, ap, ap₂, _∙_, subst}
 use lib.ListN.{length, take, drop, length-append, length-drop, length-map, replicate}
 use lib.Seq.{take-at, drop-at}
 use lib.Dec.{eqb, leb}
-use borrow.Author.Tests.{le-leb, lt-leb, leb-true}
+use borrow.Author.Tests.{le-leb, lt-leb, leb-true, not-true, not-false}
 use borrow.Rule.Slice.PartAt.{part-to-end}
+use mir.Val.{Fits}
+use mir.Syntax.{w64}
 use Rattle.meaning.specs.Limit.{endLimit, componentLimit}
 use Rattle.meaning.specs.Columns.{objectWidth, componentWidth}
 use Rattle.meaning.specs.Check.{pass}
@@ -44,11 +46,11 @@ use Rattle.merger.specs.Checked.{span, Ready, Cases, CheckedIs}
 use Rattle.merger.specs.declared.checks.Verdict.{Verdict}
 use Rattle.merger.specs.declared.checks.Verdict.the-variants.{No, Yes}
 use Rattle.merger.specs.declared.Merged.{Merged}
-use Rattle.merger.specs.MergedFile.{answered, joinedOf, Enough}
+use Rattle.merger.specs.MergedFile.{answer, answered, joinedOf, Enough}
 
 -- ---- which case it was
 
-pub refused-so : {l : ℕ} {first : List ℕ} {l′ : ℕ} {second : List ℕ} {w : Verdict} → CheckedIs l first l′ second w → {x f o j : ℕ} → w ≡ No x f o j → (lent room : ℕ)
+refused-so : {l : ℕ} {first : List ℕ} {l′ : ℕ} {second : List ℕ} {w : Verdict} → CheckedIs l first l′ second w → {x f o j : ℕ} → w ≡ No x f o j → (lent room : ℕ)
     → merge (layoutOf l) first (layoutOf l′) second lent room ≡ refused f x o j
 refused-so {l} {first} {l′} {second} h e = subst (λ v. Cases l first l′ second v) e (h .case)
 
@@ -59,43 +61,58 @@ ready-so {l} {first} {l′} {second} h e = subst (λ v. Cases l first l′ secon
 -- ---- what a caller sees
 
 module _ {w : Merge} where
-  pub refused-told : {f x o j : ℕ} → w ≡ refused f x o j → _≡_ {A = Merged} (record { number = x; file = f; object = o; component = j; length = 0 }) (answered w)
+  refused-told : {f x o j : ℕ} → w ≡ refused f x o j → answer x f o j 0 ≡ answered w
   unfolding mergeAnswer
   refused-told e = rw e refl
 
-  pub refused-leaves : {f x o j : ℕ} → w ≡ refused f x o j → {out : List ℕ} → out ≡ mergeOutput out w
+  refused-leaves : {f x o j : ℕ} → w ≡ refused f x o j → {out : List ℕ} → out ≡ mergeOutput out w
   unfolding mergeOutput
   refused-leaves e = rw e refl
 
-  pub short-told : {long : ℕ} → w ≡ short long → _≡_ {A = Merged} (record { number = 24; file = 0; object = 0; component = 0; length = long }) (answered w)
+  short-told : {long : ℕ} → w ≡ short long → answer 24 0 0 0 long ≡ answered w
   unfolding mergeAnswer
   short-told e = rw e refl
 
-  pub short-leaves : {long : ℕ} → w ≡ short long → {out : List ℕ} → out ≡ mergeOutput out w
+  short-leaves : {long : ℕ} → w ≡ short long → {out : List ℕ} → out ≡ mergeOutput out w
   unfolding mergeOutput
   short-leaves e = rw e refl
 
-  pub done-told : {f : List ℕ} {long : ℕ} → w ≡ done f → long ≡ length f → _≡_ {A = Merged} (record { number = 0; file = 0; object = 0; component = 0; length = long }) (answered w)
+  done-told : {f : List ℕ} {long : ℕ} → w ≡ done f → long ≡ length f → answer 0 0 0 0 long ≡ answered w
   unfolding mergeAnswer
   done-told e l = rw (e, l) refl
 
-pub cleared : (table t : List ℕ) {x : List ℕ} → length t ≡ length table → x ≡ replicate (length t) 0 → x ≡ mergeRows table
+pub cleared : (table t : List ℕ) {x : List ℕ} → x ≡ replicate (length t) 0 → length t ≡ length table → x ≡ mergeRows table
 unfolding mergeRows
-cleared table t e f = f ∙ ap (λ (n : ℕ). replicate n 0) e
+cleared table t f e = f ∙ ap (λ (n : ℕ). replicate n 0) e
 
 -- ---- the tests of room
 
-pub enough-so : {n c k d long : ℕ} {rows out : List ℕ} {t : Bool} → t ≡ leb long (length out) && leb (objectWidth * (n + k) + componentWidth * (c + d)) (length rows) → t ≡ true → Enough n c k d long rows out
-enough-so {n} {c} {k} {d} {long} {rows} {out} e f =
+pub enough-so : {n c k d long : ℕ} {rows out : List ℕ} {t : Bool} → t ≡ leb long (length out) && leb (objectWidth * (n + k) + componentWidth * (c + d)) (length rows) → not t ≡ false → Enough n c k d long rows out
+enough-so {n} {c} {k} {d} {long} {rows} {out} {t} e f =
     let p : ℕ = objectWidth * (n + k) + componentWidth * (c + d) in
-    let h = both-true (leb long (length out)) (leb p (length rows)) (sym e ∙ f) in
+    let h = both-true (leb long (length out)) (leb p (length rows)) (sym e ∙ not-false t f) in
     record { numbers = leb-true p (length rows) (h .1); bytes = leb-true long (length out) (h .0) }
 
-pub too-long : (long out : ℕ) (b : Bool) → out < long → false ≡ leb long out && b
-too-long long out b h = rw (lt-leb long out h) refl
+pub too-long : {long out : ℕ} (b : Bool) → out < long → false ≡ leb long out && b
+too-long {long} {out} b h = rw (lt-leb long out h) refl
 
-pub long-enough : (long out : ℕ) (b : Bool) {r : Bool} → long ≤ out → r ≡ b → r ≡ leb long out && b
-long-enough long out b h e = rw (le-leb long out h) e
+pub long-enough : {long out : ℕ} {b r : Bool} → long ≤ out → r ≡ b → r ≡ leb long out && b
+long-enough {long} {out} h e = rw (le-leb long out h) e
+
+-- ---- which file's attributes are laid: of A with the second's and B with the first's
+
+module _ {x t : Bool} (A B : List ℕ) (absent : t ≡ x) where
+  pub room-second : {out : List ℕ} → t ≡ true → Room (cond x A B) 0 out → Room A 0 out
+  room-second e h = rw (sym absent ∙ e) at h
+
+  pub room-first : {out : List ℕ} → t ≡ false → Room (cond x A B) 0 out → Room B 0 out
+  room-first e h = rw (sym absent ∙ e) at h
+
+  pub laid-second : {out after : List ℕ} {r : ℕ} → t ≡ true → Laid A 0 out after r → Laid (cond x A B) 0 out after r
+  laid-second e h = rw (sym absent ∙ e) h
+
+  pub laid-first : {out after : List ℕ} {r : ℕ} → t ≡ false → Laid B 0 out after r → Laid (cond x A B) 0 out after r
+  laid-first e h = rw (sym absent ∙ e) h
 
 -- ---- rows of an accepted file, with its counts and attributes by other names
 
@@ -138,7 +155,7 @@ module _ {l : ℕ} {first : List ℕ} {l′ : ℕ} {second : List ℕ} {n c plac
   b = describedBy second m′
 
   -- no sum wraps
-  pub few-objects : n + k ≤ 1024
+  few-objects : n + k ≤ 1024
   few-objects = y .few
 
   few-first : n ≤ 1024
@@ -147,7 +164,7 @@ module _ {l : ℕ} {first : List ℕ} {l′ : ℕ} {second : List ℕ} {n c plac
   few-second : k ≤ 1024
   few-second = let h = y .few in omega (arith, h)
 
-  pub few-all : c + d ≤ 16384
+  few-all : c + d ≤ 16384
   few-all =
       let e = y .components in
       let e′ = y .components′ in
@@ -164,6 +181,10 @@ module _ {l : ℕ} {first : List ℕ} {l′ : ℕ} {second : List ℕ} {n c plac
         few-components (m .objects) (of-file.in-window (layoutOf l) (size-back l) first (y .held) (y .read) (y .is)),
         few-components (m′ .objects) (of-file.in-window (layoutOf l′) (size-back l′) second (y .held′) (y .read′) (y .is′)),
       )
+
+  -- where the second's rows begin, in bytes
+  pub cut-fits : Fits w64 ((objectWidth * n + componentWidth * c) * 8)
+  cut-fits = let o = few-objects in let k = few-all in record { fits = omega arith }
 
   blobs-counted : length (blobs a) ≡ c
   blobs-counted =
@@ -184,14 +205,14 @@ module _ {l : ℕ} {first : List ℕ} {l′ : ℕ} {second : List ℕ} {n c plac
   -- ---- the tests of room
 
   module _ (lent room : ℕ) where
-    pub short-of : {t : Bool} → t ≡ leb long room && leb (objectWidth * (n + k) + componentWidth * (c + d)) lent → t ≡ false → merge (layoutOf l) first (layoutOf l′) second lent room ≡ short long
+    short-of : {t : Bool} → t ≡ leb long room && leb (objectWidth * (n + k) + componentWidth * (c + d)) lent → t ≡ false → merge (layoutOf l) first (layoutOf l′) second lent room ≡ short long
     short-of e f = y .left lent room ∙ rw (sym (y .long-is), rows-room, sym e, f) refl
 
     pub goes-well : long ≤ room → objectWidth * (n + k) + componentWidth * (c + d) ≤ lent → merge (layoutOf l) first (layoutOf l′) second lent room ≡ done (plainFile (merged a b))
     goes-well g h = y .left lent room ∙ rw (sym (y .long-is), rows-room, le-leb long room g, le-leb (objectWidth * (n + k) + componentWidth * (c + d)) lent h) refl
 
-  pub well-told : (table out : List ℕ) → Enough n c k d long table out
-      → _≡_ {A = Merged} (record { number = 0; file = 0; object = 0; component = 0; length = long }) (answered (merge (layoutOf l) first (layoutOf l′) second (length table) (length out)))
+  well-told : (table out : List ℕ) → Enough n c k d long table out
+      → answer 0 0 0 0 long ≡ answered (merge (layoutOf l) first (layoutOf l′) second (length table) (length out))
   well-told table out h = done-told (goes-well (length table) (length out) (h .bytes) (h .numbers)) (y .long-is)
 
   -- ---- both files' rows
@@ -208,9 +229,6 @@ module _ {l : ℕ} {first : List ℕ} {l′ : ℕ} {second : List ℕ} {n c plac
     long-first : length (rows m) ≡ objectWidth * n + componentWidth * c
     unfolding roomFor
     long-first = rows-length m ∙ needs-first
-
-    pub cut-fits : objectWidth * n + componentWidth * c ≤ length table
-    cut-fits = let r = room .numbers in omega (arith, r)
 
     read-into : (L : Layout) (file : List ℕ) (r : Reading) (lent : ℕ) → reading L file ≡ pass r → roomFor (r .model) ≤ lent → readInto L file lent ≡ pass r
     unfolding readInto roomy
@@ -374,3 +392,31 @@ module _ {l : ℕ} {first : List ℕ} {l′ : ℕ} {second : List ℕ} {n c plac
         output-is w =
             w .is ∙ at-front laid out ∙ ap (λ (x : List ℕ). x ++ drop (length x) out) joined-is
             ∙ rw (goes-well (length table) (length out) (room .bytes) (room .numbers)) refl
+
+-- ---- each way out of the call
+
+module _ {l : ℕ} {first : List ℕ} {l′ : ℕ} {second : List ℕ} {w : Verdict} (known : CheckedIs l first l′ second w) where
+  module _ {x f o j : ℕ} (is-no : w ≡ No x f o j) (lent room : ℕ) where
+    pub refused-answer : {r : Merged} → r ≡ answer x f o j 0 → r ≡ answered (merge (layoutOf l) first (layoutOf l′) second lent room)
+    refused-answer e = e ∙ refused-told (refused-so known is-no lent room)
+
+    pub refused-output : {out : List ℕ} → out ≡ mergeOutput out (merge (layoutOf l) first (layoutOf l′) second lent room)
+    refused-output = refused-leaves (refused-so known is-no lent room)
+
+  module _ {n c place size turn k d other rest long : ℕ} (is-yes : w ≡ Yes n c place size turn k d other rest long) where
+    pub objects-fit : Fits w64 (n + k)
+    objects-fit = let h = few-objects (ready-so known is-yes) in record { fits = omega arith }
+
+    pub components-fit : Fits w64 (c + d)
+    components-fit = let h = few-all (ready-so known is-yes) in record { fits = omega arith }
+
+    module _ (lent room : ℕ) {t : Bool} (tested : t ≡ leb long room && leb (objectWidth * (n + k) + componentWidth * (c + d)) lent) (is-short : not t ≡ true) where
+      pub short-answer : {r : Merged} → r ≡ answer 24 0 0 0 long → r ≡ answered (merge (layoutOf l) first (layoutOf l′) second lent room)
+      short-answer {r} e = e ∙ short-told (short-of (ready-so known is-yes) lent room tested (not-true t is-short))
+
+      pub short-output : {out : List ℕ} → out ≡ mergeOutput out (merge (layoutOf l) first (layoutOf l′) second lent room)
+      short-output = short-leaves (short-of (ready-so known is-yes) lent room tested (not-true t is-short))
+
+    module _ (table out : List ℕ) {t : Bool} (tested : t ≡ leb long (length out) && leb (objectWidth * (n + k) + componentWidth * (c + d)) (length table)) (is-enough : not t ≡ false) where
+      pub merged-answer : {r : Merged} → r ≡ answer 0 0 0 0 long → r ≡ answered (merge (layoutOf l) first (layoutOf l′) second (length table) (length out))
+      merged-answer e = e ∙ well-told (ready-so known is-yes) table out (enough-so tested is-enough)

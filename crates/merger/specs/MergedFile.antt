@@ -9,8 +9,11 @@ use Rattle.joint.specs.Joint.{wholeOf}
 use Rattle.merging.specs.Merge.{Merge, MergeAnswer, mergeAnswer}
 use Rattle.merger.specs.declared.Merged.{Merged}
 
+abbrev pub answer : ℕ → ℕ → ℕ → ℕ → ℕ → Merged
+answer number file object component length = record { number = number; file = file; object = object; component = component; length = length }
+
 abbrev pub told : MergeAnswer → Merged
-told a = record { number = a .number; file = a .file; object = a .object; component = a .component; length = a .length }
+told a = answer (a .number) (a .file) (a .object) (a .component) (a .length)
 
 abbrev pub answered : Merge → Merged
 answered m = told (mergeAnswer m)

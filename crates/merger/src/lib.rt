@@ -15,7 +15,7 @@ ghost use Rattle.layout.specs.Rows.{Within};
 ghost use Rattle.joint.specs.Joint.{Rows};
 ghost use Rattle.merging.specs.Merge as is;
 ghost use Rattle.merger.specs.Checked.{Ready};
-ghost use Rattle.merger.specs.MergedFile.{answered, joinedOf, Enough};
+ghost use Rattle.merger.specs.MergedFile.{answer, answered, joinedOf, Enough};
 
 // A refusal's number, which file it is about (1 or 2, or 0 for the merged one), object and component; or 0, or ROOM, and the merged file's length.
 #[repr(C)]
@@ -25,6 +25,18 @@ pub struct Merged {
     pub object: u64,
     pub component: u64,
     pub length: u64,
+}
+
+fn told(number: u64, file: u64, object: u64, component: u64, length: u64) -> Merged
+    ensures { λ r. ⌜ r ≡ answer number file object component length ⌝ }
+{
+    Merged {
+        number: number,
+        file: file,
+        object: object,
+        component: component,
+        length: length,
+    }
 }
 
 // The file by both files' rows; its length. The root's attributes are the first's if it has any, else the second's.
@@ -152,24 +164,12 @@ pub fn merge(
     match checks::checked(one, first, two, second) {
         Verdict::No(x, f, o, y) => {
             account::clear(rows);
-            Merged {
-                number: x,
-                file: f,
-                object: o,
-                component: y,
-                length: 0,
-            }
+            told(x, f, o, y, 0)
         }
         Verdict::Yes(n, c, place, size, turn, k, d, other, rest, long) => {
             if !fits(rows.len(), out.len(), n + k, c + d, long) {
                 account::clear(rows);
-                return Merged {
-                    number: numbers::ROOM,
-                    file: 0,
-                    object: 0,
-                    component: 0,
-                    length: long,
-                };
+                return told(numbers::ROOM, 0, 0, 0, long);
             }
             lay(
                 one,
@@ -190,13 +190,7 @@ pub fn merge(
                 long,
             );
             account::clear(rows);
-            Merged {
-                number: 0,
-                file: 0,
-                object: 0,
-                component: 0,
-                length: long,
-            }
+            told(0, 0, 0, 0, long)
         }
     }
 }

@@ -1,6 +1,5 @@
--- `merger::lay` meets its contract: a law for each way out. Assumes nothing.
+-- `merger::lay` meets its contract: a law for each way out.
 use Rattle.merger.proofs.MergedLaid as laying
-use native.Mathlib.Omega.{arith}
 use mathlib.Core.Path.{refl}
 use borrow.Author.Needs.{needs}
 use Rattle.merger.proofs.lay.Statement.{statement}
@@ -22,14 +21,21 @@ lay-spec =
     (λ c. search needs)
     (λ c. search needs)
     (λ c. search needs)
-    (λ c. let b15 = c .before .before .before .before .before .before .before .before .before .before .before .before .before .before .before in
-    let g = (b15 .good) in let h = laying.cut-fits (b15 .pre .0) (b15 .pre .1) in omega (arith, h))
+    (λ c. search laying.cut-fits)
     (λ c. search needs)
     (λ c. search needs)
     (λ c. search needs)
-    (λ c κs. let b6 = c .before .before .before .before .before .before in let b10 = b6 .before .before .before .before in let b16 = b10 .before .before .before .before .before .before in
-    laying.join-asks (b16 .pre .0) (b16 .pre .1) (b10 .read-as .ensures .1) refl (b6 .read-as2 .ensures .1))
+    (λ c κs.
+    let b = c .before .before .before .before .before .before in
+    let a = b .before .before .before .before in
+    let p = a .before .before .before .before .before .before .pre in
+    laying.join-asks (p .0) (p .1) (a .read-as .ensures .1) refl (b .read-as2 .ensures .1))
     (λ c. search needs)
     (λ c. search needs)
-    (λ c. let b9 = c .before .before .before .before .before .before .before .before .before in let b13 = b9 .before .before .before .before in let b19 = b13 .before .before .before .before .before .before in
-    (laying.output-is (b19 .pre .0) (b19 .pre .1) (b13 .read-as .ensures .1) refl (b9 .read-as2 .ensures .1) (c .before .before .join .ensures), laying.still-long (b19 .pre .0) (b19 .pre .1) (b13 .read-as .ensures .1) refl (b9 .read-as2 .ensures .1))))
+    (λ c.
+    let b = c .before .before .before .before .before .before .before .before .before in
+    let a = b .before .before .before .before in
+    let p = a .before .before .before .before .before .before .pre in
+    let f = a .read-as .ensures .1 in
+    let g = b .read-as2 .ensures .1 in
+    (laying.output-is (p .0) (p .1) f refl g (c .before .before .join .ensures), laying.still-long (p .0) (p .1) f refl g)))
