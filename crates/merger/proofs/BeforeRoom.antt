@@ -63,8 +63,11 @@ refused-so {c} {p} {n} {from} {before} {after} h k o j e = subst (λ v. Cases c 
 weighs-so : {c : Check Reading} {p n from : ℕ} {before after : List ℕ} {w : Weighed} → WeighedIs c p n from before w after → (x y u v q k : ℕ) → w ≡ Yes x y u v q k → Weighs c p n from before x y u v q k after
 weighs-so {c} {p} {n} {from} {before} {after} h x y u v q k e = subst (λ v. Cases c p n from before v after) e (h .case)
 
-pub weighed-small : {c : Check Reading} {p n from : ℕ} {before after : List ℕ} {w : Weighed} {x y u v q k : ℕ} → WeighedIs c p n from before w after → w ≡ Yes x y u v q k → (q ≤ suc endLimit) × (k ≤ suc manifestLimit)
-weighed-small {x = x} {y} {u} {v} {q} {k} h e = weighs-so h x y u v q k e .small
+pub end-small : {c : Check Reading} {p n from : ℕ} {before after : List ℕ} {w : Weighed} {x y u v q k : ℕ} → WeighedIs c p n from before w after → w ≡ Yes x y u v q k → q ≤ suc endLimit
+end-small {x = x} {y} {u} {v} {q} {k} h e = weighs-so h x y u v q k e .small .0
+
+pub total-small : {c : Check Reading} {p n from : ℕ} {before after : List ℕ} {w : Weighed} {x y u v q k : ℕ} → WeighedIs c p n from before w after → w ≡ Yes x y u v q k → k ≤ suc manifestLimit
+total-small {x = x} {y} {u} {v} {q} {k} h e = weighs-so h x y u v q k e .small .1
 
 module _ (l : ℕ) (first : List ℕ) (l′ : ℕ) (second : List ℕ) where
   abbrev L : Layout
@@ -227,5 +230,20 @@ pub attributes-first : (p s o l : ℕ) {b : Bool} {r : ℕ} → b ≡ eqb p 0 &&
 unfolding attributesSize
 attributes-first p s o l absent h f = rw (sym absent ∙ h) f
 
-pub head-low : (h x : ℕ) → h ≡ headSize x → h ≤ 9
-head-low h x e = omega (arith, e, head-small x)
+-- ---- no sum wraps
+
+pub attributes-fit : (a : ℕ) {t : ℕ} → t ≡ capped a → Fits w64 (23 + t)
+attributes-fit a e = record { fits = omega (arith, e) }
+
+pub head-fits : (a x : ℕ) {t h : ℕ} → t ≡ capped a → h ≡ headSize x → Fits w64 (23 + t + h)
+head-fits a x e f = record { fits = omega (arith, e, f, head-small x) }
+
+pub total-fits : (a x : ℕ) {t h : ℕ} {c : Check Reading} {p n from : ℕ} {before after : List ℕ} {w : Weighed} {y z u v q k : ℕ} → t ≡ capped a → h ≡ headSize x → WeighedIs c p n from before w after → w ≡ Yes y z u v q k
+    → Fits w64 (23 + t + h + k)
+total-fits a x e f weighed is = let s = total-small weighed is in record { fits = omega (arith, e, f, head-small x, s) }
+
+pub end-fits : {end m : ℕ} → end ≤ endLimit → m ≤ manifestLimit → Fits w64 (end + m)
+end-fits e f = record { fits = omega (arith, e, f) }
+
+pub long-fits : {end m : ℕ} → end ≤ endLimit → m ≤ manifestLimit → Fits w64 (end + m + 16)
+long-fits e f = record { fits = omega (arith, e, f) }
