@@ -35,10 +35,10 @@ use Rattle.rescuing.proofs.RescueAnswers.{kept-rows}
 use Rattle.sieve.specs.declared.Sieve.{Sieve}
 use Rattle.sieve.specs.Sieved.{SieveOf, Sifted}
 use Rattle.sieve.proofs.ObjectJudged.{entries-length}
-use Rattle.opening.specs.Opened.{between}
-use Rattle.rescue.specs.Checked.{Ready, Cases, CheckedIs}
-use Rattle.rescue.specs.declared.Verdict.{Verdict}
-use Rattle.rescue.specs.declared.Verdict.the-variants.{No, Yes}
+use Rattle.rescuer.specs.Opened.{between}
+use Rattle.rescuer.specs.Checked.{Ready, Cases, CheckedIs}
+use Rattle.rescuer.specs.declared.checks.Verdict.{Verdict}
+use Rattle.rescuer.specs.declared.checks.Verdict.the-variants.{No, Yes}
 use Rattle.rescuer.specs.RescuedFile.{answer, answered, Enough}
 
 -- ---- which case it was

@@ -1,2 +1,4 @@
--- The rescue's answer as the code's.
+-- What is answered of a file up to its objects' names, and of a rescue before ROOM; then the rescue's answer as the code's.
+pub mod Opened
+pub mod Checked
 pub mod RescuedFile

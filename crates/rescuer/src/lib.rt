@@ -1,5 +1,8 @@
 // Document 02, Req 14: what is sound of a file of either layout, into one of 1.2.0. The lent rows hold the kept objects' table, and end as zeros.
-use rescue::Verdict;
+mod checks;
+mod opening;
+
+use checks::Verdict;
 ghost use mathlib.Core.Path.{_≡_};
 ghost use mathlib.Core.Bool.{_&&_};
 ghost use Prim.Native.Nat.{_+_, _*_, _≤_};
@@ -8,7 +11,7 @@ ghost use lib.Dec.{leb};
 ghost use Rattle.meaning.specs.Columns.{objectWidth, componentWidth};
 ghost use Rattle.meaning.specs.Layouts.{layoutOf};
 ghost use Rattle.rescuing.specs.Rescue as is;
-ghost use Rattle.rescue.specs.Checked.{Ready};
+ghost use Rattle.rescuer.specs.Checked.{Ready};
 ghost use Rattle.rescuer.specs.RescuedFile.{answer, answered, Enough};
 
 // How many numbers an entry of the list takes: the object's index, its refusal's number and component.
@@ -116,7 +119,7 @@ pub fn rescue(
     ensures output { λ r. ⌜ now (out .exit) ≡ is.rescueOutput (now (out .entry)) (is.rescue (layoutOf layout) (now (file .entry)) (length (now (rows .entry))) (length (now (list .entry))) (length (now (out .entry)))) ⌝ }
     ensures cleared { λ r. ⌜ now (rows .exit) ≡ is.rescueRows (now (rows .entry)) ⌝ }
 {
-    match rescue::checked(layout, file) {
+    match checks::checked(layout, file) {
         Verdict::No(n, o, c) => {
             account::clear(rows);
             told(n, o, c, 0, 0, 0)

@@ -8,7 +8,7 @@ use Rattle.rescuer.proofs.rescue.Tie as tie
 use Rattle.rescuer.proofs.rescue.Reads as reads
 use Rattle.rescuer.proofs.rescue.Lts as lts
 use Rattle.account.proofs.clear.Reads as clear-reads
-use Rattle.rescue.proofs.checked.Reads as checked-reads
+use Rattle.rescuer.proofs.checks.checked.Reads as checked-reads
 use Rattle.rescuer.proofs.fits.Reads as fits-reads
 use Rattle.rescuer.proofs.lay.Reads as lay-reads
 use Rattle.rescuer.proofs.told.Reads as told-reads

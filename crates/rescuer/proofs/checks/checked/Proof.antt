@@ -1,15 +1,15 @@
--- `rescue::checked` meets its contract: a law for each need.
-use Rattle.rescue.proofs.BeforeRoom as checking
+-- `rescuer::checks::checked` meets its contract: a law for each need.
+use Rattle.rescuer.proofs.BeforeRoom as checking
 use Rattle.sizes.proofs.Heads.{head-small}
 use native.Mathlib.Omega.{arith}
 use borrow.Author.Needs.{needs}
-use Rattle.rescue.proofs.checked.Statement.{statement}
-use Rattle.rescue.proofs.checked.Tie as tie
-use Rattle.rescue.proofs.checked.Reads as reads
-use Rattle.rescue.proofs.checked.Lts as lts
+use Rattle.rescuer.proofs.checks.checked.Statement.{statement}
+use Rattle.rescuer.proofs.checks.checked.Tie as tie
+use Rattle.rescuer.proofs.checks.checked.Reads as reads
+use Rattle.rescuer.proofs.checks.checked.Lts as lts
 use Rattle.lent.proofs.held.Reads as held-reads
-use Rattle.opening.proofs.file.Reads as file-reads
-use Rattle.rescue.proofs.measured.Reads as measured-reads
+use Rattle.rescuer.proofs.opening.file.Reads as file-reads
+use Rattle.rescuer.proofs.checks.measured.Reads as measured-reads
 use Rattle.sizes.proofs.piece.attributes.Reads as attributes-reads
 use Rattle.sizes.proofs.piece.capped.Reads as capped-reads
 use Rattle.sizes.proofs.piece.head.Reads as head-reads

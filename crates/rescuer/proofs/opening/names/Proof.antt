@@ -1,9 +1,9 @@
--- `opening::names` meets its contract: a law for each need.
+-- `rescuer::opening::names` meets its contract: a law for each need.
 use Rattle.reader.proofs.Manifests.{a-fault}
-use Rattle.opening.proofs.FoundRoot as finding
+use Rattle.rescuer.proofs.FoundRoot as finding
 use borrow.Author.Needs.{needs}
-use Rattle.opening.proofs.names.Statement.{statement}
-use Rattle.opening.proofs.names.Tie as tie
+use Rattle.rescuer.proofs.opening.names.Statement.{statement}
+use Rattle.rescuer.proofs.opening.names.Tie as tie
 
 pub names-spec : {M : Type 1} → statement M
 names-spec =

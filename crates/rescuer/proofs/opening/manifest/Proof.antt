@@ -1,8 +1,8 @@
--- `opening::manifest` meets its contract: a law for each need.
-use Rattle.opening.proofs.FoundRoot as finding
+-- `rescuer::opening::manifest` meets its contract: a law for each need.
+use Rattle.rescuer.proofs.FoundRoot as finding
 use borrow.Author.Needs.{needs}
-use Rattle.opening.proofs.manifest.Statement.{statement}
-use Rattle.opening.proofs.manifest.Tie as tie
+use Rattle.rescuer.proofs.opening.manifest.Statement.{statement}
+use Rattle.rescuer.proofs.opening.manifest.Tie as tie
 
 pub manifest-spec : {M : Type 1} → statement M
 manifest-spec =

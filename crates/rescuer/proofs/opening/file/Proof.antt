@@ -1,10 +1,10 @@
--- `opening::file` meets its contract: a law for each need.
+-- `rescuer::opening::file` meets its contract: a law for each need.
 use Rattle.meaning.proofs.Lengths.{place-fits}
 use Rattle.reader.proofs.Frames as frames
-use Rattle.opening.proofs.FoundRoot as finding
+use Rattle.rescuer.proofs.FoundRoot as finding
 use borrow.Author.Needs.{needs}
-use Rattle.opening.proofs.file.Statement.{statement}
-use Rattle.opening.proofs.file.Tie as tie
+use Rattle.rescuer.proofs.opening.file.Statement.{statement}
+use Rattle.rescuer.proofs.opening.file.Tie as tie
 
 pub file-spec : {M : Type 1} → statement M
 file-spec =

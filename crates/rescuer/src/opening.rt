@@ -8,7 +8,7 @@ ghost use lib.ListN.{length};
 ghost use Rattle.meaning.specs.Layouts.{layoutOf};
 ghost use Rattle.cbor.specs.Ending.{FAULT};
 ghost use Rattle.rescuing.specs.Sift.{sifted};
-ghost use Rattle.opening.specs.Opened as is;
+ghost use Rattle.rescuer.specs.Opened as is;
 
 // 2^63, above every length: `cbor` adds it to the number of a refusal.
 const FAULT: usize = 0x8000_0000_0000_0000;

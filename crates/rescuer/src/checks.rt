@@ -1,9 +1,10 @@
 // A file rescued (document 02, Req 14): every check that comes before ROOM. What is kept is measured with one object's rows at a time, without the lent rows.
-use opening::Found;
+use crate::opening;
+use crate::opening::Found;
 use sieve::Sieve;
 use sizes::piece;
 ghost use Rattle.sieve.specs.Sieved.{Bounded};
-ghost use Rattle.rescue.specs.Checked.{Measured, CheckedIs};
+ghost use Rattle.rescuer.specs.Checked.{Measured, CheckedIs};
 
 // A refusal with its object and component. Or where the manifest begins and ends, where the map of its objects begins, and place and length of the root's attributes; how many objects are kept and dropped,
 // how many components are kept; and how long the rescued file is.

@@ -19,10 +19,10 @@ use Rattle.fields.specs.Slots.{Holds}
 use Rattle.table.specs.Spans.{spanOf}
 use Rattle.window.specs.Summed.{spans}
 use Rattle.rescuing.specs.Sift.{Opened, opened, kept, dropped, verdicts, Sifted, sift}
-use Rattle.opening.specs.declared.Told.{Told}
-use Rattle.opening.specs.declared.Told.the-variants as told
-use Rattle.opening.specs.declared.Found.{Found}
-use Rattle.opening.specs.declared.Found.the-variants as found
+use Rattle.rescuer.specs.declared.opening.Told.{Told}
+use Rattle.rescuer.specs.declared.opening.Told.the-variants as told
+use Rattle.rescuer.specs.declared.opening.Found.{Found}
+use Rattle.rescuer.specs.declared.opening.Found.the-variants as found
 
 -- the part of a sifting that follows the frame: the manifest s, which begins at `start` and ends at `end`
 abbrev pub manifestSifted : Layout → ℕ → ℕ → List ℕ → Check Sifted

@@ -26,13 +26,13 @@ use Rattle.reader.proofs.ItemFills as filling
 use Rattle.reader.proofs.ItemFills.{Filling}
 use Rattle.reader.proofs.RootParts.{attributesAt, field-holds}
 use Rattle.rescuing.specs.Sift.{Opened, opened, Sifted, sift, sifted}
-use Rattle.opening.specs.declared.Told.{Told}
-use Rattle.opening.specs.declared.Told.the-variants as names-are
-use Rattle.opening.specs.declared.Found.{Found}
-use Rattle.opening.specs.declared.Found.the-variants as found
-use Rattle.opening.specs.Opened.{manifestSifted, spanned, Opens, NamesAre, OpensAt, behind, between, FoundIs}
-use Rattle.opening.proofs.RootNames as naming
-use Rattle.opening.proofs.RootNames.{Parts, passedModel}
+use Rattle.rescuer.specs.declared.opening.Told.{Told}
+use Rattle.rescuer.specs.declared.opening.Told.the-variants as names-are
+use Rattle.rescuer.specs.declared.opening.Found.{Found}
+use Rattle.rescuer.specs.declared.opening.Found.the-variants as found
+use Rattle.rescuer.specs.Opened.{manifestSifted, spanned, Opens, NamesAre, OpensAt, behind, between, FoundIs}
+use Rattle.rescuer.proofs.RootNames as naming
+use Rattle.rescuer.proofs.RootNames.{Parts, passedModel}
 
 -- ---- the walk over the manifest s, lent whole, ended at e
 

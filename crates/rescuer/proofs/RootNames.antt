@@ -22,7 +22,7 @@ use Rattle.root.specs.Verdict.{judgeBy}
 use Rattle.table.specs.Spans.{spanOf}
 use Rattle.reader.proofs.RootParts.{attributesAt, rooted}
 use Rattle.rescuing.specs.Sift.{Dropped, Opened, opened, kept, dropped, verdicts}
-use Rattle.opening.specs.Opened.{spanned}
+use Rattle.rescuer.specs.Opened.{spanned}
 
 -- ---- objects that are passed over
 

@@ -20,9 +20,9 @@ use Rattle.window.specs.Summed.{InWindow, Sum, spans}
 use Rattle.rescuing.specs.Sift.{kept, dropped, verdicts, sifted}
 use Rattle.rescuing.specs.Rescue.{refused, rescue, roomed}
 use Rattle.sieve.specs.declared.Sieve.{Sieve}
-use Rattle.opening.specs.Opened.{OpensAt, between}
-use Rattle.rescue.specs.declared.Verdict.{Verdict}
-use Rattle.rescue.specs.declared.Verdict.the-variants.{No, Yes}
+use Rattle.rescuer.specs.Opened.{OpensAt, between}
+use Rattle.rescuer.specs.declared.checks.Verdict.{Verdict}
+use Rattle.rescuer.specs.declared.checks.Verdict.the-variants.{No, Yes}
 
 -- what the verdicts ks keep and drop, and what the kept ones add up to
 pub record MeasuredOf (end : ℕ) (z : Sieve) (ks : List (Check (Object Ends))) : Type 0 where

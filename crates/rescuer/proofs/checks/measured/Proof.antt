@@ -1,10 +1,10 @@
--- `rescue::measured` meets its contract: a law for each need.
-use Rattle.rescue.proofs.BeforeRoom as checking
+-- `rescuer::checks::measured` meets its contract: a law for each need.
+use Rattle.rescuer.proofs.BeforeRoom as checking
 use borrow.Author.Needs.{needs}
-use Rattle.rescue.proofs.measured.Statement.{statement}
-use Rattle.rescue.proofs.measured.Tie as tie
-use Rattle.rescue.proofs.measured.Reads as reads
-use Rattle.rescue.proofs.measured.Lts as lts
+use Rattle.rescuer.proofs.checks.measured.Statement.{statement}
+use Rattle.rescuer.proofs.checks.measured.Tie as tie
+use Rattle.rescuer.proofs.checks.measured.Reads as reads
+use Rattle.rescuer.proofs.checks.measured.Lts as lts
 use Rattle.sieve.proofs.sift.Reads as sift-reads
 
 pub measured-spec : {M : Type 1} → statement M

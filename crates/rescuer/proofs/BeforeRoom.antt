@@ -42,10 +42,10 @@ use Rattle.rescuing.proofs.KeptStands.{kept-spelled}
 use Rattle.rescuing.proofs.RescueAnswers.{refusals, kept-written, rescue-answers}
 use Rattle.sieve.specs.declared.Sieve.{Sieve}
 use Rattle.sieve.specs.Sieved.{Bounded, Sifted}
-use Rattle.opening.specs.declared.Found.{Found}
-use Rattle.opening.specs.declared.Found.the-variants as found
-use Rattle.opening.specs.Opened.{OpensAt, between, FoundIs, Cases}
-use Rattle.rescue.specs.Checked.{MeasuredOf, Measured, Ready}
+use Rattle.rescuer.specs.declared.opening.Found.{Found}
+use Rattle.rescuer.specs.declared.opening.Found.the-variants as found
+use Rattle.rescuer.specs.Opened.{OpensAt, between, FoundIs, Cases}
+use Rattle.rescuer.specs.Checked.{MeasuredOf, Measured, Ready}
 
 -- ---- the objects in a window
 

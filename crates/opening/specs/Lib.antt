@@ -1,2 +1,0 @@
--- What is answered of a file that is judged up to its objects' names.
-pub mod Opened

@@ -1,2 +1,0 @@
--- Laws behind the answer before ROOM.
-pub mod BeforeRoom

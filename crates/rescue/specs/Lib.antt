@@ -1,2 +1,0 @@
--- What is answered of a rescue before ROOM.
-pub mod Checked
