@@ -6,6 +6,8 @@ use mathlib.Core.Bool.{true, false}
 use mathlib.Core.Path.{_≡_, refl, sym, ap, _∙_, subst}
 use lib.ListN.{length, length-map}
 use borrow.Author.Tests.{le-leb}
+use mir.Val.{Fits}
+use mir.Syntax.{w64}
 use borrow.Rule.Slice.PartAt.{part-to-end}
 use Rattle.meaning.specs.Refusal.{COUNT, BIG}
 use Rattle.meaning.specs.Limit.{manifestLimit, endLimit, objectLimit}
@@ -28,6 +30,7 @@ use Rattle.objects.specs.Found.{judging}
 use Rattle.objects.proofs.Few.{few-in-judging}
 use Rattle.rows.specs.Turns.{objectsFrom}
 use Rattle.sizes.specs.Size.{capped, headSize, optionalCopy}
+use Rattle.sizes.proofs.Heads.{head-small}
 use Rattle.sizes.proofs.Lengths.{entriesSize, fieldSize, copied-field}
 use Rattle.table.specs.Spans.{spanOf}
 use Rattle.table.proofs.ObjectLoop.{count-mapped}
@@ -37,15 +40,17 @@ use Rattle.totals.proofs.OfModel as of-model
 use Rattle.totals.proofs.OfSum as of-sum
 use Rattle.roundtrip.specs.Again.{plainFile, writtenAgain}
 use Rattle.rescuing.specs.Sift.{kept, dropped, verdicts, sifted}
-use Rattle.rescuing.specs.Rescue.{refused, after, rescue, roomed}
+use Rattle.rescuing.specs.Rescue.{after, rescue, roomed}
 use Rattle.rescuing.proofs.KeptStands.{kept-spelled}
 use Rattle.rescuing.proofs.RescueAnswers.{refusals, kept-written, rescue-answers}
 use Rattle.sieve.specs.declared.Sieve.{Sieve}
 use Rattle.sieve.specs.Sieved.{Bounded, Sifted}
 use Rattle.rescuer.specs.declared.opening.Found.{Found}
 use Rattle.rescuer.specs.declared.opening.Found.the-variants as found
-use Rattle.rescuer.specs.Opened.{OpensAt, between, FoundIs, Cases}
-use Rattle.rescuer.specs.Checked.{MeasuredOf, Measured, Ready}
+use Rattle.rescuer.specs.Opened as opened
+use Rattle.rescuer.specs.Opened.{OpensAt, between, FoundIs}
+use Rattle.rescuer.specs.declared.checks.Verdict.the-variants as verdict
+use Rattle.rescuer.specs.Checked.{MeasuredOf, Measured, CheckedIs}
 
 -- ---- the objects in a window
 
@@ -53,23 +58,6 @@ pub measured-so : (layout : ℕ) (s : List ℕ) (start end : ℕ) {before list a
 measured-so layout s start end {before} {list} {after} {list′} {z} h t r e ns is few =
     let k = subst (λ u. Sifted layout u start end false 0 before list z after list′) (part-to-end s 0) h t r e ns is few in
     record { keeps = k .keeps; drops = k .drops; holds = k .holds; weighs = k .weighs refl }
-
--- ---- which case it was
-
-pub refused-so : (layout : ℕ) (file : List ℕ) {w : Found} → FoundIs (sifted (layoutOf layout) file) layout 0 (length file) (between file) w → {n o c : ℕ} → w ≡ found.No n o c → sifted (layoutOf layout) file ≡ refuse n o c
-refused-so layout file h e = subst (λ v. Cases (sifted (layoutOf layout) file) layout 0 (length file) (between file) v) e (h .case)
-
-pub opens-so : (layout : ℕ) (file : List ℕ) {w : Found} → FoundIs (sifted (layoutOf layout) file) layout 0 (length file) (between file) w → {start end first place size : ℕ} → w ≡ found.Yes start end first place size
-    → OpensAt (sifted (layoutOf layout) file) layout 0 (length file) start end first (between file first end) place size
-opens-so layout file h e = subst (λ v. Cases (sifted (layoutOf layout) file) layout 0 (length file) (between file) v) e (h .case)
-
--- ---- a file that is refused as the reader refuses it
-
-pub refuses : (layout : ℕ) (file : List ℕ) {n o c : ℕ} → sifted (layoutOf layout) file ≡ refuse n o c → (lent list room : ℕ) → rescue (layoutOf layout) file lent list room ≡ refused n o c
-unfolding rescue after
-refuses layout file e lent list room = rw e refl
-
--- ---- one that passes up to its objects' names
 
 windows : (L : Layout) (start end : ℕ) (file : List ℕ) (ns : List (Named Ends)) → Every (SpelledObject file) (spans end (kept (verdicts L start ns))) → Every InWindow (kept (verdicts L start ns))
 unfolding kept verdicts judging
@@ -81,81 +69,114 @@ windows L start end file (n ∷ ns) h = by (object L start n) refl (windows L st
     by (pass o) e r (q, qs) = (record { rank = q .rank; count = few-in-judging true L start n o e }, r qs)
     by (refuse m o c) e r q = r q
 
-module _ (layout : ℕ) (file : List ℕ) (held : Held file) {start end first place size : ℕ} (o : OpensAt (sifted (layoutOf layout) file) layout 0 (length file) start end first (between file first end) place size)
-    {z : Sieve} (measured : Measured layout (between file first end) start end z) where
+-- ---- the sums of lengths
+
+module _ (place size n : ℕ) {t h : ℕ} (t-is : t ≡ capped (optionalCopy 11 (record { place = place; size = size }))) (h-is : h ≡ headSize n) where
+  pub head-fits : Fits w64 (23 + t + h)
+  head-fits = record { fits = omega (arith, t-is, h-is, head-small n) }
+
+  pub total-fits : {z : Sieve} → Bounded z → Fits w64 (23 + t + h + z .total)
+  total-fits b = let k = b .total in record { fits = omega (arith, t-is, h-is, head-small n, k) }
+
+-- ---- from what was found of a file
+
+module _ (layout : ℕ) (file : List ℕ) {w : Found} (says : FoundIs (sifted (layoutOf layout) file) layout 0 (length file) (between file) w) where
   abbrev L : Layout
   L = layoutOf layout
 
-  abbrev m : Model Span
-  m = o .sift .model
+  there : {v : Found} → w ≡ v → opened.Cases (sifted L file) layout 0 (length file) (between file) v
+  there e = subst (λ v. opened.Cases (sifted L file) layout 0 (length file) (between file) v) e (says .case)
 
-  abbrev d : Described
-  d = describedBy file m
+  -- refused as the reader refuses it
+  pub refuses : {n o c : ℕ} → w ≡ found.No n o c → CheckedIs layout file (verdict.No n o c)
+  unfolding rescue after
+  refuses e = record { case = λ lent list room. rw (there e) refl }
 
-  abbrev ks : List (Check (Object Ends))
-  ks = verdicts L start (o .named)
+  -- it passes up to its objects' names
+  module _ {start end first place size : ℕ} (passes : w ≡ found.Yes start end first place size) where
+    o : OpensAt (sifted L file) layout 0 (length file) start end first (between file first end) place size
+    o = there passes
 
-  of : MeasuredOf end z ks
-  of = measured (o .objects) (o .rest) (o .reads) (o .named) (o .names-are) (few-names objectLimit (o .objects) (o .named) (o .names-are))
+    pub in-order : first ≤ end
+    in-order = o .ordered .1
 
-  spelled : Spelled file m
-  spelled = kept-spelled L (size-back layout) file held (o .sift) (o .is)
+    pub inside : end ≤ length file
+    inside = o .ordered .2
 
-  sum : Sum 8 0 (m .objects) (z .place) (z .total)
-  sum =
-      let w = windows L start end file (o .named) (subst (Every (SpelledObject file)) (o .kept-are) (spelled .objects)) in
-      subst (λ os. Sum 8 0 os (z .place) (z .total)) (sym (o .kept-are)) (of .weighs w)
+    module _ (held : Held file) {z : Sieve} (measured : Measured layout (between file first end) start end z) where
+      abbrev m : Model Span
+      m = o .sift .model
 
-  lengths : map length (blobs d) ≡ allBlobs (m .objects)
-  lengths = of-model.lengths-are file m spelled
+      abbrev d : Described
+      d = describedBy file m
 
-  entries : entriesSize (objectsFrom [] 8 (d .objects)) ≡ entrySizes 8 (m .objects)
-  entries = of-model.entries-are file m spelled 8
+      abbrev ks : List (Check (Object Ends))
+      ks = verdicts L start (o .named)
 
-  keeps-are : z .kept ≡ length (m .objects)
-  keeps-are = of .keeps ∙ sym (length-map (kept ks) (mapObject (spanOf end))) ∙ ap length (sym (o .kept-are))
+      of : MeasuredOf end z ks
+      of = measured (o .objects) (o .rest) (o .reads) (o .named) (o .names-are) (few-names objectLimit (o .objects) (o .named) (o .names-are))
 
-  counted : length (d .objects) ≡ z .kept
-  counted = of-model.objects-counted file m spelled ∙ sym keeps-are
+      spelled : Spelled file m
+      spelled = kept-spelled L (size-back layout) file held (o .sift) (o .is)
 
-  answers : (lent list room : ℕ) → rescue L file lent list room ≡ after (refusals file (o .sift)) (λ u. roomed file (o .sift) lent list room)
-  answers = rescue-answers L (size-back layout) file held (o .sift) (o .is)
+      sum : Sum 8 0 (m .objects) (z .place) (z .total)
+      sum =
+          let w = windows L start end file (o .named) (subst (Every (SpelledObject file)) (o .kept-are) (spelled .objects)) in
+          subst (λ os. Sum 8 0 os (z .place) (z .total)) (sym (o .kept-are)) (of .weighs w)
 
-  pub too-far : endLimit < z .place → (lent list room : ℕ) → rescue L file lent list room ≡ refused COUNT 0 0
-  unfolding after
-  too-far h lent list room = answers lent list room ∙ rw (of-sum.too-far d (m .objects) lengths entries sum h) refl
+      lengths : map length (blobs d) ≡ allBlobs (m .objects)
+      lengths = of-model.lengths-are file m spelled
 
-  module _ (near : z .place ≤ endLimit) {t h k : ℕ} (t-is : t ≡ capped (optionalCopy 11 (record { place = place; size = size }))) (h-is : h ≡ headSize (z .kept)) (k-is : k ≡ capped (23 + t + h + z .total)) where
-    attributes-size : t ≡ capped (fieldSize 11 (d .attributes))
-    attributes-size =
-        let a = of-model.attributes-there file m spelled in
-        t-is ∙ ap (λ (s : Span). capped (optionalCopy 11 s)) (o .attributes-are) ∙ ap capped (sym (ap (fieldSize 11) (a .0) ∙ copied-field file 11 (attributesSpan (m .attributes)) (a .1)))
+      entries : entriesSize (objectsFrom [] 8 (d .objects)) ≡ entrySizes 8 (m .objects)
+      entries = of-model.entries-are file m spelled 8
 
-    long-so : k ≡ capped (23 + t + headSize (z .kept) + z .total)
-    long-so = k-is ∙ ap (λ (x : ℕ). capped (23 + t + x + z .total)) h-is
+      keeps-are : z .kept ≡ length (m .objects)
+      keeps-are = of .keeps ∙ sym (length-map (kept ks) (mapObject (spanOf end))) ∙ ap length (sym (o .kept-are))
 
-    pub too-big : manifestLimit < k → (lent list room : ℕ) → rescue L file lent list room ≡ refused BIG 0 0
-    unfolding after
-    too-big b lent list room =
-        answers lent list room
-        ∙ rw (of-sum.in-time d (m .objects) lengths entries sum near, of-sum.too-big d (m .objects) lengths entries sum near counted attributes-size long-so b) refl
+      counted : length (d .objects) ≡ z .kept
+      counted = of-model.objects-counted file m spelled ∙ sym keeps-are
 
-    pub ready : Bounded z → k ≤ manifestLimit → Ready layout file start end first place size (z .kept) (z .dropped) (z .components) (z .place + k + 16)
-    unfolding after writtenAgain
-    ready few fits =
-        let in-time = of-sum.in-time d (m .objects) lengths entries sum near in
-        let small = of-sum.small d (m .objects) lengths entries sum near counted attributes-size long-so fits in
-        let long : length (plainFile d) ≡ z .place + k + 16 = of-sum.file-long d (m .objects) lengths entries sum near counted attributes-size long-so fits in
-        record {
-          held = held;
-          opens = o;
-          kept-are = keeps-are;
-          dropped-are = of .drops ∙ ap length (sym (o .dropped-are));
-          components-are = of .holds ∙ sym (count-mapped end (kept ks)) ∙ ap componentCount (sym (o .kept-are));
-          few = (few .kept, few .dropped, few .components);
-          long-is = sym long;
-          writes = λ room l.
-              kept-written L (size-back layout) file held (o .sift) (o .is) room
-              ∙ rw (in-time, small, le-leb (length (plainFile d)) room (omega (arith, l, long))) refl;
-          left = λ lent list room. answers lent list room ∙ rw (in-time, small) refl;
-        }
+      answers : (lent list room : ℕ) → rescue L file lent list room ≡ after (refusals file (o .sift)) (λ u. roomed file (o .sift) lent list room)
+      answers = rescue-answers L (size-back layout) file held (o .sift) (o .is)
+
+      pub too-far : endLimit < z .place → CheckedIs layout file (verdict.No COUNT 0 0)
+      unfolding after
+      too-far h = record { case = λ lent list room. answers lent list room ∙ rw (of-sum.too-far d (m .objects) lengths entries sum h) refl }
+
+      module _ (near : z .place ≤ endLimit) {t h k : ℕ} (t-is : t ≡ capped (optionalCopy 11 (record { place = place; size = size }))) (h-is : h ≡ headSize (z .kept)) (k-is : k ≡ capped (23 + t + h + z .total)) where
+        attributes-size : t ≡ capped (fieldSize 11 (d .attributes))
+        attributes-size =
+            let a = of-model.attributes-there file m spelled in
+            t-is ∙ ap (λ (s : Span). capped (optionalCopy 11 s)) (o .attributes-are) ∙ ap capped (sym (ap (fieldSize 11) (a .0) ∙ copied-field file 11 (attributesSpan (m .attributes)) (a .1)))
+
+        long-so : k ≡ capped (23 + t + headSize (z .kept) + z .total)
+        long-so = k-is ∙ ap (λ (x : ℕ). capped (23 + t + x + z .total)) h-is
+
+        pub too-big : manifestLimit < k → CheckedIs layout file (verdict.No BIG 0 0)
+        unfolding after
+        too-big b =
+            let far = of-sum.in-time d (m .objects) lengths entries sum near in
+            let big = of-sum.too-big d (m .objects) lengths entries sum near counted attributes-size long-so b in
+            record { case = λ lent list room. answers lent list room ∙ rw (far, big) refl }
+
+        pub ready : Bounded z → k ≤ manifestLimit → CheckedIs layout file (verdict.Yes start end first place size (z .kept) (z .dropped) (z .components) (z .place + k + 16))
+        unfolding after writtenAgain
+        ready few fits =
+            let in-time = of-sum.in-time d (m .objects) lengths entries sum near in
+            let small = of-sum.small d (m .objects) lengths entries sum near counted attributes-size long-so fits in
+            let long : length (plainFile d) ≡ z .place + k + 16 = of-sum.file-long d (m .objects) lengths entries sum near counted attributes-size long-so fits in
+            record {
+              case = record {
+                held = held;
+                opens = o;
+                kept-are = keeps-are;
+                dropped-are = of .drops ∙ ap length (sym (o .dropped-are));
+                components-are = of .holds ∙ sym (count-mapped end (kept ks)) ∙ ap componentCount (sym (o .kept-are));
+                few = (few .kept, few .dropped, few .components);
+                long-is = sym long;
+                writes = λ room l.
+                    kept-written L (size-back layout) file held (o .sift) (o .is) room
+                    ∙ rw (in-time, small, le-leb (length (plainFile d)) room (omega (arith, l, long))) refl;
+                left = λ lent list room. answers lent list room ∙ rw (in-time, small) refl;
+              };
+            }
