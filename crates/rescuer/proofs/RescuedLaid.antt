@@ -3,12 +3,12 @@ use Prim.Native.Nat.{ℕ, _+_, _*_, _≤_, _<_}
 use native.Mathlib.Omega.{arith}
 use native.Mathlib.Nat.{zero-add}
 use mathlib.Core.List.{List, _++_}
-use mathlib.Core.Bool.{Bool, true, false, _&&_}
+use mathlib.Core.Bool.{Bool, true, false, not, _&&_}
 use mathlib.Core.Path.{_≡_, refl, sym, ap, ap₂, _∙_, subst}
 use lib.ListN.{length, drop, length-map, replicate}
 use lib.Seq.{sets, sets-eq, length-sets}
 use lib.Dec.{leb}
-use borrow.Author.Tests.{le-leb, lt-leb, leb-true}
+use borrow.Author.Tests.{le-leb, lt-leb, leb-true, not-true, not-false}
 use Rattle.meaning.specs.Limit.{objectLimit}
 use Rattle.meaning.specs.Columns.{objectWidth, componentWidth}
 use Rattle.meaning.specs.Check.{Check, pass}
@@ -39,47 +39,8 @@ use Rattle.rescuer.specs.Opened.{between}
 use Rattle.rescuer.specs.Checked.{Ready, Cases, CheckedIs}
 use Rattle.rescuer.specs.declared.checks.Verdict.{Verdict}
 use Rattle.rescuer.specs.declared.checks.Verdict.the-variants.{No, Yes}
+use Rattle.rescuer.specs.declared.Rescued.{Rescued}
 use Rattle.rescuer.specs.RescuedFile.{answer, answered, Enough}
-
--- ---- which case it was
-
-pub refused-so : {layout : ℕ} {file : List ℕ} {v : Verdict} → CheckedIs layout file v → {n o c : ℕ} → v ≡ No n o c → (lent list room : ℕ) → rescue (layoutOf layout) file lent list room ≡ refused n o c
-refused-so {layout} {file} h e = subst (λ v. Cases layout file v) e (h .case)
-
-pub ready-so : {layout : ℕ} {file : List ℕ} {v : Verdict} → CheckedIs layout file v → {start end first place size k j c long : ℕ} → v ≡ Yes start end first place size k j c long
-    → Ready layout file start end first place size k j c long
-ready-so {layout} {file} h e = subst (λ v. Cases layout file v) e (h .case)
-
--- ---- what a caller sees
-
-module _ {w : Rescue} where
-  pub refused-told : {n o c : ℕ} → w ≡ refused n o c → answer n o c 0 0 0 ≡ answered w
-  unfolding rescueAnswer
-  refused-told e = rw e refl
-
-  pub refused-list : {n o c : ℕ} → w ≡ refused n o c → {list : List ℕ} → list ≡ rescueList list w
-  unfolding rescueList
-  refused-list e = rw e refl
-
-  pub refused-output : {n o c : ℕ} → w ≡ refused n o c → {out : List ℕ} → out ≡ rescueOutput out w
-  unfolding rescueOutput
-  refused-output e = rw e refl
-
-  pub short-told : {k j long : ℕ} → w ≡ short k j long → answer 24 0 0 k j long ≡ answered w
-  unfolding rescueAnswer
-  short-told e = rw e refl
-
-  pub short-list : {k j long : ℕ} → w ≡ short k j long → {list : List ℕ} → list ≡ rescueList list w
-  unfolding rescueList
-  short-list e = rw e refl
-
-  pub short-output : {k j long : ℕ} → w ≡ short k j long → {out : List ℕ} → out ≡ rescueOutput out w
-  unfolding rescueOutput
-  short-output e = rw e refl
-
-pub cleared : (table : List ℕ) {n : ℕ} {x : List ℕ} → n ≡ length table → x ≡ replicate n 0 → x ≡ rescueRows table
-unfolding rescueRows
-cleared table e f = f ∙ ap (λ (n : ℕ). replicate n 0) e
 
 -- ---- the tests of room
 
@@ -88,15 +49,15 @@ module _ (needs rows listed list long out : ℕ) where
   abbrev pub roomy : Bool
   roomy = leb needs rows && leb listed list && leb long out
 
-  pub rows-short : {t : Bool} → t ≡ leb needs rows → t ≡ false → false ≡ roomy
-  rows-short e f = rw (sym e ∙ f) refl
+  module _ {t : Bool} (e : t ≡ leb needs rows) where
+    pub rows-short : not t ≡ true → false ≡ roomy
+    rows-short f = rw (sym e ∙ not-true t f) refl
 
-  module _ {t : Bool} (e : t ≡ leb needs rows) (f : t ≡ true) where
-    pub list-short : list < listed → false ≡ roomy
-    list-short h = rw (sym e ∙ f, lt-leb listed list h) refl
+    pub list-short : not t ≡ false → list < listed → false ≡ roomy
+    list-short f h = rw (sym e ∙ not-false t f, lt-leb listed list h) refl
 
-    pub output-decides : listed ≤ list → {r : Bool} → r ≡ leb long out → r ≡ roomy
-    output-decides h g = rw (sym e ∙ f, le-leb listed list h) g
+    pub output-decides : not t ≡ false → listed ≤ list → leb long out ≡ roomy
+    output-decides f h = rw (sym e ∙ not-false t f, le-leb listed list h) refl
 
 three-true : (x y z : Bool) → x && y && z ≡ true → (x ≡ true) × (y ≡ true) × (z ≡ true)
 three-true true true z h = (refl, refl, h)
@@ -107,11 +68,11 @@ three-true false true false h = (h, refl, h)
 three-true false false true h = (h, h, refl)
 three-true false false false h = (h, h, h)
 
-pub enough-so : {k j c long : ℕ} {rows list out : List ℕ} {t : Bool} → t ≡ roomy (objectWidth * k + componentWidth * c) (length rows) (entryWidth * j) (length list) long (length out) → t ≡ true
+pub enough-so : {t : Bool} → not t ≡ false → (k j c long : ℕ) (rows list out : List ℕ) → t ≡ roomy (objectWidth * k + componentWidth * c) (length rows) (entryWidth * j) (length list) long (length out)
     → Enough k j c long rows list out
-enough-so {k} {j} {c} {long} {rows} {list} {out} e f =
+enough-so {t} f k j c long rows list out e =
     let p : ℕ = objectWidth * k + componentWidth * c in
-    let h = three-true (leb p (length rows)) (leb (entryWidth * j) (length list)) (leb long (length out)) (sym e ∙ f) in
+    let h = three-true (leb p (length rows)) (leb (entryWidth * j) (length list)) (leb long (length out)) (sym e ∙ not-false t f) in
     record { numbers = leb-true p (length rows) (h .0); entries = leb-true (entryWidth * j) (length list) (h .1); bytes = leb-true long (length out) (h .2) }
 
 -- ---- rows of a model over a table's beginning
@@ -139,18 +100,15 @@ module _ {layout : ℕ} {file : List ℕ} {start end first place size k j c long
   abbrev ks : List (Check (Object Ends))
   ks = verdicts (layoutOf layout) start (y .opens .named)
 
-  pub few-dropped : j ≤ 1024
-  few-dropped = y .few .1
-
   needs : roomFor m ≡ objectWidth * k + componentWidth * c
   unfolding roomFor
   needs = ap₂ (λ (u v : ℕ). objectWidth * u + componentWidth * v) (sym (y .kept-are)) (sym (y .components-are))
 
   module _ (lent list room : ℕ) where
-    pub short-of : {t : Bool} → t ≡ roomy (objectWidth * k + componentWidth * c) lent (entryWidth * j) list long room → t ≡ false → rescue (layoutOf layout) file lent list room ≡ short k j long
+    short-of : {t : Bool} → t ≡ roomy (objectWidth * k + componentWidth * c) lent (entryWidth * j) list long room → t ≡ false → rescue (layoutOf layout) file lent list room ≡ short k j long
     short-of e f = y .left lent list room ∙ rw (needs, ← y .dropped-are, ← y .kept-are, ← y .long-is, ← e, f) refl
 
-    pub goes-well : objectWidth * k + componentWidth * c ≤ lent → entryWidth * j ≤ list → long ≤ room
+    goes-well : objectWidth * k + componentWidth * c ≤ lent → entryWidth * j ≤ list → long ≤ room
         → rescue (layoutOf layout) file lent list room ≡ done (plainFile d) k (y .opens .sift .dropped)
     goes-well p q r =
         y .left lent list room
@@ -160,13 +118,16 @@ module _ {layout : ℕ} {file : List ℕ} {start end first place size k j c long
     well : rescue (layoutOf layout) file (length table) (length list) (length out) ≡ done (plainFile d) k (y .opens .sift .dropped)
     well = goes-well (length table) (length list) (length out) (room .numbers) (room .entries) (room .bytes)
 
-    pub well-told : answer 0 0 0 k j long ≡ answered (rescue (layoutOf layout) file (length table) (length list) (length out))
+    told-well : answer 0 0 0 k j long ≡ answered (rescue (layoutOf layout) file (length table) (length list) (length out))
     unfolding rescueAnswer
-    well-told = ap₂ (λ (u v : ℕ). answer 0 0 0 k u v) (y .dropped-are) (y .long-is) ∙ rw well refl
+    told-well = ap₂ (λ (u v : ℕ). answer 0 0 0 k u v) (y .dropped-are) (y .long-is) ∙ rw well refl
 
     -- ---- what the second pass left
 
-    module _ {from : ℕ} (at : from ≡ objectWidth * k) {z : Sieve} {t l : List ℕ} (h : Sifted layout (between file first end) start end true from table list z t l) where
+    module _ {z : Sieve} {t l : List ℕ} (h : Sifted layout (between file first end) start end true (objectWidth * k) table list z t l) where
+      abbrev from : ℕ
+      from = objectWidth * k
+
       of : SieveOf end true from table list z t l ks
       of = h (y .opens .objects) (y .opens .rest) (y .opens .reads) (y .opens .named) (y .opens .names-are) (few-names objectLimit (y .opens .objects) (y .opens .named) (y .opens .names-are))
 
@@ -179,14 +140,14 @@ module _ {layout : ℕ} {file : List ℕ} {start end first place size k j c long
       table-so : t ≡ sets (sets table 0 (objectRows (m .objects))) from (componentRows 0 (m .objects))
       table-so =
           let n = room .numbers in
-          of .lays refl (omega (arith, at, kept-count)) (omega (arith, at, component-count, n))
+          of .lays refl (omega (arith, kept-count)) (omega (arith, component-count, n))
           ∙ ap (λ (os : List (Object Span)). sets (sets table 0 (objectRows os)) from (componentRows 0 os)) (sym (y .opens .kept-are))
 
       pub still-long : length t ≡ length table
       still-long = ap length table-so ∙ length-sets (sets table 0 (objectRows (m .objects))) from (componentRows 0 (m .objects)) ∙ length-sets table 0 (objectRows (m .objects))
 
       table-is : t ≡ rows m ++ drop (roomFor m) table
-      table-is = let n = room .numbers in table-so ∙ rows-laid m table from (at ∙ ap (λ (n : ℕ). objectWidth * n) (y .kept-are)) (omega (arith, n, needs))
+      table-is = let n = room .numbers in table-so ∙ rows-laid m table from (ap (λ (n : ℕ). objectWidth * n) (y .kept-are)) (omega (arith, n, needs))
 
       pub list-is : l ≡ rescueList list (rescue (layoutOf layout) file (length table) (length list) (length out))
       unfolding rescueList
@@ -212,3 +173,59 @@ module _ {layout : ℕ} {file : List ℕ} {start end first place size k j c long
           ∙ ap (λ (s : Span). written T (length (m .objects)) (componentCount (m .objects)) s file (length out)) (y .opens .attributes-are)
           ∙ kept-rows (layoutOf layout) (size-back layout) file (y .held) (y .opens .sift) (y .opens .is) (drop (roomFor m) table) (length out) ∙ y .writes (length out) (room .bytes) in
           w .1 ∙ rw (wrote, well) refl
+
+-- ---- the lent rows, cleared
+
+pub cleared : (table : List ℕ) {x : List ℕ} → x ≡ replicate (length table) 0 → x ≡ rescueRows table
+unfolding rescueRows
+cleared table e = e
+
+pub cleared-after : (table t : List ℕ) {x : List ℕ} → length t ≡ length table → x ≡ replicate (length t) 0 → x ≡ rescueRows table
+unfolding rescueRows
+cleared-after table t e f = f ∙ ap (λ (n : ℕ). replicate n 0) e
+
+-- ---- what a caller sees, from the verdict before ROOM
+
+module _ {layout : ℕ} {file : List ℕ} {v : Verdict} (says : CheckedIs layout file v) where
+  module _ {n o c : ℕ} (is : v ≡ No n o c) where
+    refused-so : (lent list room : ℕ) → rescue (layoutOf layout) file lent list room ≡ refused n o c
+    refused-so = subst (λ v. Cases layout file v) is (says .case)
+
+    pub refused-told : (lent list room : ℕ) {r : Rescued} → r ≡ answer n o c 0 0 0 → r ≡ answered (rescue (layoutOf layout) file lent list room)
+    unfolding rescueAnswer
+    refused-told lent list room e = e ∙ rw (refused-so lent list room) refl
+
+    pub refused-list : (lent room : ℕ) (list : List ℕ) → list ≡ rescueList list (rescue (layoutOf layout) file lent (length list) room)
+    unfolding rescueList
+    refused-list lent room list = rw (refused-so lent (length list) room) refl
+
+    pub refused-output : (lent list : ℕ) (out : List ℕ) → out ≡ rescueOutput out (rescue (layoutOf layout) file lent list (length out))
+    unfolding rescueOutput
+    refused-output lent list out = rw (refused-so lent list (length out)) refl
+
+  module _ {start end first place size k j c long : ℕ} (is : v ≡ Yes start end first place size k j c long) where
+    pub ready-so : Ready layout file start end first place size k j c long
+    ready-so = subst (λ v. Cases layout file v) is (says .case)
+
+    pub few-dropped : j ≤ 1024
+    few-dropped = ready-so .few .1
+
+    module _ (rows list out : List ℕ) {t : Bool} (tested : t ≡ roomy (objectWidth * k + componentWidth * c) (length rows) (entryWidth * j) (length list) long (length out)) where
+      module _ (lacks : not t ≡ true) where
+        short-so : rescue (layoutOf layout) file (length rows) (length list) (length out) ≡ short k j long
+        short-so = short-of ready-so (length rows) (length list) (length out) tested (not-true t lacks)
+
+        pub short-told : {r : Rescued} → r ≡ answer 24 0 0 k j long → r ≡ answered (rescue (layoutOf layout) file (length rows) (length list) (length out))
+        unfolding rescueAnswer
+        short-told e = e ∙ rw short-so refl
+
+        pub short-list : list ≡ rescueList list (rescue (layoutOf layout) file (length rows) (length list) (length out))
+        unfolding rescueList
+        short-list = rw short-so refl
+
+        pub short-output : out ≡ rescueOutput out (rescue (layoutOf layout) file (length rows) (length list) (length out))
+        unfolding rescueOutput
+        short-output = rw short-so refl
+
+      pub well-told : not t ≡ false → {r : Rescued} → r ≡ answer 0 0 0 k j long → r ≡ answered (rescue (layoutOf layout) file (length rows) (length list) (length out))
+      well-told f e = e ∙ told-well ready-so (enough-so f k j c long rows list out tested)

@@ -1,6 +1,5 @@
 -- `rescuer::lay` meets its contract: a law for each need.
 use Rattle.rescuer.proofs.RescuedLaid as laying
-use mathlib.Core.Path.{refl}
 use borrow.Author.Needs.{needs}
 use Rattle.rescuer.proofs.lay.Statement.{statement}
 use Rattle.rescuer.proofs.lay.Tie as tie
@@ -18,8 +17,4 @@ lay-spec =
     (λ c. search needs)
     (λ c. search needs)
     (λ c. search needs)
-    (λ c.
-    let s = c .before .before .before .before .before .before .before .before .before in
-    let p = s .before .before .before .before .before .before .before .before .pre in
-    let h = s .sift .ensures .0 in
-    (laying.output-is (p .0) (p .1) refl h (c .before .before .write .ensures .0), (laying.list-is (p .0) (p .1) refl h, laying.still-long (p .0) (p .1) refl h))))
+    (λ c. (search laying.output-is, (search laying.list-is, search laying.still-long))))
