@@ -24,8 +24,8 @@ use Rattle.table.specs.Rows.{RowsPut}
 use Rattle.table.specs.Late.{Gives, LatePut}
 use Rattle.table.specs.declared.Place.{Place}
 use Rattle.meaning.proofs.Checks.{passed, pass-same}
-use Rattle.object.specs.declared.Judged.{Judged}
-use Rattle.object.specs.declared.Judged.the-variants.{No}
+use Rattle.object.specs.declared.judge.Measured.{Measured}
+use Rattle.object.specs.declared.judge.Measured.the-variants.{No}
 use Rattle.object.specs.declared.place.Coded.{Coded}
 use Rattle.object.specs.declared.place.Coded.the-variants.{Yes as Code}
 use Rattle.object.specs.Place.{coded, tensored, formatCode, TensorAt}
@@ -34,7 +34,7 @@ use Rattle.object.specs.Laying.{WaitedPut, ShapedPut, Once}
 
 -- an object that is refused doesn't pass
 pub refused-put : {P : Type 0} (n c : ℕ) → Once (No n c) P
-refused-put n c m e = absurd (let z : _≡_ {A = ℕ} 0 1 = cc in omega arith)
+refused-put n c m rank e = absurd (let z : _≡_ {A = ℕ} 0 1 = cc in omega arith)
 
 module _ (layout format code : ℕ) (s : List ℕ) (start left : ℕ) (to : Place) (before : List ℕ) where
   pub waited-now : layout ≡ 1 → (at : ℕ) → at ≡ length s - left → (after : List ℕ) → RowsPut (offered layout format code) (Here s at) start (to .end) (to .owner) (to .from) before after
@@ -83,17 +83,17 @@ module _ (layout d : ℕ) (s : List ℕ) (start : ℕ) (p : List ℕ) (to : Plac
 -- ---------------------------------------------------------------- from the dtype on
 
 module _ (layout : ℕ) (s : List ℕ) (start : ℕ) (p : List ℕ) (to : Place) (before after : List ℕ) where
-  pub sound-put : (r : Coded) → TensorAt (layoutOf layout) (Here s 0) (getD p 0 0) r → (d : ℕ) → r ≡ Code d → (v : Judged) → Once v (ShapedPut layout d (Here s 0) start (Here p 0) to before after)
+  pub sound-put : (r : Coded) → TensorAt (layoutOf layout) (Here s 0) (getD p 0 0) r → (d : ℕ) → r ≡ Code d → (v : Measured) → Once v (ShapedPut layout d (Here s 0) start (Here p 0) to before after)
       → Once v (LatePut layout s p start (to .end) (to .owner) (to .from) before after)
-  sound-put r h d e v put n is =
-      let w = subst (λ u. ShapedPut layout d s start u to before after) (part-to-end p 0) (subst (λ u. ShapedPut layout d u start (Here p 0) to before after) (part-to-end s 0) (put n is)) in
+  sound-put r h d e v put n rank is =
+      let w = subst (λ u. ShapedPut layout d s start u to before after) (part-to-end p 0) (subst (λ u. ShapedPut layout d u start (Here p 0) to before after) (part-to-end s 0) (put n rank is)) in
       let tensor : (o : Object Ends) (g : Gives (layoutOf layout) start s p o) → optional (aDtype (layoutOf layout)) (g .dtype) ≡ tensored (Code d) =
       λ o g. subst (λ u. TensorAt (layoutOf layout) u (getD p 0 0) (Code d)) (part-to-end s 0) (rw e at h) 28 (g .dtype) (g .dtype-held) in
       record { late = λ x o g. w .late x o g (pass-same (sym (g .code-is) ∙ tensor o g)); other = w .other }
 
   -- lent whole
-  pub whole-put : (v : Judged) → Once v (LatePut layout (Here s 0) (Here p 0) start (to .end) (to .owner) (to .from) before after)
+  pub whole-put : (v : Measured) → Once v (LatePut layout (Here s 0) (Here p 0) start (to .end) (to .owner) (to .from) before after)
       → Once v (LatePut layout s p start (to .end) (to .owner) (to .from) before after)
-  whole-put v put n is =
+  whole-put v put n rank is =
       subst (λ u. LatePut layout s u start (to .end) (to .owner) (to .from) before after) (part-to-end p 0)
-      (subst (λ u. LatePut layout u (Here p 0) start (to .end) (to .owner) (to .from) before after) (part-to-end s 0) (put n is))
+      (subst (λ u. LatePut layout u (Here p 0) start (to .end) (to .owner) (to .from) before after) (part-to-end s 0) (put n rank is))

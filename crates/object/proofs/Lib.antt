@@ -1,4 +1,5 @@
 pub mod Places
+pub mod Dimensions
 pub mod Pieces
 pub mod Sound
 pub mod Verdicts

@@ -19,8 +19,8 @@ use Rattle.formats.specs.Parts.{partRows, told}
 use Rattle.formats.specs.declared.Ruled.{Ruled}
 use Rattle.formats.specs.declared.Ruled.the-variants.{Right, Wrong}
 use Rattle.component.proofs.Pieces.{refused-so, Passed, passed-so}
-use Rattle.object.specs.declared.Judged.{Judged}
-use Rattle.object.specs.declared.Judged.the-variants.{No, Yes}
+use Rattle.object.specs.declared.judge.Measured.{Measured}
+use Rattle.object.specs.declared.judge.Measured.the-variants.{No, Yes}
 use Rattle.object.specs.declared.place.Coded.{Coded}
 use Rattle.object.specs.declared.place.Coded.the-variants.{No as NoCode, Yes as Code}
 use Rattle.object.specs.Place.{formatCode, FormatAt}
@@ -61,10 +61,10 @@ first-is : (n : ℕ) (l : List ℕ) → First n l ≡ take n l
 first-is n l = let e : n - 0 ≡ n = omega arith in ap (λ (i : ℕ). take i l) e
 
 module _ (code : ℕ) (dims : List ℕ) (rank : ℕ) (rows : List ℕ) (m : ℕ) where
-  pub no-such-rank : length dims < rank → (r : Judged) → RuledIs code dims rank rows m r
+  pub no-such-rank : length dims < rank → (r : Measured) → RuledIs code dims rank rows m r
   no-such-rank l r f cs c k n e = absurd (omega arith)
 
-  pub no-such-count : 16 < m → (r : Judged) → RuledIs code dims rank rows m r
+  pub no-such-count : 16 < m → (r : Measured) → RuledIs code dims rank rows m r
   no-such-count l r f cs c k n e = absurd (omega arith)
 
   -- the rules over the parts as they are lent
@@ -78,5 +78,5 @@ module _ (code : ℕ) (dims : List ℕ) (rank : ℕ) (rows : List ℕ) (m : ℕ)
     pub rules-broken : (n c : ℕ) → x ≡ Wrong n c → RuledIs code dims rank rows m (No n c)
     rules-broken n c is f cs e k l r = rw (rules-say (Wrong n c) is f cs e r) refl
 
-    pub rules-kept : x ≡ Right → RuledIs code dims rank rows m (Yes m)
+    pub rules-kept : x ≡ Right → RuledIs code dims rank rows m (Yes m rank)
     rules-kept is f cs e k l r = rw (rules-say Right is f cs e r) refl

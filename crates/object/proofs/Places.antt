@@ -1,24 +1,19 @@
--- The format of an object, a branch each: l is what `walk::text` answered for s, lent whole; and the shape at its place.
-use mathlib.Core.Path.{_≡_, refl, sym, ap, _∙_, subst}
+-- The format of an object, a branch each: l is what `walk::text` answered for s, lent whole.
+use mathlib.Core.Path.{_≡_, refl, sym}
 use mathlib.Core.List.{List}
 use mathlib.Core.Bool.{Bool, true, false}
-use Prim.Native.Nat.{ℕ, _-_, _<_}
+use Prim.Native.Nat.{ℕ, _<_}
 use native.Mathlib.Omega.{arith}
-use lib.ListN.{length, drop}
-use borrow.Rule.Slice.PartAt.{part-to-end}
 use Rattle.meaning.specs.Text.{utf8, following, follow, within, tail}
 use Rattle.meaning.specs.Kind.{aText}
 use Rattle.types.specs.Known.{position, formatNames}
 use Rattle.types.proofs.Codes.{named-holds}
-use Rattle.walk.specs.Reading.{Reads}
 use Rattle.walk.specs.Places.{TextIs}
 use Rattle.walk.specs.declared.Letters.{Letters}
 use Rattle.walk.specs.declared.Letters.the-variants.{NoText, Text}
-use Rattle.shape.specs.declared.Shaped.{Shaped}
-use Rattle.shape.specs.Shape.{ShapeRead}
 use Rattle.fields.proofs.Texts.{Here, no-word, word, letters}
 use Rattle.object.specs.declared.place.Coded.the-variants.{No as NoCode, Yes as Code}
-use Rattle.object.specs.Place.{FormatIs, ShapeAt}
+use Rattle.object.specs.Place.{FormatIs}
 
 pub known-format : (k : List ℕ) (f : ℕ) → f ≡ position formatNames k → f < 4 → true ≡ utf8 k
 unfolding formatNames utf8 following follow within tail
@@ -37,9 +32,3 @@ module _ (s : List ℕ) (l : Letters) (h : TextIs (Here s 0) l) where
     pub format-other : b ≡ false → FormatIs s (NoCode 10)
     unfolding aText
     format-other y d t q r = rw (word s l h at n e d t q r) (rw (← is, y) refl)
-
-pub shape-there : (s : List ℕ) (left at : ℕ) → at ≡ length s - left → (before dims : List ℕ) (r : Shaped) → ShapeRead 28 (Here s at) before dims r → ShapeAt s left dims r
-shape-there s left at is before dims r h = record {
-  room = h .room;
-  items = λ t x. h .trees t (x .rest) (subst (λ u. Reads 29 u t (x .rest)) (sym (part-to-end s at ∙ ap (λ (i : ℕ). drop i s) is)) (x .reads));
-}

@@ -1,11 +1,12 @@
 -- The judgement of an object that has all it needs, from its pieces, a branch each.
-use mathlib.Core.Path.{_≡_, refl, sym, ap, _∙_, subst}
+use mathlib.Core.Path.{_≡_, refl, sym, ap, ap₂, _∙_, subst}
 use mathlib.Core.List.{List, map}
 use mathlib.Core.Option.{Option, none, some}
 use mathlib.Core.Bool.{Bool, true, false, cond}
 use Prim.Native.Nat.{ℕ, _-_, _≤_, _<_}
 use native.Mathlib.Omega.{arith}
 use lib.ListN.{length, take, drop, getD}
+use lib.Seq.{length-take-le}
 use lib.Dec.{ltb}
 use borrow.Author.Tests.{le-ltb, ltb-true, ltb-false}
 use borrow.Rule.Slice.PartAt.{part-to-end}
@@ -27,16 +28,16 @@ use Rattle.component.specs.Value.{given}
 use Rattle.components.specs.declared.Found.{Found}
 use Rattle.components.specs.declared.Found.the-variants.{No as Refused, Yes as Holding}
 use Rattle.component.proofs.Pieces.{refused-so, Passed, passed-so}
-use Rattle.object.specs.declared.Judged.{Judged}
-use Rattle.object.specs.declared.Judged.the-variants.{No, Yes}
+use Rattle.object.specs.declared.judge.Measured.{Measured}
+use Rattle.object.specs.declared.judge.Measured.the-variants.{No, Yes}
 use Rattle.object.specs.declared.place.Coded.{Coded}
 use Rattle.object.specs.declared.place.Coded.the-variants.{No as NoCode, Yes as Code}
 use Rattle.object.specs.Place.{coded, tensored, ShapeAt, TensorAt}
-use Rattle.object.specs.Verdict.{described, codeOf, DescribedAt, ruled, RuledIs, judged, Fields, Standing, shaped, sound, Says, LateIs, ShapedIs, SoundIs}
+use Rattle.object.specs.Verdict.{described, codeOf, DescribedAt, ruled, RuledIs, measured, Fields, Standing, shaped, sound, Says, LateIs, ShapedIs, SoundIs}
 
-judged-ruled : (k : Check (Unit {0})) (o : Object Ends) (m : ℕ) → m ≡ length (o .components) → ruled k m ≡ judged (k >> pass o)
-judged-ruled (pass v) o m e = ap Yes e
-judged-ruled (refuse n i j) o m e = refl
+measured-ruled : (k : Check (Unit {0})) (o : Object Ends) (m rank : ℕ) → m ≡ length (o .components) → rank ≡ length (o .shape) → ruled k m rank ≡ measured (k >> pass o)
+measured-ruled (pass v) o m rank e f = ap₂ Yes e f
+measured-ruled (refuse n i j) o m rank e f = refl
 
 -- ---------------------------------------------------------------- components that waited for their tensor's dtype
 
@@ -86,16 +87,16 @@ module _ (layout d : ℕ) (s : List ℕ) (start : ℕ) (p : List ℕ) (found : F
       unfolding shaped
       no-components n c e f x held has plain w = rw (ranked f x .0) (rw (has-description f x .is) (rw (found-so (Refused n c) e f x held has plain .1) refl))
 
-      pub by-rules : (m : ℕ) → late ≡ Holding m → (r : Judged) → RuledIs code dims rank (Here rows′ 0) m r → ShapedIs layout d s start p found rows r
+      pub by-rules : (m : ℕ) → late ≡ Holding m → (r : Measured) → RuledIs code (Here dims 0) rank (Here rows′ 0) m r → ShapedIs layout d s start p found rows r
       unfolding shaped
       by-rules m e r is f x held has plain w =
           let y = has-description f x in
           let z = found-so (Holding m) e f x held has plain in
           let a = ranked f x in
           let b = h₁ .room in
-          let k = subst (λ u. RuledIs code dims rank u m r) (part-to-end rows′ 0) is (y .value .format .letters) (map part (z .0)) (sym (y .shown)) (let l = a .1 in omega arith) (z .3) (z .4) in
-          rw (a .0) (rw (y .is) (rw (z .1) (k ∙ judged-ruled (formatRules (y .value .format .letters) (take rank dims) (map part (z .0)))
-          (record { name = w; shape = take rank dims; format = y .value .format; attributes = y .value .attributes; components = z .0 }) m (z .2))))
+          let k = subst (λ u. RuledIs code dims rank u m r) (part-to-end rows′ 0) (subst (λ u. RuledIs code u rank (Here rows′ 0) m r) (part-to-end dims 0) is) (y .value .format .letters) (map part (z .0)) (sym (y .shown)) (let l = a .1 in omega arith) (z .3) (z .4) in
+          rw (a .0) (rw (y .is) (rw (z .1) (k ∙ measured-ruled (formatRules (y .value .format .letters) (take rank dims) (map part (z .0)))
+          (record { name = w; shape = take rank dims; format = y .value .format; attributes = y .value .attributes; components = z .0 }) m rank (z .2) (sym (length-take-le rank dims (let l = a .1 in omega arith))))))
 
 -- ---------------------------------------------------------------- from the dtype on
 
@@ -126,7 +127,7 @@ module _ (layout : ℕ) (s : List ℕ) (start : ℕ) (p : List ℕ) (found : Fou
       by true h g = absurd (let z : _≡_ {A = Option ℕ} none (some d) = pass-same (g ∙ (rw h refl)) in let y : _≡_ {A = ℕ} 0 1 = cc in omega arith)
       by false h g = ltb-false d 13 h
 
-  pub as-shaped : (d : ℕ) → r₁ ≡ Code d → (r : Judged) → ShapedIs layout d (Here s 0) start (Here p 0) found rows r → SoundIs layout s start p found rows r
+  pub as-shaped : (d : ℕ) → r₁ ≡ Code d → (r : Measured) → ShapedIs layout d (Here s 0) start (Here p 0) found rows r → SoundIs layout s start p found rows r
   unfolding sound
   as-shaped d e r h f x held w =
       let t = tensor (Code d) e f x in

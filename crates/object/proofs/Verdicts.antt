@@ -25,11 +25,11 @@ use Rattle.fields.specs.Slots.{marks, Holds}
 use Rattle.fields.proofs.Stands.{hold-none, Item, hold-some, keys-are-text, none-twice, field-stands}
 use Rattle.fields.proofs.Texts.{Here}
 use Rattle.components.specs.declared.Found.{Found}
-use Rattle.object.specs.declared.Judged.{Judged}
-use Rattle.object.specs.declared.Judged.the-variants.{No}
+use Rattle.object.specs.declared.judge.Measured.{Measured}
+use Rattle.object.specs.declared.judge.Measured.the-variants.{No}
 use Rattle.object.specs.declared.judge.Fine.{Fine}
 use Rattle.object.specs.declared.judge.Fine.the-variants.{No as Bad, Yes as Good}
-use Rattle.object.specs.Verdict.{lacksDtype, shaped, known, Description, described, judged, Fields, Standing, sound, SoundIs, Noted, VerdictIs}
+use Rattle.object.specs.Verdict.{lacksDtype, shaped, known, Description, described, measured, Fields, Standing, sound, SoundIs, Noted, VerdictIs}
 
 -- ---------------------------------------------------------------- what the slots say, a branch each
 
@@ -114,32 +114,32 @@ module _ (L : Layout) (start : ℕ) (t : Node Ends) (ps : List (Pair Ends)) (kt 
   abbrev at : ℕ → Option (Node Ends)
   at i = field.field (slot i (L .object)) ps
 
-  judged-odd : all (λ q. field.isSome (field.keyOf q)) ps ≡ false → No 9 0 ≡ judged the
+  judged-odd : all (λ q. field.isSome (field.keyOf q)) ps ≡ false → No 9 0 ≡ measured the
   unfolding judge.object field.objectFields field.fields aMapping asMapping
   judged-odd e = rw kt (rw e refl)
 
   module _ (a : all (λ q. field.isSome (field.keyOf q)) ps ≡ true) where
-    judged-twice : all (λ m. leb (field.count m ps) 1) (somes (L .object)) ≡ false → No 11 0 ≡ judged the
+    judged-twice : all (λ m. leb (field.count m ps) 1) (somes (L .object)) ≡ false → No 11 0 ≡ measured the
     unfolding judge.object field.objectFields field.fields aMapping asMapping
     judged-twice e = rw kt (rw (a, e) refl)
 
     module _ (b : all (λ m. leb (field.count m ps) 1) (somes (L .object)) ≡ true) where
-      judged-no-dtype : requiredIn (slot dtypeAt (L .object)) (at 0) ≡ refuse 12 0 0 → No 12 0 ≡ judged the
+      judged-no-dtype : requiredIn (slot dtypeAt (L .object)) (at 0) ≡ refuse 12 0 0 → No 12 0 ≡ measured the
       unfolding judge.object field.objectFields field.fields aMapping asMapping
       judged-no-dtype e = rw kt (rw (a, b) (rw e refl))
 
       module _ (g₀ : requiredIn (slot dtypeAt (L .object)) (at 0) ≡ pass (at 0)) where
-        judged-no-shape : at 1 ≡ none → No 12 0 ≡ judged the
+        judged-no-shape : at 1 ≡ none → No 12 0 ≡ measured the
         unfolding judge.object field.objectFields field.fields aMapping asMapping
         judged-no-shape e = rw kt (rw (a, b) (rw (g₀, e) refl))
 
         module _ (shape : Node Ends) (g₁ : at 1 ≡ some shape) where
-          judged-no-format : at 2 ≡ none → No 12 0 ≡ judged the
+          judged-no-format : at 2 ≡ none → No 12 0 ≡ measured the
           unfolding judge.object field.objectFields field.fields aMapping asMapping
           judged-no-format e = rw kt (rw (a, b) (rw (g₀, g₁, e) refl))
 
           module _ (format : Node Ends) (g₂ : at 2 ≡ some format) where
-            judged-no-components : at 4 ≡ none → No 12 0 ≡ judged the
+            judged-no-components : at 4 ≡ none → No 12 0 ≡ measured the
             unfolding judge.object field.objectFields field.fields aMapping asMapping
             judged-no-components e = rw kt (rw (a, b) (rw (g₀, g₁, g₂, e) refl))
 
@@ -215,7 +215,7 @@ module _ (layout : ℕ) (s : List ℕ) (start : ℕ) (p : List ℕ) (found-there
       pub judged-so : verdict ≡ sound (layoutOf layout) start n fields
 
     abbrev Told : Fine → Type 0
-    Told (Bad m) = No m 0 ≡ judged verdict
+    Told (Bad m) = No m 0 ≡ measured verdict
     Told Good = Ready
 
     told : Told (known layout p)
@@ -259,9 +259,9 @@ module _ (layout : ℕ) (s : List ℕ) (start : ℕ) (p : List ℕ) (found-there
     pub refused : (m : ℕ) → f ≡ Bad m → VerdictIs layout s start p found-there rows (No m 0)
     refused m e ps q chain noted t kt n = subst (Told ps q chain (noted .0) t kt n) (sym slots-say ∙ e) (told ps q chain (noted .0) t kt n)
 
-    pub as-sound : f ≡ Good → (r : Judged) → SoundIs layout (Here s 0) start (Here p 0) found-there rows r → VerdictIs layout s start p found-there rows r
+    pub as-sound : f ≡ Good → (r : Measured) → SoundIs layout (Here s 0) start (Here p 0) found-there rows r → VerdictIs layout s start p found-there rows r
     as-sound e r h ps q chain noted t kt n =
         let x : Ready ps q chain (noted .0) t kt n = subst (Told ps q chain (noted .0) t kt n) (sym slots-say ∙ e) (told ps q chain (noted .0) t kt n) in
         let y : SoundIs layout s start p found-there rows r =
         subst (λ u. SoundIs layout s start u found-there rows r) (part-to-end p 0) (subst (λ u. SoundIs layout u start (Here p 0) found-there rows r) (part-to-end s 0) h) in
-        y (x .fields) (x .standing) (noted .1 (x .fields .components) (x .components-are)) n ∙ ap judged (sym (x .judged-so))
+        y (x .fields) (x .standing) (noted .1 (x .fields .components) (x .components-are)) n ∙ ap measured (sym (x .judged-so))

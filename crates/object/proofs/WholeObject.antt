@@ -5,7 +5,7 @@ use mathlib.Core.List.{List}
 use mathlib.Core.Logic.{⊎-elim}
 use mathlib.Core.Option.{Option, none}
 use mathlib.Core.Path.{_≡_, refl, ap, sym, _∙_, subst}
-use lib.ListN.{length, drop}
+use lib.ListN.{length, getD, drop}
 use lib.Seq.{sets}
 use borrow.Author.Tests.{eq-eqb, ne-eqb}
 use borrow.Rule.Slice.PartAt.{part-to-end}
@@ -13,6 +13,7 @@ use Rattle.meaning.specs.Tree.{Pair}
 use Rattle.meaning.specs.Check.{Check, pass, refuse, optional}
 use Rattle.meaning.specs.Model.{Word, Object}
 use Rattle.meaning.specs.Notes.{mapObject}
+use Rattle.meaning.specs.Rows.{dimensions}
 use Rattle.meaning.specs.Layouts.{slot, layoutOf}
 use Rattle.meaning.specs.Field.{objectFields, fields, field}
 use Rattle.meaning.specs.Judge.{inherited, object}
@@ -26,7 +27,7 @@ use Rattle.walk.proofs.Passed.{Here}
 use Rattle.walk.proofs.Opens as opens
 use Rattle.table.specs.Spans.{spanOf}
 use Rattle.table.specs.Rows.{rowsIn, Put}
-use Rattle.table.specs.Object.{objectIn, ObjectPut}
+use Rattle.table.specs.Object.{eight, objectIn, ObjectPut}
 use Rattle.table.specs.Late.{Gives, LatePut}
 use Rattle.table.specs.Objects.{WholePut}
 use Rattle.table.specs.declared.Place.{Place}
@@ -34,31 +35,45 @@ use Rattle.meaning.proofs.Checks.{pass-same}
 use Rattle.table.proofs.Runs as laying
 use Rattle.table.proofs.ComponentRow.{named-pair}
 use Rattle.meaning.proofs.Lengths.{object-length}
-use Rattle.table.proofs.ObjectPasses.{Made, fieldsOf, made, described, gives}
+use Rattle.table.proofs.ObjectPasses.{Made, fieldsOf, made, shape-stands, described, gives}
 use Rattle.components.specs.declared.Found.{Found}
 use Rattle.object.specs.declared.Judged.{Judged}
 use Rattle.object.specs.declared.Judged.the-variants.{No, Yes}
-use Rattle.object.specs.Verdict.{judged, VerdictIs, ObjectIs}
+use Rattle.object.specs.declared.judge.Measured.{Measured}
+use Rattle.object.specs.declared.judge.Measured.the-variants.{No as Refusing, Yes as Passing}
+use Rattle.object.specs.Place.{DimensionsAt}
+use Rattle.object.specs.Verdict.{measured, counted, VerdictIs, ObjectIs}
 use Rattle.object.specs.Laying.{Lays, Walked, Once, OwnPut}
 use Rattle.object.proofs.Walks as walks
 use Rattle.object.proofs.Verdicts.{tensor-dtype, lacked}
 
 -- ---------------------------------------------------------------- its own row
 
-module _ (s m p : List ℕ) (v : Judged) (to : Place) (before : List ℕ) where
-  pub own-not : (n c : ℕ) → v ≡ No n c → OwnPut s m p v to before before
-  own-not n c e k f = absurd (let y : No n c ≡ Yes k = sym e ∙ f in let z : _≡_ {A = ℕ} 0 1 = cc in omega arith)
+pub refused-still : (v : Measured) (n c : ℕ) → v ≡ Refusing n c → No n c ≡ counted v
+refused-still v n c e = ap counted (sym e)
 
-  pub own-put : (n : ℕ) → v ≡ Yes n → (after : List ℕ) → ObjectPut (Here s 0) (Here m 0) (Here p 0) n (to .end) (to .row) before after → OwnPut s m p v to before after
-  own-put n e after h k f =
-      let same : n ≡ k = same-number (sym e ∙ f) in
-      subst (λ i. ObjectPut s m p i (to .end) (to .row) before after) same
-      (subst (λ u. ObjectPut u m p n (to .end) (to .row) before after) (part-to-end s 0)
-      (subst (λ u. ObjectPut (Here s 0) u p n (to .end) (to .row) before after) (part-to-end m 0)
-      (subst (λ u. ObjectPut (Here s 0) (Here m 0) u n (to .end) (to .row) before after) (part-to-end p 0) h)))
+pub passed-still : (v : Measured) (n rank : ℕ) → v ≡ Passing n rank → Yes n ≡ counted v
+passed-still v n rank e = ap counted (sym e)
+
+module _ (s m p dims : List ℕ) (v : Measured) (to : Place) (before : List ℕ) where
+  pub own-not : (n c : ℕ) → v ≡ Refusing n c → OwnPut s m p dims v to before before
+  own-not n c e k rank f = absurd (let y : Refusing n c ≡ Passing k rank = sym e ∙ f in let z : _≡_ {A = ℕ} 0 1 = cc in omega arith)
+
+  pub own-put : (n rank : ℕ) → v ≡ Passing n rank → (after : List ℕ) → ObjectPut (Here s 0) (Here m 0) (Here p 0) rank (Here dims 0) n (to .end) (to .row) before after
+      → OwnPut s m p dims v to before after
+  own-put n rank e after h i k f =
+      subst (λ i. ObjectPut s m p k dims i (to .end) (to .row) before after) (same-count (sym e ∙ f))
+      (subst (λ k. ObjectPut s m p k dims n (to .end) (to .row) before after) (same-rank (sym e ∙ f))
+      (subst (λ u. ObjectPut u m p rank dims n (to .end) (to .row) before after) (part-to-end s 0)
+      (subst (λ u. ObjectPut (Here s 0) u p rank dims n (to .end) (to .row) before after) (part-to-end m 0)
+      (subst (λ u. ObjectPut (Here s 0) (Here m 0) u rank dims n (to .end) (to .row) before after) (part-to-end p 0)
+      (subst (λ u. ObjectPut (Here s 0) (Here m 0) (Here p 0) rank u n (to .end) (to .row) before after) (part-to-end dims 0) h)))))
     where
-      same-number : {i j : ℕ} → Yes i ≡ Yes j → i ≡ j
-      same-number h = cc
+      same-count : {i j k l : ℕ} → Passing i k ≡ Passing j l → i ≡ j
+      same-count h = cc
+
+      same-rank : {i j k l : ℕ} → Passing i k ≡ Passing j l → k ≡ l
+      same-rank h = cc
 
 -- ---------------------------------------------------------------- its components' rows
 
@@ -91,16 +106,18 @@ module _ (layout : ℕ) (s c : List ℕ) (start : ℕ) (to : Place) (before : Li
       absurd (let v : _≡_ {A = ℕ} 0 1 = cc in omega arith)
 
   pub whole-put : (mode count size : ℕ) → x ≡ Opened mode count size → (slots : List ℕ) (found : Found) (rows t : List ℕ) → Walked layout start to mode count (Here c size) before slots found rows t
-      → (v : Judged) → ObjectIs (layoutOf layout) c start v → (t′ : List ℕ) → Once v (LatePut layout (Here c size) slots start (to .end) (to .owner) (to .from) t t′)
-      → (after : List ℕ) → OwnPut (Here s 0) (Here c size) slots v to t′ after → WholePut layout s c start (to .end) (to .owner) (to .row) (to .from) before after
-  whole-put mode count size e slots found rows t all v verdict t′ late after put p d q r key value n name o is low room =
+      → (v : Measured) → VerdictIs layout (Here c size) start slots found rows v → (t′ : List ℕ) → Once v (LatePut layout (Here c size) slots start (to .end) (to .owner) (to .from) t t′)
+      → (dims : List ℕ) → Once v (DimensionsAt (Here c size) (getD slots 1 0) dims)
+      → (after : List ℕ) → OwnPut (Here s 0) (Here c size) slots dims v to t′ after → WholePut layout s c start (to .end) (to .owner) (to .row) (to .from) before after
+  whole-put mode count size e slots found rows t all v verdict t′ late dims shape after put p d q r key value n name o is low room =
       let L = layoutOf layout in
       let m = opens.opened c x h mode count size e .trees 29 (p .value) r value in
       let w = subst (λ u. Walked layout start to mode count u before slots found rows t) (part-to-end c size) all in
       let so = named-pair p n name in
       let passes : object L start (record { name = n .name; value = p .value }) ≡ pass o = ap (object L start) (sym (so .is)) ∙ is in
-      let yes : v ≡ Yes (length (o .components)) = verdict (p .value) r value (n .name) ∙ ap judged passes in
-      let l = subst (λ u. LatePut layout u slots start (to .end) (to .owner) (to .from) t t′) (part-to-end c size) (late _ yes) in
+      let yes : v ≡ Passing (length (o .components)) (length (o .shape)) =
+      walks.entries-measured layout c start x h mode count size e to before slots found rows t all v verdict (p .value) r value (n .name) ∙ ap measured passes in
+      let l = subst (λ u. LatePut layout u slots start (to .end) (to .owner) (to .from) t t′) (part-to-end c size) (late _ _ yes) in
       let a = w .notes (m .pairs) (m .last) (m .due) in
       let f = made L start (n .name) (p .value) (m .pairs) (m .kind-is) o passes in
       let says : Put (to .end) (to .owner) (to .from) before (o .components) t′ =
@@ -109,26 +126,29 @@ module _ (layout : ℕ) (s c : List ℕ) (start : ℕ) (to : Place) (before : Li
       (gives L (drop size c) (m .pairs) (m .last) (m .due .chain) slots (a .0) start (n .name) o f (tensor-dtype layout ∙ eq-eqb layout 1 e)) (w .untouched e))
       (λ e. earlier layout start to before (n .name) (m .pairs) o f (drop size c) slots t t′ l e (a .1 (f .components) (f .components-got) .1))
       (eq-or layout 1) in
-      let own : OwnPut s (drop size c) slots v to t′ after =
-      subst (λ u. OwnPut u (drop size c) slots v to t′ after) (part-to-end s 0) (subst (λ u. OwnPut (Here s 0) u slots v to t′ after) (part-to-end c size) put) in
+      let own : OwnPut s (drop size c) slots dims v to t′ after =
+      subst (λ u. OwnPut u (drop size c) slots dims v to t′ after) (part-to-end s 0) (subst (λ u. OwnPut (Here s 0) u slots dims v to t′ after) (part-to-end c size) put) in
+      let eight-are : eight dims ≡ dimensions (o .shape) =
+      subst (λ u. DimensionsAt u (getD slots 1 0) dims) (part-to-end c size) (shape _ _ yes) .are (f .shape)
+      (shape-stands L (drop size c) (m .pairs) (m .last) (m .due .chain) slots (a .0) start (n .name) o f) (o .shape) (f .shape-is) in
       let row : after ≡ sets t′ (to .row) (objectIn (to .end) o) =
-      own _ yes d (p .key) q key o (so .word ∙ ap pass (f .named)) (described L (drop size c) (m .pairs) (m .last) (m .due .chain) slots (a .0) start (n .name) o f) refl in
+      own _ _ yes d (p .key) q key o (so .word ∙ ap pass (f .named)) (described L (drop size c) (m .pairs) (m .last) (m .due .chain) slots (a .0) start (n .name) o f) refl eight-are refl in
       let short : to .row + length (objectIn (to .end) o) ≤ to .from = omega (arith, object-length (mapObject (spanOf (to .end)) o)) in
       row ∙ ap (λ t. sets t (to .row) (objectIn (to .end) o)) (says room) ∙ laying.sets-commute (objectIn (to .end) o) (rowsIn (to .end) (to .owner) (o .components)) before (to .row) (to .from) short
 
 -- the map's head, its entries passed over, the verdict on them and what was put
 module _ (layout : ℕ) (s c : List ℕ) (start : ℕ) (to : Place) (before : List ℕ) (lent : length c * 1 < 2 ^ 63) (x : Opening) (h : MapIs (Here c 0) x) (mode count size : ℕ) (is : x ≡ Opened mode count size)
     (e : ℕ) (slots : List ℕ) (found : Found) (rows t : List ℕ) (run : (e ≡ code (rest mode count 29 (Here c size))) × Walked layout start to mode count (Here c size) before slots found rows t)
-    (v : Judged) (t′ : List ℕ) (told : VerdictIs layout (Here c size) start slots found rows v × Once v (LatePut layout (Here c size) slots start (to .end) (to .owner) (to .from) t t′))
-    (after : List ℕ) (own : OwnPut (Here s 0) (Here c size) slots v to t′ after) where
-  said : ObjectIs (layoutOf layout) c start v
-  said = walks.entries-judged layout c start x h mode count size is to before slots found rows t (run .1) v (told .0)
+    (v : Measured) (t′ dims : List ℕ) (told : VerdictIs layout (Here c size) start slots found rows v × Once v (LatePut layout (Here c size) slots start (to .end) (to .owner) (to .from) t t′) × Once v (DimensionsAt (Here c size) (getD slots 1 0) dims))
+    (r : Judged) (after : List ℕ) (own : (r ≡ counted v) × OwnPut (Here s 0) (Here c size) slots dims v to t′ after) where
+  said : ObjectIs (layoutOf layout) c start r
+  said = walks.entries-judged layout c start x h mode count size is to before slots found rows t (run .1) v (told .0) r (own .0)
 
   put-so : WholePut layout s c start (to .end) (to .owner) (to .row) (to .from) before after
-  put-so = whole-put layout s c start to before x h mode count size is slots found rows t (run .1) v said t′ (told .1) after own
+  put-so = whole-put layout s c start to before x h mode count size is slots found rows t (run .1) v (told .0) t′ (told .1) dims (told .2) after (own .1)
 
-  pub whole-inside : e ≤ length c - size → (size + e ≡ code (itemEnd 30 c)) × ObjectIs (layoutOf layout) c start v × WholePut layout s c start (to .end) (to .owner) (to .row) (to .from) before after
+  pub whole-inside : e ≤ length c - size → (size + e ≡ code (itemEnd 30 c)) × ObjectIs (layoutOf layout) c start r × WholePut layout s c start (to .end) (to .owner) (to .row) (to .from) before after
   whole-inside l = (opens.ends-inside c x h mode count size is 29 lent e (run .0) l, said, put-so)
 
-  pub whole-faulty : length c - size < e → (e ≡ code (itemEnd 30 c)) × ObjectIs (layoutOf layout) c start v × WholePut layout s c start (to .end) (to .owner) (to .row) (to .from) before after
+  pub whole-faulty : length c - size < e → (e ≡ code (itemEnd 30 c)) × ObjectIs (layoutOf layout) c start r × WholePut layout s c start (to .end) (to .owner) (to .row) (to .from) before after
   whole-faulty l = (opens.ends-faulty c x h mode count size is 29 lent e (run .0) l, said, put-so)

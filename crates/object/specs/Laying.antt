@@ -17,8 +17,8 @@ use Rattle.table.specs.Object.{ObjectPut}
 use Rattle.table.specs.Late.{Gives}
 use Rattle.table.specs.declared.Place.{Place}
 use Rattle.components.specs.declared.Found.{Found}
-use Rattle.object.specs.declared.Judged.{Judged}
-use Rattle.object.specs.declared.Judged.the-variants.{Yes}
+use Rattle.object.specs.declared.judge.Measured.{Measured}
+use Rattle.object.specs.declared.judge.Measured.the-variants.{Yes}
 use Rattle.object.specs.Verdict.{Says, waiting}
 
 -- the table after the components x, where their rows are put as they are met
@@ -51,9 +51,9 @@ pub record ShapedPut (layout d : ℕ) (s : List ℕ) (start : ℕ) (p : List ℕ
   pub other : (layout ≡ 1 → ⊥) → after ≡ before
 
 -- where the object passes
-abbrev pub Once : Judged → Type 0 → Type 0
-Once v P = (n : ℕ) → v ≡ Yes n → P
+abbrev pub Once : Measured → Type 0 → Type 0
+Once v P = (n rank : ℕ) → v ≡ Yes n rank → P
 
--- its own row, with the number of components that it is judged to have
-abbrev pub OwnPut : List ℕ → List ℕ → List ℕ → Judged → Place → List ℕ → List ℕ → Type 0
-OwnPut s m p v to before after = (n : ℕ) → v ≡ Yes n → ObjectPut s m p n (to .end) (to .row) before after
+-- its own row, with the numbers of components and of dimensions that it is judged to have
+abbrev pub OwnPut : List ℕ → List ℕ → List ℕ → List ℕ → Measured → Place → List ℕ → List ℕ → Type 0
+OwnPut s m p dims v to before after = (n rank : ℕ) → v ≡ Yes n rank → ObjectPut s m p rank dims n (to .end) (to .row) before after

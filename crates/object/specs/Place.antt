@@ -11,6 +11,7 @@ use Rattle.meaning.specs.Limit.{rankLimit}
 use Rattle.meaning.specs.Model.{Word}
 use Rattle.meaning.specs.Kind.{aText}
 use Rattle.meaning.specs.Judge.{aDtype, shapeOf}
+use Rattle.meaning.specs.Rows.{dimensions}
 use Rattle.meaning.specs.Layouts.{Layout}
 use Rattle.types.specs.Known.{position, formatNames}
 use Rattle.walk.specs.Reading.{Ends}
@@ -19,6 +20,7 @@ use Rattle.shape.specs.declared.Shaped.{Shaped}
 use Rattle.shape.specs.Shape.{ShapeIs}
 use Rattle.fields.specs.Slots.{Stands, ItemAt, OptionAt}
 use Rattle.component.specs.Value.{given}
+use Rattle.table.specs.Object.{eight}
 use Rattle.object.specs.declared.place.Coded.{Coded}
 use Rattle.object.specs.declared.place.Coded.the-variants.{No as NoCode, Yes as Code}
 
@@ -27,10 +29,15 @@ abbrev pub coded : Coded → Check ℕ
 coded (NoCode n) = fault n
 coded (Code c) = pass c
 
--- an object's values stand where 29 levels are left
+-- dims holds the dimensions of the shape that stands there, and zeros after them; an object's values stand where 29 levels are left
+pub record DimensionsAt (s : List ℕ) (left : ℕ) (dims : List ℕ) : Type 0 where
+  pub are : (t : Node Ends) → Stands 29 s left t → (d : List ℕ) → shapeOf t ≡ pass d → eight dims ≡ dimensions d
+
+-- the answer for that shape
 pub record ShapeAt (s : List ℕ) (left : ℕ) (dims : List ℕ) (r : Shaped) : Type 0 where
   pub room : length dims ≡ rankLimit
   pub items : (t : Node Ends) → Stands 29 s left t → ShapeIs dims r (shapeOf t)
+  pub dimensions : DimensionsAt s left dims
 
 abbrev pub formatCode : Word Ends → ℕ
 formatCode w = position formatNames (w .letters)

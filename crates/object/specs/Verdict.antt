@@ -27,6 +27,8 @@ use Rattle.components.specs.Firsts.{FoundIs}
 use Rattle.component.specs.Value.{given}
 use Rattle.object.specs.declared.Judged.{Judged}
 use Rattle.object.specs.declared.Judged.the-variants.{No, Yes}
+use Rattle.object.specs.declared.judge.Measured.{Measured}
+use Rattle.object.specs.declared.judge.Measured.the-variants.{No as Refusing, Yes as Passing}
 use Rattle.object.specs.declared.place.Coded.{Coded}
 use Rattle.object.specs.declared.judge.Fine.{Fine}
 use Rattle.object.specs.declared.judge.Fine.the-variants.{No as Bad, Yes as Good}
@@ -68,20 +70,30 @@ DescribedAt s a b r = (d : ℕ) (x : Node Ends) (y : Option (Node Ends)) → Sta
 
 -- ---------------------------------------------------------------- the format's rules
 
--- m components, unless the rules refuse them
-abbrev pub ruled : Check (Unit {0}) → ℕ → Judged
-ruled (pass a) m = Yes m
-ruled (refuse n o c) m = No n c
+-- m components and `rank` dimensions, unless the rules refuse them
+abbrev pub ruled : Check (Unit {0}) → ℕ → ℕ → Measured
+ruled (pass a) m rank = Passing m rank
+ruled (refuse n o c) m rank = Refusing n c
 
-abbrev pub RuledIs : ℕ → List ℕ → ℕ → List ℕ → ℕ → Judged → Type 0
+abbrev pub RuledIs : ℕ → List ℕ → ℕ → List ℕ → ℕ → Measured → Type 0
 RuledIs code dims rank rows m r =
-    (f : List ℕ) (cs : List Part) → code ≡ position formatNames f → rank ≤ length dims → m ≤ componentLimit → take (4 * m) rows ≡ partRows cs → r ≡ ruled (formatRules f (take rank dims) cs) m
+    (f : List ℕ) (cs : List Part) → code ≡ position formatNames f → rank ≤ length dims → m ≤ componentLimit → take (4 * m) rows ≡ partRows cs → r ≡ ruled (formatRules f (take rank dims) cs) m rank
 
 -- ---------------------------------------------------------------- the whole
 
 abbrev pub judged : Check (Object Ends) → Judged
 judged (pass o) = Yes (length (o .components))
 judged (refuse n o c) = No n c
+
+-- the same, with the rank
+abbrev pub measured : Check (Object Ends) → Measured
+measured (pass o) = Passing (length (o .components)) (length (o .shape))
+measured (refuse n o c) = Refusing n c
+
+-- without it
+abbrev pub counted : Measured → Judged
+counted (Refusing n c) = No n c
+counted (Passing m rank) = Yes m
 
 -- the fields of an object that has all it needs, and where they stand
 pub record Fields : Type 0 where
@@ -125,24 +137,24 @@ LateIs layout format code s start left found rows found′ rows′ =
     (x : Node Ends) → Stands 29 s left x → Says layout start x (found, rows) → ((layout ≡ 1 → ⊥) → 13 ≤ code) → Whichever (offered layout format code) λ above.
     FoundIs (componentsOf (layoutOf layout) start above x) found′ rows′
 
-abbrev pub ShapedIs : ℕ → ℕ → List ℕ → ℕ → List ℕ → Found → List ℕ → Judged → Type 0
+abbrev pub ShapedIs : ℕ → ℕ → List ℕ → ℕ → List ℕ → Found → List ℕ → Measured → Type 0
 ShapedIs layout d s start p found rows r =
     (f : Fields) → Standing layout s p f → Says layout start (f .components) (found, rows) → (layout ≡ 1 → d < 13) → ((layout ≡ 1 → ⊥) → 13 ≤ d)
-    → (n : Word Ends) → r ≡ judged (shaped (layoutOf layout) start n f (given d))
+    → (n : Word Ends) → r ≡ measured (shaped (layoutOf layout) start n f (given d))
 
-abbrev pub SoundIs : ℕ → List ℕ → ℕ → List ℕ → Found → List ℕ → Judged → Type 0
+abbrev pub SoundIs : ℕ → List ℕ → ℕ → List ℕ → Found → List ℕ → Measured → Type 0
 SoundIs layout s start p found rows r =
-    (f : Fields) → Standing layout s p f → Says layout start (f .components) (found, rows) → (n : Word Ends) → r ≡ judged (sound (layoutOf layout) start n f)
+    (f : Fields) → Standing layout s p f → Says layout start (f .components) (found, rows) → (n : Word Ends) → r ≡ measured (sound (layoutOf layout) start n f)
 
 -- what is noted of pairs: their slots, and what was found in their components
 abbrev pub Noted : ℕ → ℕ → List ℕ → Found → List ℕ → List (Pair Ends) → Type 0
 Noted layout start p found rows = keeping.Noted (layoutOf layout .object) 5 4 (Says layout start) p (found, rows)
 
 -- for every map of the pairs that are read from s on, where this is noted of them
-abbrev pub VerdictIs : ℕ → List ℕ → ℕ → List ℕ → Found → List ℕ → Judged → Type 0
+abbrev pub VerdictIs : ℕ → List ℕ → ℕ → List ℕ → Found → List ℕ → Measured → Type 0
 VerdictIs layout s start p found rows r =
     (ps : List (Pair Ends)) (q : List ℕ) → Chain 29 s ps q → Noted layout start p found rows ps → (t : Node Ends) → kind t ≡ mapping ps → (n : Word Ends)
-    → r ≡ judged (object (layoutOf layout) start (record { name = n; value = t }))
+    → r ≡ measured (object (layoutOf layout) start (record { name = n; value = t }))
 
 abbrev pub ObjectIs : Layout → List ℕ → ℕ → Judged → Type 0
 ObjectIs L s start r = (t : Node Ends) (q : List ℕ) → Reads 30 s t q → (n : Word Ends) → r ≡ judged (object L start (record { name = n; value = t }))

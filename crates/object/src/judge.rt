@@ -1,5 +1,4 @@
 // The judgement of an object in pieces, from the places of its fields in s, what was found in its components, and their rows.
-use crate::Judged;
 use crate::place::Coded;
 use crate::place::format_at;
 use crate::place::shape_at;
@@ -10,10 +9,17 @@ use formats::Ruled;
 use shape::Shaped;
 use table::Place;
 ghost use mathlib.Core.Path.{_≡_};
-ghost use lib.ListN.{length};
+ghost use lib.ListN.{length, replicate, getD};
 ghost use Rattle.table.specs.Late.{LatePut};
+ghost use Rattle.object.specs.Place.{DimensionsAt};
 ghost use Rattle.object.specs.Verdict as is;
 ghost use Rattle.object.specs.Laying.{WaitedPut, ShapedPut, Once};
+
+// A refusal number and the component, or how many components and how many dimensions there are.
+pub enum Measured {
+    No(u64, usize),
+    Yes(usize, usize),
+}
 
 // Sound, or a refusal.
 pub enum Fine {
@@ -73,20 +79,20 @@ fn described(s: &[u8], a: usize, b: usize) -> Coded
 }
 
 // The format's rules over m components and the first `rank` of dims. Neither is ever above its limit here: what was refused before isn't judged by rules.
-fn ruled(code: u64, dims: &[u64], rank: usize, rows: &[u64], m: usize) -> Judged
+fn ruled(code: u64, dims: &[u64], rank: usize, rows: &[u64], m: usize) -> Measured
     requires { ⌜ length (now rows) ≡ 64 ⌝ }
     ensures { λ r. ⌜ is.RuledIs code (now (dims .entry)) rank (now (rows .entry)) m r ⌝ }
 {
     if dims.len() < rank {
-        return Judged::No(numbers::COUNT, 0);
+        return Measured::No(numbers::COUNT, 0);
     }
     if 16 < m {
-        return Judged::No(numbers::COUNT, 0);
+        return Measured::No(numbers::COUNT, 0);
     }
     let e = 4 * m;
     match formats::judge(code, &dims[0..rank], &rows[0..e]) {
-        Ruled::Wrong(n, c) => Judged::No(n, c),
-        Ruled::Right => Judged::Yes(m),
+        Ruled::Wrong(n, c) => Measured::No(n, c),
+        Ruled::Right => Measured::Yes(m, rank),
     }
 }
 
@@ -114,7 +120,7 @@ fn late(
     found
 }
 
-// The fields that stand at the places in p, where none that is needed is missing, in an object whose dtype has this code, 13 for none.
+// The fields that stand at the places in p, where none that is needed is missing, in an object whose dtype has this code, 13 for none. Its dimensions are put into dims.
 fn shaped(
     layout: u64,
     d: u64,
@@ -123,22 +129,22 @@ fn shaped(
     p: &[usize],
     found: Found,
     to: Place,
+    dims: &mut [u64],
     rows: &mut [u64],
     t: &mut [u64],
-) -> Judged
-    requires { ⌜ (length (now p) ≡ 8) × (length (now rows) ≡ 64) ⌝ }
-    ensures { λ r. ⌜ is.ShapedIs layout d (now (s .entry)) start (now (p .entry)) found (now (rows .entry)) r × Once r (ShapedPut layout d (now (s .entry)) start (now (p .entry)) to (now (t .entry)) (now (t .exit))) ⌝ }
+) -> Measured
+    requires { ⌜ (length (now p) ≡ 8) × (now dims ≡ replicate 8 0) × (length (now rows) ≡ 64) ⌝ }
+    ensures { λ r. ⌜ is.ShapedIs layout d (now (s .entry)) start (now (p .entry)) found (now (rows .entry)) r × Once r (ShapedPut layout d (now (s .entry)) start (now (p .entry)) to (now (t .entry)) (now (t .exit))) × Once r (DimensionsAt (now (s .entry)) (getD (now (p .entry)) 1 0) (now (dims .exit))) ⌝ }
 {
-    let mut dims = [0u64; 8];
-    match shape_at(&s[0..], p[1], &mut dims) {
-        Shaped::No(n) => Judged::No(n, 0),
+    match shape_at(&s[0..], p[1], dims) {
+        Shaped::No(n) => Measured::No(n, 0),
         Shaped::Yes(rank) => match described(&s[0..], p[2], p[3]) {
-            Coded::No(n) => Judged::No(n, 0),
+            Coded::No(n) => Measured::No(n, 0),
             Coded::Yes(code) => {
                 let f = late(layout, code, d, &s[0..], start, p[4], found, to, rows, t);
                 match f {
-                    Found::No(n, c) => Judged::No(n, c),
-                    Found::Yes(m) => ruled(code, &dims, rank, &rows[0..], m),
+                    Found::No(n, c) => Measured::No(n, c),
+                    Found::Yes(m) => ruled(code, &dims[0..], rank, &rows[0..], m),
                 }
             }
         },
@@ -153,15 +159,16 @@ fn sound(
     p: &[usize],
     found: Found,
     to: Place,
+    dims: &mut [u64],
     rows: &mut [u64],
     t: &mut [u64],
-) -> Judged
-    requires { ⌜ (length (now p) ≡ 8) × (length (now rows) ≡ 64) ⌝ }
-    ensures { λ r. ⌜ is.SoundIs layout (now (s .entry)) start (now (p .entry)) found (now (rows .entry)) r × Once r (LatePut layout (now (s .entry)) (now (p .entry)) start (to .end) (to .owner) (to .from) (now (t .entry)) (now (t .exit))) ⌝ }
+) -> Measured
+    requires { ⌜ (length (now p) ≡ 8) × (now dims ≡ replicate 8 0) × (length (now rows) ≡ 64) ⌝ }
+    ensures { λ r. ⌜ is.SoundIs layout (now (s .entry)) start (now (p .entry)) found (now (rows .entry)) r × Once r (LatePut layout (now (s .entry)) (now (p .entry)) start (to .end) (to .owner) (to .from) (now (t .entry)) (now (t .exit))) × Once r (DimensionsAt (now (s .entry)) (getD (now (p .entry)) 1 0) (now (dims .exit))) ⌝ }
 {
     match tensor_at(layout, &s[0..], p[0]) {
-        Coded::No(n) => Judged::No(n, 0),
-        Coded::Yes(d) => shaped(layout, d, &s[0..], start, &p[0..], found, to, rows, t),
+        Coded::No(n) => Measured::No(n, 0),
+        Coded::Yes(d) => shaped(layout, d, &s[0..], start, &p[0..], found, to, dims, rows, t),
     }
 }
 
@@ -173,14 +180,15 @@ pub fn verdict(
     p: &[usize],
     found: Found,
     to: Place,
+    dims: &mut [u64],
     rows: &mut [u64],
     t: &mut [u64],
-) -> Judged
-    requires { ⌜ (length (now p) ≡ 8) × (length (now rows) ≡ 64) ⌝ }
-    ensures { λ r. ⌜ is.VerdictIs layout (now (s .entry)) start (now (p .entry)) found (now (rows .entry)) r × Once r (LatePut layout (now (s .entry)) (now (p .entry)) start (to .end) (to .owner) (to .from) (now (t .entry)) (now (t .exit))) ⌝ }
+) -> Measured
+    requires { ⌜ (length (now p) ≡ 8) × (now dims ≡ replicate 8 0) × (length (now rows) ≡ 64) ⌝ }
+    ensures { λ r. ⌜ is.VerdictIs layout (now (s .entry)) start (now (p .entry)) found (now (rows .entry)) r × Once r (LatePut layout (now (s .entry)) (now (p .entry)) start (to .end) (to .owner) (to .from) (now (t .entry)) (now (t .exit))) × Once r (DimensionsAt (now (s .entry)) (getD (now (p .entry)) 1 0) (now (dims .exit))) ⌝ }
 {
     match known(layout, &p[0..]) {
-        Fine::No(n) => Judged::No(n, 0),
-        Fine::Yes => sound(layout, &s[0..], start, &p[0..], found, to, rows, t),
+        Fine::No(n) => Measured::No(n, 0),
+        Fine::Yes => sound(layout, &s[0..], start, &p[0..], found, to, dims, rows, t),
     }
 }

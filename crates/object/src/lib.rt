@@ -5,6 +5,7 @@ mod judge;
 pub mod pass;
 pub mod place;
 
+use judge::Measured;
 use judge::verdict;
 use pass::entries;
 use table::Place;
@@ -15,7 +16,7 @@ ghost use lib.ListN.{length};
 ghost use Rattle.cbor.specs.Ending.{code, itemEnd};
 ghost use Rattle.meaning.specs.Layouts.{layoutOf};
 ghost use Rattle.table.specs.Objects.{WholePut};
-ghost use Rattle.object.specs.Verdict.{ObjectIs};
+ghost use Rattle.object.specs.Verdict.{counted, ObjectIs};
 ghost use Rattle.object.specs.Laying.{OwnPut};
 
 // A refusal number and the component, or how many components there are.
@@ -30,15 +31,34 @@ pub struct Whole {
     pub verdict: Judged,
 }
 
-// Puts the row of an object that passes, whose key begins s; p holds the places of its fields in m.
-fn own(s: &[u8], m: &[u8], p: &[usize], v: Judged, to: Place, t: &mut [u64])
-    requires { ⌜ length (now p) ≡ 8 ⌝ }
-    ensures { λ r. ⌜ OwnPut (now (s .entry)) (now (m .entry)) (now (p .entry)) v to (now (t .entry)) (now (t .exit)) ⌝ }
+// Puts the row of an object that passes, whose key begins s; p holds the places of its fields in m, and dims its dimensions. The judge's answer is given back without the rank.
+fn own(
+    s: &[u8],
+    m: &[u8],
+    p: &[usize],
+    dims: &[u64],
+    v: Measured,
+    to: Place,
+    t: &mut [u64],
+) -> Judged
+    requires { ⌜ (length (now p) ≡ 8) × (length (now dims) ≡ 8) ⌝ }
+    ensures { λ r. ⌜ (r ≡ counted v) × OwnPut (now (s .entry)) (now (m .entry)) (now (p .entry)) (now (dims .entry)) v to (now (t .entry)) (now (t .exit)) ⌝ }
 {
     match v {
-        Judged::No(_, _) => {}
-        Judged::Yes(n) => {
-            put_object(&s[0..], &m[0..], &p[0..], n, to.end, to.row, t);
+        Measured::No(n, c) => Judged::No(n, c),
+        Measured::Yes(count, rank) => {
+            put_object(
+                &s[0..],
+                &m[0..],
+                &p[0..],
+                rank,
+                &dims[0..],
+                count,
+                to.end,
+                to.row,
+                t,
+            );
+            Judged::Yes(count)
         }
     }
 }
@@ -66,17 +86,18 @@ pub fn object(
         Opening::Opened(mode, count, size) => {
             let w = entries(layout, &c[size..], start, mode, count, to, &mut p, rows, t);
             let found = w.found;
-            let v = verdict(layout, &c[size..], start, &p, found, to, rows, t);
-            own(&s[0..], &c[size..], &p, v, to, t);
+            let mut dims = [0u64; 8];
+            let v = verdict(layout, &c[size..], start, &p, found, to, &mut dims, rows, t);
+            let told = own(&s[0..], &c[size..], &p, &dims, v, to, t);
             if c.len() - size < w.end {
                 return Whole {
                     end: w.end,
-                    verdict: v,
+                    verdict: told,
                 };
             }
             Whole {
                 end: size + w.end,
-                verdict: v,
+                verdict: told,
             }
         }
     }

@@ -3,7 +3,7 @@ use fields::place_of;
 use shape::Shaped;
 use walk::Letters;
 ghost use mathlib.Core.Path.{_≡_};
-ghost use lib.ListN.{length};
+ghost use lib.ListN.{replicate};
 ghost use Rattle.meaning.specs.Text.{utf8};
 ghost use Rattle.meaning.specs.Layouts.{layoutOf};
 ghost use Rattle.types.specs.Known.{position, formatNames};
@@ -15,9 +15,9 @@ pub enum Coded {
     Yes(u64),
 }
 
-// The shape, where `left` bytes are left: its dimensions are put into dims.
+// The shape, where `left` bytes are left: its dimensions are put into dims, over zeros.
 pub fn shape_at(s: &[u8], left: usize, dims: &mut [u64]) -> Shaped
-    requires { ⌜ length (now dims) ≡ 8 ⌝ }
+    requires { ⌜ now dims ≡ replicate 8 0 ⌝ }
     ensures { λ r. ⌜ is.ShapeAt (now (s .entry)) left (now (dims .exit)) r ⌝ }
 {
     let at = place_of(s.len(), left);

@@ -21,7 +21,7 @@ use Rattle.meaning.specs.Judge.{inherited, aDtype, object, shapeOf, attributesO
 use Rattle.meaning.proofs.Checks.{pass-same, required-some, passed-on, passed}
 use Rattle.meaning.proofs.KindIs.{attributes-stay}
 use Rattle.walk.specs.Reading.{Ends, Chain, foldl}
-use Rattle.fields.specs.Slots.{marks, Holds}
+use Rattle.fields.specs.Slots.{marks, Stands, Holds}
 use Rattle.fields.proofs.Stands.{field-stands}
 use Rattle.table.specs.WordAt.{lettered}
 use Rattle.table.proofs.Lettered.{word-note, text-word}
@@ -161,16 +161,15 @@ module _ (L : Layout) (m : List ℕ) (ps : List (Pair Ends)) (q : List ℕ) (cha
     format-held : Holds 29 m (getD p 2 0) (some (f .format))
     format-held = subst (Holds 29 m (getD p 2 0)) (f .format-got) (at-place 2 (omega arith))
 
+    pub shape-stands : Stands 29 m (getD p 1 0) (f .shape)
+    shape-stands = subst (Holds 29 m (getD p 1 0)) (f .shape-got) (at-place 1 (omega arith)) .1
+
     pub described : Described m p o
     described =
-        let a : Holds 29 m (getD p 1 0) (some (f .shape)) = subst (Holds 29 m (getD p 1 0)) (f .shape-got) (at-place 1 (omega arith)) in
         let word : kinds.aWord (f .format) ≡ pass (o .format) = text-word (f .format) (o .format) (f .format-is) in
         let n : noteOf (f .format) ≡ o .format .note = sym (word-note (f .format) (o .format) word) in
         let l : getD p 2 0 ≡ length (o .format .note .start) = format-held .1 .left-is ∙ ap (λ (e : Ends). length (e .start)) n in
         record {
-          shape = f .shape;
-          shape-stands = a .1;
-          shape-is = f .shape-is;
           format-at = lettered (o .format) refl 28 (f .format) (subst (λ (i : ℕ). Holds 29 m i (some (f .format))) l format-held) word;
           format-left = sym l;
           attributes-held = subst (Holds 29 m (getD p 3 0)) (f .attributes-got) (at-place 3 (omega arith));

@@ -11,22 +11,16 @@ use Rattle.meaning.specs.Read.{Span}
 use Rattle.meaning.specs.Model.{Object}
 use Rattle.meaning.specs.Notes.{mapObject}
 use Rattle.meaning.specs.Kind.{aWord}
-use Rattle.meaning.specs.Judge.{shapeOf}
 use Rattle.meaning.specs.Rows.{objectRow, dimensions}
 use Rattle.walk.specs.Reading.{Ends, Reads}
 use Rattle.component.specs.Value.{leftWord}
 use Rattle.table.specs.WordAt.{WordAt}
-use Rattle.fields.specs.Slots.{Stands, Holds}
+use Rattle.fields.specs.Slots.{Holds}
 use Rattle.table.specs.Spans.{spanOf}
 
--- ---------------------------------------------------------------- dimensions
-
+-- the eight numbers of d
 abbrev pub eight : List ℕ → List ℕ
 eight d = getD d 0 0 ∷ getD d 1 0 ∷ getD d 2 0 ∷ getD d 3 0 ∷ getD d 4 0 ∷ getD d 5 0 ∷ getD d 6 0 ∷ getD d 7 0 ∷ []
-
--- of the shape that stands in m
-pub record DimensionsAt (m : List ℕ) (left : ℕ) (d : List ℕ) (rank : ℕ) : Type 0 where
-  pub are : (t : Node Ends) → Stands 29 m left t → (s : List ℕ) → shapeOf t ≡ pass s → (rank ≡ length s) × (eight d ≡ dimensions s)
 
 -- ---------------------------------------------------------------- the row
 
@@ -38,17 +32,14 @@ sixteen name rank d format attributes count = name .place ∷ name .size ∷ ran
 abbrev pub objectIn : ℕ → Object Ends → List ℕ
 objectIn end o = objectRow (mapObject (spanOf end) o)
 
--- where the fields of an object stand in m: the slots p
+-- where an object's format and attributes stand in m: the slots p
 pub record Described (m p : List ℕ) (o : Object Ends) : Type 0 where
-  pub shape : Node Ends
-  pub shape-stands : Stands 29 m (getD p 1 0) shape
-  pub shape-is : shapeOf shape ≡ pass (o .shape)
   pub format-at : WordAt m (some (o .format))
   pub format-left : leftWord (some (o .format)) ≡ getD p 2 0
   pub attributes-held : Holds 29 m (getD p 3 0) (o .attributes)
 
--- the row of every object whose key begins s and whose fields stand there
-abbrev pub ObjectPut : List ℕ → List ℕ → List ℕ → ℕ → ℕ → ℕ → List ℕ → List ℕ → Type 0
-ObjectPut s m p count end i before after =
-    (d : ℕ) (t : Node Ends) (q : List ℕ) → Reads (suc d) s t q → (o : Object Ends) → aWord t ≡ pass (o .name) → Described m p o → count ≡ length (o .components)
-    → after ≡ sets before i (objectIn end o)
+-- the row of every object whose key begins s, whose format and attributes stand there, and whose dimensions are the first `rank` of d
+abbrev pub ObjectPut : List ℕ → List ℕ → List ℕ → ℕ → List ℕ → ℕ → ℕ → ℕ → List ℕ → List ℕ → Type 0
+ObjectPut s m p rank d count end i before after =
+    (l : ℕ) (t : Node Ends) (q : List ℕ) → Reads (suc l) s t q → (o : Object Ends) → aWord t ≡ pass (o .name) → Described m p o → rank ≡ length (o .shape) → eight d ≡ dimensions (o .shape)
+    → count ≡ length (o .components) → after ≡ sets before i (objectIn end o)

@@ -5,10 +5,8 @@ use crate::span::Span;
 use crate::span::item_at;
 use crate::span::text_span;
 use crate::span::text_span_at;
-use fields::place_of;
-use shape::Shaped;
 ghost use mathlib.Core.Path.{_≡_};
-ghost use lib.ListN.{length, replicate};
+ghost use lib.ListN.{length};
 ghost use lib.Seq.{sets};
 ghost use Rattle.table.specs.Spans.{spanned};
 ghost use Rattle.table.specs.Object as is;
@@ -17,18 +15,6 @@ ghost use Rattle.table.specs.Object as is;
 const THIRD: usize = columns::SHAPE + 2;
 
 const EIGHTH: usize = columns::SHAPE + 7;
-
-// The shape, where `left` bytes are left: its dimensions are put over zeros, and their number is answered.
-fn dimensions_at(m: &[u8], left: usize, d: &mut [u64]) -> usize
-    requires { ⌜ now d ≡ replicate 8 0 ⌝ }
-    ensures { λ r. ⌜ is.DimensionsAt (now (m .entry)) left (now (d .exit)) r ⌝ }
-{
-    let at = place_of(m.len(), left);
-    match shape::shape(&m[at..], numbers::IN_SHAPE, d) {
-        Shaped::No(_) => 0,
-        Shaped::Yes(rank) => rank,
-    }
-}
 
 // Puts sixteen numbers.
 fn put_sixteen(
@@ -60,24 +46,24 @@ fn put_sixteen(
     }
 }
 
-// Puts the row of an object with `count` components, whose key begins s; p holds the places of its fields.
+// Puts the row of an object with `count` components, whose key begins s; p holds the places of its fields, and d its dimensions, `rank` of them, zeros after them.
 pub fn put_object(
     s: &[u8],
     m: &[u8],
     p: &[usize],
+    rank: usize,
+    d: &[u64],
     count: usize,
     end: usize,
     i: usize,
     t: &mut [u64],
 )
-    requires { ⌜ length (now p) ≡ 8 ⌝ }
-    ensures { λ r. ⌜ is.ObjectPut (now (s .entry)) (now (m .entry)) (now (p .entry)) count end i (now (t .entry)) (now (t .exit)) ⌝ }
+    requires { ⌜ (length (now p) ≡ 8) × (length (now d) ≡ 8) ⌝ }
+    ensures { λ r. ⌜ is.ObjectPut (now (s .entry)) (now (m .entry)) (now (p .entry)) rank (now (d .entry)) count end i (now (t .entry)) (now (t .exit)) ⌝ }
 {
     if t.len() <= i {
         return;
     }
-    let mut d = [0u64; 8];
-    let rank = dimensions_at(&m[0..], p[1], &mut d);
     let name = text_span(&s[0..], end);
     let format = text_span_at(&m[0..], p[2], end);
     let attributes = item_at(&m[0..], p[3], numbers::IN_OBJECT, end);
@@ -86,7 +72,7 @@ pub fn put_object(
         i,
         name,
         rank as u64,
-        &d,
+        &d[0..],
         format,
         attributes,
         count as u64,

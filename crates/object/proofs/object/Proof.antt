@@ -4,7 +4,7 @@ use Rattle.object.proofs.Walks as walks
 use Rattle.meaning.proofs.Lengths.{place-fits}
 use Rattle.walk.proofs.Opens as opens
 use native.Mathlib.Omega.{arith}
-use mathlib.Core.Path.{_∙_}
+use mathlib.Core.Path.{refl, _∙_}
 use borrow.Author.Needs.{needs}
 use Rattle.object.proofs.object.Statement.{statement}
 use Rattle.object.proofs.object.Tie as tie
@@ -32,7 +32,8 @@ object-spec =
     (λ c. search opens.size-inside)
     (λ c. search needs)
     (λ c. search needs)
-    (λ c κs. search needs)
+    (λ c. search needs)
+    (λ c κs. (search needs, refl, search needs))
     (λ c. search needs)
     (λ c. search needs)
     (λ c. search needs)
@@ -40,20 +41,21 @@ object-spec =
     (λ c. search opens.size-inside)
     (λ c. search needs)
     (λ c. search needs)
+    (λ c. search needs)
     (λ c κs. search needs)
-    (λ c. let head = c .before .before .before .before .before .before .before .before .before .before .before .before .before .before .before .before .before .before .before .before .before .before .before .before .before .before .before in let asked = head .before .before in opens.size-inside (asked .before .before .before .before .before .before .args .c .now) _ (asked .map .ensures) _ _ _ (head .mode .given .1))
-    (λ c. let told = c .before .before .before .before .before .before .before .before .before .before .before .before .before in let run = told .before .before .before .before .before .before .before .before .before .before in told .verdict .kept .1 .1 .1 .1 .1 .1 .0 ∙ run .entries .kept .1 .1 .1 .1 .1 .1 .1 .0)
-    (λ c. let own = c .before .before .before .before in let told = own .before .before .before .before .before .before .before .before .before in let run = told .before .before .before .before .before .before .before .before .before .before in
-    own .own .kept .1 .1 .1 .1 .1 .0 ∙ told .verdict .kept .1 .1 .1 .1 .1 .1 .1 .0 ∙ run .entries .kept .1 .1 .1 .1 .1 .1 .1 .1 .0)
-    (λ c. let own = c .before .before .before .before in let told = own .before .before .before .before .before .before .before .before .before in let run = told .before .before .before .before .before .before .before .before .before .before in let head = run .before .before .before .before .before .before in let asked = head .before .before in let all = asked .before .before .before .before .before .before in let a = all .args in
+    (λ c. let head = c .before .before .before .before .before .before .before .before .before .before .before .before .before .before .before .before .before .before .before .before .before .before .before .before .before .before .before .before .before .before in let asked = head .before .before in opens.size-inside (asked .before .before .before .before .before .before .args .c .now) _ (asked .map .ensures) _ _ _ (head .mode .given .1))
+    (λ c. let told = c .before .before .before .before .before .before .before .before .before .before .before .before .before .before .before in let run = told .before .before .before .before .before .before .before .before .before .before .before in told .verdict .kept .1 .1 .1 .1 .1 .1 .1 .0 ∙ run .entries .kept .1 .1 .1 .1 .1 .1 .1 .0)
+    (λ c. let own = c .before .before .before .before in let told = own .before .before .before .before .before .before .before .before .before .before .before in let run = told .before .before .before .before .before .before .before .before .before .before .before in
+    own .own .kept .1 .1 .1 .1 .1 .1 .0 ∙ told .verdict .kept .1 .1 .1 .1 .1 .1 .1 .1 .0 ∙ run .entries .kept .1 .1 .1 .1 .1 .1 .1 .1 .0)
+    (λ c. let own = c .before .before .before .before in let told = own .before .before .before .before .before .before .before .before .before .before .before in let run = told .before .before .before .before .before .before .before .before .before .before .before in let head = run .before .before .before .before .before .before in let asked = head .before .before in let all = asked .before .before .before .before .before .before in let a = all .args in
     whole.whole-faulty (a .layout) (a .s .now) (a .c .now) (a .start) (a .to) (a .t .now) (omega (arith, all .good)) _ (asked .map .ensures) _ _ _ (head .mode .given .1) _ _ _ _ _ (run .entries .ensures)
-    (told .verdict .result) _ (told .verdict .ensures) _ (own .own .ensures) (c .if1 .taken))
-    (λ c. let head = c .before .before .before .before .before .before .before .before .before .before .before .before .before .before .before .before .before .before .before .before .before .before .before .before .before .before .before .before .before .before in let asked = head .before .before in let all = asked .before .before .before .before .before .before in
+    (told .verdict .result) _ _ (told .verdict .ensures) (own .own .result) _ (own .own .ensures) (c .if1 .taken))
+    (λ c. let head = c .before .before .before .before .before .before .before .before .before .before .before .before .before .before .before .before .before .before .before .before .before .before .before .before .before .before .before .before .before .before .before .before .before in let asked = head .before .before in let all = asked .before .before .before .before .before .before in
     place-fits _ (all .args .c .now) (omega (arith, all .good)) (opens.entries-inside (all .args .c .now) _ (asked .map .ensures) _ _ _ (head .mode .given .1) _ (c .before .if1 .left)))
     (λ c. search (opens.whole-ends, walks.no-map, whole.no-map))
-    (λ c. let told = c .before .before .before .before .before .before .before .before .before .before .before .before .before .before in let run = told .before .before .before .before .before .before .before .before .before .before in told .verdict .kept .1 .1 .1 .1 .1 .1 .0 ∙ run .entries .kept .1 .1 .1 .1 .1 .1 .1 .0)
-    (λ c. let own = c .before .before .before .before .before in let told = own .before .before .before .before .before .before .before .before .before in let run = told .before .before .before .before .before .before .before .before .before .before in
-    own .own .kept .1 .1 .1 .1 .1 .0 ∙ told .verdict .kept .1 .1 .1 .1 .1 .1 .1 .0 ∙ run .entries .kept .1 .1 .1 .1 .1 .1 .1 .1 .0)
-    (λ c. let own = c .before .before .before .before .before in let told = own .before .before .before .before .before .before .before .before .before in let run = told .before .before .before .before .before .before .before .before .before .before in let head = run .before .before .before .before .before .before in let asked = head .before .before in let all = asked .before .before .before .before .before .before in let a = all .args in
+    (λ c. let told = c .before .before .before .before .before .before .before .before .before .before .before .before .before .before .before .before in let run = told .before .before .before .before .before .before .before .before .before .before .before in told .verdict .kept .1 .1 .1 .1 .1 .1 .1 .0 ∙ run .entries .kept .1 .1 .1 .1 .1 .1 .1 .0)
+    (λ c. let own = c .before .before .before .before .before in let told = own .before .before .before .before .before .before .before .before .before .before .before in let run = told .before .before .before .before .before .before .before .before .before .before .before in
+    own .own .kept .1 .1 .1 .1 .1 .1 .0 ∙ told .verdict .kept .1 .1 .1 .1 .1 .1 .1 .1 .0 ∙ run .entries .kept .1 .1 .1 .1 .1 .1 .1 .1 .0)
+    (λ c. let own = c .before .before .before .before .before in let told = own .before .before .before .before .before .before .before .before .before .before .before in let run = told .before .before .before .before .before .before .before .before .before .before .before in let head = run .before .before .before .before .before .before in let asked = head .before .before in let all = asked .before .before .before .before .before .before in let a = all .args in
     whole.whole-inside (a .layout) (a .s .now) (a .c .now) (a .start) (a .to) (a .t .now) (omega (arith, all .good)) _ (asked .map .ensures) _ _ _ (head .mode .given .1) _ _ _ _ _ (run .entries .ensures)
-    (told .verdict .result) _ (told .verdict .ensures) _ (own .own .ensures) (c .before .if1 .left)))
+    (told .verdict .result) _ _ (told .verdict .ensures) (own .own .result) _ (own .own .ensures) (c .before .if1 .left)))

@@ -1,6 +1,7 @@
 -- `object::judge::sound` meets its contract: a law for each branch.
 use Rattle.object.proofs.Sound as sound
 use Rattle.object.proofs.LateRows as rows
+use Rattle.object.proofs.Dimensions as dims
 use borrow.Author.Needs.{needs}
 use Rattle.object.proofs.judge.sound.Statement.{statement}
 use Rattle.object.proofs.judge.sound.Tie as tie
@@ -26,4 +27,5 @@ sound-spec =
     (λ c. search (sound.no-tensor, rows.refused-put))
     (λ c. search needs)
     (λ c. search needs)
-    (λ c. search (sound.as-shaped, rows.sound-put)))
+    (λ c. search needs)
+    (λ c. search (sound.as-shaped, rows.sound-put, dims.dimensions-whole)))

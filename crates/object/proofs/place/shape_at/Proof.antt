@@ -1,5 +1,5 @@
 -- `object::place::shape_at` meets its contract: a law for each branch.
-use Rattle.object.proofs.Places as places
+use Rattle.object.proofs.Dimensions as dims
 use borrow.Author.Needs.{needs}
 use Rattle.object.proofs.place.shape_at.Statement.{statement}
 use Rattle.object.proofs.place.shape_at.Tie as tie
@@ -14,4 +14,4 @@ shape-at-spec =
     (λ c. search needs)
     (λ c κs. search needs)
     (λ c. search needs)
-    (λ c. search places.shape-there))
+    (λ c. search dims.shape-there))
