@@ -2,7 +2,7 @@
 mod front;
 
 ghost use mathlib.Core.Path.{_≡_};
-ghost use Prim.Native.Nat.{_+_, _*_, _<_, _≤_, _^_};
+ghost use Prim.Native.Nat.{_+_, _-_, _*_, _<_, _≤_, _^_};
 ghost use mathlib.Core.List.{map};
 ghost use Rattle.meaning.specs.Read.{joined};
 ghost use lib.ListN.{replicate};
@@ -95,11 +95,12 @@ pub fn list_at(out: &mut [u8], at: usize, ns: &[u64]) -> usize
     numbers_at(out, past, ns)
 }
 
-pub fn zeros_at(out: &mut [u8], at: usize, n: usize) -> usize
-    requires { ⌜ Room (replicate n 0) at (now out) ⌝ }
-    ensures { λ r. ⌜ Laid (replicate n 0) at (now (out .entry)) (now (out .exit)) r ⌝ }
+// A gap: zeros from `past`, where what is laid ends, up to `start`.
+pub fn gap_at(out: &mut [u8], past: usize, start: usize) -> usize
+    requires { ⌜ (past ≤ start) × Room (replicate (start - past) 0) past (now out) ⌝ }
+    ensures { λ r. ⌜ Laid (replicate (start - past) 0) past (now (out .entry)) (now (out .exit)) r ⌝ }
 {
-    at + front::zeros(&mut out[at..], n)
+    past + front::zeros(&mut out[past..], start - past)
 }
 
 // The manifest's size in the file's frame.

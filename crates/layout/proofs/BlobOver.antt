@@ -81,15 +81,15 @@ module _ (xs b : List ℕ) (past start : ℕ) (front : past ≤ length xs) where
 -- ---- a range of the buffer as a blob, where there is room for it
 
 module _ {xs buffer : List ℕ} {past start place size : ℕ} (room : BlobRoom xs past start size) (w : Within buffer place size) where
-  pub room-for-zeros : past < start → Room (replicate (start - past) 0) past xs
-  room-for-zeros h = record { fits = omega (arith, room .blob, length-replicate {A = ℕ} (start - past) 0, h) }
+  pub room-for-gap : past < start → Room (replicate (start - past) 0) past xs
+  room-for-gap h = record { fits = omega (arith, room .blob, length-replicate {A = ℕ} (start - past) 0, h) }
 
   module _ (h : past < start) {ys : List ℕ} {from : ℕ} (v : Laid (replicate (start - past) 0) past xs ys from) where
-    pub room-after-zeros : Room (range buffer place size) from ys
-    room-after-zeros = record { fits = omega (arith, room .blob, within-length w, same-length v, v .past, length-replicate {A = ℕ} (start - past) 0, h) }
+    pub room-after-gap : Room (range buffer place size) from ys
+    room-after-gap = record { fits = omega (arith, room .blob, within-length w, same-length v, v .past, length-replicate {A = ℕ} (start - past) 0, h) }
 
-    pub laid-after-zeros : {zs : List ℕ} {r : ℕ} → Laid (range buffer place size) from ys zs r → Laid (over (take past xs) start (range buffer place size)) 0 xs zs r
-    laid-after-zeros b = blob-beyond xs (range buffer place size) past start (room .front) (omega (arith, h)) v b
+    pub laid-after-gap : {zs : List ℕ} {r : ℕ} → Laid (range buffer place size) from ys zs r → Laid (over (take past xs) start (range buffer place size)) 0 xs zs r
+    laid-after-gap b = blob-beyond xs (range buffer place size) past start (room .front) (omega (arith, h)) v b
 
   pub room-inside : Room (range buffer place size) start xs
   room-inside = record { fits = omega (arith, room .blob, within-length w) }

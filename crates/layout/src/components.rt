@@ -14,8 +14,8 @@ use columns::NAME_LENGTH;
 use columns::OFFSET;
 use columns::TYPE;
 use columns::TYPE_LENGTH;
+use emit::gap_at;
 use emit::head_at;
-use emit::zeros_at;
 use sizes::placing::offset_at;
 use sizes::placing::stepped;
 ghost use mathlib.Core.Path.{_≡_};
@@ -48,7 +48,7 @@ fn blob_at(out: &mut [u8], past: usize, start: usize, buffer: &[u8], place: u64,
     ensures { λ r. ⌜ Laid (over (take past (now (out .entry))) start (is.range (now (buffer .entry)) place size)) 0 (now (out .entry)) (now (out .exit)) r ⌝ }
 {
     if past < start {
-        let from = zeros_at(out, past, start - past);
+        let from = gap_at(out, past, start);
         return range_at(out, from, buffer, place, size);
     }
     let end = range_at(out, start, buffer, place, size);

@@ -1,4 +1,4 @@
--- `layout::components::blob_at` meets its contract: after zeros or into the front.
+-- `layout::components::blob_at` meets its contract: after a gap or into the front.
 use Rattle.emit.proofs.LaidPieces as laying
 use Rattle.layout.proofs.BlobOver as law
 use borrow.Author.Needs.{needs}
@@ -9,11 +9,10 @@ pub blob-at-spec : {M : Type 1} → statement M
 blob-at-spec =
     tie.close
     (tie.spec
+    (λ c κs. search (needs, law.room-for-gap))
+    (λ c κs. search law.room-after-gap)
     (λ c. search needs)
-    (λ c κs. search law.room-for-zeros)
-    (λ c κs. search law.room-after-zeros)
-    (λ c. search needs)
-    (λ c. search law.laid-after-zeros)
+    (λ c. search law.laid-after-gap)
     (λ c κs. search law.room-inside)
     (λ c κs. search needs)
     (λ c. search laying.same-length)
