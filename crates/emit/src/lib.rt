@@ -3,7 +3,7 @@ mod front;
 
 ghost use mathlib.Core.Path.{_≡_};
 ghost use Prim.Native.Nat.{_+_, _-_, _*_, _<_, _≤_, _^_};
-ghost use mathlib.Core.List.{map};
+ghost use mathlib.Core.List.{_++_, map};
 ghost use Rattle.meaning.specs.Read.{joined};
 ghost use lib.ListN.{replicate};
 ghost use Rattle.meaning.specs.Layouts.{magic};
@@ -104,7 +104,7 @@ pub fn gap_at(out: &mut [u8], past: usize, start: usize) -> usize
 }
 
 // The manifest's size in the file's frame.
-pub fn size_at(out: &mut [u8], at: usize, n: u64) -> usize
+fn size_at(out: &mut [u8], at: usize, n: u64) -> usize
     requires { ⌜ Room (littleBytes 8 n) at (now out) ⌝ }
     ensures { λ r. ⌜ Laid (littleBytes 8 n) at (now (out .entry)) (now (out .exit)) r ⌝ }
 {
@@ -116,4 +116,13 @@ pub fn magic_at(out: &mut [u8], at: usize) -> usize
     ensures { λ r. ⌜ Laid magic at (now (out .entry)) (now (out .exit)) r ⌝ }
 {
     bytes_at(out, at, b"ZTEN1000")
+}
+
+// Behind a manifest of n bytes: its size, then the footer.
+pub fn size_and_footer_at(out: &mut [u8], at: usize, n: u64) -> usize
+    requires { ⌜ Room (littleBytes 8 n ++ magic) at (now out) ⌝ }
+    ensures { λ r. ⌜ Laid (littleBytes 8 n ++ magic) at (now (out .entry)) (now (out .exit)) r ⌝ }
+{
+    let past = size_at(out, at, n);
+    magic_at(out, past)
 }

@@ -1,93 +1,55 @@
 -- Header, both files' blobs, manifest, size and footer, one after the other. Assumes nothing.
 use Prim.Native.Nat.{ℕ, _+_, _*_, _≤_}
-use native.Mathlib.Nat.{zero-add}
 use mathlib.Core.List.{List, [], _++_}
-use mathlib.Core.Path.{_≡_, sym, ap, _∙_}
 use lib.ListN.{length, take}
 use native.Mathlib.Omega.{arith}
 use Rattle.meaning.specs.Columns.{objectWidth}
 use Rattle.meaning.specs.Layouts.{magic}
 use Rattle.meaning.specs.WrittenFile.{littleBytes}
 use Rattle.emit.specs.Laid.{Room, Laid}
-use Rattle.emit.proofs.LaidPieces.{part, back, as-bytes, room-as, room-first, room-next, then, lent, same-length, front-of, relaid}
+use Rattle.emit.proofs.LaidPieces.{part, back, room-first, room-next, room-lent, then}
 use Rattle.layout.specs.Pieces.{blobsOf, objectsOf, rootFront}
 use Rattle.layout.specs.Rows.{FrontRoom}
 use Rattle.layout.proofs.RowLoop.{blobs-grow}
+use Rattle.layout.proofs.Frames.{closedBy, room-over, over-laid, room-manifest, room-behind-manifest, closed-laid}
 use Rattle.joint.specs.Joint.{frontOf, manifestOf, wholeOf}
 
-module _ (attributes first rows second others : List ℕ) (place size n c k d turn : ℕ) {xs : List ℕ} (room : Room (wholeOf attributes place size first rows n c second others k d turn) 0 xs) where
-  abbrev front : List ℕ → List ℕ
-  front file = blobsOf first [] rows file c (objectWidth * n) 8
+-- ---- the front: the first's blobs over the header, and the second's over those
 
-  abbrev over : List ℕ → List ℕ
-  over file = blobsOf second [] others file d (objectWidth * k) turn
+module _ (first rows second others : List ℕ) (n c k d turn : ℕ) {xs : List ℕ} (room : Room (frontOf first rows n c second others k d turn) 0 xs) where
+  abbrev firsts : List ℕ → List ℕ
+  firsts file = blobsOf first [] rows file c (objectWidth * n) 8
 
-  abbrev manifest : List ℕ
-  manifest = manifestOf attributes place size first rows n second others k turn
+  abbrev seconds : List ℕ → List ℕ
+  seconds file = blobsOf second [] others file d (objectWidth * k) turn
 
-  in-order : Room (over (front magic) ++ (manifest ++ (littleBytes 8 (length manifest) ++ magic))) 0 xs
-  unfolding wholeOf frontOf
-  in-order = room
+  fits : length (seconds (firsts magic)) ≤ length xs
+  unfolding frontOf
+  fits = omega (arith, room .fits)
 
-  grows : length magic ≤ length (front magic)
+  grows : length magic ≤ length (firsts magic)
   grows = blobs-grow first [] rows magic c (objectWidth * n) 8
 
-  grows-on : length (front magic) ≤ length (over (front magic))
-  grows-on = blobs-grow second [] others (front magic) d (objectWidth * k) turn
+  grows-on : length (firsts magic) ≤ length (seconds (firsts magic))
+  grows-on = blobs-grow second [] others (firsts magic) d (objectWidth * k) turn
 
   pub room-magic : Room magic 0 xs
-  room-magic = record { fits = omega (arith, room-first {us = over (front magic)} _ in-order .fits, grows, grows-on) }
+  room-magic = record { fits = omega (arith, fits, grows, grows-on) }
 
   module _ {ys : List ℕ} {start : ℕ} (m : Laid magic 0 xs ys start) where
-    over-magic : front (take start ys) ≡ front magic
-    over-magic = ap front (front-of m)
+    pub room-firsts : FrontRoom (firsts (take start ys)) start ys
+    room-firsts = room-over firsts m (omega (arith, fits, grows-on))
 
-    pub room-blobs : FrontRoom (front (take start ys)) start ys
-    room-blobs = record {
-      front = omega (arith, m .past, m .fits, same-length m);
-      fits = rw over-magic (omega (arith, room-first {us = over (front magic)} _ in-order .fits, grows-on, same-length m));
-    }
+    module _ {zs : List ℕ} {mid : ℕ} (g : Laid (firsts (take start ys)) 0 ys zs mid) where
+      firsts-laid : Laid (firsts magic) 0 xs zs mid
+      firsts-laid = over-laid firsts m grows g
 
-    module _ {zs : List ℕ} {mid : ℕ} (g : Laid (front (take start ys)) 0 ys zs mid) where
-      firsts : Laid (front magic) 0 xs zs mid
-      firsts = relaid m (as-bytes over-magic g) grows
+      pub room-seconds : FrontRoom (seconds (take mid zs)) mid zs
+      room-seconds = room-over seconds firsts-laid fits
 
-      over-firsts : over (take mid zs) ≡ over (front magic)
-      over-firsts = ap over (front-of firsts)
-
-      pub room-more : FrontRoom (over (take mid zs)) mid zs
-      room-more = record {
-        front = omega (arith, firsts .past, firsts .fits, same-length firsts);
-        fits = rw over-firsts (omega (arith, room-first {us = over (front magic)} _ in-order .fits, same-length firsts));
-      }
-
-      module _ {ws : List ℕ} {end : ℕ} (f : Laid (over (take mid zs)) 0 zs ws end) where
-        b : Laid (over (front magic)) 0 xs ws end
-        b = relaid firsts (as-bytes over-firsts f) grows-on
-
-        pub room-manifest : Room manifest end ws
-        room-manifest = room-first _ (room-next b in-order)
-
-        module _ {us : List ℕ} {l : ℕ} (h : Laid manifest 0 (part end ws) us l) where
-          manifest-laid : Laid manifest end ws (back end ws us) (end + l)
-          manifest-laid = lent room-manifest h
-
-          size-is : littleBytes 8 (length manifest) ≡ littleBytes 8 l
-          size-is = ap (littleBytes 8) (sym (h .past ∙ zero-add (length manifest)))
-
-          after-manifest : Room (littleBytes 8 (length manifest) ++ magic) (end + l) (back end ws us)
-          after-manifest = room-next manifest-laid (room-next b in-order)
-
-          pub room-size : Room (littleBytes 8 l) (end + l) (back end ws us)
-          room-size = room-as size-is (room-first _ after-manifest)
-
-          module _ {vs : List ℕ} {past : ℕ} (s : Laid (littleBytes 8 l) (end + l) (back end ws us) vs past) where
-            pub room-footer : Room magic past vs
-            room-footer = room-next (as-bytes (sym size-is) s) after-manifest
-
-            pub whole-laid : {ts : List ℕ} {r : ℕ} → Laid magic past vs ts r → Laid (wholeOf attributes place size first rows n c second others k d turn) 0 xs ts r
-            unfolding wholeOf frontOf
-            whole-laid w = then b (then manifest-laid (then (as-bytes (sym size-is) s) w))
+      pub front-laid : {ws : List ℕ} {end : ℕ} → Laid (seconds (take mid zs)) 0 zs ws end → Laid (frontOf first rows n c second others k d turn) 0 xs ws end
+      unfolding frontOf
+      front-laid f = over-laid seconds firsts-laid grows-on f
 
 -- ---- the manifest's three pieces
 
@@ -110,3 +72,31 @@ module _ (attributes first rows second others : List ℕ) (place size n k turn :
       pub manifest-is : {us : List ℕ} {l : ℕ} → Laid (objectsOf second [] others k 0 (objectWidth * k) turn) b zs us l → Laid (manifestOf attributes place size first rows n second others k turn) 0 xs us l
       unfolding manifestOf
       manifest-is p = then r (then o p)
+
+-- ---- all of it: layout's laws of a front and a manifest
+
+module _ (attributes first rows second others : List ℕ) (place size n c k d turn : ℕ) {xs : List ℕ} (room : Room (wholeOf attributes place size first rows n c second others k d turn) 0 xs) where
+  abbrev front : List ℕ
+  front = frontOf first rows n c second others k d turn
+
+  abbrev manifest : List ℕ
+  manifest = manifestOf attributes place size first rows n second others k turn
+
+  in-order : Room (closedBy front manifest) 0 xs
+  unfolding wholeOf
+  in-order = room
+
+  pub room-front : Room front 0 xs
+  room-front = room-first _ in-order
+
+  module _ {ys : List ℕ} {end : ℕ} (b : Laid front 0 xs ys end) where
+    pub whole-room-manifest : Room manifest 0 (part end ys)
+    whole-room-manifest = room-lent (room-manifest front manifest in-order b)
+
+    module _ {zs : List ℕ} {l : ℕ} (m : Laid manifest 0 (part end ys) zs l) where
+      pub whole-room-behind : Room (littleBytes 8 l ++ magic) (end + l) (back end ys zs)
+      whole-room-behind = room-behind-manifest front manifest in-order b m
+
+      pub whole-laid : {us : List ℕ} {r : ℕ} → Laid (littleBytes 8 l ++ magic) (end + l) (back end ys zs) us r → Laid (wholeOf attributes place size first rows n c second others k d turn) 0 xs us r
+      unfolding wholeOf
+      whole-laid w = closed-laid front manifest in-order b m w

@@ -1,6 +1,6 @@
 // Two files in one, laid by the writer's loops: header, the first's blobs and then the second's, one manifest for both, size, footer.
 use emit::magic_at;
-use emit::size_at;
+use emit::size_and_footer_at;
 use layout::components::blobs_at;
 use layout::framing::root;
 use layout::objects::objects_at;
@@ -12,7 +12,33 @@ ghost use Rattle.layout.specs.Rows.{Within, ObjectRows};
 ghost use Rattle.joint.specs.Joint.{Rows};
 ghost use Rattle.joint.specs.Joint as is;
 
-// The manifest over the front of a lent part; its length. The root's attributes stand in `attributes`; the second's objects where the turn `turn` is reached.
+// Header, the first's blobs and then the second's, of c and d components; where they end. The second's stand where the turn `turn` is reached.
+fn front(
+    out: &mut [u8],
+    first: &[u8],
+    rows: &[u64],
+    n: u64,
+    c: u64,
+    second: &[u8],
+    others: &[u64],
+    k: u64,
+    d: u64,
+    turn: u64,
+) -> usize
+    requires { ⌜ (n ≤ 1024) × (k ≤ 1024) ⌝ }
+    requires { ⌜ Rows (now first) (now rows) n c 8 ⌝ }
+    requires { ⌜ Rows (now second) (now others) k d turn ⌝ }
+    requires { ⌜ Room (is.frontOf (now first) (now rows) n c (now second) (now others) k d turn) 0 (now out) ⌝ }
+    ensures { λ r. ⌜ Laid (is.frontOf (now (first .entry)) (now (rows .entry)) n c (now (second .entry)) (now (others .entry)) k d turn) 0 (now (out .entry)) (now (out .exit)) r ⌝ }
+{
+    let from = columns::OBJECT * n as usize;
+    let then = columns::OBJECT * k as usize;
+    let start = magic_at(out, 0);
+    let mid = blobs_at(out, start, first, &rows[0..0], rows, c, from, 8);
+    blobs_at(out, mid, second, &rows[0..0], others, d, then, turn)
+}
+
+// The manifest over the front of a lent part; its length. The root's attributes stand in `attributes`.
 fn manifest(
     out: &mut [u8],
     attributes: &[u8],
@@ -26,10 +52,10 @@ fn manifest(
     k: u64,
     turn: u64,
 ) -> usize
+    requires { ⌜ Room (is.manifestOf (now attributes) place size (now first) (now rows) n (now second) (now others) k turn) 0 (now out) ⌝ }
     requires { ⌜ Within (now attributes) place size × (n ≤ 1024) × (k ≤ 1024) ⌝ }
     requires { ⌜ ObjectRows (now first) [] (now rows) n 0 (objectWidth * n) 8 ⌝ }
     requires { ⌜ ObjectRows (now second) [] (now others) k 0 (objectWidth * k) turn ⌝ }
-    requires { ⌜ Room (is.manifestOf (now attributes) place size (now first) (now rows) n (now second) (now others) k turn) 0 (now out) ⌝ }
     ensures { λ r. ⌜ Laid (is.manifestOf (now (attributes .entry)) place size (now (first .entry)) (now (rows .entry)) n (now (second .entry)) (now (others .entry)) k turn) 0 (now (out .entry)) (now (out .exit)) r ⌝ }
 {
     let from = columns::OBJECT * n as usize;
@@ -55,17 +81,13 @@ pub fn both(
     d: u64,
     turn: u64,
 ) -> usize
+    requires { ⌜ Room (is.wholeOf (now attributes) place size (now first) (now rows) n c (now second) (now others) k d turn) 0 (now out) ⌝ }
     requires { ⌜ Within (now attributes) place size × (n ≤ 1024) × (k ≤ 1024) ⌝ }
     requires { ⌜ Rows (now first) (now rows) n c 8 ⌝ }
     requires { ⌜ Rows (now second) (now others) k d turn ⌝ }
-    requires { ⌜ Room (is.wholeOf (now attributes) place size (now first) (now rows) n c (now second) (now others) k d turn) 0 (now out) ⌝ }
     ensures { λ r. ⌜ Laid (is.wholeOf (now (attributes .entry)) place size (now (first .entry)) (now (rows .entry)) n c (now (second .entry)) (now (others .entry)) k d turn) 0 (now (out .entry)) (now (out .exit)) r ⌝ }
 {
-    let from = columns::OBJECT * n as usize;
-    let then = columns::OBJECT * k as usize;
-    let start = magic_at(out, 0);
-    let mid = blobs_at(out, start, first, &rows[0..0], rows, c, from, 8);
-    let end = blobs_at(out, mid, second, &rows[0..0], others, d, then, turn);
+    let end = front(out, first, rows, n, c, second, others, k, d, turn);
     let m = manifest(
         &mut out[end..],
         attributes,
@@ -79,6 +101,5 @@ pub fn both(
         k,
         turn,
     );
-    let past = size_at(out, end + m, m as u64);
-    magic_at(out, past)
+    size_and_footer_at(out, end + m, m as u64)
 }

@@ -40,21 +40,14 @@ module _ (front manifest : List ℕ) {xs zs : List ℕ} {end : ℕ} (room : Room
     laid-behind : Laid manifest end zs (back end zs us) (end + n)
     laid-behind = lent room-manifest f
 
-    size-is : littleBytes 8 (length manifest) ≡ littleBytes 8 n
-    size-is = ap (littleBytes 8) (sym (f .past ∙ zero-add (length manifest)))
+    size-is : littleBytes 8 (length manifest) ++ magic ≡ littleBytes 8 n ++ magic
+    size-is = ap (λ (k : ℕ). littleBytes 8 k ++ magic) (sym (f .past ∙ zero-add (length manifest)))
 
-    after-manifest : Room (littleBytes 8 (length manifest) ++ magic) (end + n) (back end zs us)
-    after-manifest = room-next laid-behind (room-next b room)
+    pub room-behind-manifest : Room (littleBytes 8 n ++ magic) (end + n) (back end zs us)
+    room-behind-manifest = room-as size-is (room-next laid-behind (room-next b room))
 
-    pub room-size : Room (littleBytes 8 n) (end + n) (back end zs us)
-    room-size = room-as size-is (room-first _ after-manifest)
-
-    module _ {vs : List ℕ} {past : ℕ} (s : Laid (littleBytes 8 n) (end + n) (back end zs us) vs past) where
-      pub room-footer : Room magic past vs
-      room-footer = room-next (as-bytes (sym size-is) s) after-manifest
-
-      pub closed-laid : {ws : List ℕ} {r : ℕ} → Laid magic past vs ws r → Laid (closedBy front manifest) 0 xs ws r
-      closed-laid w = then b (then laid-behind (then (as-bytes (sym size-is) s) w))
+    pub closed-laid : {ws : List ℕ} {r : ℕ} → Laid (littleBytes 8 n ++ magic) (end + n) (back end zs us) ws r → Laid (closedBy front manifest) 0 xs ws r
+    closed-laid w = then b (then laid-behind (as-bytes (sym size-is) w))
 
 -- ---- all of it
 
@@ -89,16 +82,12 @@ module _ {buffer plan rows xs : List ℕ} {objects components place size : ℕ} 
       manifest-can = (rs .attributes, (rs .each, room-lent (room-manifest (front (begun plan) magic) manifest in-order b)))
 
       module _ {us : List ℕ} {n : ℕ} (f : Laid manifest 0 (part end zs) us n) where
-        pub whole-room-size : Room (littleBytes 8 n) (end + n) (back end zs us)
-        whole-room-size = room-size (front (begun plan) magic) manifest in-order b f
+        pub whole-room-behind : Room (littleBytes 8 n ++ magic) (end + n) (back end zs us)
+        whole-room-behind = room-behind-manifest (front (begun plan) magic) manifest in-order b f
 
-        module _ {vs : List ℕ} {past : ℕ} (s : Laid (littleBytes 8 n) (end + n) (back end zs us) vs past) where
-          pub whole-room-footer : Room magic past vs
-          whole-room-footer = room-footer (front (begun plan) magic) manifest in-order b f s
-
-          pub whole-laid : {ws : List ℕ} {r : ℕ} → Laid magic past vs ws r → Laid (wholeOf buffer plan rows objects components place size) 0 xs ws r
-          unfolding wholeOf
-          whole-laid w = closed-laid (front (begun plan) magic) manifest in-order b f s w
+        pub whole-laid : {ws : List ℕ} {r : ℕ} → Laid (littleBytes 8 n ++ magic) (end + n) (back end zs us) ws r → Laid (wholeOf buffer plan rows objects components place size) 0 xs ws r
+        unfolding wholeOf
+        whole-laid w = closed-laid (front (begun plan) magic) manifest in-order b f w
 
 -- ---- the manifest's two pieces
 

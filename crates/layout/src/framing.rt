@@ -6,7 +6,7 @@ use crate::fields::presence;
 use crate::objects::objects_at;
 use emit::head_at;
 use emit::magic_at;
-use emit::size_at;
+use emit::size_and_footer_at;
 use emit::text_at;
 use sizes::placing::first_turn;
 ghost use Prim.Native.Nat.{_*_};
@@ -78,6 +78,5 @@ pub fn whole(
         place,
         size,
     );
-    let past = size_at(out, end + n, n as u64);
-    magic_at(out, past)
+    size_and_footer_at(out, end + n, n as u64)
 }

@@ -9,9 +9,9 @@ join-spec =
     tie.close
     (tie.spec
     (λ c κs. search needs)
-    (λ c κs. (search, (search, (search, search laying.room-second))))
+    (λ c κs. (search laying.room-second, (search, (search, search))))
     (λ c. search needs)
     (λ c. search laying.laid-second)
-    (λ c κs. (search, (search, (search, search laying.room-first))))
+    (λ c κs. (search laying.room-first, (search, (search, search))))
     (λ c. search needs)
     (λ c. search laying.laid-first))

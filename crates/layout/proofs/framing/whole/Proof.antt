@@ -19,7 +19,6 @@ whole-spec =
     (λ c κs. let b3 = c .before .before .before in let b7 = b3 .before .before .before .before in let b9 = b7 .before .before in let b14 = b9 .before .before .before .before .before in
     let can = law.manifest-can (b14 .pre .0) (b14 .pre .1) (b7 .magic-at .ensures) (b9 .first-turn .ensures) (b3 .blobs-at .ensures) in (can .0, (can .1 .0, can .1 .1)))
     (λ c. search needs)
-    (λ c κs. search law.whole-room-size)
-    (λ c κs. search law.whole-room-footer)
+    (λ c κs. search law.whole-room-behind)
     (λ c. search needs)
     (λ c. search law.whole-laid))
