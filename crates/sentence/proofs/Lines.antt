@@ -1,5 +1,5 @@
 -- The parts of a sentence, as they are put, are the definition's.
-use Prim.Native.Nat.{ℕ, _+_, _-_, _*_, _^_, _≤_, _<_}
+use Prim.Native.Nat.{ℕ, _+_, _-_, _*_, _^_, _<_}
 use native.Mathlib.Omega.{arith}
 use mathlib.Core.List.{List, [], _∷_, _++_}
 use mathlib.Core.Bool.{Bool, true, false, cond, not, _&&_}
@@ -7,14 +7,11 @@ use mathlib.Core.Path.{_≡_, refl, ap, sym, _∙_}
 use lib.ListN.{length, take, drop}
 use lib.Dec.{eqb}
 use borrow.Author.Tests.{eq-eqb, ne-eqb}
-use Rattle.meaning.specs.Check.{pass}
 use Rattle.meaning.specs.Text.{ascii}
 use Rattle.meaning.specs.Layouts.{Layout}
 use Rattle.meaning.specs.Listing.{decimal, shownText}
 use Rattle.put.specs.Wrote.{capped, Wrote}
 use Rattle.put.proofs.PiecesInTurn as writing
-use Rattle.panel.proofs.Answers as answers
-use Rattle.panel.proofs.Answers.{Answered}
 use Rattle.explained.specs.Sentence.{reason, belongs, where′, refusedLine, said}
 use Rattle.sentence.specs.Given.{explanation, given, named, bounds, refused}
 use Rattle.sentence.specs.declared.Explanation.{Explanation}
@@ -92,11 +89,3 @@ module _ (L : Layout) (file : List ℕ) (e : Explanation) where
 
     pub line-length : length x₈ ≡ length x₀
     line-length = writing.same-length line-written
-
--- a line that was counted in another text
-module _ (xs t : List ℕ) {n : ℕ} {us vs : List ℕ} (w : Wrote t 0 us vs n) where
-  pub too-long : length xs < n → Answered (pass t) (record { number = 24; length = 0 }) xs xs
-  too-long h = answers.too-long (pass t) t xs refl n (w .past) h
-
-  pub whole : {ys : List ℕ} {r : ℕ} → Wrote t 0 xs ys r → n ≤ length xs → Answered (pass t) (record { number = 0; length = n }) xs ys
-  whole v h = answers.listed-whole (pass t) t xs refl n (w .past) h _ _ v

@@ -1,5 +1,5 @@
 -- `sentence::say` meets its contract: a law for each branch.
-use Rattle.sentence.proofs.Lines as lines
+use Rattle.panel.proofs.Answers as answers
 use borrow.Author.Needs.{needs}
 use Rattle.sentence.proofs.say.Statement.{statement}
 use Rattle.sentence.proofs.say.Tie as tie
@@ -10,7 +10,7 @@ say-spec =
     (tie.spec
     (λ c. search needs)
     (λ c κs. search needs)
-    (λ c. let l = c .before .before in lines.too-long (l .before .before .before .before .args .text .now) _ (l .line .ensures) (c .if1 .taken))
+    (λ c. answers.words-too-long _ _ (c .before .before .line .ensures) (c .if1 .taken))
     (λ c κs. search needs)
     (λ c. search needs)
-    (λ c. let t = c .before .before .before .before in let l = t .before .before in lines.whole (l .before .before .before .before .args .text .now) _ (l .line .ensures) (c .before .before .line2 .ensures) (t .if1 .left)))
+    (λ c. let b2 = c .before .before in let b4 = b2 .before .before in answers.words-whole _ _ (b4 .before .before .line .ensures) (b2 .line2 .ensures) (b4 .if1 .left)))
