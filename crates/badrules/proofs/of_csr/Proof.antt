@@ -9,19 +9,8 @@ of-csr-spec =
     tie.close
     (tie.spec
     (λ c κs. search needs)
-    (λ c. roles.odd-indices (c .before .before .before .args .parts .now) _ (c .before .odd .ensures) (c .if1 .taken))
+    (λ c. search roles.odd-indices)
     (λ c κs. search needs)
     (λ c κs. search needs)
-    (λ c.
-    let c2 = c .before in
-    let c3 = c2 .before in
-    let c5 = c3 .before in
-    let c6 = c5 .before in
-    let c9 = c6 .before .before in
-    roles.then-indptr (c9 .args .parts .now) _ (c6 .odd .ensures) (c5 .if1 .left) _ (c3 .there .ensures) (c2 .if2 .taken) _ (c .odd2 .ensures))
-    (λ c.
-    let c1 = c .before in
-    let c3 = c1 .before in
-    let c4 = c3 .before in
-    let c7 = c4 .before .before in
-    roles.no-indices (c7 .args .parts .now) _ (c4 .odd .ensures) (c3 .if1 .left) _ (c1 .there .ensures) (c .if2 .left)))
+    (λ c. search roles.then-indptr)
+    (λ c. search roles.no-indices))
