@@ -143,20 +143,20 @@ module _ (first a : List ℕ) (p : ℕ) (second b : List ℕ) (q : ℕ) {s t x y
     (hx : x ≡ take (getD a (p + formatLengthColumn) 0) (drop (getD a (p + formatColumn) 0) first))
     (hy : y ≡ take (getD b (q + formatLengthColumn) 0) (drop (getD b (q + formatColumn) 0) second)) (hv : v ≡ same x y) where
   abbrev Own : ℕ → Type 0
-  Own r = (r ≡ ownWhat (shapeAt a p) (formatAt first a p) (shapeAt b q) (formatAt second b q)) × (r ≤ 3)
+  Own r = r ≡ ownWhat (shapeAt a p) (formatAt first a p) (shapeAt b q) (formatAt second b q)
 
-  own-is : bit 1 (not u) + bit 2 (not v) ≡ ownWhat (shapeAt a p) (formatAt first a p) (shapeAt b q) (formatAt second b q)
+  own-is : Own (bit 1 (not u) + bit 2 (not v))
   unfolding formatAt
   own-is = rw (hu, hv, hs, ht, hx, hy)
 
   pub none-differs : u ≡ true → v ≡ true → Own 0
-  none-differs e f = (rw (e, f) at own-is, omega arith)
+  none-differs e f = rw (e, f) at own-is
 
   pub formats-differ : u ≡ true → v ≡ false → Own 2
-  formats-differ e f = (rw (e, f) at own-is, omega arith)
+  formats-differ e f = rw (e, f) at own-is
 
   pub shapes-differ : u ≡ false → v ≡ true → Own 1
-  shapes-differ e f = (rw (e, f) at own-is, omega arith)
+  shapes-differ e f = rw (e, f) at own-is
 
   pub both-differ : u ≡ false → v ≡ false → Own 3
-  both-differ e f = (rw (e, f) at own-is, omega arith)
+  both-differ e f = rw (e, f) at own-is
