@@ -16,8 +16,16 @@ use Rattle.listing.specs.Input.{Within}
 counted : (n : ℕ) (xs : List ℕ) → n ≤ length xs → Counts n xs
 counted n xs h = (h, sym (length-take-le n xs h))
 
-pub read-counts : (xs : List ℕ) {x : Input} {n : ℕ} → x ≡ Read n → Within x xs → Counts n xs
-read-counts xs e h = subst (λ (x : Input). Within x xs) e h
+-- n bytes were read into xs: they lie inside it, and are as many as its part up to n has
+module _ (xs : List ℕ) {x : Input} {n : ℕ} (is : x ≡ Read n) (within : Within x xs) where
+  read-counts : Counts n xs
+  read-counts = subst (λ (x : Input). Within x xs) is within
+
+  pub read-inside : n ≤ length xs
+  read-inside = read-counts .0
+
+  pub part-counts : n ≡ length (take n xs)
+  part-counts = read-counts .1
 
 -- the loop: `at` bytes are read into a space as long as the one that was lent
 pub record Filled (lent space : List ℕ) (at : ℕ) : Type 0 where
@@ -46,7 +54,7 @@ module _ {lent space : List ℕ} {at : ℕ} (w : Filled lent space at) where
     -- and k bytes of it were read
     module _ {x : Input} {k : ℕ} (is : x ≡ Read k) (within : Within x ys) where
       further : at + k ≤ length space
-      further = let c = read-counts ys is within .0 in let p = part-length in omega (arith, c, p)
+      further = let c = read-inside ys is within in let p = part-length in omega (arith, c, p)
 
       pub further-fits : length lent < 2 ^ 64 → Fits w64 (at + k)
       further-fits small = let f = further in let l = w .as-long in record { fits = omega (arith, f, l, small) }
