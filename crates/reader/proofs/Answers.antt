@@ -10,6 +10,8 @@ use lib.Seq.{length-take-le}
 use lib.Dec.{leb}
 use borrow.Author.Tests.{leb-true, not-true, not-false}
 use borrow.Rule.Slice.PartAt.{part-to-end}
+use mir.Syntax.{w64}
+use mir.Val.{Fits}
 use Rattle.meaning.specs.Columns.{objectWidth, componentWidth}
 use Rattle.meaning.specs.Tree.{Node, Pair, mapP}
 use Rattle.meaning.specs.Read as spans
@@ -90,18 +92,22 @@ part-room false t needed first h e = omega (arith, part-length first t, e, h)
 part-room true t needed first h e = omega (arith, part-length first t, e, h)
 
 -- the first number of the part
-module _ (last : Bool) (room needed : ℕ) where
-  pub before-rows-last : last ≡ true → room - needed ≡ beforeRows last room needed
-  unfolding beforeRows
-  before-rows-last e = rw e refl
+pub before-rows-last : (last : Bool) (room needed : ℕ) → last ≡ true → room - needed ≡ beforeRows last room needed
+unfolding beforeRows
+before-rows-last last room needed e = rw e refl
 
-  pub before-rows-inside : (first : ℕ) → first ≡ beforeRows last room needed → first ≤ room
+module _ (last : Bool) (room needed : ℕ) {first : ℕ} (e : first ≡ beforeRows last room needed) where
+  pub before-rows-inside : first ≤ room
   unfolding beforeRows
-  before-rows-inside first = by last
+  before-rows-inside = by last e
     where
       by : (b : Bool) → first ≡ beforeRows b room needed → first ≤ room
       by false e = omega (arith, e)
       by true e = omega (arith, e)
+
+  -- and how many bytes into the table it stands
+  pub before-rows-fit : room * 8 < 2 ^ 63 → Fits w64 (first * 8)
+  before-rows-fit l = let i = before-rows-inside in record { fits = omega (arith, i, l) }
 
 rows-laid : (last : Bool) (t l : List ℕ) (needed first : ℕ) → needed ≤ length t → first ≡ beforeRows last (length t) needed
     → lentBack first t (l ++ drop needed (lentPart first t)) ≡ laidOver last t needed l
@@ -215,9 +221,11 @@ module _ (layout : ℕ) (last : Bool) (start : ℕ) (m before : List ℕ) (x : T
           written layout start m before objects components left at (told-there (Yes objects components left at) e) (omega arith) (sym (not-false roomy-so f) ∙ by) last first before-rows-are place here after w s a
 
 -- the room for the rows
-module _ (objects components : ℕ) (t : List ℕ) (roomy-so : Bool) (by : roomy-so ≡ leb (objectWidth * objects + componentWidth * components) (length t)) (f : not roomy-so ≡ false) where
-  pub room-enough : objectWidth * objects + componentWidth * components ≤ length t
-  room-enough = leb-true _ (length t) (sym by ∙ not-false roomy-so f)
+pub room-enough : {needed room : ℕ} {fits : Bool} → not fits ≡ false → fits ≡ leb needed room → needed ≤ room
+room-enough {needed} {room} {fits} f by = leb-true needed room (sym by ∙ not-false fits f)
+
+pub object-rows-fit : (objects more room : ℕ) {fits : Bool} → not fits ≡ false → fits ≡ leb (objectWidth * objects + more) room → room * 8 < 2 ^ 63 → Fits w64 (objectWidth * objects)
+object-rows-fit objects more room f by l = let r : objectWidth * objects + more ≤ room = room-enough f by in record { fits = omega (arith, r, l) }
 
 -- from the frame on
 module _ (layout : ℕ) (last : Bool) (file before : List ℕ) (r : Framed) (asked : frame (layoutOf layout) file ≡ framed-told r) where

@@ -18,19 +18,31 @@ fill-spec =
     (λ c. search answers.filled-no-room)
     (λ c. search needs)
     (λ c κs. search needs)
-    (λ c κs. answers.room-enough _ _ (c .before .before .before .before .before .before .before .before .before .args .t .now) _ (c .before .before .fits2 .ensures) (c .before .if1 .left))
+    (λ c κs. search answers.room-enough)
     (λ c. search needs)
     (λ c. search needs)
     (λ c. search needs)
-    (λ c. let b11 = c .before .before .before .before .before .before .before .before .before .before .before in omega (arith, answers.room-enough _ _ (b11 .args .t .now) _ (c .before .before .before .before .fits2 .ensures) (c .before .before .before .if1 .left), b11 .good))
-    (λ c. omega (arith, answers.before-rows-inside _ _ _ _ (c .before .before-rows .ensures), c .before .before .before .before .before .before .before .before .before .before .before .good))
-    (λ c. omega (arith, answers.before-rows-inside _ _ _ _ (c .before .before-rows .ensures)))
-    (λ c. omega (arith, answers.before-rows-inside _ _ _ _ (c .before .before-rows .ensures)))
+    (λ c.
+    let tested = c .before .before .before in
+    let measured = tested .before in
+    let lent = measured .before .before .before .before .before .before .before .good in
+    answers.object-rows-fit _ _ _ (tested .if1 .left) (measured .fits2 .ensures) (omega (arith, lent)))
+    (λ c. search answers.before-rows-fit)
+    (λ c. answers.before-rows-inside _ _ _ (c .before .before-rows .ensures))
+    (λ c. answers.before-rows-inside _ _ _ (c .before .before-rows .ensures))
     (λ c. search needs)
     (λ c κs. search needs)
     (λ c κs. search needs)
     (λ c. search answers.filled-not)
     (λ c. search needs)
-    (λ c. let b3 = c .before .before .before in let b6 = b3 .before .before .before in let b8 = b6 .before .before in let b11 = b8 .before .before .before in let b13 = b11 .before .before in let b16 = b13 .before .before .before in let a = b16 .args in
-    answers.filled-so (a .layout) (a .last) (a .start) (a .m .now) (a .t .now) _ (b13 .manifest .ensures) _ _ _ _ (b11 .objects .given .1) _ (b8 .before .fits2 .ensures) (b16 .pre) (b8 .if1 .left)
-    _ (b6 .before-rows .ensures) _ (b6 .before .place-of .ensures) _ (b3 .lay .ensures) _ (c .attributes .ensures)))
+    (λ c.
+    let laid = c .before .before .before in
+    let placed = laid .before .before .before in
+    let roomy = placed .before .before in
+    let counted = roomy .before .before .before in
+    let judged = counted .before .before in
+    let asked = judged .before .before .before in
+    let a = asked .args in
+    answers.filled-so (a .layout) (a .last) (a .start) (a .m .now) (a .t .now)
+    _ (judged .manifest .ensures) _ _ _ _ (counted .objects .given .1) _ (roomy .before .fits2 .ensures) (asked .pre) (roomy .if1 .left)
+    _ (placed .before-rows .ensures) _ (placed .before .place-of .ensures) _ (laid .lay .ensures) _ (c .attributes .ensures)))
