@@ -30,8 +30,9 @@ use Rattle.merging.specs.Merge.{orElse, merged, refused, about, merge, roomed}
 use Rattle.merging.proofs.MergeAnswers.{refusals, merge-of-both}
 use Rattle.window.specs.Sums.{allBlobs}
 use Rattle.window.specs.Summed.{Sum}
+use Rattle.window.proofs.Snoc.{sums-on}
 use Rattle.merger.proofs.SumsOfFile as of-file
-use Rattle.merger.proofs.SumsOfBoth.{sums-on, last-end, manifest-long}
+use Rattle.merger.proofs.SumsOfBoth.{last-end, manifest-long}
 
 module _ (L : Layout) (fl : Framing L) (first : List ℕ) (M : Layout) (fm : Framing M) (second : List ℕ) (held : Held first) (held′ : Held second) (r s : Reading)
     (ri : reading L first ≡ pass r) (si : reading M second ≡ pass s) where

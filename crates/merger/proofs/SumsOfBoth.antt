@@ -1,58 +1,22 @@
 -- Two accepted files' sums, the second's from where the first's end: what the writer's definitions say of the merged description.
-use Prim.Native.Nat.{ℕ, _+_, _≤_, _<_}
+use Prim.Native.Nat.{ℕ, _+_}
 use native.Mathlib.Omega.{arith}
-use mathlib.Core.List.{List, [], _∷_, _++_, map, append-assoc}
-use mathlib.Core.Logic.{⊎-elim}
-use mathlib.Core.Path.{_≡_, refl, sym, ap, ap₂, _∙_}
+use mathlib.Core.List.{List, [], _∷_, _++_, map}
+use mathlib.Core.Path.{_≡_, sym, ap, ap₂, _∙_}
 use lib.ListN.{length, length-append}
-use Rattle.meaning.specs.Limit.{endLimit}
 use Rattle.meaning.specs.Read.{Span}
 use Rattle.meaning.specs.Model.{Object}
 use Rattle.meaning.specs.Described.{Described, blobs}
 use Rattle.meaning.specs.Placement.{placement, lastEnd}
 use Rattle.meaning.specs.Manifest.{Keyed, manifestBytes}
-use Rattle.endian.proofs.Which.{lt-or}
 use Rattle.rows.specs.Turns.{reached, objectsFrom}
-use Rattle.rows.proofs.Turns.{reached-above, reached-joined}
-use Rattle.sizes.specs.Size.{cappedEnd, headSize}
+use Rattle.sizes.specs.Size.{headSize}
 use Rattle.sizes.proofs.Lengths.{entriesSize, fieldSize}
 use Rattle.joint.proofs.Meant.{objects-both, lengths-both}
 use Rattle.merging.specs.Merge.{orElse, merged}
-use Rattle.window.specs.Sums.{blobsIn, allBlobs, entrySizes}
-use Rattle.window.specs.Summed.{Sum}
+use Rattle.window.specs.Sums.{allBlobs, entrySizes}
+use Rattle.window.proofs.Snoc.{blobs-on, entries-on}
 use Rattle.totals.proofs.OfSum as of-sum
-
-blobs-on : (os ps : List (Object Span)) → allBlobs (os ++ ps) ≡ allBlobs os ++ allBlobs ps
-unfolding allBlobs
-blobs-on [] ps = refl
-blobs-on (o ∷ os) ps = ap (λ (r : List ℕ). blobsIn o ++ r) (blobs-on os ps) ∙ sym (append-assoc (blobsIn o) (allBlobs os) (allBlobs ps))
-
-entries-on : (p : ℕ) (os ps : List (Object Span)) → entrySizes p (os ++ ps) ≡ entrySizes p os + entrySizes (reached [] p (allBlobs os)) ps
-unfolding entrySizes allBlobs reached
-entries-on p [] ps = omega arith
-entries-on p (o ∷ os) ps =
-    omega (arith, entries-on (reached [] p (blobsIn o)) os ps, ap (λ (k : ℕ). entrySizes k ps) (reached-joined [] p (blobsIn o) (allBlobs os)))
-
--- sums go on where others ended
-pub sums-on : {p n q k q′ k′ : ℕ} (os ps : List (Object Span)) → Sum p n os q k → Sum q k ps q′ k′ → Sum p n (os ++ ps) q′ k′
-sums-on {p} {n} {q} {k} {q′} {k′} os ps s a =
-    let end : ℕ = reached [] p (allBlobs os) in
-    let on : reached [] p (allBlobs (os ++ ps)) ≡ reached [] end (allBlobs ps) = ap (reached [] p) (blobs-on os ps) ∙ reached-joined [] p (allBlobs os) (allBlobs ps) in
-    let low = reached-above [] end (allBlobs ps) in
-    let low′ = reached-above [] q (allBlobs ps) in
-    let e = s .ends in
-    let e′ = a .ends in
-    record {
-      ends =
-          ⊎-elim (λ (far : endLimit < end). omega (arith, far, e, e′, low, low′, on))
-          (λ (near : end ≤ endLimit).
-          let is : q ≡ end = omega (arith, e, near) in
-          e′ ∙ ap (λ (x : ℕ). cappedEnd (reached [] x (allBlobs ps))) is ∙ ap cappedEnd (sym on)) (lt-or endLimit end);
-      adds = λ l.
-          let q-low : q ≤ endLimit = omega (arith, l, e′, low′) in
-          let is : q ≡ end = omega (arith, e, q-low) in
-          omega (arith, s .adds q-low, a .adds l, entries-on p os ps, ap (λ (x : ℕ). entrySizes x ps) is);
-    }
 
 entries-sum : (es fs : List (Keyed (List ℕ))) → entriesSize (es ++ fs) ≡ entriesSize es + entriesSize fs
 unfolding entriesSize

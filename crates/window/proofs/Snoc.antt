@@ -1,4 +1,4 @@
--- One object more: sums, and names.
+-- Objects after objects, and one more: sums, and names.
 use Prim.Native.Nat.{ℕ, suc, _+_, _*_, _≤_, _<_}
 use native.Mathlib.Omega.{arith}
 use mathlib.Core.List.{List, [], _∷_, _++_, append-nil, append-assoc}
@@ -14,19 +14,19 @@ use Rattle.endian.proofs.Which.{lt-or}
 use Rattle.rows.specs.Turns.{reached}
 use Rattle.rows.proofs.Turns.{reached-above, reached-joined}
 use Rattle.sizes.specs.Size.{cappedEnd}
-use Rattle.window.specs.Sums.{blobsIn, allBlobs, entrySize, entrySizes, namePairs}
+use Rattle.window.specs.Sums.{blobsIn, allBlobs, entrySizes, namePairs}
 use Rattle.window.specs.Summed.{AddedOne, Sum}
 
-blobs-snoc : (os : List (Object Span)) (o : Object Span) → allBlobs (os ++ o ∷ []) ≡ allBlobs os ++ blobsIn o
+pub blobs-on : (os ps : List (Object Span)) → allBlobs (os ++ ps) ≡ allBlobs os ++ allBlobs ps
 unfolding allBlobs
-blobs-snoc [] o = append-nil (blobsIn o)
-blobs-snoc (x ∷ os) o = ap (λ (r : List ℕ). blobsIn x ++ r) (blobs-snoc os o) ∙ sym (append-assoc (blobsIn x) (allBlobs os) (blobsIn o))
+blobs-on [] ps = refl
+blobs-on (o ∷ os) ps = ap (λ (r : List ℕ). blobsIn o ++ r) (blobs-on os ps) ∙ sym (append-assoc (blobsIn o) (allBlobs os) (allBlobs ps))
 
-entries-snoc : (p : ℕ) (os : List (Object Span)) (o : Object Span) → entrySizes p (os ++ o ∷ []) ≡ entrySizes p os + entrySize (reached [] p (allBlobs os)) o
+pub entries-on : (p : ℕ) (os ps : List (Object Span)) → entrySizes p (os ++ ps) ≡ entrySizes p os + entrySizes (reached [] p (allBlobs os)) ps
 unfolding entrySizes allBlobs reached
-entries-snoc p [] o = omega arith
-entries-snoc p (x ∷ os) o =
-    omega (arith, entries-snoc (reached [] p (blobsIn x)) os o, ap (λ (k : ℕ). entrySize k o) (reached-joined [] p (blobsIn x) (allBlobs os)))
+entries-on p [] ps = omega arith
+entries-on p (o ∷ os) ps =
+    omega (arith, entries-on (reached [] p (blobsIn o)) os ps, ap (λ (k : ℕ). entrySizes k ps) (reached-joined [] p (blobsIn o) (allBlobs os)))
 
 pub names-snoc : (os : List (Object Span)) (o : Object Span) → namePairs (os ++ o ∷ []) ≡ namePairs os ++ wordSpan (o .name) .place ∷ wordSpan (o .name) .size ∷ []
 unfolding namePairs
@@ -50,12 +50,13 @@ pub no-sum : (p n : ℕ) → p ≤ suc endLimit → n ≤ suc manifestLimit → 
 unfolding allBlobs entrySizes reached
 no-sum p n h k = record { ends = omega (arith, h); adds = λ l. omega (arith, k) }
 
-pub one-more : {p n q k q′ k′ : ℕ} (os : List (Object Span)) (o : Object Span) → Sum p n os q k → AddedOne q k q′ k′ o → Sum p n (os ++ o ∷ []) q′ k′
-one-more {p} {n} {q} {k} {q′} {k′} os o s a =
+-- sums go on where others ended
+pub sums-on : {p n q k q′ k′ : ℕ} (os ps : List (Object Span)) → Sum p n os q k → Sum q k ps q′ k′ → Sum p n (os ++ ps) q′ k′
+sums-on {p} {n} {q} {k} {q′} {k′} os ps s a =
     let end : ℕ = reached [] p (allBlobs os) in
-    let on : reached [] p (allBlobs (os ++ o ∷ [])) ≡ reached [] end (blobsIn o) = ap (reached [] p) (blobs-snoc os o) ∙ reached-joined [] p (allBlobs os) (blobsIn o) in
-    let low = reached-above [] end (blobsIn o) in
-    let low′ = reached-above [] q (blobsIn o) in
+    let on : reached [] p (allBlobs (os ++ ps)) ≡ reached [] end (allBlobs ps) = ap (reached [] p) (blobs-on os ps) ∙ reached-joined [] p (allBlobs os) (allBlobs ps) in
+    let low = reached-above [] end (allBlobs ps) in
+    let low′ = reached-above [] q (allBlobs ps) in
     let e = s .ends in
     let e′ = a .ends in
     record {
@@ -63,9 +64,16 @@ one-more {p} {n} {q} {k} {q′} {k′} os o s a =
           ⊎-elim (λ (far : endLimit < end). omega (arith, far, e, e′, low, low′, on))
           (λ (near : end ≤ endLimit).
           let is : q ≡ end = omega (arith, e, near) in
-          e′ ∙ ap (λ (x : ℕ). cappedEnd (reached [] x (blobsIn o))) is ∙ ap cappedEnd (sym on)) (lt-or endLimit end);
+          e′ ∙ ap (λ (x : ℕ). cappedEnd (reached [] x (allBlobs ps))) is ∙ ap cappedEnd (sym on)) (lt-or endLimit end);
       adds = λ l.
           let q-low : q ≤ endLimit = omega (arith, l, e′, low′) in
           let is : q ≡ end = omega (arith, e, q-low) in
-          omega (arith, s .adds q-low, a .adds l, entries-snoc p os o, ap (λ (x : ℕ). entrySize x o) is);
+          omega (arith, s .adds q-low, a .adds l, entries-on p os ps, ap (λ (x : ℕ). entrySizes x ps) is);
     }
+
+one-sum : {p n q k : ℕ} (o : Object Span) → AddedOne p n q k o → Sum p n (o ∷ []) q k
+unfolding allBlobs entrySizes reached
+one-sum {p} o a = record { ends = a .ends ∙ ap (λ (bs : List ℕ). cappedEnd (reached [] p bs)) (sym (append-nil (blobsIn o))); adds = λ l. omega (arith, a .adds l) }
+
+pub one-more : {p n q k q′ k′ : ℕ} (os : List (Object Span)) (o : Object Span) → Sum p n os q k → AddedOne q k q′ k′ o → Sum p n (os ++ o ∷ []) q′ k′
+one-more os o s a = sums-on os (o ∷ []) s (one-sum o a)
