@@ -11,7 +11,7 @@ use columns::{LENGTH, OFFSET};
 
 // The verdict; and for a file that is accepted the bytes of each kind. All 0 on refusal.
 #[repr(C)]
-#[derive(Drop)]
+#[derive(Clone, Copy)]
 pub struct Bytes {
     pub number: u64,
     pub object: u64,

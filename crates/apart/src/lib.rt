@@ -5,7 +5,7 @@ ghost use Rattle.apart.specs.Positions.{told, many_apart, block, Both, Passed, R
 ghost use Rattle.text.specs.Order.{Agree};
 
 // 0 and 0 if they are equal.
-#[derive(Drop)]
+#[derive(Clone, Copy)]
 pub struct Apart {
     pub position: u64,
     pub count: u64,

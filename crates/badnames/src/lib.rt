@@ -9,7 +9,7 @@ use spot::{Spot, at};
 use walk::{Entry, Letters, Opening};
 
 // The tally of a map's keys; the bytes left at the first that isn't whole text, and at the first that isn't UTF-8, where the tally says that there is one.
-#[derive(Drop)]
+#[derive(Clone, Copy)]
 pub struct Keys {
     pub tally: Tally,
     pub key: usize,

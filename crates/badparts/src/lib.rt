@@ -10,7 +10,7 @@ use spot::Spot;
 use table::Place;
 
 // A spot, and the bytes left at the name of the component that it belongs to, 0 for none.
-#[derive(Drop)]
+#[derive(Clone, Copy)]
 pub struct Owned {
     pub spot: Spot,
     pub key: usize,

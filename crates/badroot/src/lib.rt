@@ -11,7 +11,7 @@ use spot::{Spot, at};
 use walk::{Letters, Opening};
 
 // The first check that breaks, and the place of the objects.
-#[derive(Drop)]
+#[derive(Clone, Copy)]
 pub struct Rooted {
     pub spot: Spot,
     pub objects: usize,

@@ -7,7 +7,7 @@ use fields::place_of;
 use object::place::{Coded, format_at, tensor_at};
 
 // A refusal number and the bytes left at what it refuses; or the codes of the dtype, 13 for none, and of the format.
-#[derive(Drop)]
+#[derive(Clone, Copy)]
 pub enum Valued {
     Odd(u64, usize),
     Sound(u64, u64),

@@ -14,7 +14,7 @@ pub const DEEP: usize = 0x8000_0000_0000_0007;
 const ENDLESS: u64 = 0xffff_ffff_ffff_ffff;
 
 // A head's argument, and how many bytes the head takes.
-#[derive(Drop)]
+#[derive(Clone, Copy)]
 pub struct Argued {
     pub value: u64,
     pub size: usize,
@@ -189,7 +189,7 @@ fn plain(s: &[u8]) -> usize
 }
 
 // What an array, a map or a tag holds: items from `size` on, `count` of them (mode 0), or up to the break of an array (1) or of a map (2).
-#[derive(Drop)]
+#[derive(Clone, Copy)]
 pub struct Holding {
     pub size: usize,
     pub count: u64,

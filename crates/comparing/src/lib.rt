@@ -9,7 +9,7 @@ use account::clear;
 
 // The verdict, the file that is refused, or 0; and how many entries the list has. All but the first four are 0 on refusal, unless the list is too short.
 #[repr(C)]
-#[derive(Drop)]
+#[derive(Clone, Copy)]
 pub struct Changes {
     pub number: u64,
     pub file: u64,

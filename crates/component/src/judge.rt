@@ -10,14 +10,14 @@ use crate::value::{Coded, Fine, Spot};
 use walk::Numeral;
 
 // The dtype's code and the place of the type, or a refusal.
-#[derive(Drop)]
+#[derive(Clone, Copy)]
 pub enum Stored {
     No(u64),
     Yes(u64, usize),
 }
 
 // Offset and length, or a refusal.
-#[derive(Drop)]
+#[derive(Clone, Copy)]
 pub enum Stretch {
     No(u64),
     Yes(u64, u64),

@@ -16,14 +16,14 @@ use pass::entries;
 use walk::Opening;
 
 // A refusal number; or the dtype's code, the place of the type, offset, length and the place of the digest.
-#[derive(Drop)]
+#[derive(Clone, Copy)]
 pub enum Judged {
     No(u64),
     Yes(u64, usize, u64, u64, usize),
 }
 
 // Where a value ends, as `cbor::skip` answers it, and what it says if it is well-formed.
-#[derive(Drop)]
+#[derive(Clone, Copy)]
 pub struct Whole {
     pub end: usize,
     pub verdict: Judged,

@@ -5,21 +5,21 @@ ghost use Rattle.component.specs.Value as is;
 use walk::Letters;
 
 // A number, or a refusal.
-#[derive(Drop)]
+#[derive(Clone, Copy)]
 pub enum Coded {
     No(u64),
     Yes(u64),
 }
 
 // Sound, or a refusal.
-#[derive(Drop)]
+#[derive(Clone, Copy)]
 pub enum Fine {
     No(u64),
     Yes,
 }
 
 // The place of a text, 0 for none; or a refusal.
-#[derive(Drop)]
+#[derive(Clone, Copy)]
 pub enum Spot {
     No(u64),
     Yes(usize),

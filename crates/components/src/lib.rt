@@ -18,21 +18,21 @@ use table::stored::{role, stored};
 use walk::{Entry, Opening};
 
 // The first fault among the entries so far: its number and the component.
-#[derive(Drop)]
+#[derive(Clone, Copy)]
 pub enum First {
     Fine,
     Fault(u64, usize),
 }
 
 // The first fault, its number and component; or how many components there are.
-#[derive(Drop)]
+#[derive(Clone, Copy)]
 pub enum Found {
     No(u64, usize),
     Yes(usize),
 }
 
 // Where the entries end, the tally of their names, and the first fault.
-#[derive(Drop)]
+#[derive(Clone, Copy)]
 struct Run {
     end: usize,
     names: Tally,
@@ -40,7 +40,7 @@ struct Run {
 }
 
 // Where a value ends, as `cbor::skip` answers it, and what it says if it is well-formed.
-#[derive(Drop)]
+#[derive(Clone, Copy)]
 pub struct Whole {
     pub end: usize,
     pub found: Found,

@@ -8,7 +8,7 @@ use fields::place_of;
 // The levels that a manifest has: whatever is read where fewer are left is read alike where these are.
 const LEVELS: u64 = 32;
 
-#[derive(Drop)]
+#[derive(Clone, Copy)]
 pub struct Cursor<'a> {
     pub bytes: &'a [u8],
     pub left: usize,

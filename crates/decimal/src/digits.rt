@@ -6,7 +6,7 @@ ghost use Rattle.decimal.specs.Decimal as is;
 use crate::big;
 
 // digits * 10^(place - 53)
-#[derive(Drop)]
+#[derive(Clone, Copy)]
 pub struct Decimal {
     pub digits: u64,
     pub place: u64,

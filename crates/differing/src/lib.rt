@@ -10,7 +10,7 @@ use columns::{DTYPE, FORMAT, FORMAT_LENGTH, LENGTH, OFFSET, RANK, SHAPE, TYPE, T
 use rows::absent;
 
 // 8, 16 and 32 where dtype, type and bytes differ, else 0; and where the bytes do, and at how many positions.
-#[derive(Drop)]
+#[derive(Clone, Copy)]
 pub struct Differences {
     pub dtype: u64,
     pub kind: u64,

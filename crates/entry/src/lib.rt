@@ -6,7 +6,7 @@ ghost use Rattle.walk.specs.Places.{Modes};
 use walk::{Entry, Opening};
 
 // Bytes left at the key and at the value; 0 and 0 for none.
-#[derive(Drop)]
+#[derive(Clone, Copy)]
 pub struct Places {
     pub key: usize,
     pub value: usize,

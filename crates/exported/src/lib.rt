@@ -210,7 +210,7 @@ pub extern "C" fn leaf_place(start: u64, offset: u64, length: u64) -> u64
 
 // A refusal's number and its component; 0 and 0 for none.
 #[repr(C)]
-#[derive(Drop)]
+#[derive(Clone, Copy)]
 pub struct Ruling {
     pub number: u64,
     pub component: usize,
@@ -234,7 +234,7 @@ pub extern "C" fn leaf_judge(code: u64, shape: &[u64], parts: &[u64]) -> Ruling
 
 // 0, and where the manifest starts and its size; or a refusal's number, 0 and 0.
 #[repr(C)]
-#[derive(Drop)]
+#[derive(Clone, Copy)]
 pub struct Place {
     pub number: u64,
     pub start: usize,

@@ -7,7 +7,7 @@ ghost use Rattle.std.specs.Float.{binary32};
 ghost use Rattle.std.specs.Float.Ieee.{of_bits, to_bits, nan_bits, is_nan};
 ghost use Rattle.finding.specs.Finding as is;
 
-#[derive(Drop)]
+#[derive(Clone, Copy)]
 pub enum Finding {
     Empty,
     OnlyNaN(u64),
@@ -98,7 +98,7 @@ pub fn find(s: &[u8]) -> Finding
 }
 
 // A finding in numbers: 1 empty, 2 only NaNs, 3 numbers; the patterns of the smallest and the largest; the count of NaNs.
-#[derive(Drop)]
+#[derive(Clone, Copy)]
 pub struct Shown {
     pub finding: u64,
     pub smallest: u64,

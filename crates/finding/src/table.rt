@@ -8,7 +8,7 @@ use columns::{DTYPE, LENGTH, OFFSET, TYPE, TYPE_LENGTH};
 
 // 0 or INDEX; 0 where no finding is due, else its kind; the patterns of the smallest and the largest; the count of NaNs.
 #[repr(C)]
-#[derive(Drop)]
+#[derive(Clone, Copy)]
 pub struct Found {
     pub number: u64,
     pub finding: u64,

@@ -15,7 +15,7 @@ use formats::Ruled;
 use texts::Held;
 
 // No refusal, or its number, object and component.
-#[derive(Drop)]
+#[derive(Clone, Copy)]
 pub enum Foreseen {
     Fine,
     Fault(u64, usize, usize),

@@ -10,7 +10,7 @@ use columns::{DIGEST, DIGEST_LENGTH, DTYPE, TYPE, TYPE_LENGTH};
 use rows::absent;
 use view::part;
 
-#[derive(Drop)]
+#[derive(Clone, Copy)]
 pub enum Held {
     Right,
     Wrong(u64),

@@ -6,21 +6,21 @@ ghost use Rattle.meaning.specs.Format as format;
 ghost use Rattle.formats.specs.Parts.{part_rows, role_name, RoleIs, IndexIs, RoleThere, told, dense_fits, values_fit, index_fits, csr_lengths, coo_lengths};
 
 // Whether the rules hold, or the number of the first that doesn't and the component's index.
-#[derive(Drop)]
+#[derive(Clone, Copy)]
 pub enum Ruled {
     Right,
     Wrong(u64, usize),
 }
 
 // The component that fills a role: its index, bytes of one element, 1 for plain u64, and length.
-#[derive(Drop)]
+#[derive(Clone, Copy)]
 pub enum Filled {
     Absent,
     At(usize, u64, u64, u64),
 }
 
 // An index role: the component to blame, or the index and the length.
-#[derive(Drop)]
+#[derive(Clone, Copy)]
 enum Indexed {
     Odd(usize),
     Plain(usize, u64),

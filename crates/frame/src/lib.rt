@@ -6,7 +6,7 @@ ghost use Rattle.meaning.specs.Frame as meant;
 ghost use Rattle.frame.specs.FrameAnswer as spec;
 
 // The manifest's start and size, or the refusal.
-#[derive(Drop)]
+#[derive(Clone, Copy)]
 pub enum Framed {
     No(u64),
     At(usize, usize),

@@ -9,7 +9,7 @@ ghost use Rattle.walk.specs.Places.{Modes};
 use walk::{Entry, Letters};
 
 // Bytes left at the leftmost key that isn't whole text, and at the leftmost second copy; 0 for none.
-#[derive(Drop)]
+#[derive(Clone, Copy)]
 pub struct Odd {
     pub key: usize,
     pub again: usize,

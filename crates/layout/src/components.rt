@@ -11,7 +11,7 @@ use emit::{gap_at, head_at};
 use sizes::placing::{offset_at, stepped};
 
 // Where a piece ends in the output, and whose turn is next.
-#[derive(Drop)]
+#[derive(Clone, Copy)]
 pub struct Past {
     pub at: usize,
     pub turn: u64,

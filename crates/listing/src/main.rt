@@ -8,7 +8,7 @@ ghost use Rattle.listing.specs.Input.{Within};
 use libc::{STDERR_FILENO, STDOUT_FILENO};
 
 // How many bytes of a file were read, up to its end or to what was lent; or that a read failed, however many came before it.
-#[derive(Drop)]
+#[derive(Clone, Copy)]
 pub enum Input {
     Failed,
     Read(usize),

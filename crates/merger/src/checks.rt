@@ -19,7 +19,7 @@ fn attributes(place: u64, size: u64, other: u64, length: u64) -> u64
 
 // A refusal: its number, which file it is about, object and component. Or, of the first file and then of the second, how many objects and components there are, and place and length of the root's
 // attributes; where the first's blobs end; and how long the merged file is.
-#[derive(Drop)]
+#[derive(Clone, Copy)]
 pub enum Verdict {
     No(u64, u64, u64, u64),
     Yes(u64, u64, u64, u64, u64, u64, u64, u64, u64, u64),

@@ -16,7 +16,7 @@ use checks::Verdict;
 
 // A refusal's number, which file it is about (1 or 2, or 0 for the merged one), object and component; or 0, or ROOM, and the merged file's length.
 #[repr(C)]
-#[derive(Drop)]
+#[derive(Clone, Copy)]
 pub struct Merged {
     pub number: u64,
     pub file: u64,

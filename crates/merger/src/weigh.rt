@@ -14,7 +14,7 @@ use reader::into::attributes;
 
 // A refusal with its object and component; or how many objects and components there are, place and length of the root's attributes, where the last blob ends (or 2^40 + 1), and how many
 // bytes the objects' entries take with those before (or the limit and 1).
-#[derive(Drop)]
+#[derive(Clone, Copy)]
 pub enum Weighed {
     No(u64, u64, u64),
     Yes(u64, u64, u64, u64, u64, u64),

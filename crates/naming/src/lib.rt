@@ -7,14 +7,14 @@ ghost use Rattle.naming.specs.NotedNames as spec;
 use walk::Letters;
 
 // How many keys there were, and whether one of them was no whole text, or no UTF-8.
-#[derive(Drop)]
+#[derive(Clone, Copy)]
 pub struct Tally {
     pub count: usize,
     pub odd: bool,
     pub bad: bool,
 }
 
-#[derive(Drop)]
+#[derive(Clone, Copy)]
 pub enum Named {
     No(u64),
     Yes,

@@ -13,14 +13,14 @@ use shape::Shaped;
 use table::Place;
 
 // A refusal number and the component, or how many components and how many dimensions there are.
-#[derive(Drop)]
+#[derive(Clone, Copy)]
 pub enum Measured {
     No(u64, usize),
     Yes(usize, usize),
 }
 
 // Sound, or a refusal.
-#[derive(Drop)]
+#[derive(Clone, Copy)]
 pub enum Fine {
     No(u64),
     Yes,

@@ -19,14 +19,14 @@ use table::object_row::put_object;
 use walk::Opening;
 
 // A refusal number and the component, or how many components there are.
-#[derive(Drop)]
+#[derive(Clone, Copy)]
 pub enum Judged {
     No(u64, usize),
     Yes(usize),
 }
 
 // Where a value ends, as `cbor::skip` answers it, and what it says if it is well-formed.
-#[derive(Drop)]
+#[derive(Clone, Copy)]
 pub struct Whole {
     pub end: usize,
     pub verdict: Judged,

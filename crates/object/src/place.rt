@@ -10,7 +10,7 @@ use shape::Shaped;
 use walk::Letters;
 
 // The format's code (types::format_code), or a refusal.
-#[derive(Drop)]
+#[derive(Clone, Copy)]
 pub enum Coded {
     No(u64),
     Yes(u64),

@@ -14,21 +14,21 @@ use table::lay::next_row;
 use walk::{Entry, Opening};
 
 // The first fault among the entries so far: its number, object and component; or how many components there are.
-#[derive(Drop)]
+#[derive(Clone, Copy)]
 pub enum First {
     Fine(usize),
     Fault(u64, usize, usize),
 }
 
 // The first fault: number, object, component; or how many objects and components there are.
-#[derive(Drop)]
+#[derive(Clone, Copy)]
 pub enum Found {
     No(u64, usize, usize),
     Yes(usize, usize),
 }
 
 // Where the entries end, the tally of their names, and the first fault.
-#[derive(Drop)]
+#[derive(Clone, Copy)]
 struct Run {
     end: usize,
     names: Tally,
@@ -36,7 +36,7 @@ struct Run {
 }
 
 // Where the value ends, as `cbor::skip` answers it, and what it says if it is well-formed.
-#[derive(Drop)]
+#[derive(Clone, Copy)]
 pub struct Whole {
     pub end: usize,
     pub found: Found,

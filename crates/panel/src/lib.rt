@@ -14,7 +14,7 @@ ghost use Rattle.panel.specs.ListedText.{told, text_after};
 
 // 0, and how many bytes the listing has; or INDEX or ROOM, and 0.
 #[repr(C)]
-#[derive(Drop)]
+#[derive(Clone, Copy)]
 pub struct Listed {
     pub number: u64,
     pub length: u64,

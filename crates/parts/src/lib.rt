@@ -13,7 +13,7 @@ use columns::COMPONENT;
 use matching::{find, name_at};
 
 // The place past the entries; 4, 8, 16 and 32 where names, dtypes, types and bytes differ, else 0.
-#[derive(Drop)]
+#[derive(Clone, Copy)]
 pub struct Seen {
     pub at: usize,
     pub names: u64,
@@ -23,7 +23,7 @@ pub struct Seen {
 }
 
 // The same, of names only.
-#[derive(Drop)]
+#[derive(Clone, Copy)]
 pub struct Lone {
     pub at: usize,
     pub names: u64,

@@ -10,7 +10,7 @@ ghost use Rattle.plan.specs.Earlier as told;
 use columns::{COMPONENT, LENGTH};
 
 // The row of a refusal; or the greatest end, 8 if there is no row.
-#[derive(Drop)]
+#[derive(Clone, Copy)]
 pub enum Judged {
     No(u64),
     Yes(u64),

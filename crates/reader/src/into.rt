@@ -13,7 +13,7 @@ use table::span::{Span, item_at};
 
 // The verdict; and for a file that is accepted both counts, the manifest's start, and the place and length of the root's attributes. All 0 on refusal.
 #[repr(C)]
-#[derive(Drop)]
+#[derive(Clone, Copy)]
 pub struct Answer {
     pub number: u64,
     pub object: u64,

@@ -14,7 +14,7 @@ const FAULT: usize = 0x8000_0000_0000_0000;
 
 // The first failing check of document 01's order: its number, object and component; 0, 0 and 0 for a file that is accepted.
 #[repr(C)]
-#[derive(Drop)]
+#[derive(Clone, Copy)]
 pub struct Verdict {
     pub number: u64,
     pub object: u64,
@@ -32,7 +32,7 @@ fn refusal(number: u64, object: u64, component: u64) -> Verdict
 }
 
 // What a manifest says: a refusal with its object and component; or how many objects and components there are, and the places of the root's attributes and objects.
-#[derive(Drop)]
+#[derive(Clone, Copy)]
 pub enum Told {
     No(u64, u64, u64),
     Yes(usize, usize, usize, usize),

@@ -9,7 +9,7 @@ use sizes::piece;
 
 // A refusal with its object and component. Or where the manifest begins and ends, where the map of its objects begins, and place and length of the root's attributes; how many objects are kept and dropped,
 // how many components are kept; and how long the rescued file is.
-#[derive(Drop)]
+#[derive(Clone, Copy)]
 pub enum Verdict {
     No(u64, u64, u64),
     Yes(usize, usize, usize, u64, u64, usize, usize, usize, u64),

@@ -16,7 +16,7 @@ const ENTRY: u64 = 3;
 
 // A refusal's number, object and component; or 0, or ROOM, with how many objects are kept and dropped, and the rescued file's length.
 #[repr(C)]
-#[derive(Drop)]
+#[derive(Clone, Copy)]
 pub struct Rescued {
     pub number: u64,
     pub object: u64,

@@ -14,14 +14,14 @@ use root::Judged;
 const FAULT: usize = 0x8000_0000_0000_0000;
 
 // A refusal with its object and component; or the places of the root's attributes and objects, as bytes left.
-#[derive(Drop)]
+#[derive(Clone, Copy)]
 enum Told {
     No(u64, u64, u64),
     Yes(usize, usize),
 }
 
 // A refusal with its object and component; or where the manifest begins and ends, where the map of its objects begins, and place and length of the root's attributes.
-#[derive(Drop)]
+#[derive(Clone, Copy)]
 pub enum Found {
     No(u64, u64, u64),
     Yes(usize, usize, usize, u64, u64),

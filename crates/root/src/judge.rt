@@ -8,7 +8,7 @@ use objects::Found;
 use walk::Letters;
 
 // Sound, or a refusal.
-#[derive(Drop)]
+#[derive(Clone, Copy)]
 pub enum Fine {
     No(u64),
     Yes,

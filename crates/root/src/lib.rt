@@ -13,14 +13,14 @@ use pass::entries;
 use walk::Opening;
 
 // A refusal: number, object, component; or how many objects and components there are, and the place of the attributes, 0 for none.
-#[derive(Drop)]
+#[derive(Clone, Copy)]
 pub enum Judged {
     No(u64, usize, usize),
     Yes(usize, usize, usize),
 }
 
 // Where a value ends, as `cbor::skip` answers it, what it says if it is well-formed, and the place of its objects, 0 for none.
-#[derive(Drop)]
+#[derive(Clone, Copy)]
 pub struct Whole {
     pub end: usize,
     pub verdict: Judged,

@@ -15,7 +15,7 @@ use view::part;
 // Number, object and component; place and length of their names, 0 and 0 where none is given, and of what is at fault; with ROOM the numbers needed. All 0 for a file
 // that is accepted.
 #[repr(C)]
-#[derive(Drop)]
+#[derive(Clone, Copy)]
 pub struct Explanation {
     pub number: u64,
     pub object: u64,

@@ -6,7 +6,7 @@ ghost use Rattle.shape.specs.Shape as spec;
 use walk::{Numeral, Opening};
 
 // The refusal number, or how many dimensions there are.
-#[derive(Drop)]
+#[derive(Clone, Copy)]
 pub enum Shaped {
     No(u64),
     Yes(usize),

@@ -15,7 +15,7 @@ use view::Extent;
 
 // Where an engine's rows stand in the table, and what was answered when they were loaded; all 0 if nothing is loaded.
 #[repr(C)]
-#[derive(Drop)]
+#[derive(Clone, Copy)]
 pub struct Held {
     pub number: u64,
     pub place: u64,

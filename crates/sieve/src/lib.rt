@@ -13,7 +13,7 @@ use table::{Place, lay};
 use walk::{Entry, Opening};
 
 // How many objects are kept and dropped, how many components are kept; where the last blob ends, or 2^40 + 1, and how many bytes the entries take, or the limit and 1.
-#[derive(Drop)]
+#[derive(Clone, Copy)]
 pub struct Sieve {
     pub kept: usize,
     pub dropped: usize,
@@ -23,7 +23,7 @@ pub struct Sieve {
 }
 
 // Where a value ends, as `cbor::skip` answers it, and what there is with it.
-#[derive(Drop)]
+#[derive(Clone, Copy)]
 struct Turn {
     end: usize,
     sieve: Sieve,

@@ -3,7 +3,7 @@ ghost use Rattle.std.specs.Prelude.{◌≡◌};
 ghost use Rattle.spot.specs.Shown as is;
 
 // A refusal number, 0 for none, and the bytes left at what it refuses.
-#[derive(Drop)]
+#[derive(Clone, Copy)]
 pub struct Spot {
     pub number: u64,
     pub left: usize,

@@ -16,14 +16,14 @@ pub const SHARED: usize = 65552;
 pub const STATE: usize = 8;
 
 // The numbers that the engines hold, if the states are sound.
-#[derive(Drop)]
+#[derive(Clone, Copy)]
 pub enum Usage {
     Unusable,
     Holding(usize, usize),
 }
 
 // Nothing sound; nothing loaded, with so many numbers free; or rows at a place: how many numbers, objects and components.
-#[derive(Drop)]
+#[derive(Clone, Copy)]
 pub enum Place {
     Nowhere,
     Idle(usize),

@@ -63,7 +63,7 @@ fn at_plain(s: &[u8]) -> usize
 }
 
 // How many bytes an item takes, or how many are left where it is refused.
-#[derive(Drop)]
+#[derive(Clone, Copy)]
 pub enum Reached {
     Past(usize),
     Stopped(usize),
@@ -122,7 +122,7 @@ fn inside(b: u8, h: cbor::Argued) -> cbor::Holding
 }
 
 // How an item ended that holds no other or whose head is refused, or what it holds.
-#[derive(Drop)]
+#[derive(Clone, Copy)]
 enum Begun {
     Ended(Reached),
     Holds(cbor::Holding),

@@ -6,7 +6,7 @@ ghost use Rattle.summary.specs.Panel as is;
 
 // The verdict, or ROOM for either room; and the length of the text. All but the first three are 0 on refusal.
 #[repr(C)]
-#[derive(Drop)]
+#[derive(Clone, Copy)]
 pub struct Panel {
     pub number: u64,
     pub object: u64,

@@ -7,7 +7,7 @@ pub mod span;
 pub mod stored;
 
 // Where an object's rows go: the manifest's end in the file, the object's number, where its own row begins in the table and where its components' begin.
-#[derive(Drop)]
+#[derive(Clone, Copy)]
 pub struct Place {
     pub end: usize,
     pub owner: u64,

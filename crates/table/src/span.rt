@@ -4,7 +4,7 @@ ghost use Rattle.table.specs.Spans as is;
 use fields::place_of;
 
 // A place in the file and a length; 0 and 0 for what is absent.
-#[derive(Drop)]
+#[derive(Clone, Copy)]
 pub struct Span {
     pub place: u64,
     pub size: u64,

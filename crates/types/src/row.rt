@@ -4,7 +4,7 @@ ghost use Rattle.types.specs.Row.{tagged as tagged_of, four_at, Tells, is_row, f
 
 use endian::wide;
 
-#[derive(Drop)]
+#[derive(Clone, Copy)]
 pub struct Words {
     pub a: u64,
     pub b: u64,

@@ -11,7 +11,7 @@ const HIGH_OF_EIGHT: u64 = 0x8080_8080_8080_8080;
 const HIGH_OF_FOUR: u64 = 0x8080_8080;
 
 // What must follow a first byte: `need` more bytes, the first from `low` to `high`; 4 if no character begins so.
-#[derive(Drop)]
+#[derive(Clone, Copy)]
 pub struct Lead {
     pub need: u64,
     pub low: u64,

@@ -5,7 +5,7 @@ ghost use Rattle.view.specs.Extents.{told, found, within};
 
 // 0, and where a component lies and how long it is; or INDEX, 0 and 0.
 #[repr(C)]
-#[derive(Drop)]
+#[derive(Clone, Copy)]
 pub struct Extent {
     pub number: u64,
     pub offset: u64,
@@ -13,7 +13,7 @@ pub struct Extent {
 }
 
 // Where a component's row begins in the table.
-#[derive(Drop)]
+#[derive(Clone, Copy)]
 pub enum Row {
     Nowhere,
     At(usize),

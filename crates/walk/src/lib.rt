@@ -4,21 +4,21 @@ ghost use Rattle.std.specs.Prelude.{◌-◌, ◌<◌, ◌≤◌};
 ghost use Rattle.walk.specs.Places as places;
 
 // Whole text: where its letters begin, and how many there are.
-#[derive(Drop)]
+#[derive(Clone, Copy)]
 pub enum Letters {
     NoText,
     Text(usize, usize),
 }
 
 // An unsigned integer.
-#[derive(Drop)]
+#[derive(Clone, Copy)]
 pub enum Numeral {
     NoNumber,
     Number(u64),
 }
 
 // A map or an array: how its parts are counted, how many are due, and where they begin.
-#[derive(Drop)]
+#[derive(Clone, Copy)]
 pub enum Opening {
     NotOpen,
     Opened(u64, u64, usize),
@@ -172,7 +172,7 @@ pub fn more(s: &[u8], mode: u64, count: u64, done: usize) -> bool
 }
 
 // A turn over a map's entries: how they end, or where the value of the next begins.
-#[derive(Drop)]
+#[derive(Clone, Copy)]
 pub enum Entry {
     End(usize),
     Value(usize),

@@ -11,7 +11,7 @@ use table::{Place, lay};
 use walk::{Entry, Opening};
 
 // Where the last blob ends, or 2^40 + 1; and how many bytes the objects' entries take, or the limit and 1.
-#[derive(Drop)]
+#[derive(Clone, Copy)]
 pub struct Sum {
     pub place: u64,
     pub total: u64,

@@ -12,7 +12,7 @@ use rows::sound;
 
 // The refusal with its object and component, or 0, 0 and 0; and the file's length, 0 on refusal.
 #[repr(C)]
-#[derive(Drop)]
+#[derive(Clone, Copy)]
 pub struct Written {
     pub number: u64,
     pub object: u64,
@@ -49,7 +49,7 @@ fn all_below(rows: &[u64])
 }
 
 // A refusal's number and row; or where the last blob ends, and how long the manifest is.
-#[derive(Drop)]
+#[derive(Clone, Copy)]
 enum Sized {
     No(u64, u64),
     Yes(u64, u64),
