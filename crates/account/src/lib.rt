@@ -1,4 +1,6 @@
 // Where the bytes of a file are: frame, manifest, in components, in none. The room that is lent holds the table, then the components' ranges, and ends as zeros.
+#![tactic(auto)]
+
 ghost use Rattle.std.specs.Prelude.{◌≡◌, ◌+◌, ◌*◌, length, replicate};
 ghost use Rattle.meaning.specs.Columns.{object_width};
 ghost use Rattle.meaning.specs.Layouts.{layout_of};

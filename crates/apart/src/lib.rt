@@ -1,4 +1,6 @@
 // Two runs of bytes: the first position at which they differ, and at how many they do. Both go a block of bytes at a time. Positions past the end of the shorter one differ.
+#![tactic(auto)]
+
 ghost use Rattle.std.specs.Prelude.{◌≡◌, not, ◌≤◌, eqb};
 ghost use Rattle.changes.specs.Changes.{bit};
 ghost use Rattle.apart.specs.Positions.{told, many_apart, block, Both, Passed, Run, Rest};

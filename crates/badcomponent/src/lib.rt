@@ -1,5 +1,7 @@
 // The first check of document 01's order that breaks in a component, and where; and where its length stands (document 02, Request 08). Every slice runs to the
 // manifest's end; a place is the number of bytes left there, 0 for none.
+#![tactic(auto)]
+
 ghost use Rattle.std.specs.Prelude.{◌≡◌, length};
 ghost use Rattle.meaning.specs.Layouts.{layout_of};
 ghost use Rattle.component.specs.Value.{given};

@@ -1,4 +1,6 @@
 // Keys, then repeats, of a map with known fields: the first check that breaks, and where (document 02, Request 08).
+#![tactic(auto)]
+
 ghost use Rattle.std.specs.Prelude.{◌≡◌, ◌+◌, length, replicate};
 ghost use Rattle.keys.specs.Odd.{slots_at};
 ghost use Rattle.badfields.specs.Fields as is;

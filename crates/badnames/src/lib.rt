@@ -1,5 +1,7 @@
 // The first check that breaks in a map of names, and where (document 02, Request 08): its kind, its keys, UTF-8, count, repeats.
 // The number of the check that breaks is known, so the names' letters are read for UTF-8 only where it is TEXT, and for repeats only where it is TWICE.
+#![tactic(auto)]
+
 ghost use Rattle.std.specs.Prelude.{◌≡◌, cond, false, ◌≤◌, ◌<◌, length};
 ghost use Rattle.badnames.specs.Keys as is;
 ghost use Rattle.walk.specs.Places.{Modes};

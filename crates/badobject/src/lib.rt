@@ -1,5 +1,7 @@
 // The first check that breaks in an object that the reader refused, where, and in which component (document 02, Request 08). Every slice runs to the manifest's end; a place
 // is the number of bytes left there, 0 for none.
+#![tactic(auto)]
+
 ghost use Rattle.std.specs.Prelude.{◌≡◌, length};
 ghost use Rattle.badobject.specs.Owner as is;
 

@@ -1,5 +1,7 @@
 // The components of an object, then the rules of its format: the first check that breaks, where, and in which component (document 02, Request 08). The reader's number and index
 // say where to look. Every slice runs to the manifest's end; a place is the number of bytes left there, 0 for none.
+#![tactic(auto)]
+
 ghost use Rattle.std.specs.Prelude.{◌≡◌};
 ghost use Rattle.badnames.specs.Keys.{NamesAt};
 ghost use Rattle.badparts.specs.Parts as is;

@@ -1,5 +1,7 @@
 // The root of a manifest: the first check that breaks before its objects' own, and where; and where the objects stand (document 02, Request 08).
 // Every slice runs to the manifest's end, and a place is the number of bytes left there, 0 for none. If a check breaks, n is its number: the reader found it.
+#![tactic(auto)]
+
 ghost use Rattle.std.specs.Prelude.{◌≡◌, ◌≤◌, length};
 ghost use Rattle.meaning.specs.Limit.{object_limit};
 ghost use Rattle.meaning.specs.Layouts.{layout_of};

@@ -1,4 +1,6 @@
 // Of an object that is refused by ROLE: is an index role to blame that is there, or is a role missing (document 02, Request 08)? Components are rows, as `formats` has them.
+#![tactic(auto)]
+
 ghost use Rattle.std.specs.Prelude.{◌≡◌, List, ◌<◌};
 ghost use Rattle.meaning.specs.Format.{Part};
 ghost use Rattle.formats.specs.Parts.{part_rows, role_name};

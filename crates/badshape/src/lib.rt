@@ -1,5 +1,7 @@
 // The first check that breaks in an object's shape, and where (document 02, Request 08): its kind, each element's, its rank. Every slice runs to the manifest's end;
 // a place is the number of bytes left there.
+#![tactic(auto)]
+
 ghost use Rattle.std.specs.Prelude.{◌≡◌};
 ghost use Rattle.badshape.specs.Steps.{ShapeIs};
 

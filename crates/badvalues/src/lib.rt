@@ -1,5 +1,7 @@
 // The values of an object up to its attributes: the first check that breaks, and where (document 02, Request 08). Every slice runs to the manifest's end; a place is
 // the number of bytes left there, 0 for none.
+#![tactic(auto)]
+
 ghost use Rattle.std.specs.Prelude.{◌≡◌, length};
 ghost use Rattle.badvalues.specs.Steps as is;
 

@@ -1,5 +1,7 @@
 // Heads of CBOR items, and passing over one item of any kind (document 01, "CBOR carried"). Every slice begins with the item and may go on after it.
 // An answer is the number of bytes that were passed, or 2^63 and a refusal number, which is above the length of every slice.
+#![tactic(auto)]
+
 ghost use Rattle.std.specs.Prelude.{◌≡◌, ◌+◌, ◌-◌, ◌*◌, ◌/◌, ◌%◌, ◌<◌, ◌≤◌, length, get_or};
 ghost use Rattle.meaning.specs.Read as read;
 ghost use Rattle.cbor.specs.Ending as spec;

@@ -1,5 +1,7 @@
 // A row's numbers by name (document 01, "The table and the view", and Request 12 of document 02), and whether rows lie in a table. Every width and column of the code stands here and
 // nowhere else; the definitions have theirs in `meaning`. A range takes two columns: its place, and after it its length.
+#![tactic(auto)]
+
 ghost use Rattle.std.specs.Prelude.{◌≡◌, ◌+◌, ◌*◌, leb};
 ghost use Rattle.meaning.specs.Columns.{object_width, component_width};
 

@@ -1,4 +1,6 @@
 // What changed between two files, each of its own layout: both are read into the room that is lent, their objects compared, and the room ends as zeros.
+#![tactic(auto)]
+
 ghost use Rattle.std.specs.Prelude.{◌≡◌, ◌≤◌, length, take, drop, replicate};
 ghost use Rattle.meaning.specs.Layouts.{layout_of};
 ghost use Rattle.meaning.specs.Frame.{reading};

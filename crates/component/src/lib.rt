@@ -1,5 +1,7 @@
 // A component's value: one walk passes over its map and notes where its fields stand, then the fields are judged from these places.
 // Every slice runs to the manifest's end, and a place is the number of bytes left there, 0 for none.
+#![tactic(auto)]
+
 mod judge;
 mod pass;
 pub mod place;

@@ -1,4 +1,6 @@
 // The `components` map of an object: its names, and each component judged and its row put, in one walk. Whoever wants no rows lends an empty table.
+#![tactic(auto)]
+
 pub mod row;
 
 ghost use Rattle.std.specs.Prelude.{◌≡◌, ℕ, length};

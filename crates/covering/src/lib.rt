@@ -1,5 +1,7 @@
 // How many positions ranges cover, overlapping in any way. A range is two numbers: where it begins, and the position past its last.
 // They are ordered in place by where they begin, and counted in one sweep.
+#![tactic(auto)]
+
 pub mod order;
 
 ghost use Rattle.std.specs.Prelude.{◌≡◌, ◌+◌, ◌%◌, ◌^◌, ◌≤◌, ◌<◌, length};

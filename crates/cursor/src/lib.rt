@@ -1,5 +1,7 @@
 // The explainer's cursor (document 02, Request 08): it holds the manifest's bytes, as they were lent, and its place, the number of bytes left there. The functions over it are thin: each
 // takes it apart and calls one that takes a slice and a number.
+#![tactic(auto)]
+
 ghost use Rattle.std.specs.Prelude.{◌≡◌};
 ghost use Rattle.cursor.specs.Item as is;
 

@@ -1,4 +1,6 @@
 // What differs between two components of one name, and between two objects of one name by themselves, from the rows of two files.
+#![tactic(auto)]
+
 ghost use Rattle.std.specs.Prelude.{◌≡◌, not, ◌+◌, ◌≤◌, length, eqb};
 ghost use Rattle.meaning.specs.Text as meant;
 ghost use Rattle.meaning.specs.Columns.{object_width, component_width};

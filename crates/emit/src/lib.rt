@@ -1,4 +1,6 @@
 // Pieces of a written file: each lays its bytes into `out` at a place where there is room for them, and answers the place past them.
+#![tactic(auto)]
+
 mod front;
 
 ghost use Rattle.std.specs.Prelude.{◌≡◌, ◌+◌, ◌-◌, ◌*◌, ◌<◌, ◌≤◌, ◌^◌, ◌++◌, map, replicate};

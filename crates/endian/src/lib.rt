@@ -1,4 +1,6 @@
 // Numbers that stand in several bytes, the most significant first.
+#![tactic(auto)]
+
 ghost use Rattle.std.specs.Prelude.{◌≡◌, ◌+◌, ◌*◌, ◌<◌, ◌≤◌, length};
 ghost use Rattle.endian.specs.Word.{word};
 

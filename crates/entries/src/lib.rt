@@ -1,4 +1,6 @@
 // An entry of eight numbers into a lent list, from `at` on, as far as it fits. Answers the place past it.
+#![tactic(auto)]
+
 ghost use Rattle.std.specs.Prelude.{[], ◌∷◌};
 ghost use Rattle.put.specs.Wrote.{Wrote};
 ghost use Rattle.changes.specs.Changes as is;

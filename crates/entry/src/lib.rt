@@ -1,4 +1,6 @@
 // The entry of an index in a map of names (document 02, Request 08). Every slice begins with the map and runs to the manifest's end; a place is the number of bytes left there.
+#![tactic(auto)]
+
 ghost use Rattle.std.specs.Prelude.{◌≡◌};
 ghost use Rattle.entry.specs.Nth as is;
 ghost use Rattle.walk.specs.Places.{Modes};

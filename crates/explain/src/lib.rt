@@ -1,4 +1,6 @@
 // Why a file was refused (document 02, Request 08): a second walk over it, to the first check of document 01's order that breaks.
+#![tactic(auto)]
+
 ghost use Rattle.std.specs.Prelude.{◌≡◌, ◌+◌, ◌≤◌, ◌<◌, length, ltb};
 ghost use Rattle.meaning.specs.Check.{pass};
 ghost use Rattle.meaning.specs.Layouts.{layout_of};

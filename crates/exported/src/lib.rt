@@ -1,4 +1,6 @@
 // The leaves, and the acceptance check with its indices, under plain names, for programs in Rust or C that hold them against others. Each only calls what it is named after.
+#![tactic(auto)]
+
 ghost use Rattle.std.specs.Prelude.{◌≡◌, List, ℕ, ◌≤◌, ◌+◌, ◌*◌, ◌/◌, ◌%◌, length, eqb};
 ghost use Rattle.meaning.specs.Read as read;
 ghost use Rattle.meaning.specs.Text as texts;

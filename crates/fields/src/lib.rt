@@ -1,5 +1,7 @@
 // Where the known fields of a map stand, noted in a lent array of slots while the map is passed over. A place is the number of bytes left there, 0 for none:
 // slots 0 to N - 1 for the N places of a layout's list, N for an unknown name, N + 1 for a key that isn't whole text, N + 2 for a known field again.
+#![tactic(auto)]
+
 ghost use Rattle.std.specs.Prelude.{◌≡◌, ◌+◌, ◌-◌, ◌≤◌, length};
 ghost use Rattle.fields.specs.Slots.{marked};
 ghost use Rattle.fields.specs.Attributes.{AttributesAt};

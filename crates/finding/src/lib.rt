@@ -1,5 +1,7 @@
 // The finding of a component of f32 numbers: its smallest and largest, and how many NaNs it holds.
 // A number is four bytes, the least significant first; bytes left over at the end count for nothing.
+#![tactic(auto)]
+
 pub mod table;
 
 ghost use Rattle.std.specs.Prelude.{◌≡◌, ◌+◌, ◌*◌, ◌<◌, ◌≤◌, not, T, length};

@@ -1,4 +1,6 @@
 // The reader's verdict on the file of sound rows, foreseen from the rows: nothing is written to find it out (document 01, "The writer").
+#![tactic(auto)]
+
 mod depth;
 mod judged;
 mod named;

@@ -1,5 +1,7 @@
 // What a format asks of an object's components: RANK, ROLE and LENGTH of document 01. A component is a row of four numbers: the code of
 // its role (types::role_code), the bytes of one element (types::unit_of: 256 and those of one number where elements aren't counted), 1 for plain u64 or else 0, and its length.
+#![tactic(auto)]
+
 ghost use Rattle.std.specs.Prelude.{◌≡◌, List, ℕ, ◌<◌, ◌*◌};
 ghost use Rattle.types.specs.Known.{position, format_names};
 ghost use Rattle.meaning.specs.Format as format;

@@ -1,4 +1,6 @@
 // The file frame (document 01): magic at both ends, the manifest's size before the last, and where the manifest starts. In layout 1.0 the size stands last.
+#![tactic(auto)]
+
 ghost use Rattle.std.specs.Prelude.{◌≡◌, ◌+◌, ◌-◌, ◌≤◌, length, drop};
 ghost use Rattle.meaning.specs.Text.{same};
 ghost use Rattle.meaning.specs.Layouts.{layout_of};

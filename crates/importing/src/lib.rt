@@ -1,1 +1,2 @@
 // No code: a file of either layout, compared with what its import is written as.
+#![tactic(auto)]

@@ -1,4 +1,6 @@
 // Two files in one, laid by the writer's loops: header, the first's blobs and then the second's, one manifest for both, size, footer.
+#![tactic(auto)]
+
 ghost use Rattle.std.specs.Prelude.{[], ◌*◌, ◌≤◌};
 ghost use Rattle.meaning.specs.Columns.{object_width};
 ghost use Rattle.emit.specs.Laid.{Room, Laid};

@@ -1,5 +1,7 @@
 // The keys of a map with known fields: the leftmost that isn't whole text, and the leftmost second copy of a known field (document 02, Request 08).
 // A map's level is 0 for a root, 1 for an object, any other for a component.
+#![tactic(auto)]
+
 ghost use Rattle.std.specs.Prelude.{◌≡◌, ℕ, ◌+◌, ◌≤◌, length, replicate};
 ghost use Rattle.types.specs.Known.{field_at};
 ghost use Rattle.fields.specs.Slots.{SlotIs};

@@ -1,4 +1,6 @@
 // The whole file that sound rows ask for: header, blobs, manifest, size, footer.
+#![tactic(auto)]
+
 pub mod components;
 mod fields;
 pub mod framing;

@@ -1,4 +1,6 @@
 // Exact products and sums of 64-bit numbers: what a component's length has to be, and where it may lie. Nothing wraps.
+#![tactic(auto)]
+
 ghost use Rattle.std.specs.Prelude.{◌≡◌, ◌+◌, ◌*◌, ◌/◌, ◌%◌, ltb, eqb};
 ghost use Rattle.meaning.specs.Types.{product};
 ghost use Rattle.lengths.specs.Place.{place_rule, number};

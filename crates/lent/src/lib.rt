@@ -1,4 +1,6 @@
 // What any lent slice of bytes is: each below 256, and fewer than 2^64 of them.
+#![tactic(auto)]
+
 ghost use Rattle.std.specs.Prelude.{◌<◌};
 ghost use Rattle.readback.specs.Lent.{Held};
 

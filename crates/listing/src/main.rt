@@ -1,4 +1,6 @@
 // The box's small program: prints the listing of each file whose path it is given, `too long`, or its refusal.
+#![tactic(auto)]
+
 mod printed;
 
 ghost use Rattle.std.specs.Prelude.{◌≤◌, length};

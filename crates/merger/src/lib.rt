@@ -1,4 +1,6 @@
 // Document 02, Req 10: two files, each of either layout, into one of 1.2.0. The lent rows hold both files' tables, and end as zeros.
+#![tactic(auto)]
+
 mod checks;
 mod weigh;
 

@@ -1,4 +1,6 @@
 // All objects of two tables: the list of what changed between their models, in n log n comparisons of names.
+#![tactic(auto)]
+
 ghost use Rattle.std.specs.Prelude.{◌≡◌, ◌+◌, ◌*◌, ◌<◌, ◌≤◌, length};
 ghost use Rattle.meaning.specs.Columns.{object_width};
 ghost use Rattle.put.specs.Wrote.{Wrote};

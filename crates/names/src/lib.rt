@@ -1,5 +1,7 @@
 // Which names differ, for names that lie in one buffer and are listed by two arrays of numbers: for each, the bytes left at its first byte, and its
 // length. A table of digests answers for most lists; else the names are sought by halving among the earlier ones, n log n comparisons at most.
+#![tactic(auto)]
+
 mod named;
 mod sorted;
 mod tabled;

@@ -1,5 +1,7 @@
 // The names of an `objects` or a `components` map: noted one by one as the map is walked, and judged together (document 01, "Order": keys, UTF-8, count, repeats).
 // A name is noted by the bytes left at its first letter and by its length; a key that is no name by 0 and 0.
+#![tactic(auto)]
+
 ghost use Rattle.std.specs.Prelude.{◌≡◌, ◌+◌, ◌<◌, ◌≤◌, length};
 ghost use Rattle.walk.specs.Put.{put};
 ghost use Rattle.naming.specs.NotedNames as spec;

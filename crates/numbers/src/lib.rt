@@ -1,4 +1,6 @@
 // Document 01's refusal numbers, and document 02's, by name; and 01's limits. The definitions have the same names (`meaning`: Refusal, Limit).
+#![tactic(auto)]
+
 pub const SHORT: u64 = 1;
 
 pub const HEADER: u64 = 2;

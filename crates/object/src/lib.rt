@@ -1,6 +1,8 @@
 // An object's value: one walk passes over its map, notes where its fields stand, judges its components and puts their rows; then the fields are judged from these places, and its own row is put.
 // Whoever wants no rows lends an empty table.
 // Every slice runs to the manifest's end, and a place is the number of bytes left there, 0 for none.
+#![tactic(auto)]
+
 mod judge;
 pub mod pass;
 pub mod place;

@@ -1,4 +1,6 @@
 // The `objects` map: its names, and each object judged and its rows put, by one walk. The judge lends it an empty table, the reader ignores what it finds.
+#![tactic(auto)]
+
 ghost use Rattle.std.specs.Prelude.{true, ◌≡◌, length};
 ghost use Rattle.meaning.specs.Layouts.{layout_of};
 ghost use Rattle.cbor.specs.Ending.{code, item_end, rest};

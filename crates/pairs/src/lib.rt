@@ -1,4 +1,6 @@
 // Two objects of one name: what differs between them, an entry for that, and those of their components after it. The entry's place is kept free until its components have been seen.
+#![tactic(auto)]
+
 ghost use Rattle.std.specs.Prelude.{◌≡◌, ◌+◌};
 ghost use Rattle.put.specs.Wrote.{Wrote, capped};
 ghost use Rattle.changes.specs.Changes.{flat, in_both};

@@ -1,4 +1,6 @@
 // The listing's exact bytes, from a file and a table, into a lent text.
+#![tactic(auto)]
+
 mod ends;
 mod lines;
 mod rows;

@@ -1,4 +1,6 @@
 // The components of two objects of one name: an entry for each that differs or is in one only, and what of them differs.
+#![tactic(auto)]
+
 ghost use Rattle.std.specs.Prelude.{◌≡◌, cond, ◌+◌, ◌*◌, ◌≤◌, length, eqb};
 ghost use Rattle.std.proofs.Math.Option.{some};
 ghost use Rattle.meaning.specs.Columns.{component_width};

@@ -1,4 +1,6 @@
 // Which placement plans are accepted (document 02, Request 02): one offset a row, each by the rules, no two blobs sharing a byte, all ends at most at the ceiling.
+#![tactic(auto)]
+
 ghost use Rattle.std.specs.Prelude.{◌≡◌, ◌&&◌, ◌+◌, ◌*◌, ◌≤◌, max, length};
 ghost use Rattle.meaning.specs.Columns.{component_width};
 ghost use Rattle.meaning.specs.Limit.{end_limit};

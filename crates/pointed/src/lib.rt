@@ -1,4 +1,6 @@
 // The explanation of a check that breaks in a manifest's tree (document 02, Request 08): its numbers, the names that it belongs to, and the bytes at fault.
+#![tactic(auto)]
+
 ghost use Rattle.pointed.specs.Pointed as is;
 
 use fields::place_of;

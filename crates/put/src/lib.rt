@@ -1,4 +1,6 @@
 // Pieces of a line: each writes its bytes into `out` from `at` on, as far as they fit, and answers the place past them.
+#![tactic(auto)]
+
 ghost use Rattle.std.specs.Prelude.{◌≡◌, [], ◌∷◌, ◌&&◌, not, ◌<◌, ◌+◌, eqb};
 ghost use Rattle.meaning.specs.Text.{within};
 ghost use Rattle.meaning.specs.Types.{storage_of};

@@ -1,4 +1,6 @@
 // The acceptance check of a file (document 01): its frame, its manifest as one CBOR item, and the judgement of what that item says.
+#![tactic(auto)]
+
 pub mod into;
 
 ghost use Rattle.std.specs.Prelude.{◌≡◌, ℕ};

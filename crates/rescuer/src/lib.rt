@@ -1,4 +1,6 @@
 // Document 02, Req 14: what is sound of a file of either layout, into one of 1.2.0. The lent rows hold the kept objects' table, and end as zeros.
+#![tactic(auto)]
+
 mod checks;
 mod opening;
 

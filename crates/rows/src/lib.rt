@@ -1,4 +1,6 @@
 // Which rows are sound for the writer (document 01, "The writer"; all others are ROW): for any rows, any counts, any root attributes and any buffer.
+#![tactic(auto)]
+
 mod judge;
 mod owned;
 

@@ -1,4 +1,6 @@
 // The sentence about a refused file (document 02, Request 08), from the numbers of its explanation, into a lent text.
+#![tactic(auto)]
+
 ghost use Rattle.std.specs.Prelude.{◌≡◌, ◌++◌, ◌∷◌, ◌+◌, ◌<◌, length};
 ghost use Rattle.meaning.specs.Check.{pass};
 ghost use Rattle.meaning.specs.Layouts.{layout_of};

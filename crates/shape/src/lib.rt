@@ -1,4 +1,6 @@
 // The shape of an object (document 01, "Order"): an array of at most eight numbers, the dimensions.
+#![tactic(auto)]
+
 ghost use Rattle.std.specs.Prelude.{◌≡◌, ◌+◌, ◌<◌, length};
 ghost use Rattle.walk.specs.Put.{put};
 ghost use Rattle.shape.specs.Shape as spec;

@@ -1,4 +1,6 @@
 // Two engines, one table (document 02, Request 11): each loads a file's rows into what is free of the shared numbers, looks at them, and gives them back.
+#![tactic(auto)]
+
 ghost use Rattle.std.specs.Prelude.{◌≡◌, [], ◌∷◌, ◌+◌, ◌*◌, ◌≤◌, length, take, drop, replicate};
 ghost use Rattle.std.proofs.lemmas.List.Edits.{sets};
 ghost use Rattle.meaning.specs.Columns.{object_width, component_width};

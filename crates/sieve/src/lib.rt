@@ -1,5 +1,7 @@
 // The objects of a manifest one after the other, each judged for itself: those that pass are kept, the others dropped. In a first pass what is kept is measured, one object's rows at a time in a window on the
 // stack; in a second its rows are put into a table, and what is dropped into a list. Every slice runs to the manifest's end, which is the file's place `end`.
+#![tactic(auto)]
+
 ghost use Rattle.std.specs.Prelude.{◌≡◌, [], ◌∷◌, suc, ◌+◌, ◌≤◌, length};
 ghost use Rattle.std.proofs.lemmas.List.Edits.{sets};
 ghost use Rattle.meaning.specs.Limit.{manifest_limit, end_limit};

@@ -1,4 +1,6 @@
 // Exact lengths of what the writer is asked to write, by its rows alone: where the last blob ends without a plan, and how long the manifest gets. Sums stop one above their limit.
+#![tactic(auto)]
+
 pub mod entries;
 pub mod piece;
 pub mod placing;

@@ -1,4 +1,6 @@
 // The first check of an order that breaks, and where it looks (document 02, Request 08). A place is the number of bytes left there before the manifest's end.
+#![tactic(auto)]
+
 ghost use Rattle.std.specs.Prelude.{◌≡◌};
 ghost use Rattle.spot.specs.Shown as is;
 

@@ -1,4 +1,6 @@
 // Which states calls can leave, and where an engine's rows stand. The table's numbers themselves aren't looked at.
+#![tactic(auto)]
+
 ghost use Rattle.std.specs.Prelude.{◌≡◌, ◌+◌, ◌*◌, ◌≤◌, length, eqb};
 ghost use Rattle.meaning.specs.Columns.{object_width, component_width};
 ghost use Rattle.meaning.specs.Text.{all};

@@ -1,4 +1,6 @@
 // Where the reading of an item that is refused stops (document 02, Request 08): how many bytes are left at the first byte of the head met; 0 where they ended early.
+#![tactic(auto)]
+
 ghost use Rattle.std.specs.Prelude.{◌≡◌, false, ◌<◌, get_or};
 ghost use Rattle.cbor.specs.Ending.{holds};
 ghost use Rattle.stop.specs.Stop as is;

@@ -1,4 +1,6 @@
 // The panel's text of a file: its account first, which leaves the lent room as zeros, then its rows again, and the lines by them.
+#![tactic(auto)]
+
 ghost use Rattle.std.specs.Prelude.{◌≡◌, length, replicate};
 ghost use Rattle.meaning.specs.Layouts.{layout_of};
 ghost use Rattle.panel.specs.ListedText.{text_after};

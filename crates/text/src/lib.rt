@@ -1,5 +1,7 @@
 // Questions about bytes, each answered by what the crate `meaning` defines: are two texts the same, and the two ends of the file frame.
 // Beside these, an order and a digest of texts, for callers that seek a text among many.
+#![tactic(auto)]
+
 mod compare;
 mod digests;
 mod frame;

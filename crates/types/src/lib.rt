@@ -1,5 +1,7 @@
 // What the known texts of a manifest mean: the fields of its maps, storage and logical types, formats, roles.
 // Functions of bytes and numbers, for the reader and the writer alike.
+#![tactic(auto)]
+
 mod row;
 mod tables;
 

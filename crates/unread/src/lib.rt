@@ -1,4 +1,6 @@
 // Why a file is refused before anything is said of its tree (document 02, Request 08): its frame, 1 to 5, or the reading of its manifest, 6 and 7.
+#![tactic(auto)]
+
 ghost use Rattle.std.specs.Prelude.{◌≡◌};
 ghost use Rattle.unread.specs.Unread as is;
 

@@ -1,5 +1,7 @@
 // Whether a name of one file stands in another: the first's names are sorted, the second's sought, n log n comparisons at most. Places and lengths of the first's n names stand in the
 // table, two numbers for each, and then those of the second's k.
+#![tactic(auto)]
+
 ghost use Rattle.std.specs.Prelude.{◌≡◌, ◌+◌, ◌*◌, ◌≤◌, length};
 ghost use Rattle.names.specs.Names.{listed};
 ghost use Rattle.matching.specs.Named.{named};

@@ -1,4 +1,6 @@
 // UTF-8: 32 bytes at a time while all are below 128, then eight; a word that has another is passed character by character, and then words are tried again.
+#![tactic(auto)]
+
 ghost use Rattle.std.specs.Prelude.{◌≡◌, true, ◌≤◌, length};
 ghost use Rattle.meaning.specs.Text as meant;
 ghost use Rattle.utf8.specs.Lead as leads;

@@ -1,5 +1,7 @@
 // Runs the vectors of the file `vectors` through the proved leaves, and prints each with its answer. A vector is a letter for the question, two bytes for
 // the length, the higher first, and the bytes. `second vectors` makes the file and what is to be printed.
+#![tactic(auto)]
+
 use endian::{be2, wide};
 use libc::STDOUT_FILENO;
 

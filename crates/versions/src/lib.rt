@@ -1,4 +1,6 @@
 // The shape of a version and its major, in one pass without a list of its runs.
+#![tactic(auto)]
+
 ghost use Rattle.std.specs.Prelude.{◌≡◌, ◌<◌};
 ghost use Rattle.meaning.specs.Version as meant;
 ghost use Rattle.versions.specs.Room as rooms;

@@ -1,4 +1,6 @@
 // One component's part of the file, lent back, and the question where it lies. For any table, any counts and any index: what lies outside is INDEX.
+#![tactic(auto)]
+
 ghost use Rattle.std.specs.Prelude.{◌≡◌, ◌+◌, ◌*◌, length, take, drop};
 ghost use Rattle.meaning.specs.View as meaning;
 ghost use Rattle.view.specs.Extents.{told, found, within};

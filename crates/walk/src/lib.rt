@@ -1,5 +1,7 @@
 // What stands at a place of the manifest, for the tree that is read there. Every slice begins with the item and runs to the manifest's end; a place is kept as the
 // number of bytes left there, and 0 is absence.
+#![tactic(auto)]
+
 ghost use Rattle.std.specs.Prelude.{◌-◌, ◌<◌, ◌≤◌};
 ghost use Rattle.walk.specs.Places as places;
 

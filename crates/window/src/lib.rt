@@ -1,5 +1,7 @@
 // An accepted manifest's objects one after the other, the rows of one at a time in a window on the stack: what the writer's sums come to, and the objects' names, without a table.
 // Every slice runs to the manifest's end, which is the file's place `end`.
+#![tactic(auto)]
+
 ghost use Rattle.std.specs.Prelude.{suc, ◌≤◌, length};
 ghost use Rattle.meaning.specs.Limit.{manifest_limit, end_limit};
 ghost use Rattle.window.specs.Summed.{Added, AllSummed, Measured};

@@ -1,5 +1,7 @@
 // The writer (document 01, and document 02's Request 02): rows and a lent buffer to a whole file in a lent output, with blobs where the rule or a plan places them. Every check is made
 // before a byte is written.
+#![tactic(auto)]
+
 ghost use Rattle.std.specs.Prelude.{◌≡◌, [], ◌<◌, ◌^◌, length};
 ghost use Rattle.readback.specs.Lent.{Lent};
 ghost use Rattle.writer.specs.WriterAnswer as is;

@@ -1,0 +1,13 @@
+-- `badnames::unread` meets its contract: a law for each branch.
+use Rattle.badnames.proofs.Untested as untested
+use borrow.Author.Rules.{rules}
+use Rattle.badnames.proofs.unread.Goals as goal
+
+pub overflow_sub-s : goal.overflow_sub-s
+overflow_sub-s c = search (rules, untested.letters-begin)
+
+pub returns-in-NoText : goal.returns-in-NoText
+returns-in-NoText c = search untested.unread-odd
+
+pub returns-in-Text : goal.returns-in-Text
+returns-in-Text c = search untested.unread-text

@@ -1,0 +1,33 @@
+-- `comparing::of_files` meets its contract: a law for each way out, for the answer with the list, and for the room.
+use Rattle.comparing.proofs.ComparedFiles as answering
+use Rattle.comparing.proofs.of_files.Goals as goal
+
+pub returns-then-a-ne0 : goal.returns-then-a-ne0
+returns-then-a-ne0 c = (search answering.first-told, (search answering.first-kept, cc))
+
+pub overflow_mul-room : goal.overflow_mul-room
+overflow_mul-room c = search answering.objects-fit
+
+pub overflow_mul-room-2 : goal.overflow_mul-room-2
+overflow_mul-room-2 c = search answering.components-fit
+
+pub overflow_add-room : goal.overflow_add-room
+overflow_add-room c = search answering.room_small
+
+pub offset_bounds-work-room : goal.offset_bounds-work-room
+offset_bounds-work-room c = search answering.room-scaled
+
+pub slice_bounds-read_as-count : goal.slice_bounds-read_as-count
+slice_bounds-read_as-count c = search answering.room_within
+
+pub slice_bounds-read_as-start : goal.slice_bounds-read_as-start
+slice_bounds-read_as-start c = search answering.room_within
+
+pub returns-then-b-ne0 : goal.returns-then-b-ne0
+returns-then-b-ne0 c = (search answering.second-told, (search answering.second-kept, search answering.second-cleared))
+
+pub beside-c-requires : goal.beside-c-requires
+beside-c-requires c = (search answering.room-inside, search answering.first-table, search answering.second-table)
+
+pub returns : goal.returns
+returns c = let read = c.read_as.ensures in let fine = c.if1.false in (search answering.beside-told, (search answering.beside-written, search answering.both-cleared))

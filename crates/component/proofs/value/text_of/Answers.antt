@@ -1,0 +1,21 @@
+-- `component::value::text_of` meets its contract: a law for each branch.
+use Rattle.meaning.proofs.Lengths.{place-fits}
+use Rattle.fields.proofs.Texts.{letters-in}
+use Rattle.component.proofs.Values as values
+use borrow.Author.Rules.{rules}
+use Rattle.component.proofs.value.text_of.Goals as goal
+
+pub overflow_add-e : goal.overflow_add-e
+overflow_add-e c = search (place-fits, letters-in)
+
+pub slice_bounds-utf8-end : goal.slice_bounds-utf8-end
+slice_bounds-utf8-end c = search (rules, letters-in)
+
+pub returns-then-utf8 : goal.returns-then-utf8
+returns-then-utf8 c = search values.text-some
+
+pub returns-in-NoText : goal.returns-in-NoText
+returns-in-NoText c = search values.text-kind
+
+pub returns-else-utf8 : goal.returns-else-utf8
+returns-else-utf8 c = search values.text-other

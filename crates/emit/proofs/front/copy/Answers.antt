@@ -1,0 +1,13 @@
+-- `emit::front::copy` meets its contract: the invariant says how many bytes stand. Assumes nothing.
+use Prim.Native.Nat.{◌-◌}
+use Rattle.emit.proofs.LaidPieces as laying
+use Rattle.emit.proofs.front.copy.Goals as goal
+
+pub loop-i-init : goal.loop-i-init
+loop-i-init c = search laying.copy-none
+
+pub loop-i-preserved : goal.loop-i-preserved
+loop-i-preserved c = search laying.copy_more
+
+pub returns : goal.returns
+returns c = search laying.copy-all

@@ -1,9 +1,0 @@
--- `emit::initial` meets its contract: the two parts have no bit in common. Assumes nothing.
-use lib.Bits.{or_shifted}
-use lib.Pow.{shl_exact}
-use native.Mathlib.Omega.{arith}
-use Rattle.emit.proofs.initial.Statement.{statement}
-use Rattle.emit.proofs.initial.Tie as tie
-
-pub initial-spec : {M : Type 1} → statement M
-initial-spec = tie.close (tie.spec (λ c. rw (shl_exact 3 5 8 c.requires.0 (omega arith)) (or_shifted c.args.major 5 c.args.low c.requires.1)))

@@ -1,0 +1,19 @@
+-- `emit::numbers_at` meets its contract: the invariant says what is laid and what is still to be. Assumes nothing.
+use Prim.Native.Nat.{◌-◌}
+use Rattle.emit.proofs.LaidPieces as laying
+use Rattle.emit.proofs.numbers_at.Goals as goal
+
+pub loop-i-init : goal.loop-i-init
+loop-i-init c = search laying.no-numbers
+
+pub number_at-past-requires : goal.number_at-past-requires
+number_at-past-requires c = search laying.room-for-number
+
+pub loop-i-preserved : goal.loop-i-preserved
+loop-i-preserved c = search laying.one_number
+
+pub shape_of-out : goal.shape_of-out
+shape_of-out c = search laying.numbers-as-long
+
+pub returns : goal.returns
+returns c = search laying.all-numbers

@@ -1,9 +1,0 @@
--- `finding::nan` meets its contract: the kit's law of NaN patterns. Assumes nothing.
-use mathlib.Core.Path.{sym}
-use lib.Ieee.{binary32}
-use lib.Ieee.Bits.{nan_bits_above}
-use Rattle.finding.proofs.nan.Statement.{statement}
-use Rattle.finding.proofs.nan.Tie as tie
-
-pub nan-spec : {M : Type 1} → statement M
-nan-spec = tie.close (tie.spec (λ c. sym (nan_bits_above binary32 c.args.n)))

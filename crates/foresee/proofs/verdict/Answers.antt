@@ -1,0 +1,30 @@
+-- `foresee::verdict` meets its contract: a law for each branch.
+use Rattle.foresee.proofs.Objects as law
+use Rattle.foresee.proofs.verdict.Goals as goal
+
+pub returns-then-deep : goal.returns-then-deep
+returns-then-deep c = search law.root-deep
+
+pub any_deep-requires : goal.any_deep-requires
+any_deep-requires c = search law.objects-lie
+
+pub returns-then-any_deep : goal.returns-then-any_deep
+returns-then-any_deep c = search law.object-deep
+
+pub overflow_mul-from : goal.overflow_mul-from
+overflow_mul-from c = search law.objects-fit
+
+pub offset_bounds-rows-from : goal.offset_bounds-rows-from
+offset_bounds-rows-from c = search law.objects-bytes-fit
+
+pub slice_bounds-judge-count : goal.slice_bounds-judge-count
+slice_bounds-judge-count c = search law.objects-lie
+
+pub slice_bounds-judge-start : goal.slice_bounds-judge-start
+slice_bounds-judge-start c = search law.objects-lie
+
+pub judge-requires : goal.judge-requires
+judge-requires c = search law.rows-count
+
+pub returns : goal.returns
+returns c = search law.none-too-deep

@@ -1,0 +1,13 @@
+-- `merger::lay` meets its contract: a law for each way out.
+use Rattle.merger.proofs.MergedLaid as laying
+use mathlib.Core.Path.{refl}
+use Rattle.merger.proofs.lay.Goals as goal
+
+pub offset_bounds-rows-cut-2 : goal.offset_bounds-rows-cut-2
+offset_bounds-rows-cut-2 c = search laying.cut_fits
+
+pub join-requires : goal.join-requires
+join-requires c = let p = c.before.before.before.before.before.before.requires in laying.join-asks p.0 p.1 c.read_as.ensures.1 refl c.read-as2.ensures.1
+
+pub returns : goal.returns
+returns c = let p = c.before.before.before.before.before.before.requires in let f = c.read_as.ensures.1 in let g = c.read-as2.ensures.1 in (laying.output-is p.0 p.1 f refl g c.join.ensures, laying.still-long p.0 p.1 f refl g)

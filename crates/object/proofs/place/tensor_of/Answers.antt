@@ -1,0 +1,21 @@
+-- `object::place::tensor_of` meets its contract: a law for each branch.
+use Rattle.object.proofs.Tensors as tensors
+use Rattle.fields.proofs.Texts.{letters-in}
+use Rattle.meaning.proofs.Lengths.{place-fits}
+use borrow.Author.Rules.{rules}
+use Rattle.object.proofs.place.tensor_of.Goals as goal
+
+pub overflow_add-e : goal.overflow_add-e
+overflow_add-e c = search (place-fits, letters-in)
+
+pub slice_bounds-dtype_code-end : goal.slice_bounds-dtype_code-end
+slice_bounds-dtype_code-end c = search (rules, letters-in)
+
+pub returns-then-code-lt13 : goal.returns-then-code-lt13
+returns-then-code-lt13 c = search tensors.tensor-some
+
+pub returns-in-NoText : goal.returns-in-NoText
+returns-in-NoText c = search tensors.tensor-kind
+
+pub returns-else-code-lt13 : goal.returns-else-code-lt13
+returns-else-code-lt13 c = search tensors.tensor-other

@@ -1,0 +1,6 @@
+-- `parts::beside` meets its contract.
+use Rattle.parts.proofs.MatchedRows as match
+use Rattle.parts.proofs.beside.Goals as goal
+
+pub returns : goal.returns
+returns c = search match.matched

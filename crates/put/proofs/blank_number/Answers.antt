@@ -1,0 +1,6 @@
+-- `put::blank_number` meets its contract: a law for each branch. Assumes nothing.
+use Rattle.put.proofs.PiecesInTurn as writing
+use Rattle.put.proofs.blank_number.Goals as goal
+
+pub returns : goal.returns
+returns c = search writing.byte-then

@@ -1,0 +1,16 @@
+-- `put::text` meets its contract: the invariant says what is still to be written. Assumes nothing.
+use Prim.Native.Nat.{◌-◌}
+use Rattle.put.proofs.PiecesInTurn as writing
+use Rattle.put.proofs.text.Goals as goal
+
+pub loop-i-init : goal.loop-i-init
+loop-i-init c = search writing.written_none
+
+pub loop-i-preserved : goal.loop-i-preserved
+loop-i-preserved c = search writing.shown-written
+
+pub shape_of-out : goal.shape_of-out
+shape_of-out c = search writing.shown-as-long
+
+pub returns : goal.returns
+returns c = search writing.all_shown

@@ -1,0 +1,30 @@
+-- `reader::into::fill` meets its contract: a law for each branch.
+use native.Mathlib.Omega.{arith}
+use Rattle.reader.proofs.Answers as answers
+use Rattle.reader.proofs.into.fill.Goals as goal
+
+pub returns-then-not-fits : goal.returns-then-not-fits
+returns-then-not-fits c = search answers.filled-no-room
+
+pub before_rows-first-requires : goal.before_rows-first-requires
+before_rows-first-requires c = search answers.room-enough
+
+pub overflow_mul-objects : goal.overflow_mul-objects
+overflow_mul-objects c = let lent = c.type_inv in answers.object-rows-fit _ _ _ c.if-not-fits.false c.fits2.ensures (omega (arith, lent))
+
+pub offset_bounds-t-first : goal.offset_bounds-t-first
+offset_bounds-t-first c = search answers.before-rows-fit
+
+pub slice_bounds-lay-count-in-Yes : goal.slice_bounds-lay-count-in-Yes
+slice_bounds-lay-count-in-Yes c = answers.before-rows-inside _ _ _ c.before_rows-first.ensures
+
+pub slice_bounds-lay-start-in-Yes : goal.slice_bounds-lay-start-in-Yes
+slice_bounds-lay-start-in-Yes c = answers.before-rows-inside _ _ _ c.before_rows-first.ensures
+
+pub returns-in-No : goal.returns-in-No
+returns-in-No c = search answers.filled-not
+
+pub returns-else-not-fits : goal.returns-else-not-fits
+returns-else-not-fits c = let a = c.args in answers.filled-so a.layout a.last a.start a.m.now a.t.now
+    _ c.manifest.ensures _ _ _ _ c.in-Yes.is _ c.fits2.ensures c.requires c.if-not-fits.false
+    _ c.before_rows-first.ensures _ c.place_of-place.ensures _ c.lay.ensures _ c.attributes-a.ensures

@@ -1,0 +1,6 @@
+-- `root::judge::version_at` meets its contract: a law for each branch.
+use Rattle.fields.proofs.Places as places
+use Rattle.root.proofs.judge.version_at.Goals as goal
+
+pub returns : goal.returns
+returns c = search places.there

@@ -1,0 +1,23 @@
+-- `types::any_object_key` meets its contract: the rows of the table are computed from the names, its digits from their places. Assumes nothing.
+use Rattle.meaning.specs.Layouts.{old}
+use Rattle.types.specs.Row.{tagged, rows_of}
+use Rattle.types.proofs.Named.{named}
+use Rattle.types.specs.Known.{place_of_name}
+use Rattle.types.proofs.Codes as codes
+use Rattle.types.proofs.any_object_key.Goals as goal
+
+pub found-i-requires : goal.found-i-requires
+unfolding old tagged rows_of
+found-i-requires c = search codes.few-object
+
+pub digit-requires : goal.digit-requires
+unfolding old tagged rows_of place_of_name
+digit-requires c = search (codes.old-object, named)
+
+pub overflow_add-result : goal.overflow_add-result
+unfolding tagged rows_of
+overflow_add-result c = search codes.few-new-object
+
+pub returns : goal.returns
+unfolding tagged rows_of
+returns c = search (codes.new-object, named)

@@ -1,0 +1,15 @@
+-- `types::dtype_code` meets its contract: the rows of the table are computed from the names. Assumes nothing.
+use Rattle.meaning.specs.Layouts.{old}
+use Rattle.meaning.specs.Types.{storages}
+use Rattle.types.specs.Row.{tagged, rows_of}
+use Rattle.types.proofs.Named.{named}
+use Rattle.types.proofs.Codes as codes
+use Rattle.types.proofs.dtype_code.Goals as goal
+
+pub found-requires : goal.found-requires
+unfolding old tagged rows_of
+found-requires c = search (codes.old-dtype, named)
+
+pub returns : goal.returns
+unfolding storages tagged rows_of
+returns c = search (codes.new-dtype, named)

@@ -1,0 +1,14 @@
+-- `types::root_key` meets its contract: the rows of the table are computed from the names. Assumes nothing.
+use Rattle.meaning.specs.Layouts.{old}
+use Rattle.types.specs.Row.{tagged, rows_of}
+use Rattle.types.proofs.Named.{named}
+use Rattle.types.proofs.Codes as codes
+use Rattle.types.proofs.root_key.Goals as goal
+
+pub found-requires : goal.found-requires
+unfolding old tagged rows_of
+found-requires c = search (codes.old-root, named)
+
+pub returns : goal.returns
+unfolding tagged rows_of
+returns c = search (codes.new-root, named)

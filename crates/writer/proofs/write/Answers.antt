@@ -1,0 +1,12 @@
+-- `writer::write` meets its contract: a law for each branch.
+use Rattle.writer.proofs.Checks as checks
+use Rattle.writer.proofs.write.Goals as goal
+
+pub fill-requires : goal.fill-requires
+fill-requires c = search checks.measured-yes
+
+pub returns-in-No : goal.returns-in-No
+returns-in-No c = (search checks.plain-refused, search)
+
+pub returns-in-Yes : goal.returns-in-Yes
+returns-in-Yes c = (search checks.plain-filled, search)

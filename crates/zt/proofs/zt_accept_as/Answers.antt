@@ -1,0 +1,7 @@
+-- `zt::zt_accept_as` meets its contract: the number of the verdict.
+use Rattle.reader.specs.declared.Verdict.{Verdict}
+use mathlib.Core.Path.{ap}
+use Rattle.zt.proofs.zt_accept_as.Goals as goal
+
+pub returns : goal.returns
+returns c = ap (λ (v : Verdict). v.number) c.accept_as-v.ensures
