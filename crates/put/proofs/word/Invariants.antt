@@ -5,7 +5,7 @@ use mathlib.Core.List.{List}
 use Rattle.put.proofs.word.Given as goal
 
 abbrev pub invariant-loop-i : goal.invariant-loop-i
-invariant-loop-i l = writing.Writing (λ (u : List ℕ). u) l.initial.out l.w l.at l.past l.i l.out
+invariant-loop-i l = writing.Writing (λ (u : List ℕ). u) l.w l.at l.initial.out l.past l.i l.out
 
 abbrev pub decreases-loop-i : goal.decreases-loop-i
-decreases-loop-i l = length l.initial.out - l.i
+decreases-loop-i l = length l.w - l.i

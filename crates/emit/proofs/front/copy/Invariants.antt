@@ -4,7 +4,7 @@ use Rattle.emit.proofs.LaidPieces as laying
 use Rattle.emit.proofs.front.copy.Given as goal
 
 abbrev pub invariant-loop-i : goal.invariant-loop-i
-invariant-loop-i l = laying.Filling l.initial.out (length l.initial.out) l.s l.out l.i
+invariant-loop-i l = laying.Filling l.s (length l.s) l.initial.out l.out l.i
 
 abbrev pub decreases-loop-i : goal.decreases-loop-i
-decreases-loop-i l = length l.initial.out - l.i
+decreases-loop-i l = length l.s - l.i

@@ -4,7 +4,7 @@ use Rattle.layout.proofs.Turns as turns
 use Rattle.layout.proofs.components.blobs_at.Given as goal
 
 abbrev pub invariant-loop-left : goal.invariant-loop-left
-invariant-loop-left l = turns.BlobsLeft l.plan l.rows l.n (blobs_of l.plan l.rows l.n (take l.buffer l.at) l.first l.turn l.initial.out) l.at l.left l.row l.next l.past l.out
+invariant-loop-left l = turns.BlobsLeft l.buffer l.plan l.rows (blobs_of l.buffer l.plan l.rows (take l.at l.initial.out) l.n l.first l.turn) l.initial.out l.left l.row l.next l.past l.out
 
 abbrev pub decreases-loop-left : goal.decreases-loop-left
 decreases-loop-left l = l.left
