@@ -12,11 +12,14 @@ module _ (file : List ℕ) (start : ℕ) where
   pub offsets-fit : (os : List ℕ) (bs : List (List ℕ)) → AllAt file start os bs → start < 256 ^ 8 → Every Fits os
   offsets-fit [] [] h l = tt
   offsets-fit (o ∷ os) (b ∷ bs) (h, hs) l = (omega (arith, h.inside), offsets-fit os bs hs l)
+  offsets-fit [] (b ∷ bs) h l = elim h [ ]
+  offsets-fit (o ∷ os) [] h l = elim h [ ]
 
   of_one : (offsets : List ℕ) (cs : List DescribedComponent) (bs : List (List ℕ)) → AllAt file start offsets (map (λ c. c.blob) cs ++ bs)
       → Stand file start (take (length cs) offsets) cs × AllAt file start (drop (length cs) offsets) bs
   of_one offsets [] bs h = (tt, h)
   of_one (o ∷ os) (c ∷ cs) bs (h, hs) = let r = of_one os cs bs hs in ((h, r.0), r.1)
+  of_one [] (c ∷ cs) bs h = elim h [ ]
 
   pub stand-all : (offsets : List ℕ) (os : List DescribedObject) → AllAt file start offsets (blobs_in os) → StandAll file start offsets os
   unfolding blobs_in

@@ -62,13 +62,19 @@ module _ (file : List ℕ) where
   pub parts_are : (offsets : List ℕ) (cs : List DescribedComponent) (ms : List (Component Span)) → AllTell file offsets cs ms → map part ms ≡ map part_of cs
   parts_are offsets [] [] t = refl
   parts_are offsets (c ∷ cs) (m ∷ ms) (t, ts) = ap₂ {A = Part} {B = List Part} (λ a b. a ∷ b) (part-is c m t) (parts_are (drop 1 offsets) cs ms ts)
+  parts_are offsets [] (m ∷ ms) t = elim t [ ]
+  parts_are offsets (c ∷ cs) [] t = elim t [ ]
 
   pub components-are : (offsets : List ℕ) (cs : List DescribedComponent) (ms : List (Component Span)) → AllTell file offsets cs ms → map (read_component file) ms ≡ cs
   components-are offsets [] [] t = refl
   components-are offsets (c ∷ cs) (m ∷ ms) (t, ts) = ap₂ {A = DescribedComponent} {B = List DescribedComponent} (λ a b. a ∷ b) t.same (components-are (drop 1 offsets) cs ms ts)
+  components-are offsets [] (m ∷ ms) t = elim t [ ]
+  components-are offsets (c ∷ cs) [] t = elim t [ ]
 
   pub offsets_are : (offsets : List ℕ) (cs : List DescribedComponent) (ms : List (Component Span)) → AllTell file offsets cs ms → length offsets ≡ length cs → offsets_of ms ≡ offsets
   offsets_are [] [] [] t h = refl
   offsets_are (o ∷ os) [] ms t h = absurd (omega arith)
   offsets_are [] (c ∷ cs) ms t h = absurd (omega arith)
   offsets_are (o ∷ os) (c ∷ cs) (m ∷ ms) (t, ts) h = ap₂ {A = ℕ} {B = List ℕ} (λ a b. a ∷ b) t.place (offsets_are os cs ms ts (omega arith))
+  offsets_are [] [] (m ∷ ms) t h = elim t [ ]
+  offsets_are (o ∷ os) (c ∷ cs) [] t h = elim t [ ]

@@ -1,8 +1,8 @@
 -- How long a file gets whose blobs stand at any offsets, and the bound that document 01 gives for its own rule.
 use Prim.Native.Nat.{ℕ, ◌+◌, ◌*◌, ◌≤◌, max}
 use native.Mathlib.Omega.{arith}
-use mathlib.Core.List.{List, [], ◌∷◌, ◌++◌, map}
-use mathlib.Core.Path.{◌≡◌, ap, ◌∙◌}
+use mathlib.Core.List.{List, [], ◌∷◌, map}
+use mathlib.Core.Path.{◌≡◌, ap}
 use lib.ListN.{length, length-append, length-map}
 use Rattle.meaning.specs.Layouts.{magic}
 use Rattle.meaning.specs.Placement.{aligned, placed_from, placement, end_from, last_end}

@@ -1,10 +1,10 @@
 -- What an accepted plan gives: each blob stands at its offset in the file, every other byte is 0, and all ends are in time. The rule of document 01 is such a plan.
-use Prim.Native.Nat.{ℕ, suc, ◌+◌, ◌%◌, ◌≤◌, ◌<◌, max}
+use Prim.Native.Nat.{ℕ, suc, ◌+◌, ◌%◌, ◌≤◌, max}
 use native.Mathlib.Omega.{arith}
 use mathlib.Core.List.{List, [], ◌∷◌, ◌++◌, map}
 use mathlib.Core.Bool.{Bool, true, false, ◌&&◌, ◌||◌}
 use mathlib.Core.Logic.{⊎_elim}
-use mathlib.Core.Path.{◌≡◌, refl, ap, sym, ◌∙◌, subst}
+use mathlib.Core.Path.{◌≡◌, refl, ap, ◌∙◌, subst}
 use lib.Dec.{eqb, leb}
 use lib.ListN.{length, take, drop, get_or, length-drop}
 use lib.Seq.{drop-append-le, take-append-le}
@@ -12,7 +12,7 @@ use borrow.Author.Tests.{leb-true, le-leb, eqb-true, eq-eqb}
 use Rattle.meaning.specs.Limit.{alignment, end_limit}
 use Rattle.meaning.specs.Refusal.{PLAN}
 use Rattle.meaning.specs.Text.{all}
-use Rattle.meaning.specs.Check.{Check, pass, ◌>>=◌, ◌>>◌, ◌unless◌, in_object}
+use Rattle.meaning.specs.Check.{Check, pass, ◌>>◌, ◌unless◌, in_object}
 use Rattle.meaning.specs.Read.{Span}
 use Rattle.meaning.specs.Layouts.{magic}
 use Rattle.meaning.specs.Placement.{aligned, placed_from, placement, end_from, last_end}
@@ -21,7 +21,7 @@ use Rattle.meaning.specs.WrittenFile.{over, blobs_over}
 use Rattle.readback.specs.Follows.{Allowed, Follows, none, next, In, here, later, Outside, Before}
 use Rattle.readback.specs.Back.{AllAt}
 use Rattle.meaning.proofs.Over.{over-length, over-here, over-keeps, over-front, byte-before, byte-after, blobs-length, end-above}
-use Rattle.meaning.proofs.Tests.{false-not, both_left, both_right}
+use Rattle.meaning.proofs.Tests.{both_left, both_right}
 use Rattle.meaning.proofs.Checks.{refused-is-not}
 use Rattle.meaning.proofs.Lengths.{aligned-above}
 
@@ -93,6 +93,8 @@ blobs-keep file [] [] none s i h = refl
 blobs-keep file (o ∷ os) (b ∷ bs) (next a e f) s i h =
     blobs-keep (over file o b) os bs f s (later i) (omega (arith, over-length file o b))
     ∙ over-keeps file o b s.place s.size h (in_all (apart (ranged o (length b))) i e)
+blobs-keep {ceiling = ceiling} {earlier = earlier} file [] (b ∷ bs) x6 s i h = elim x6 [ ]
+blobs-keep {ceiling = ceiling} {earlier = earlier} file (o ∷ os) [] x5 s i h = elim x5 [ ]
 
 -- the header stays
 pub front-stays : {ceiling : ℕ} {earlier : List Span} (file os : List ℕ) (bs : List (List ℕ)) → Follows ceiling earlier os (map length bs) → 8 ≤ length file
@@ -100,6 +102,8 @@ pub front-stays : {ceiling : ℕ} {earlier : List Span} (file os : List ℕ) (bs
 unfolding blobs_over
 front-stays file [] [] none h = refl
 front-stays file (o ∷ os) (b ∷ bs) (next a e f) h = front-stays (over file o b) os bs f (omega (arith, over-length file o b)) ∙ over-front file o b 8 h (omega (arith, a.low))
+front-stays {ceiling = ceiling} {earlier = earlier} file [] (b ∷ bs) x4 h = elim x4 [ ]
+front-stays {ceiling = ceiling} {earlier = earlier} file (o ∷ os) [] x4 h = elim x4 [ ]
 
 -- each blob stands at its offset, whatever follows
 pub all-stand : {ceiling : ℕ} {earlier : List Span} (file os : List ℕ) (bs : List (List ℕ)) (rest : List ℕ) → Follows ceiling earlier os (map length bs)
@@ -122,6 +126,8 @@ all-stand file (o ∷ os) (b ∷ bs) rest (next a e f) final same =
       },
       all-stand (over file o b) os bs rest f final same,
     )
+all-stand {ceiling = ceiling} {earlier = earlier} file [] (b ∷ bs) rest x4 final same = elim x4 [ ]
+all-stand {ceiling = ceiling} {earlier = earlier} file (o ∷ os) [] rest x4 final same = elim x4 [ ]
 
 -- what no blob covers stays, 0 where nothing stands
 pub uncovered : (file os : List ℕ) (bs : List (List ℕ)) (k : ℕ) → Outside k os (map length bs) → get_or (blobs_over file os bs) k 0 ≡ get_or file k 0

@@ -1,5 +1,5 @@
 -- Descriptions that sound rows give: what ROW has asked, and numbers and lengths below 2 ^ 64.
-use Rattle.std.specs.Prelude.{ℕ, ◌≤◌, ◌<◌, ◌^◌, List, [], true, ◌≡◌, length}
+use Rattle.std.specs.Prelude.{ℕ, ◌≤◌, ◌<◌, ◌^◌, List, true, ◌≡◌, length}
 use Rattle.std.proofs.Math.Option.{Option, none, some}
 use Rattle.meaning.specs.Limit.{rank_limit}
 use Rattle.meaning.specs.Types.{storages}

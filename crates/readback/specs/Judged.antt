@@ -4,7 +4,7 @@ use Rattle.std.proofs.Math.Option.{Option, none, some}
 use Rattle.meaning.specs.Refusal.{DEEP, TEXT, COUNT, TWICE, TYPE}
 use Rattle.meaning.specs.Limit.{object_limit, component_limit}
 use Rattle.meaning.specs.Text.{all, distinct, utf8}
-use Rattle.meaning.specs.Check.{Check, pass, ◌>>=◌, ◌>>◌, ◌unless◌, in_object, in_component, each}
+use Rattle.meaning.specs.Check.{Check, pass, ◌>>◌, ◌unless◌, in_object, in_component, each}
 use Rattle.meaning.specs.Types.{logicals, listed, fits_over}
 use Rattle.meaning.specs.Format.{Part, format_rules}
 use Rattle.meaning.specs.Sound.{root_levels, object_levels}
