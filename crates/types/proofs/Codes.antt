@@ -12,7 +12,7 @@ use borrow.Author.Tests.{leb-true, eqb-true, eqb-false}
 use borrow.Author.Rules.{part_to_end}
 use Rattle.meaning.specs.Text.{same, all}
 use Rattle.meaning.specs.Layouts.{Slots, somes, Layout, thirteen, root_names, object_names, component_names, current, old, layout_of}
-use Rattle.meaning.specs.Types.{Storage, storages, code_from, storage_of, width_of, Logical, logicals, listed, fits_over, ratio_of}
+use Rattle.meaning.specs.Types.{storages, code_from, storage_of, width_of, Logical, logicals, listed, fits_over, ratio_of}
 use Rattle.meaning.proofs.WhichLayout.{is-old, is-current}
 use Rattle.meaning.proofs.Tests.{both_left, both_right}
 use Rattle.meaning.proofs.SameText.{same-eq}

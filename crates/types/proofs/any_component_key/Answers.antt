@@ -6,13 +6,13 @@ use Rattle.types.specs.Known.{place_of_name}
 use Rattle.types.proofs.Codes as codes
 use Rattle.types.proofs.any_component_key.Goals as goal
 
-pub found-i-requires : goal.found-i-requires
-unfolding old tagged rows_of
-found-i-requires c = search codes.few-component
-
 pub digit-requires : goal.digit-requires
+unfolding old tagged rows_of
+digit-requires c = search codes.few-component
+
+pub returns-then-layout-eq1 : goal.returns-then-layout-eq1
 unfolding old tagged rows_of place_of_name
-digit-requires c = search (codes.old-component, named)
+returns-then-layout-eq1 c = search (codes.old-component, named)
 
 pub returns : goal.returns
 unfolding tagged rows_of

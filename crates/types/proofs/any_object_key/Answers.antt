@@ -6,13 +6,13 @@ use Rattle.types.specs.Known.{place_of_name}
 use Rattle.types.proofs.Codes as codes
 use Rattle.types.proofs.any_object_key.Goals as goal
 
-pub found-i-requires : goal.found-i-requires
-unfolding old tagged rows_of
-found-i-requires c = search codes.few-object
-
 pub digit-requires : goal.digit-requires
+unfolding old tagged rows_of
+digit-requires c = search codes.few-object
+
+pub returns-then-layout-eq1 : goal.returns-then-layout-eq1
 unfolding old tagged rows_of place_of_name
-digit-requires c = search (codes.old-object, named)
+returns-then-layout-eq1 c = search (codes.old-object, named)
 
 pub overflow_add-result : goal.overflow_add-result
 unfolding tagged rows_of

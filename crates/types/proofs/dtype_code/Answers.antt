@@ -6,9 +6,9 @@ use Rattle.types.proofs.Named.{named}
 use Rattle.types.proofs.Codes as codes
 use Rattle.types.proofs.dtype_code.Goals as goal
 
-pub found-requires : goal.found-requires
+pub returns-then-layout-eq1 : goal.returns-then-layout-eq1
 unfolding old tagged rows_of
-found-requires c = search (codes.old-dtype, named)
+returns-then-layout-eq1 c = search (codes.old-dtype, named)
 
 pub returns : goal.returns
 unfolding storages tagged rows_of

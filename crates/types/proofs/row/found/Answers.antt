@@ -1,6 +1,5 @@
 -- `types::row::found` meets its contract: so many rows are passed, and what is found in the rest is found in the whole. Assumes nothing.
 use Rattle.types.proofs.Named as laws
-use Prim.Native.Nat.{◌-◌}
 use Rattle.types.proofs.row.found.Goals as goal
 
 pub loop-at-init : goal.loop-at-init
