@@ -3,7 +3,7 @@ use Prim.Native.Nat.{ℕ, zero, suc, ◌+◌, ◌-◌, ◌*◌, ◌≤◌, ◌<�
 use native.Mathlib.Omega.{arith}
 use mathlib.Core.List.{List, [], ◌∷◌, ◌++◌}
 use mathlib.Core.Path.{◌≡◌, refl, sym, ap}
-use lib.ListN.{length, take, drop, get_or, get_or-eq_default}
+use lib.ListN.{take, drop, get_or, get_or-eq_default}
 use lib.Dec.{lit≤}
 use Rattle.meaning.specs.Text.{ascii}
 use Rattle.meaning.specs.Types.{Storage, storages, storage_of}

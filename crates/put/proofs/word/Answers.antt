@@ -1,5 +1,4 @@
 -- `put::word` meets its contract: the invariant says what is still to be written. Assumes nothing.
-use Prim.Native.Nat.{◌-◌}
 use Rattle.put.proofs.PiecesInTurn as writing
 use Rattle.put.proofs.word.Goals as goal
 
