@@ -2,7 +2,7 @@
 use Prim.Native.Nat.{ℕ}
 use mathlib.Core.List.{List}
 use mathlib.Core.Path.{◌≡◌, refl, ap, sym, ◌∙◌}
-use lib.ListN.{length, drop}
+use lib.ListN.{drop}
 use Rattle.meaning.specs.Tree.{Node, map_p, nothing}
 use Rattle.meaning.specs.Read.{Outcome, got, refused, item, no_note}
 use Rattle.meaning.proofs.ReadNatural.{map_out, item-follows}

@@ -1,4 +1,3 @@
-use Prim.Native.Nat.{◌-◌}
 use Rattle.cbor.proofs.Returns as says
 use Rattle.cbor.proofs.chunks.Goals as goal
 

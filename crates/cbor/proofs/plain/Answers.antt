@@ -1,4 +1,4 @@
-use mathlib.Core.Logic.{⊎_elim}
+use Rattle.cbor.proofs.plain.Goals.{then-b-ge64+else-b-lt128, else-b-ge64}
 use native.Mathlib.Omega.{arith}
 use Rattle.cbor.proofs.Returns as says
 use Rattle.cbor.proofs.plain.Goals as goal
@@ -10,7 +10,7 @@ pub returns-then-b-lt128 : goal.returns-then-b-lt128
 returns-then-b-lt128 c = search says.plain-string
 
 pub returns-then-low_of-eq31 : goal.returns-then-low_of-eq31
-returns-then-low_of-eq31 c = search (says.scalar-open c.args.s.now (λ x y. ⊎_elim (λ w. omega arith) (λ w. omega arith) c.if-b-ge64.branch))
+returns-then-low_of-eq31 c = search (says.scalar-open c.args.s.now (λ x y. elim c.if-b-ge64.branch [ then-b-ge64+else-b-lt128 w ↦ omega arith | else-b-ge64 w ↦ omega arith ]))
 
 pub returns-then-h-lt32 : goal.returns-then-h-lt32
 returns-then-h-lt32 c = search says.simple-reserved
@@ -19,4 +19,4 @@ pub returns-else-h-lt32 : goal.returns-else-h-lt32
 returns-else-h-lt32 c = search says.simple-ends
 
 pub returns-else-b : goal.returns-else-b
-returns-else-b c = let known = c.shared_slice_known-1.given in search (says.scalar-ends c.args.s.now (λ x y. ⊎_elim (λ w. omega arith) (λ w. omega arith) c.if-b-ge64.branch), (known 0).fits)
+returns-else-b c = search (says.scalar-ends c.args.s.now (λ x y. elim c.if-b-ge64.branch [ then-b-ge64+else-b-lt128 w ↦ omega arith | else-b-ge64 w ↦ omega arith ]), (c.type_inv.s 0).fits)
