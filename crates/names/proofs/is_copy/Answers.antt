@@ -1,5 +1,4 @@
 -- `names::is_copy` meets its contract. Assumes nothing.
-use Prim.Native.Nat.{◌-◌}
 use Rattle.names.proofs.ListedNames as listed
 use Rattle.names.proofs.is_copy.Goals as goal
 

@@ -1,5 +1,4 @@
 -- `names::named::up_to` meets its contract. Assumes nothing.
-use Prim.Native.Nat.{◌-◌}
 use Rattle.names.proofs.NamedParts as parts
 use Rattle.names.proofs.named.up_to.Goals as goal
 

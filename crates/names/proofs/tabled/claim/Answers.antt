@@ -1,5 +1,4 @@
 -- `names::tabled::claim` meets its contract. The loop's invariant: the places passed hold neither 0 nor h. Assumes nothing.
-use Prim.Native.Nat.{◌-◌}
 use native.Mathlib.Omega.{arith}
 use Rattle.names.proofs.TabledNames as tabled
 use Rattle.names.proofs.tabled.claim.Goals as goal

@@ -1,5 +1,4 @@
 -- `names::tabled::claimed` meets its contract. The loop's invariant: the digests of the names before number i stand in the table. Assumes nothing.
-use Prim.Native.Nat.{◌-◌}
 use borrow.Author.Rules.{rules}
 use Rattle.names.proofs.TabledNames as tabled
 use Rattle.names.proofs.tabled.claimed.Goals as goal
