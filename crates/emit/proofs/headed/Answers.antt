@@ -6,10 +6,10 @@ use borrow.Author.Rules.{rules}
 use Rattle.emit.proofs.headed.Goals as goal
 
 pub slice_bounds-big-count : goal.slice_bounds-big-count
-slice_bounds-big-count c = simp length-set (omega (arith, c.requires.1.fits))
+slice_bounds-big-count c = simp length-set (omega (arith, c.requires.room.fits))
 
 pub slice_bounds-big-start : goal.slice_bounds-big-start
-slice_bounds-big-start c = simp length-set (omega (arith, c.requires.1.fits))
+slice_bounds-big-start c = simp length-set (omega (arith, c.requires.room.fits))
 
 pub big-requires : goal.big-requires
 big-requires c = search (rules, numbers.argument-fits)

@@ -1,5 +1,4 @@
 -- `emit::numbers_at` meets its contract: the invariant says what is laid and what is still to be. Assumes nothing.
-use Prim.Native.Nat.{◌-◌}
 use Rattle.emit.proofs.LaidPieces as laying
 use Rattle.emit.proofs.numbers_at.Goals as goal
 

@@ -1,5 +1,4 @@
 -- `emit::front::big` meets its contract: the invariant says how many bytes stand. Assumes nothing.
-use Prim.Native.Nat.{◌-◌}
 use Rattle.emit.proofs.Numbers as numbers
 use Rattle.emit.proofs.front.big.Goals as goal
 

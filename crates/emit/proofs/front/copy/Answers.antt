@@ -1,5 +1,4 @@
 -- `emit::front::copy` meets its contract: the invariant says how many bytes stand. Assumes nothing.
-use Prim.Native.Nat.{◌-◌}
 use Rattle.emit.proofs.LaidPieces as laying
 use Rattle.emit.proofs.front.copy.Goals as goal
 

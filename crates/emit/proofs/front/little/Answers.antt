@@ -1,5 +1,4 @@
 -- `emit::front::little` meets its contract: the invariant says how many bytes stand. Assumes nothing.
-use Prim.Native.Nat.{◌-◌}
 use Rattle.emit.proofs.Numbers as numbers
 use Rattle.emit.proofs.LaidPieces as laying
 use Rattle.emit.proofs.front.little.Goals as goal
