@@ -1,13 +1,12 @@
 -- Where the reader's refusal belongs to an entry of a list, the check that breaks is that entry's: whoever knows the reader's number and indices goes straight there.
-use Prim.Native.Nat.{ℕ, zero, suc}
+use Prim.Native.Nat.{ℕ, suc}
 use mathlib.Core.List.{List, [], ◌∷◌, ◌++◌, map}
-use mathlib.Core.Bool.{Bool, true, false, cond, ◌&&◌}
+use mathlib.Core.Bool.{Bool, true, false, cond}
 use mathlib.Core.Option.{Option, none, some}
 use mathlib.Core.Path.{◌≡◌, refl, ap, sym, ◌∙◌}
 use native.Mathlib.Omega.{arith}
 use Rattle.meaning.specs.Check.{Check, pass, refuse, ◌>>=◌, in_object, in_component, each}
 use Rattle.meaning.specs.Notes.{map_option}
-use Rattle.meaning.specs.Text.{all}
 use Rattle.meaning.specs.Model.{Word, Named}
 use Rattle.meaning.specs.Layouts.{Layout}
 use Rattle.meaning.specs.Judge.{component, object}
@@ -17,7 +16,7 @@ use Rattle.explained.specs.Order.{component_steps, object_steps}
 use Rattle.explained.specs.Breaks.{At, first as top, later}
 use Rattle.explained.proofs.Agree.{Agree, verdict, agree-in_object, agree-in_component}
 use Rattle.explained.proofs.Whole.{agree-component, agree-object}
-use Rattle.explained.proofs.Why.{or_else, first-++, first_passes, Refused, refused}
+use Rattle.explained.proofs.Why.{or_else, first-++, first_passes, refused}
 
 module _ {P : Type 0} where
   -- a list in which a check breaks hides what follows

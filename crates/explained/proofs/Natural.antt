@@ -3,26 +3,26 @@ use Prim.Native.Nat.{ℕ, zero, suc}
 use mathlib.Core.List.{List, [], ◌∷◌, map}
 use mathlib.Core.Bool.{Bool}
 use mathlib.Core.Option.{Option, none, some}
-use mathlib.Core.Path.{◌≡◌, refl, ap, ap₂, sym, ◌∙◌}
-use lib.ListN.{length, length-map, get_or}
+use mathlib.Core.Path.{◌≡◌, refl, ap, sym, ◌∙◌}
+use lib.ListN.{length-map, get_or}
 use Rattle.meaning.specs.Tree.{Node, Pair, map_p, note_of}
 use Rattle.meaning.specs.Check.{Check, pass, refuse, each}
-use Rattle.meaning.specs.Text.{utf8, same, ascii}
-use Rattle.meaning.specs.Model.{Word, Named, Component}
-use Rattle.meaning.specs.Notes.{map_check, map_option, map_word, map_pair, map_named, map_component}
-use Rattle.meaning.specs.Kind.{a_number, a_word, a_list, a_mapping, a_text, present}
+use Rattle.meaning.specs.Text.{utf8}
+use Rattle.meaning.specs.Model.{Word, Named}
+use Rattle.meaning.specs.Notes.{map_check, map_option, map_word, map_pair, map_named}
+use Rattle.meaning.specs.Kind.{a_number}
 use Rattle.meaning.specs.Layouts.{Layout, Slots}
 use Rattle.meaning.specs.Refusal.{KIND, KEY, TEXT}
-use Rattle.meaning.specs.Field.{is_some, key_of, field, name_of, names}
-use Rattle.meaning.specs.Format.{Part, Role, role}
-use Rattle.meaning.specs.Judge.{a_dtype, part}
+use Rattle.meaning.specs.Field.{is_some, key_of, field, name_of}
+use Rattle.meaning.specs.Format.{Part, Role}
+use Rattle.meaning.specs.Judge.{a_dtype}
 use Rattle.meaning.proofs.JudgeNatural.{map-map, each_map, each_number, present-map, a_number-map, a_word-map, a_list-map, a_table-map, a_text-map, key_of-map, field-map, name_of-map, names-map, a_dtype-map, part-map, note-map, optional-same, shape_of-map, components_of-map}
 use Rattle.meaning.proofs.Tests.{cond_map}
 use Rattle.meaning.proofs.Lengths.{map_both}
 use Rattle.explained.specs.Fields.{length_of}
 use Rattle.explained.specs.Step
 use Rattle.explained.specs.Step.{Step, ◌at◌unless◌, given, passes, every, each_of, first}
-use Rattle.explained.specs.Order.{number_steps, word_steps, mapping_steps, text_steps, dtype_steps, type_steps, raw_steps, version_steps, shape_steps, key_steps, repeat_steps, field_steps, missing, missing_in, same_name_steps, name_steps, component_steps, components_steps, note_or, length_in, length_note, all_of, of_role, role_steps, plain_steps, length_steps, dense_steps, csr_steps, coo_steps, group_steps, format_steps, object_steps, objects_steps, manifest_steps}
+use Rattle.explained.specs.Order.{more, number_steps, word_steps, mapping_steps, text_steps, dtype_steps, type_steps, raw_steps, version_steps, shape_steps, key_steps, repeat_steps, field_steps, missing, missing_in, same_name_steps, name_steps, component_steps, components_steps, note_or, length_in, length_note, all_of, of_role, role_steps, plain_steps, length_steps, dense_steps, csr_steps, coo_steps, group_steps, format_steps, object_steps, objects_steps, manifest_steps}
 use Rattle.explained.specs.Notes.{map_step}
 
 module _ {A B : Type 0} where
@@ -110,7 +110,7 @@ module _ {P Q : Type 0} (f : P → Q) where
   repeats-map : (known before : List (List ℕ)) (ps : List (Pair P)) → repeat_steps known before (map (map_pair f) ps) ≡ map (map_step f) (repeat_steps known before ps)
   unfolding repeat_steps
   repeats-map known before [] = refl
-  repeats-map known before (p ∷ ps) = rw (key_of-map f p, note-map f p.key, repeats-map known _ ps)
+  repeats-map known before (p ∷ ps) = rw (key_of-map f p, note-map f p.key, repeats-map known (more before (key_of p)) ps)
 
   fields_map : (known : Slots) (t : Node P) → field_steps known (map_p f t) ≡ map (map_step f) (field_steps known t)
   unfolding field_steps
@@ -133,7 +133,7 @@ module _ {P Q : Type 0} (f : P → Q) where
   same-names-map : (before : List (List ℕ)) (ns : List (Named P)) → same_name_steps before (map (map_named f) ns) ≡ map (map_step f) (same_name_steps before ns)
   unfolding same_name_steps
   same-names-map before [] = refl
-  same-names-map before (n ∷ ns) = rw (same-names-map _ ns)
+  same-names-map before (n ∷ ns) = rw (same-names-map (n.name.letters ∷ before) ns)
 
   texts-map : (ns : List (Named P))
       → every TEXT (λ n. n.name.note) (λ n. utf8 n.name.letters) (map (map_named f) ns)

@@ -1,18 +1,17 @@
 -- The checks of values and of maps agree with the judgement's.
-use Prim.Native.Nat.{ℕ, suc}
-use mathlib.Core.List.{List, [], ◌∷◌, ◌++◌, map}
-use mathlib.Core.Bool.{Bool, true, false, cond, ◌&&◌}
+use Prim.Native.Nat.{ℕ}
+use mathlib.Core.List.{List, ◌++◌}
+use mathlib.Core.Bool.{Bool, true, false}
 use mathlib.Core.Option.{Option, none, some}
-use mathlib.Core.Path.{◌≡◌, refl, ap, sym, ◌∙◌}
+use mathlib.Core.Path.{◌≡◌, refl}
 use lib.ListN.{length}
 use lib.Dec.{leb}
 use Rattle.meaning.specs.Tree.{Node, Pair, note_of}
-use Rattle.meaning.specs.Check.{Check, pass, refuse, ◌>>=◌, ◌>>◌, ◌unless◌, fault, each}
-use Rattle.meaning.specs.Text.{ascii, same, all, distinct, utf8}
+use Rattle.meaning.specs.Check.{Check, pass, refuse, ◌>>=◌, ◌>>◌, ◌unless◌, each}
+use Rattle.meaning.specs.Text.{ascii, same, all, utf8}
 use Rattle.meaning.specs.Version.{version_shape, major_one}
 use Rattle.meaning.specs.Refusal.{KIND, KEY, TEXT, TWICE, VERSION, MAJOR, COUNT, DTYPE, ENCODING, TYPE}
 use Rattle.meaning.specs.Limit.{rank_limit}
-use Rattle.meaning.specs.Model.{Word, Named}
 use Rattle.meaning.specs.Layouts.{Layout, Slots, somes}
 use Rattle.meaning.specs.Kind.{Kind, number, words, list, mapping, null, another, kind, as_number, as_word, as_list, as_mapping, a_number, a_word, a_list, a_mapping, a_text}
 use Rattle.meaning.specs.Field.{is_some, key_kind, key_of, count, fields, name_kind, name_of, names}
@@ -20,7 +19,7 @@ use Rattle.meaning.specs.Types.{code_from, logicals, listed, fits_over}
 use Rattle.meaning.specs.Judge.{code_or, a_dtype, a_type, raw, attributes_of, shape_of, a_version}
 use Rattle.explained.specs.Step
 use Rattle.explained.specs.Step.{Step, ◌at◌unless◌, told, given, passes, every}
-use Rattle.explained.specs.Order.{number_steps, word_steps, mapping_steps, text_steps, dtype_steps, type_steps, raw_steps, version_steps, shape_steps, key_steps, field_steps, repeat_steps, same_name_steps, name_steps}
+use Rattle.explained.specs.Order.{number_steps, word_steps, mapping_steps, text_steps, dtype_steps, type_steps, raw_steps, version_steps, shape_steps, key_steps, field_steps, name_steps}
 use Rattle.explained.proofs.Agree.{Agree, agree_at, agree_then, agree-bind, agree-found, agree-given, agree-end, agree-every, agree-every-each}
 use Rattle.explained.proofs.Repeat.{agree-repeats, agree-same-names}
 

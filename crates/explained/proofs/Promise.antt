@@ -1,29 +1,27 @@
 -- The promise is kept for every refused file.
 use Prim.Native.Nat.{ℕ, ◌+◌, ◌-◌}
 use mathlib.Core.List.{List, ◌++◌}
-use mathlib.Core.Bool.{true, false, ◌&&◌}
-use mathlib.Core.Option.{Option, none, some}
-use mathlib.Core.Path.{◌≡◌, refl, ap, sym, ◌∙◌, subst}
-use native.Mathlib.Omega.{arith}
+use mathlib.Core.Bool.{true, ◌&&◌}
+use mathlib.Core.Option.{Option, none}
+use mathlib.Core.Path.{◌≡◌, refl, ap, subst}
 use lib.ListN.{length, take, drop}
 use lib.Dec.{leb}
 use Rattle.meaning.specs.Tree.{Node}
-use Rattle.meaning.specs.Check.{Check, pass, refuse}
+use Rattle.meaning.specs.Check.{pass, refuse}
 use Rattle.meaning.specs.Text.{same, all}
 use Rattle.meaning.specs.Refusal.{SHORT, HEADER, FOOTER, BIG, FIT, ROOM}
 use Rattle.meaning.specs.Limit.{manifest_limit}
 use Rattle.meaning.specs.Model.{Word}
 use Rattle.meaning.specs.Read.{Span, Outcome, got, refused}
 use Rattle.meaning.specs.Layouts.{Layout, magic, current, old, layout_of}
-use Rattle.meaning.specs.Frame.{little, Frame, frame, checked, Reading, reading}
+use Rattle.meaning.specs.Frame.{Frame, frame, checked, Reading, reading}
 use Rattle.meaning.specs.Rows.{room_for, read_into}
 use Rattle.meaning.proofs.WhichLayout.{by_layout}
 use Rattle.explained.specs.Step
 use Rattle.explained.specs.Step.{Step, given, first}
 use Rattle.explained.specs.Order.{manifest_steps}
 use Rattle.explained.specs.Fields.{Sided, on_component, on_object}
-use Rattle.explained.specs.Breaks.{Said}
-use Rattle.explained.specs.Explain.{span, head_span, frame_steps, read_steps, root, file_steps, room_steps, explanation, needed_by, explain}
+use Rattle.explained.specs.Explain.{span, frame_steps, read_steps, root, file_steps, room_steps, explanation, needed_by, explain}
 use Rattle.explained.specs.Promise
 use Rattle.explained.specs.Promise.{InFile, Promise, size_of}
 use Rattle.explained.proofs.Truly.{Truly, nothing, also, truly-at, truly-then, truly-given, truly-this}

@@ -3,10 +3,10 @@ use Prim.Native.Nat.{ℕ, suc}
 use mathlib.Core.List.{List, [], ◌∷◌, ◌++◌, map}
 use mathlib.Core.Bool.{Bool, true, false, cond, not, ◌&&◌}
 use mathlib.Core.Option.{Option, none, some}
-use mathlib.Core.Path.{◌≡◌, refl, ap, sym, ◌∙◌}
+use mathlib.Core.Path.{◌≡◌, refl, sym, ◌∙◌}
 use lib.Dec.{leb, leb-zero, leb-suc-zero, leb-suc-suc}
 use Rattle.meaning.specs.Tree.{Pair, note_of}
-use Rattle.meaning.specs.Check.{Check, pass, refuse, ◌unless◌}
+use Rattle.meaning.specs.Check.{pass, ◌unless◌}
 use Rattle.meaning.specs.Text.{same, one_of, distinct, all}
 use Rattle.meaning.specs.Model.{Named}
 use Rattle.meaning.specs.Field.{is_key, key_of, named, count}

@@ -1,14 +1,14 @@
 -- Where a role's component stands: the index that the format's rules give is that of a name, and its length is a field of its map.
-use Prim.Native.Nat.{ℕ, zero, suc, ◌+◌}
-use mathlib.Core.List.{List, [], ◌∷◌, ◌++◌, map}
+use Prim.Native.Nat.{ℕ, suc, ◌+◌}
+use mathlib.Core.List.{List, [], ◌∷◌, map}
 use mathlib.Core.Bool.{Bool, true, false, cond}
 use mathlib.Core.Option.{Option, none, some}
 use mathlib.Core.Path.{◌≡◌, refl, ap, sym, ◌∙◌, subst}
 use native.Mathlib.Omega.{arith}
 use lib.ListN.{get_or}
 use Rattle.meaning.specs.Tree.{Node, Pair, note_of}
-use Rattle.meaning.specs.Check.{Check, pass, refuse, ◌>>=◌, ◌>>◌, in_component, required, required_in, each}
-use Rattle.meaning.specs.Text.{ascii, same}
+use Rattle.meaning.specs.Check.{Check, pass, refuse, ◌>>=◌, in_component, required, required_in, each}
+use Rattle.meaning.specs.Text.{same}
 use Rattle.meaning.specs.Limit.{component_limit}
 use Rattle.meaning.specs.Model.{Named, Component, ComponentFields}
 use Rattle.meaning.specs.Kind.{a_mapping}
@@ -38,9 +38,14 @@ module _ {A B : Type 0} where
     it : A
     at : At j it i l
 
+  before_of : (g : A → B) (j : ℕ) (b : B) (i : ℕ) (a : A) (l : List A) (c : B) (cs : List B)
+      → (At j b (suc i) cs → Before g j (suc i) l) → At j b i (c ∷ cs) → Before g j i (a ∷ l)
+  before_of g j b i a l c cs f first = record { it = a; at = first }
+  before_of g j b i a l c cs f (later h) = let r = f h in record { it = r.it; at = later r.at }
+
   at_map_lem : (g : A → B) (j : ℕ) (b : B) (i : ℕ) (l : List A) → At j b i (map g l) → Before g j i l
-  at_map_lem g j b i (a ∷ l) first = record { it = a; at = first }
-  at_map_lem g j b i (a ∷ l) (later h) = let r = at_map_lem g j b (suc i) l h in record { it = r.it; at = later r.at }
+  at_map_lem g j b i [] h = elim h [ ]
+  at_map_lem g j b i (a ∷ l) h = before_of g j b i a l (g a) (map g l) (at_map_lem g j b (suc i) l) h
 
   record Source (g : ℕ → A → Check B) (j : ℕ) (b : B) (i : ℕ) (l : List A) : Type 0 where
     it : A
@@ -53,7 +58,7 @@ module _ {A B : Type 0} where
   source_of g j b i a l c cs e f (later h) = let r = f h in record { it = r.it; at = later r.at; passed = r.passed }
 
   no_source : (g : ℕ → A → Check B) (j : ℕ) (b : B) (i : ℕ) → At j b i [] → Source g j b i []
-  no_source g j b i = elim [ ]
+  no_source g j b i h = elim h [ ]
 
   each_at : (g : ℕ → A → Check B) (j : ℕ) (b : B) (i : ℕ) (l : List A) (bs : List B) → each g i l ≡ pass bs → At j b i bs → Source g j b i l
   each_at g j b i [] bs e h = no_source g j b i (subst (At j b i) (sym (pass_same e)) h)
@@ -71,6 +76,7 @@ module _ {A B : Type 0} where
   at-index : (g : A → B) (j : ℕ) (a : A) (i : ℕ) (l : List A) → At j a i l → Index g j a i l
   at-index g j a i (b ∷ l) first = record { by = 0; sum = omega arith; got = λ d. refl }
   at-index g j a i (b ∷ l) (later h) = let r = at-index g j a (suc i) l h in record { by = suc r.by; sum = let s = r.sum in omega (arith, s); got = r.got }
+  at-index g j a i [] x' = elim x' [ ]
 
   at-get_d : (g : A → B) (j : ℕ) (a : A) (l : List A) (d : B) → At j a 0 l → get_or (map g l) j d ≡ g a
   at-get_d g j a l d h = let r = at-index g j a 0 l h in let s : j ≡ r.by = (let z = r.sum in omega (arith, z)) in rw s (r.got d)

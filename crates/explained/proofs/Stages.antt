@@ -1,14 +1,14 @@
 -- The explanation by the stage at which a file is refused: its frame, the reading of its manifest, the tree, the room.
 use Prim.Native.Nat.{ℕ, ◌+◌}
-use mathlib.Core.List.{List, [], ◌++◌}
+use mathlib.Core.List.{List, ◌++◌}
 use mathlib.Core.Bool.{true, false}
-use mathlib.Core.Option.{Option, none, some}
+use mathlib.Core.Option.{none, some}
 use mathlib.Core.Path.{◌≡◌, refl, ap, ◌∙◌}
 use lib.Dec.{leb}
-use Rattle.meaning.specs.Check.{Check, pass, refuse, fault, ◌>>=◌}
+use Rattle.meaning.specs.Check.{pass, refuse, fault}
 use Rattle.meaning.specs.Tree.{Node}
 use Rattle.meaning.specs.Refusal.{ROOM}
-use Rattle.meaning.specs.Read.{Span, Outcome, got, refused, manifest, span_to}
+use Rattle.meaning.specs.Read.{Span, got, refused}
 use Rattle.meaning.specs.Layouts.{Layout}
 use Rattle.meaning.specs.Judge.{judge}
 use Rattle.meaning.specs.Frame.{Frame, frame, checked, Reading, reading}

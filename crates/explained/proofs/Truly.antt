@@ -3,8 +3,8 @@ use Prim.Native.Nat.{ℕ, suc}
 use mathlib.Core.List.{List, [], ◌∷◌, ◌++◌, map}
 use mathlib.Core.Bool.{Bool, true, false}
 use mathlib.Core.Option.{Option, none, some}
-use mathlib.Core.Path.{◌≡◌, refl, ap, sym, ◌∙◌}
-use Rattle.meaning.specs.Check.{Check, pass, refuse, ◌>>=◌, ◌>>◌}
+use mathlib.Core.Path.{◌≡◌, refl, ap, ◌∙◌}
+use Rattle.meaning.specs.Check.{Check, pass, refuse}
 use Rattle.meaning.specs.Text.{all}
 use Rattle.meaning.specs.Model.{Word}
 use Rattle.meaning.specs.Field.{is_some}

@@ -1,6 +1,6 @@
 -- A check that is not right breaks, in the sense of the tree.
-use Prim.Native.Nat.{ℕ, suc, ◌+◌, ◌%◌}
-use mathlib.Core.List.{List, [], ◌∷◌, ◌++◌, map}
+use Prim.Native.Nat.{ℕ, ◌+◌, ◌%◌}
+use mathlib.Core.List.{List, [], ◌∷◌, ◌++◌}
 use mathlib.Core.Bool.{Bool, true, false, cond, not, ◌&&◌}
 use mathlib.Core.Option.{Option, none, some}
 use mathlib.Core.Path.{◌≡◌, refl, ap, sym, ◌∙◌, subst}
@@ -8,20 +8,20 @@ use native.Mathlib.Omega.{arith}
 use lib.ListN.{length}
 use lib.Dec.{eqb, leb}
 use Rattle.meaning.specs.Tree.{Node, Pair, note_of}
-use Rattle.meaning.specs.Check.{Check, pass, refuse, ◌>>=◌, ◌>>◌, ◌unless◌, optional, each}
+use Rattle.meaning.specs.Check.{pass, ◌>>◌, ◌unless◌, optional, each}
 use Rattle.meaning.specs.Text.{ascii, same, one_of, all, utf8}
 use Rattle.meaning.specs.Version.{version_shape, major_one}
 use Rattle.meaning.specs.Refusal.{KIND, KEY, TEXT, TWICE, MISSING, VERSION, MAJOR, COUNT, DTYPE, ENCODING, TYPE, ALIGN, BOUNDS}
-use Rattle.meaning.specs.Limit.{object_limit, component_limit, rank_limit, alignment}
+use Rattle.meaning.specs.Limit.{component_limit, rank_limit, alignment}
 use Rattle.meaning.specs.Model.{Word, Named}
 use Rattle.meaning.specs.Kind.{Kind, number, words, list, mapping, null, another, kind, a_number, a_word, a_list, a_mapping, a_text, present_kind, present}
-use Rattle.meaning.specs.Layouts.{Layout, Slots, slot, somes}
+use Rattle.meaning.specs.Layouts.{Layout, somes}
 use Rattle.meaning.specs.Field.{is_some, key_of, field, name_of, names}
 use Rattle.meaning.specs.Types.{code_from, logicals, listed, fits_over}
-use Rattle.meaning.specs.Judge.{code_or, or_else, a_dtype, shape_of}
+use Rattle.meaning.specs.Judge.{code_or, or_else, a_dtype}
 use Rattle.meaning.proofs.SameText.{same-eq}
 use Rattle.meaning.proofs.Checks.{passed_on, passed}
-use Rattle.explained.specs.Step.{Step, passes, given, every}
+use Rattle.explained.specs.Step.{passes}
 use Rattle.explained.specs.Order.{fresh, more, number_steps, word_steps, mapping_steps, text_steps, dtype_steps, type_steps, raw_steps, version_steps, shape_steps, key_steps, repeat_steps, field_steps, missing, missing_in, same_name_steps, name_steps, component_steps, components_steps}
 use Rattle.explained.specs.Fields
 use Rattle.explained.specs.Fields.{Level, known, dtype_on, attributes_on, version_of, objects_field, shape_field, format_of, components_field, type_of, offset_of, length_of, unpacked_of, encoding_of, digest_of}

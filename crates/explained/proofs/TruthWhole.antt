@@ -1,6 +1,6 @@
 -- The format's rules, objects and the whole manifest: a check that is not right breaks there.
-use Prim.Native.Nat.{ℕ, suc, ◌+◌, ◌*◌, ◌/◌, ◌%◌}
-use mathlib.Core.List.{List, [], ◌∷◌, ◌++◌, map}
+use Prim.Native.Nat.{ℕ, suc, ◌+◌, ◌*◌}
+use mathlib.Core.List.{List, [], ◌∷◌, map}
 use mathlib.Core.Bool.{Bool, true, false, cond, not, ◌&&◌}
 use mathlib.Core.Option.{Option, none, some}
 use mathlib.Core.Path.{◌≡◌, refl, ap, sym, ◌∙◌, subst}
@@ -8,20 +8,20 @@ use native.Mathlib.Omega.{arith}
 use lib.ListN.{length, get_or}
 use lib.Dec.{eqb, leb}
 use Rattle.meaning.specs.Tree.{Node, Pair, note_of}
-use Rattle.meaning.specs.Check.{Check, pass, refuse, ◌>>=◌, ◌>>◌, ◌unless◌, optional, in_component, each}
+use Rattle.meaning.specs.Check.{pass, ◌>>=◌, ◌>>◌, ◌unless◌, optional, each}
 use Rattle.meaning.specs.Text.{ascii, same, all}
 use Rattle.meaning.specs.Refusal.{RANK, ROLE, LENGTH, COUNT}
 use Rattle.meaning.specs.Limit.{object_limit, component_limit, rank_limit}
 use Rattle.meaning.specs.Model.{Word, Named}
-use Rattle.meaning.specs.Kind.{a_number, a_word, a_list, a_mapping, a_text}
+use Rattle.meaning.specs.Kind.{a_number, a_list, a_mapping, a_text}
 use Rattle.meaning.specs.Layouts.{Layout}
 use Rattle.meaning.specs.Field.{is_some, field, names}
 use Rattle.meaning.specs.Types.{product}
 use Rattle.meaning.specs.Format.{Part, Role, unit, role, plain, multiple, whole_of, whole}
-use Rattle.meaning.specs.Judge.{inherited, a_dtype, part, shape_of, components_of, judge}
+use Rattle.meaning.specs.Judge.{inherited, a_dtype, part, shape_of, components_of}
 use Rattle.meaning.proofs.SameText.{same-eq}
 use Rattle.meaning.proofs.Checks.{passed_on, passed}
-use Rattle.explained.specs.Step.{Step, passes, given, first}
+use Rattle.explained.specs.Step.{Step, passes, first}
 use Rattle.explained.specs.Order.{missing, missing_in, all_of, length_note, of_role, role_steps, plain_steps, length_steps, dense_steps, csr_steps, coo_steps, group_steps, format_steps, object_steps, objects_steps, manifest_steps}
 use Rattle.explained.specs.Fields
 use Rattle.explained.specs.Fields.{known, dtype_on, attributes_on, version_of, objects_field, shape_field, format_of, components_field, Sided, on_component, on_object}
@@ -31,7 +31,6 @@ use Rattle.explained.specs.Breaks.{Among, here, there, entry, entries, Field, Un
 use Rattle.explained.proofs.Truly.{Truly, nothing, truly-at, truly-then, truly-after, truly-some, truly-given, truly-each, truly-in_component, truly-in_object, truly-this}
 use Rattle.explained.proofs.Truth.{a_text-word, found, truth-table, truth-text, truth-fields, truth-missing, truth-missing_in, truth-dtype, truth-names, truth-shape, truth-version, truth-components, Codes, of_component, of_object}
 use Rattle.explained.proofs.Seat.{Seat, seat}
-use Rattle.explained.specs.Promise.{Why}
 use Rattle.explained.proofs.Why.{first-why}
 
 -- a role that is absent: no component is called so

@@ -3,32 +3,32 @@ use Prim.Native.Nat.{ℕ, suc, ◌+◌, ◌-◌, ◌*◌, ◌/◌, ◌%◌}
 use mathlib.Core.List.{List, [], ◌∷◌, ◌++◌, map}
 use mathlib.Core.Bool.{Bool, true, false, cond, ◌&&◌}
 use mathlib.Core.Option.{Option, none, some}
-use mathlib.Core.Path.{◌≡◌, refl, ap, sym, ◌∙◌}
+use mathlib.Core.Path.{◌≡◌, refl}
 use lib.ListN.{length, get_or, take, drop}
 use lib.Dec.{eqb, leb}
 use Rattle.meaning.specs.Tree.{Node, note_of}
-use Rattle.meaning.specs.Check.{Check, pass, refuse, ◌>>=◌, ◌>>◌, ◌unless◌, fault, in_object, in_component, required, required_in, optional, each}
+use Rattle.meaning.specs.Check.{Check, pass, refuse, ◌>>=◌, ◌>>◌, ◌unless◌, in_component, required_in, each}
 use Rattle.meaning.specs.Text.{ascii, same}
 use Rattle.meaning.specs.Refusal.{SHORT, HEADER, FOOTER, BIG, FIT, ALIGN, BOUNDS, RANK, ROLE, LENGTH, ROOM}
 use Rattle.meaning.specs.Limit.{manifest_limit, object_limit, component_limit, alignment}
-use Rattle.meaning.specs.Model.{Word, Named}
-use Rattle.meaning.specs.Kind.{a_number, a_text, present}
+use Rattle.meaning.specs.Model.{Named}
+use Rattle.meaning.specs.Kind.{present}
 use Rattle.meaning.specs.Layouts.{Layout, magic}
 use Rattle.meaning.specs.Field.{is_some, field, names, root_fields, object_fields, component_fields}
 use Rattle.meaning.specs.Types.{width_of, product}
 use Rattle.meaning.specs.Format.{Part, Role, unit, role, plain, index_role, long, multiple, elements, whole_of, whole, indexed, dense, sparse_csr, sparse_coo, quantized_group, format_rules}
-use Rattle.meaning.specs.Judge.{or_else, inherited, a_dtype, a_type, raw, attributes_of, part, component, shape_of, components_of, object, a_version, objects_of, judge}
-use Rattle.meaning.specs.Read.{Span, Outcome, got, refused}
-use Rattle.meaning.specs.Frame.{little, frame, checked, Reading, reading}
+use Rattle.meaning.specs.Judge.{or_else, inherited, part, component, components_of, object, objects_of, judge}
+use Rattle.meaning.specs.Read.{Outcome, got, refused}
+use Rattle.meaning.specs.Frame.{little, frame, checked, reading}
 use Rattle.meaning.specs.Rows.{room_for, roomy, read_into}
 use Rattle.explained.specs.Step
 use Rattle.explained.specs.Step.{Step, ◌at◌unless◌, told, given, passes, every, each_of}
-use Rattle.explained.specs.Order.{number_steps, mapping_steps, text_steps, dtype_steps, type_steps, raw_steps, version_steps, shape_steps, field_steps, missing, missing_in, name_steps, component_steps, components_steps, length_note, of_role, role_steps, plain_steps, length_steps, dense_steps, csr_steps, coo_steps, group_steps, format_steps, all_of, object_steps, objects_steps, manifest_steps}
+use Rattle.explained.specs.Order.{missing, missing_in, component_steps, components_steps, length_note, of_role, role_steps, plain_steps, length_steps, dense_steps, csr_steps, coo_steps, group_steps, format_steps, all_of, object_steps, objects_steps, manifest_steps}
 use Rattle.explained.specs.Fields
 use Rattle.explained.specs.Lengths.{elements_fit, whole_fits, indices_fit}
 use Rattle.explained.specs.Explain.{span, frame_steps, read_steps, root, file_steps, room_steps}
 use Rattle.explained.proofs.Agree.{Agree, agree_at, agree-nothing, agree_then, agree-bind, agree-given, agree-shape, agree-end, agree-required, agree-found, agree-optional, agree-each, agree-in_component, agree-in_object}
-use Rattle.explained.proofs.Parts.{agree-number, agree-table, agree-text, agree-dtype, agree-type, agree-raw, agree-attributes, agree-version, agree-shape_of, agree-in-fields, agree-names}
+use Rattle.explained.proofs.Parts.{agree-number, agree-text, agree-dtype, agree-type, agree-raw, agree-attributes, agree-version, agree-shape_of, agree-in-fields, agree-names}
 
 -- binding what a run of checks hands on
 module _ {A B C : Type 0} where

@@ -3,7 +3,7 @@ use Prim.Native.Nat.{ℕ}
 use mathlib.Core.List.{List, [], ◌∷◌, ◌++◌}
 use mathlib.Core.Bool.{Bool, true, false, cond, ◌&&◌}
 use mathlib.Core.Option.{Option, none, some}
-use mathlib.Core.Path.{◌≡◌, refl, ap, sym, ◌∙◌}
+use mathlib.Core.Path.{◌≡◌, refl, ap, ◌∙◌}
 use native.Mathlib.Omega.{arith}
 use Rattle.meaning.specs.Check.{Check, pass, refuse}
 use Rattle.meaning.specs.Tree.{Node}
@@ -13,7 +13,7 @@ use Rattle.meaning.specs.Layouts.{Layout}
 use Rattle.meaning.specs.Judge.{judge}
 use Rattle.meaning.specs.Frame.{Reading}
 use Rattle.meaning.specs.Rows.{answer, read_into}
-use Rattle.explained.specs.Step.{Step, first, refusal, told}
+use Rattle.explained.specs.Step.{Step, first, refusal}
 use Rattle.explained.specs.Order.{manifest_steps}
 use Rattle.explained.specs.Explain.{room_steps, explanation, explain}
 use Rattle.explained.specs.Promise.{Why}

@@ -1,8 +1,8 @@
 -- Request 08, "it must be true": what it means that a check breaks at a place of the tree, number by number. Nothing here says in which order anything is looked at.
-use Rattle.std.specs.Prelude.{ℕ, suc, ◌+◌, ◌*◌, ◌/◌, ◌%◌, List, [], ◌∷◌, ◌++◌, map, Bool, true, false, not, ◌&&◌, ◌≡◌, length, get_or, eqb, leb}
+use Rattle.std.specs.Prelude.{ℕ, suc, ◌+◌, ◌*◌, ◌%◌, List, [], ◌∷◌, ◌++◌, map, Bool, true, false, not, ◌&&◌, ◌≡◌, length, get_or, eqb, leb}
 use Rattle.std.proofs.Math.Option.{Option, none, some}
 use Rattle.meaning.specs.Tree.{Node, Pair, note_of}
-use Rattle.meaning.specs.Check.{Check, pass, optional, each}
+use Rattle.meaning.specs.Check.{pass, optional, each}
 use Rattle.meaning.specs.Text.{ascii, same, one_of, distinct, all, utf8}
 use Rattle.meaning.specs.Version.{version_shape, major_one}
 use Rattle.meaning.specs.Refusal.{KIND, KEY, TEXT, TWICE, MISSING, VERSION, MAJOR, COUNT, DTYPE, ENCODING, TYPE, ALIGN, BOUNDS, RANK, ROLE, LENGTH}

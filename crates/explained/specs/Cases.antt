@@ -1,10 +1,9 @@
 -- Refused files, and what is said of each: number, object, component, place and length of both names, place and length of what is at fault, room.
-use Rattle.std.specs.Prelude.{ℕ, ◌+◌, ◌/◌, ◌%◌, List, [], ◌∷◌, ◌++◌, Bool, ◌&&◌, length, replicate}
+use Rattle.std.specs.Prelude.{ℕ, ◌+◌, List, [], ◌∷◌, ◌++◌, Bool, length, replicate}
 use Prim.Native.String.{String}
-use Rattle.meaning.specs.Text.{ascii, same, all}
+use Rattle.meaning.specs.Text.{ascii, same}
 use Rattle.meaning.specs.WrittenFile.{little_bytes}
 use Rattle.meaning.specs.Layouts.{layout_of}
-use Rattle.meaning.specs.Read.{Span}
 use Rattle.cases.specs.Files.{empty_sized, empty_of, one_file, plain_file, two}
 use Rattle.explained.specs.Explain.{Explanation, explain}
 use Rattle.explained.specs.Sentence.{sentence}

@@ -1,6 +1,6 @@
 -- Document 01, "Order", with the places that request 08 asks for. One line for each item of that paragraph: the number, what is shown when it breaks, and what is asked.
 -- Lines with an arrow name a thing that further checks look at; where there is none, those are not made.
-use Rattle.std.specs.Prelude.{ℕ, ◌+◌, ◌*◌, ◌/◌, ◌%◌, List, [], ◌∷◌, ◌++◌, map, Bool, true, false, cond, not, ◌&&◌, length, get_or, eqb, leb}
+use Rattle.std.specs.Prelude.{ℕ, ◌+◌, ◌*◌, ◌%◌, List, [], ◌∷◌, map, Bool, true, cond, not, ◌&&◌, length, get_or, eqb, leb}
 use Rattle.std.proofs.Math.Option.{Option, none, some}
 use Rattle.meaning.specs.Tree.{Node, Pair, note_of}
 use Rattle.meaning.specs.Check.{Check, pass, refuse, optional, each}
@@ -8,14 +8,14 @@ use Rattle.meaning.specs.Text.{ascii, same, one_of, utf8}
 use Rattle.meaning.specs.Version.{version_shape, major_one}
 use Rattle.meaning.specs.Refusal.{KIND, KEY, TEXT, TWICE, MISSING, VERSION, MAJOR, COUNT, DTYPE, ENCODING, TYPE, ALIGN, BOUNDS, RANK, ROLE, LENGTH}
 use Rattle.meaning.specs.Limit.{object_limit, component_limit, rank_limit, alignment}
-use Rattle.meaning.specs.Model.{Word, Named}
+use Rattle.meaning.specs.Model.{Named}
 use Rattle.meaning.specs.Kind.{a_number, a_word, a_list, a_mapping, a_text, present}
-use Rattle.meaning.specs.Layouts.{Layout, Slots, slot, somes, dtype_at}
+use Rattle.meaning.specs.Layouts.{Layout, Slots, somes}
 use Rattle.meaning.specs.Field.{is_some, key_of, field, name_of, names}
-use Rattle.meaning.specs.Types.{width_of, code_from, logicals, listed, fits_over, product}
+use Rattle.meaning.specs.Types.{code_from, logicals, listed, fits_over, product}
 use Rattle.meaning.specs.Format.{Part, Role, unit, role, plain, whole}
 use Rattle.meaning.specs.Judge.{or_else, inherited, a_dtype, shape_of, part, components_of}
-use Rattle.explained.specs.Fields.{Level, root, object, component, dtype_on, attributes_on, version_of, objects_field, shape_field, format_of, components_field, type_of, offset_of, length_of, unpacked_of, encoding_of, digest_of}
+use Rattle.explained.specs.Fields.{root, object, component, dtype_on, attributes_on, version_of, objects_field, shape_field, format_of, components_field, type_of, offset_of, length_of, unpacked_of, encoding_of, digest_of}
 use Rattle.explained.specs.Lengths.{elements_fit, whole_fits, indices_fit}
 use Rattle.explained.specs.Step.{Step, ◌at◌unless◌, ◌>>=◌, ◌>>◌, in_object, in_component, given, passes, every, each_of}
 

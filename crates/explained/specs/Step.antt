@@ -1,6 +1,6 @@
 -- Request 08: a check of document 01, made at one place: its number, the indices and names that a refusal gives, the annotation of the value, key or map that it
 -- looks at, and whether that is right. A list of them is an order of checking; the first that is not right is the refusal.
-use Rattle.std.specs.Prelude.{ℕ, suc, List, [], ◌∷◌, ◌++◌, map, Bool, true, false, cond}
+use Rattle.std.specs.Prelude.{ℕ, suc, List, [], ◌∷◌, ◌++◌, Bool, true, false, cond}
 use Rattle.std.proofs.Math.Option.{Option, none, some}
 use Rattle.meaning.specs.Check.{Check, pass, refuse}
 use Rattle.meaning.specs.Model.{Word}
