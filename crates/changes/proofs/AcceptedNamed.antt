@@ -2,7 +2,7 @@
 use Prim.Native.Nat.{ℕ, zero, suc}
 use mathlib.Core.List.{List, [], ◌∷◌, map}
 use mathlib.Core.Bool.{true}
-use mathlib.Core.Option.{Option, some, some-injective, none-ne-some}
+use mathlib.Core.Option.{some, some-injective, none-ne-some}
 use mathlib.Core.Path.{◌≡◌, refl, ap, ◌∙◌, subst}
 use lib.ListN.{get_elem?}
 use Rattle.meaning.specs.Check.{pass}
@@ -10,7 +10,7 @@ use Rattle.meaning.specs.Text.{distinct}
 use Rattle.meaning.specs.Read.{Span}
 use Rattle.meaning.specs.Model.{Component, Object}
 use Rattle.meaning.specs.Layouts.{Layout}
-use Rattle.meaning.specs.Frame.{Frame, Reading, reading}
+use Rattle.meaning.specs.Frame.{Reading, reading}
 use Rattle.meaning.specs.Described.{DescribedObject, read_component, read_object, described_by}
 use Rattle.meaning.proofs.AcceptedModel.{ObjectSound, reading-sound}
 use Rattle.meaning.specs.Every.{Every}

@@ -1,18 +1,17 @@
 -- The list holds exactly the entries that are true of the two descriptions: complete, and nothing else.
 use Prim.Native.Nat.{ℕ}
-use mathlib.Core.List.{List, [], ◌∷◌, ◌++◌, map}
+use mathlib.Core.List.{[], ◌∷◌, ◌++◌}
 use mathlib.Core.Bool.{Bool, true, false, cond}
-use mathlib.Core.Option.{Option, none, some}
+use mathlib.Core.Option.{Option, some}
 use mathlib.Core.Logic.{◌⊎◌, inl, inr}
-use mathlib.Core.Path.{◌≡◌, refl, sym, ap, ap₂, ◌∙◌, subst}
+use mathlib.Core.Path.{◌≡◌, refl, sym, ◌∙◌, subst}
 use lib.ListN.{get_elem?}
 use lib.Dec.{eqb}
 use borrow.Author.Tests.{eqb-true, eqb-false}
-use Rattle.meaning.specs.Text.{distinct}
 use Rattle.meaning.specs.Described.{DescribedComponent, DescribedObject, Described}
 use Rattle.changes.specs.Changes.{Entry, entry, Found, across, position_apart, count_apart, part_what, object_what, unless_zero, if_absent, of_part, firsts, seconds, in_both, of_object, olds, news, changes}
 use Rattle.changes.specs.Changes as made
-use Rattle.changes.specs.Differs.{In, Lacks, Both, Bytes, part_name, object_name, PartWhat, ObjectWhat, Change, only_first, only_second, object, part, part_first, part_second, Named}
+use Rattle.changes.specs.Differs.{In, Both, part_name, object_name, Change, only_first, only_second, object, part, part_first, part_second, Named}
 use Rattle.changes.proofs.Lists.{in_left, in_right, in_either, in-across, of-across, Seeking, somewhere, nowhere, seeking, seek-at, seek-lacks}
 use Rattle.changes.proofs.Flags.{bytes-are, bytes_same}
 use Rattle.changes.proofs.Whats.{part-what, part-what-same, object-what, object-what-same}

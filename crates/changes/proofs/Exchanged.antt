@@ -1,13 +1,12 @@
 -- Exchanging the two descriptions exchanges the entries.
-use Prim.Native.Nat.{ℕ, ◌+◌}
-use mathlib.Core.List.{List, []}
+use Prim.Native.Nat.{ℕ}
+use mathlib.Core.List.{List}
 use mathlib.Core.Logic.{◌⊎◌, inl, inr}
-use mathlib.Core.Path.{◌≡◌, refl, sym, ap, ◌∙◌, subst}
+use mathlib.Core.Path.{◌≡◌, refl, sym, subst}
 use native.Mathlib.Omega.{arith}
-use lib.ListN.{length, get_elem?}
 use Rattle.meaning.specs.Described.{DescribedComponent, DescribedObject, Described}
 use Rattle.changes.specs.Changes.{Entry, longer, changes}
-use Rattle.changes.specs.Differs.{In, Flag, Counted, DiffersAt, Apart, Bytes, Both, Lone, Shared, OtherDtype, OtherType, OtherBytes, PartWhat, ObjectWhat, Change, only_first, only_second, object, part, part_first, part_second, Named, swapped}
+use Rattle.changes.specs.Differs.{In, Counted, DiffersAt, Bytes, Both, Shared, OtherDtype, OtherType, OtherBytes, PartWhat, ObjectWhat, Change, only_first, only_second, object, part, part_first, part_second, Named, swapped}
 use Rattle.changes.proofs.Flags.{flag-as, counted-as}
 use Rattle.changes.proofs.Exactly.{nothing-else, complete}
 

@@ -1,21 +1,20 @@
 -- A test that decides a fact gives the fact's number; positions of two blobs.
-use Prim.Native.Nat.{ℕ, zero, suc, ◌+◌, ◌<◌, max}
+use Prim.Native.Nat.{ℕ, zero, suc, ◌+◌, ◌<◌}
 use mathlib.Core.List.{List, [], ◌∷◌}
 use mathlib.Core.Bool.{Bool, true, false, cond, not, ◌||◌}
 use mathlib.Core.Option.{Option, none, some, some-injective, none-ne-some, some-ne-none}
 use mathlib.Core.Logic.{◌⊎◌, inl, inr}
-use mathlib.Core.Path.{◌≡◌, refl, sym, ap, ap₂, ◌∙◌, subst}
+use mathlib.Core.Path.{◌≡◌, refl, sym, ap, ap₂, ◌∙◌}
 use native.Mathlib.Omega.{arith}
-use native.Mathlib.Nat.{suc-max-suc}
-use lib.ListN.{length, get_elem?}
+use lib.ListN.{get_elem?}
 use lib.Dec.{eqb}
-use borrow.Author.Tests.{eq-eqb, eqb-true, eqb-false, not-true, not-false}
+use borrow.Author.Tests.{eqb-true, eqb-false, not-true, not-false}
 use Rattle.meaning.specs.Text.{same}
 use Rattle.meaning.proofs.Tests.{not-both}
 use Rattle.meaning.proofs.SameText.{same-eq}
 use Rattle.text.proofs.SameIsEqual.{eq-same}
 use Rattle.changes.specs.Changes.{same_option, differs_at, least, bit, how_many, longer, position_apart, count_apart}
-use Rattle.changes.specs.Differs.{Flag, Counted, DiffersAt, Apart, Bytes}
+use Rattle.changes.specs.Differs.{Flag, Counted, DiffersAt, Bytes}
 
 -- the test t says whether P
 pub record Says (t : Bool) (P : Type 0) : Type 0 where

@@ -1,8 +1,7 @@
 -- Every 4, 5 and 6 has its 3.
-use Prim.Native.Nat.{ℕ, ◌+◌, ◌≤◌}
-use mathlib.Core.List.{List}
+use Prim.Native.Nat.{ℕ, ◌≤◌}
 use mathlib.Core.Logic.{◌⊎◌, inl, inr}
-use mathlib.Core.Path.{◌≡◌, refl, sym, ◌∙◌}
+use mathlib.Core.Path.{◌≡◌}
 use native.Mathlib.Omega.{arith}
 use Rattle.meaning.specs.Described.{DescribedComponent, DescribedObject, Described}
 use Rattle.changes.specs.Changes.{Entry, entry, object_what, changes}

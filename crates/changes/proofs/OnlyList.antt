@@ -1,8 +1,8 @@
 -- No other list will do: what holds exactly the true entries, in the stated order, is the list.
-use Prim.Native.Nat.{ℕ, ◌<◌}
+use Prim.Native.Nat.{ℕ}
 use mathlib.Core.List.{List, [], ◌∷◌}
-use mathlib.Core.Logic.{◌⊎◌, inl, inr}
-use mathlib.Core.Path.{◌≡◌, refl, sym, ap, ap₂, ◌∙◌, subst}
+use mathlib.Core.Logic.{inl, inr}
+use mathlib.Core.Path.{◌≡◌, refl, sym, ap₂, ◌∙◌, subst}
 use native.Mathlib.Omega.{arith}
 use Rattle.meaning.specs.Described.{Described}
 use Rattle.changes.specs.Changes.{Entry, changes}

@@ -2,16 +2,15 @@
 use Prim.Native.Nat.{ℕ, ◌+◌}
 use mathlib.Core.List.{List, map}
 use mathlib.Core.Bool.{Bool, true, false, not, ◌||◌}
-use mathlib.Core.Option.{Option, none, some}
-use mathlib.Core.Logic.{◌⊎◌, inl, inr}
+use mathlib.Core.Option.{Option, some}
 use mathlib.Core.Path.{◌≡◌, refl, sym, ap, ap₂, ◌∙◌}
 use lib.ListN.{get_elem?}
 use lib.Dec.{eqb}
 use Rattle.meaning.specs.Text.{same, distinct}
 use Rattle.meaning.specs.Described.{DescribedComponent, DescribedObject}
 use Rattle.meaning.proofs.Tests.{not-both}
-use Rattle.changes.specs.Changes.{Found, seek, any, absent, same_option, bit, other_dtype, other_type, other_bytes, part_what, part, lone, found, shared, object_what}
-use Rattle.changes.specs.Differs.{Flag, Lacks, Both, part_name, Lone, Shared, OtherDtype, OtherType, OtherBytes, PartWhat, ObjectWhat}
+use Rattle.changes.specs.Changes.{Found, absent, same_option, bit, other_dtype, other_type, other_bytes, part_what, part, lone, found, shared, object_what}
+use Rattle.changes.specs.Differs.{part_name, Lone, Shared, OtherDtype, OtherType, OtherBytes, PartWhat, ObjectWhat}
 use Rattle.changes.proofs.Lists.{any-true, any_at, Seeking, somewhere, nowhere, seeking, seek-at, seek-lacks}
 use Rattle.changes.proofs.Flags.{Says, flag-of, flag_same, says-not, says-or, says-eqb, says_same, says-option}
 

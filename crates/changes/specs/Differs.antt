@@ -1,6 +1,6 @@
 -- What the list is held against: when an entry is true of two descriptions. No search, no order, no construction: names, indices and values.
 use Rattle.std.specs.Prelude.{ℕ, zero, suc, ◌+◌, ◌<◌, max, List, [], ◌∷◌, map, true, cond, eqb, ◌⊎◌, ◌≡◌, length}
-use Rattle.std.proofs.Math.Option.{Option, none, some}
+use Rattle.std.proofs.Math.Option.{some}
 use Rattle.std.proofs.Math.ListN.{get_elem?}
 use Rattle.meaning.specs.Text.{distinct}
 use Rattle.meaning.specs.Described.{DescribedComponent, DescribedObject, Described}

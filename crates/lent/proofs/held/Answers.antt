@@ -1,5 +1,4 @@
 -- `lent::held` meets its contract: a law for each need.
-use Prim.Native.Nat.{◌-◌}
 use native.Mathlib.Omega.{arith}
 use Rattle.lent.proofs.Bytes as bytes
 use Rattle.lent.proofs.held.Goals as goal
