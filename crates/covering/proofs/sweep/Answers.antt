@@ -1,6 +1,5 @@
 -- `covering::sweep` meets its contract: the invariant says what the ranges from i on add. Assumes nothing.
 use Rattle.covering.proofs.SweepTurns as sweeping
-use Prim.Native.Nat.{◌-◌}
 use Rattle.covering.proofs.sweep.Goals as goal
 
 pub loop-i-init : goal.loop-i-init
