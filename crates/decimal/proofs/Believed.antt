@@ -1,18 +1,17 @@
 -- What the definition of the text means: the magnitude is the f32's value in IEEE 754's terms, the rounding is the nearest, and the digits are nine.
-use Prim.Native.Nat.{ℕ, zero, suc, ◌+◌, ◌-◌, ◌*◌, ◌/◌, ◌%◌, ◌^◌, ◌≤◌, ◌<◌}
+use Prim.Native.Nat.{ℕ, zero, suc, ◌+◌, ◌*◌, ◌/◌, ◌%◌, ◌^◌, ◌≤◌, ◌<◌}
 use native.Mathlib.Nat.{mul-add, mul_assoc, mul_comm, mul-one, mul_left_comm, mul-pos, mod-lt, div-add-mod, le-div_iff_mul-le, div-lt_iff_lt-mul, pow-suc, le_trans, lt_trans, mul-le-mul_right, mul-lt-mul_of_pos_right}
 use lib.Pow.{pow-add}
 use native.Mathlib.Omega.{arith}
-use mathlib.Core.Bool.{Bool, true, false, cond}
-use mathlib.Core.Logic.{◌⊎◌, inl, inr, ⊎_elim}
-use mathlib.Core.Path.{◌≡◌, refl, sym, ap, ◌∙◌, subst}
-use lib.Dec.{ltb, leb, eqb, lit<, lit≤}
-use lib.Ieee.{Float, inf, binary32, of_bits, of_fields, odd}
+use mathlib.Core.Bool.{Bool}
+use mathlib.Core.Logic.{◌⊎◌, ⊎_elim}
+use mathlib.Core.Path.{◌≡◌, refl, ap, ◌∙◌, subst}
+use lib.Dec.{leb, lit<, lit≤}
+use lib.Ieee.{binary32, of_bits, of_fields, odd}
 use lib.Ieee.Exact.{HasValue, odd_sign}
 use borrow.Author.Tests.{lt-ltb, le-ltb, eq-eqb, ne_eqb}
 use Rattle.endian.proofs.Which.{lt-or, eq-or}
 use Rattle.decimal.specs.Limbs.{rounded}
-use Rattle.decimal.specs.declared.digits.Decimal.{Decimal}
 use Rattle.decimal.specs.Decimal.{nearest, place_of, digits_at, nine_of, decimal}
 use Rattle.decimal.specs.Text.{magnitude}
 

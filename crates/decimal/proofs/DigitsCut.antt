@@ -1,11 +1,11 @@
 -- Digits that are cut off a number one by one, and what they say of its nearest nine digits.
-use Prim.Native.Nat.{ℕ, zero, suc, ◌+◌, ◌*◌, ◌/◌, ◌%◌, ◌^◌, ◌-◌, ◌≤◌, ◌<◌}
-use native.Mathlib.Nat.{mul-add, mul_assoc, mul_comm, mul-suc, mul_left_comm, pow-suc, pow-succ', mul-le-mul_left, mul-le-mul_right, mul-pos, le_trans, lt_of_le_of_lt, lt_of_lt_of_le, le_of_lt, pow-le-pow_right, mul-one, mul-le-mul, mul-lt-mul_of_pos_right, mod-lt, div-add-mod'}
+use Prim.Native.Nat.{ℕ, zero, suc, ◌+◌, ◌*◌, ◌/◌, ◌%◌, ◌^◌, ◌≤◌, ◌<◌}
+use native.Mathlib.Nat.{mul-add, mul_assoc, mul_comm, mul-suc, mul_left_comm, pow-suc, mul-le-mul_left, mul-le-mul_right, mul-pos, lt_of_le_of_lt, lt_of_lt_of_le, le_of_lt, mul-le-mul, mul-lt-mul_of_pos_right, mod-lt, div-add-mod'}
 use native.Mathlib.Numerals.{add-one}
 use native.Mathlib.Omega.{arith}
 use mathlib.Core.List.{List}
 use mathlib.Core.Bool.{Bool, true, false, cond}
-use mathlib.Core.Logic.{◌⊎◌, inl, inr, ⊎_elim}
+use mathlib.Core.Logic.{⊎_elim}
 use mathlib.Core.Path.{◌≡◌, refl, sym, ap, ◌∙◌}
 use lib.Dec.{ltb, leb, eqb, lit<, lit≤}
 use lib.Arith.{digits_div, digits_mod}
@@ -17,7 +17,7 @@ use Rattle.decimal.proofs.Glue.{limbs-set}
 use borrow.Author.Tests.{lt-ltb, le-ltb, leb-true, leb-false, eq-eqb, ne_eqb}
 use Rattle.endian.proofs.Which.{eq-or, lt-or}
 use Rattle.decimal.proofs.Scale as scale
-use Rattle.decimal.specs.Limbs.{value, Limbs, unit, billion, rounded, near, most}
+use Rattle.decimal.specs.Limbs.{value, Limbs, unit, billion, rounded, near}
 use Rattle.decimal.specs.declared.digits.Decimal.{Decimal}
 use Rattle.decimal.specs.Decimal.{nearest, place_of, digits_at, nine_of, decimal}
 use Rattle.decimal.proofs.Believed.{ten-some}

@@ -4,8 +4,7 @@ use native.Mathlib.Nat.{mul-add, mul_left_comm, mul_comm, mul-le-mul_left, mul-l
 use native.Mathlib.Omega.{arith}
 use native.Mathlib.Numerals.{add-one}
 use mathlib.Core.List.{List, [], ◌∷◌, ◌++◌}
-use mathlib.Core.Bool.{Bool, true, false}
-use mathlib.Core.Logic.{◌⊎◌, inl, inr, ⊎_elim}
+use mathlib.Core.Logic.{◌⊎◌, inl, inr}
 use mathlib.Core.Path.{◌≡◌, refl, sym, ap, ◌∙◌}
 use lib.ListN.{length, get_or, set, take, drop, length-set}
 use lib.Seq.{drop-cons, take-suc, take-suc-set, drop-set-lt, take-set-le, get_or-set_same, get_or-set_other}

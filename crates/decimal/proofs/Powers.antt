@@ -1,10 +1,10 @@
 -- Products by fives and by twos: what they come to, and that they fit.
-use Prim.Native.Nat.{ℕ, zero, suc, ◌+◌, ◌*◌, ◌^◌, ◌-◌, ◌≤◌, ◌<◌}
-use native.Mathlib.Nat.{mul_assoc, mul_comm, mul-le-mul_left, mul-le-mul_right, mul-le-mul, le_trans, lt_of_le_of_lt, le_of_lt, mul-one}
+use Prim.Native.Nat.{ℕ, ◌+◌, ◌*◌, ◌^◌, ◌-◌, ◌≤◌, ◌<◌}
+use native.Mathlib.Nat.{mul_assoc, mul_comm, mul-le-mul_left, mul-le-mul_right, mul-le-mul, lt_of_le_of_lt, le_of_lt, mul-one}
 use native.Mathlib.Omega.{arith}
 use mathlib.Core.List.{List}
 use mathlib.Core.Path.{◌≡◌, refl, sym, ap, ◌∙◌}
-use lib.Dec.{T, ltb, lit<}
+use lib.Dec.{lit<}
 use lib.Pow.{pow_mono, pow-add}
 use Rattle.decimal.specs.Limbs.{value, Limbs, most}
 

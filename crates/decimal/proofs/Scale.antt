@@ -1,14 +1,11 @@
 -- A fraction with a common factor has the same nine digits: M * 10^53 / 2^149 is M * 5^53 / 2^96, which thirteen limbs hold.
 use Prim.Native.Nat.{ℕ, zero, suc, ◌+◌, ◌-◌, ◌*◌, ◌/◌, ◌%◌, ◌^◌, ◌≤◌, ◌<◌}
 use native.Mathlib.Nat.{mul_left_comm, mul-le-mul_left, mul-lt-mul_of_pos_left, mul-div-mul_left, mul_assoc, mul-sub, mod_def}
-use native.Mathlib.Omega.{arith}
-use mathlib.Core.Bool.{Bool, true, false, cond}
-use mathlib.Core.Logic.{◌⊎◌, inl, inr, ⊎_elim}
+use mathlib.Core.Logic.{⊎_elim}
 use mathlib.Core.Path.{◌≡◌, refl, sym, ap, ◌∙◌}
-use lib.Dec.{ltb, eqb, lit<}
+use lib.Dec.{ltb, lit<}
 use borrow.Author.Tests.{lt-ltb, le-ltb}
 use Rattle.endian.proofs.Which.{lt-or}
-use Rattle.decimal.specs.declared.digits.Decimal.{Decimal}
 use Rattle.decimal.specs.Limbs.{rounded, unit}
 use Rattle.decimal.specs.Decimal.{nearest, place_of, digits_at, nine_of, decimal}
 

@@ -1,15 +1,15 @@
 -- A number of thirteen limbs in units of 2^96: the fourth limb and what is above it are the whole part.
-use Prim.Native.Nat.{ℕ, zero, suc, ◌+◌, ◌*◌, ◌/◌, ◌%◌, ◌^◌, ◌-◌, ◌≤◌, ◌<◌}
+use Prim.Native.Nat.{ℕ, ◌+◌, ◌*◌, ◌/◌, ◌%◌, ◌≤◌, ◌<◌}
 use native.Mathlib.Omega.{arith}
-use mathlib.Core.List.{List, [], ◌∷◌}
-use mathlib.Core.Bool.{Bool, true, false, cond}
-use mathlib.Core.Path.{◌≡◌, refl, sym, ap, ◌∙◌}
+use mathlib.Core.List.{List}
+use mathlib.Core.Bool.{Bool, true, false}
+use mathlib.Core.Path.{◌≡◌, refl, sym}
 use lib.ListN.{length, get_or, drop}
-use lib.Dec.{ltb, leb}
+use lib.Dec.{leb}
 use mir.Syntax.{w64}
 use mir.Val.{Fits}
 use borrow.Author.Tests.{lt-ltb, le-ltb, lt-leb, le-leb, leb-true, leb-false}
-use Rattle.decimal.specs.Limbs.{value, Limbs, unit, billion, rounded, near}
+use Rattle.decimal.specs.Limbs.{value, Limbs, unit, billion, near}
 use Rattle.decimal.proofs.Glue.{base, value-at, drop_all}
 
 abbrev pub low : List ℕ → ℕ

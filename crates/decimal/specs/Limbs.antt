@@ -1,5 +1,5 @@
 -- Whole numbers as limbs of 32 bits, the lowest first.
-use Rattle.std.specs.Prelude.{ℕ, suc, ◌+◌, ◌*◌, ◌/◌, ◌%◌, ◌^◌, ◌<◌, List, [], ◌∷◌, ◌≡◌, get_or, length, ltb, cond}
+use Rattle.std.specs.Prelude.{ℕ, ◌+◌, ◌*◌, ◌/◌, ◌%◌, ◌^◌, ◌<◌, List, [], ◌∷◌, ◌≡◌, get_or, length, ltb, cond}
 
 -- what the limbs stand for
 unfoldable pub value : List ℕ → ℕ

@@ -1,5 +1,5 @@
 -- The text of an f32 of this pattern.
-use Rattle.std.specs.Prelude.{ℕ, zero, suc, ◌+◌, ◌-◌, ◌*◌, ◌/◌, ◌%◌, ◌^◌, Bool, cond, List, [], ◌∷◌, ◌++◌, ltb, leb, eqb}
+use Rattle.std.specs.Prelude.{ℕ, zero, suc, ◌+◌, ◌-◌, ◌*◌, ◌/◌, ◌%◌, ◌^◌, cond, List, [], ◌∷◌, ◌++◌, ltb, leb, eqb}
 use Rattle.meaning.specs.Text.{ascii}
 use Rattle.decimal.specs.Decimal.{decimal}
 use Rattle.decimal.specs.declared.digits.Decimal.{Decimal}

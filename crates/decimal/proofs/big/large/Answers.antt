@@ -1,6 +1,5 @@
 -- `decimal::big::large` meets its contract: the invariant says which limbs are 0. Assumes nothing.
 use Rattle.decimal.proofs.Units as units
-use Prim.Native.Nat.{◌-◌}
 use Rattle.decimal.proofs.big.large.Goals as goal
 
 pub loop-i-init : goal.loop-i-init

@@ -1,6 +1,5 @@
 -- `decimal::big::times` meets its contract: the invariant multiplies the limbs from the bottom. Assumes nothing.
 use Rattle.decimal.proofs.Glue as glue
-use Prim.Native.Nat.{◌-◌}
 use Rattle.decimal.proofs.big.times.Goals as goal
 
 pub loop-i-init : goal.loop-i-init

@@ -3,8 +3,8 @@ use Rattle.decimal.proofs.Letters as letters
 use Rattle.put.proofs.PiecesInTurn as writing
 use Rattle.decimal.proofs.text.unsigned.Goals as goal
 
-pub shape_of-out-then-t-eq0 : goal.shape_of-out-then-t-eq0
-shape_of-out-then-t-eq0 c = search (writing.as_bytes, letters.unsigned-inf)
+pub returns-then-t-eq0 : goal.returns-then-t-eq0
+returns-then-t-eq0 c = search (writing.as_bytes, letters.unsigned-inf)
 
 pub returns-then-x-eq255 : goal.returns-then-x-eq255
 returns-then-x-eq255 c = search (writing.as_bytes, letters.unsigned-nan)
