@@ -36,15 +36,15 @@ pub data Counts (c : Part) (u : ℕ) : Type 0 where
 
 pub counts : (c : Part) (u : ℕ) → u ≡ unit_code c → Counts c u
 unfolding unit element_bytes unit_code unit_number type_ratio
-counts c u e = by c.type-inv refl
+counts c u e = by c.typed refl
   where
-    listed-as : (o : Option ℕ) → Ratio o → type_ratio c.type-inv ≡ o → u ≡ unit_number o (width_of c.code) → Counts c u
+    listed-as : (o : Option ℕ) → Ratio o → type_ratio c.typed ≡ o → u ≡ unit_number o (width_of c.code) → Counts c u
     listed-as o unlisted t h = numbers (rw t) (le-leb 256 u (omega arith)) (omega arith)
     listed-as o (between {r} a b) t h =
         let m : r * width_of c.code ≤ 16 = mul-le-mul b (width-most c.code) in
         elements (rw (t, h)) (lt-leb 256 u (omega arith))
 
-    by : (o : Option (List ℕ)) → c.type-inv ≡ o → Counts c u
+    by : (o : Option (List ℕ)) → c.typed ≡ o → Counts c u
     by none t = listed-as (some 1) (between (omega arith) (omega arith)) (rw t) (rw t at e)
     by (some w) t = listed-as (ratio_of (listed logicals w)) (ratio-is w) (rw t) (rw t at e)
 

@@ -1,6 +1,5 @@
 -- `formats::role_of` meets its contract: so many components are passed, none with the role, and the rest of the rows are those of the rest of the components. Assumes nothing.
 use Rattle.formats.proofs.Roles as laws
-use Prim.Native.Nat.{◌-◌}
 use Rattle.formats.proofs.role_of.Goals as goal
 
 pub loop-at-init : goal.loop-at-init
