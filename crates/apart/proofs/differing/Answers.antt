@@ -1,5 +1,4 @@
 -- `apart::differing` meets its contract. The loop's invariant: those before i are counted.
-use Prim.Native.Nat.{◌-◌}
 use native.Mathlib.Omega.{arith}
 use Rattle.apart.specs.Positions.{block}
 use Rattle.apart.proofs.Counts as counting

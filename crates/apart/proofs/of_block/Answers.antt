@@ -1,5 +1,4 @@
 -- `apart::of_block` meets its contract. The loop's invariant: those before i are counted.
-use Prim.Native.Nat.{◌-◌}
 use native.Mathlib.Omega.{arith}
 use Rattle.apart.proofs.Counts as counting
 use Rattle.text.proofs.WordsDecide.{agree-none}

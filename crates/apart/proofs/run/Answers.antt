@@ -1,5 +1,4 @@
 -- `apart::run` meets its contract. The loop's invariant: the bytes before i agree.
-use Prim.Native.Nat.{◌-◌}
 use native.Mathlib.Omega.{arith}
 use Rattle.apart.proofs.Counts as counting
 use Rattle.apart.proofs.run.Goals as goal

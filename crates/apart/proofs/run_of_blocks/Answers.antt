@@ -1,5 +1,4 @@
 -- `apart::run_of_blocks` meets its contract. The loop's invariant: the bytes before i agree.
-use Prim.Native.Nat.{◌-◌}
 use native.Mathlib.Omega.{arith}
 use Rattle.apart.specs.Positions.{block}
 use Rattle.apart.proofs.Counts as counting
@@ -14,6 +13,6 @@ of_block-requires c = counting.both-from c.args.x.now c.args.y.now c.loop-i.i bl
 
 pub loop-i-preserved : goal.loop-i-preserved
 loop-i-preserved c = record {
-      most = omega arith;
-      agree = counting.agree-few c.args.x.now c.args.y.now c.loop-i.i block c.requires (omega arith) c.loop-i.invariant.agree c.of_block.ensures.0 (omega arith);
-    }
+  most = omega arith;
+  agree = counting.agree-few c.args.x.now c.args.y.now c.loop-i.i block c.requires (omega arith) c.loop-i.invariant.agree c.of_block.ensures.0 (omega arith);
+}
