@@ -1,5 +1,5 @@
 -- The names of a map's pairs, as they are noted and judged.
-use Rattle.std.specs.Prelude.{ℕ, suc, ◌+◌, ◌≤◌, min, List, [], ◌∷◌, ◌++◌, map, Bool, not, ◌≡◌, length, take, drop}
+use Rattle.std.specs.Prelude.{ℕ, suc, ◌≤◌, min, List, [], ◌∷◌, ◌++◌, map, Bool, not, ◌≡◌, length, take, drop}
 use Rattle.std.proofs.Math.Option.{Option, none, some}
 use Rattle.meaning.specs.Tree.{Node, Pair, note_of}
 use Rattle.meaning.specs.Check.{Check, pass, fault}
