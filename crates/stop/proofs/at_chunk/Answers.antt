@@ -1,6 +1,5 @@
 -- `stop::at_chunk` meets its contract: a law for each way out of the loop.
 use Rattle.stop.proofs.Turns as turns
-use Prim.Native.Nat.{◌-◌}
 use Rattle.stop.proofs.at_chunk.Goals as goal
 
 pub loop-at-init : goal.loop-at-init

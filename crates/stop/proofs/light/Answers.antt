@@ -4,10 +4,10 @@ use native.Mathlib.Omega.{arith}
 use Rattle.stop.proofs.light.Goals as goal
 
 pub returns-then-s-eq0 : goal.returns-then-s-eq0
-returns-then-s-eq0 c = absurd (omega arith)
+returns-then-s-eq0 c l = absurd (omega arith)
 
 pub returns-then-b-lt224 : goal.returns-then-b-lt224
-returns-then-b-lt224 c = absurd (omega arith)
+returns-then-b-lt224 c l = absurd (omega arith)
 
 pub returns : goal.returns
 returns c = search items.skip-passes
