@@ -1,5 +1,5 @@
 -- The attributes at a place, a branch each: absent, or what `walk::map` answered at the part from `at` on.
-use mathlib.Core.Path.{◌≡◌, refl, ◌∙◌}
+use mathlib.Core.Path.{◌≡◌, refl}
 use mathlib.Core.List.{List}
 use mathlib.Core.Bool.{true, false}
 use mathlib.Core.Option.{none, some}
