@@ -1,5 +1,4 @@
 -- `component::pass::entries` meets its contract: a law for each branch. The loop's invariant is `Noting`: what was passed, what is due, and the slots of the pairs passed.
-use Prim.Native.Nat.{◌-◌}
 use Rattle.meaning.proofs.Lengths.{place-fits}
 use Rattle.walk.proofs.Passed as passed
 use Rattle.component.proofs.Entries as entries
