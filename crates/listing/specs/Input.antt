@@ -5,5 +5,5 @@ use Rattle.listing.specs.declared.Input.{Input}
 use Rattle.listing.specs.declared.Input.TheVariants.{Failed, Read}
 
 abbrev pub Within : Input → List ℕ → Type 0
-Within Failed space = Unit {0}
+Within (Failed e) space = Unit {0}
 Within (Read n) space = IsPrefixLen n space

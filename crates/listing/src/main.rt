@@ -7,34 +7,42 @@ ghost use Rattle.std.specs.Prelude.{◌≤◌, length};
 ghost use Rattle.listing.specs.Output.{lent_path};
 ghost use Rattle.listing.specs.Input.{Within};
 
-use libc::{STDERR_FILENO, STDOUT_FILENO};
+use std::env::FillError;
+use std::fs;
+use std::fs::File;
+use std::io::{Error, Read, Write};
+use std::rt::Env;
 
-// How many bytes of a file were read, up to its end or to what was lent; or that a read failed, however many came before it.
+// What the system says where a path is longer than any, or no text.
+const TOO_LONG: i32 = 36;
+
+const NO_TEXT: i32 = 84;
+
+// How many bytes of a file were read, up to its end or to what was lent; or why a read failed, however many came before it.
 #[derive(Clone, Copy)]
 pub enum Input {
-    Failed,
+    Failed(Error),
     Read(usize),
 }
 
-// One read. Whatever is negative is a failure.
-fn once(fd: i32, part: &mut [u8]) -> Input
+// One read.
+fn once(file: &mut File, part: &mut [u8]) -> Input
     ensures { Within result part.new }
 {
-    let got = libc::read(fd, part);
-    if got < 0 {
-        return Input::Failed;
+    match file.read(part) {
+        Err(error) => Input::Failed(error),
+        Ok(count) => Input::Read(count),
     }
-    Input::Read(io::count(got, part))
 }
 
 // Reads until nothing comes, the space is full or a read fails.
-fn fill(fd: i32, space: &mut [u8]) -> Input
+fn fill(file: &mut File, space: &mut [u8]) -> Input
     ensures { Within result space.new }
 {
     let mut at = 0;
     while at < space.len() {
-        match once(fd, &mut space[at..]) {
-            Input::Failed => return Input::Failed,
+        match once(file, &mut space[at..]) {
+            Input::Failed(error) => return Input::Failed(error),
             Input::Read(k) => {
                 if k == 0 {
                     return Input::Read(at);
@@ -46,84 +54,125 @@ fn fill(fd: i32, space: &mut [u8]) -> Input
     Input::Read(at)
 }
 
+// The words of an error without its number.
+fn words(said: &str) -> &str {
+    match said.split_once(" (os error ") {
+        Some((before, _)) => before,
+        None => said,
+    }
+}
+
+// A line to standard error: what failed, a colon and the system's words.
+fn fail(rt: &HostRuntime, what: &[u8], error: Error) {
+    let mut out = rt.stderr();
+    let _ = out.write_all(what);
+    match error.to_string(rt.alloc()) {
+        Ok(said) => {
+            let shown = words(said.as_str());
+            let _ = writeln!(out, ": {shown}");
+        }
+        Err(_) => {
+            let _ = writeln!(out, ": {error}");
+        }
+    }
+}
+
 // Says why a path was not listed.
-fn complain(path: &[u8])
+fn complain(rt: &HostRuntime, path: &[u8], error: Error)
     requires { length path.now ≤ lent_path }
 {
     let mut name = [0u8; 12288];
     let n = printed::escaped(&path[0..], &mut name);
-    os::fail(&name[..n]);
+    fail(rt, &name[..n], error);
 }
 
 // Did standard output take all of it?
-fn said(text: &[u8]) -> bool {
-    if io::write_all(STDOUT_FILENO, &text[0..]) {
-        return true;
+fn said(rt: &HostRuntime, text: &[u8]) -> bool {
+    match rt.stdout().write_all(text) {
+        Ok(()) => true,
+        Err(error) => {
+            fail(rt, b"standard output", error);
+            false
+        }
     }
-    os::fail(b"standard output");
-    false
 }
 
 // What is printed of these bytes, after the line of the path where there are several.
-fn show(file: &[u8], path: &[u8], several: bool) -> bool
+fn show(rt: &HostRuntime, file: &[u8], path: &[u8], several: bool) -> bool
     requires { length path.now ≤ lent_path }
 {
     if several {
         let mut head = [0u8; 12290];
         let h = printed::heading(&path[0..], &mut head);
-        if !said(&head[..h]) {
+        if !said(rt, &head[..h]) {
             return false;
         }
     }
     let mut text = [0u8; 262144];
     let n = printed::whole(&file[0..], &mut text);
-    said(&text[..n])
+    said(rt, &text[..n])
+}
+
+fn opened(rt: &HostRuntime, path: &[u8]) -> Result<File, Error> {
+    match str::from_utf8(path) {
+        Ok(name) => fs::open(rt, name),
+        Err(_) => Err(Error::from_raw_os_error(NO_TEXT)),
+    }
 }
 
 // One byte more than is listed, so that a longer file is told from one that just fits. False where standard output took not all.
-fn list(path: &[u8], several: bool) -> bool
+fn list(rt: &HostRuntime, path: &[u8], several: bool) -> bool
     requires { length path.now ≤ lent_path }
 {
-    let fd = os::open_read(&path[0..]);
-    if fd < 0 {
-        complain(&path[0..]);
-        return true;
-    }
-    let mut space = [0u8; 65537];
-    match fill(fd, &mut space) {
-        Input::Failed => {
-            complain(&path[0..]);
-            libc::close(fd);
+    match opened(rt, path) {
+        Err(error) => {
+            complain(rt, &path[0..], error);
             true
         }
-        Input::Read(n) => {
-            libc::close(fd);
-            show(&space[..n], &path[0..], several)
+        Ok(mut file) => {
+            let mut space = [0u8; 65537];
+            match fill(&mut file, &mut space) {
+                Input::Failed(error) => {
+                    complain(rt, &path[0..], error);
+                    true
+                }
+                Input::Read(n) => show(rt, &space[..n], &path[0..], several),
+            }
         }
     }
 }
 
-fn list_argument(i: usize, several: bool) -> bool {
-    let mut path = io::buffer();
-    let n = os::arg(i, &mut path);
-    if os::errno() != 0 {
-        os::fail(b"a path");
-        return true;
+fn list_argument(rt: &HostRuntime, i: usize, several: bool) -> bool {
+    let mut path = [0u8; 4096];
+    match rt.arg(i, &mut path) {
+        Ok(n) => list(rt, &path[..n], several),
+        Err(_) => {
+            fail(rt, b"a path", Error::from_raw_os_error(TOO_LONG));
+            true
+        }
     }
-    list(&path[..n], several)
 }
 
-fn main() {
-    let count = os::arg_count();
-    if count < 2 {
-        io::write_all(STDERR_FILENO, b"usage: listing PATH..\n");
+// Is there an argument of this number? No room is lent for it.
+fn is_given(rt: &HostRuntime, i: usize) -> bool {
+    match rt.arg(i, &mut []) {
+        Err(FillError::NotPresent) => false,
+        _ => true,
+    }
+}
+
+fn main(rt: HostRuntime) {
+    if !is_given(&rt, 1) {
+        let _ = rt.eprintln("usage: listing PATH..");
         return;
     }
-    let mut i = 1;
-    while i < count {
-        if !list_argument(i, count > 2) {
+    let several = is_given(&rt, 2);
+    for i in 1..usize::MAX {
+        if !is_given(&rt, i) {
             return;
         }
-        i += 1;
+        if !list_argument(&rt, i, several) {
+            return;
+        }
     }
 }

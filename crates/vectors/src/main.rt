@@ -3,19 +3,23 @@
 #![tactic(auto)]
 
 use endian::{be2, wide};
-use libc::STDOUT_FILENO;
+use std::fs;
+use std::os::fd::AsRawFd;
+
+// Standard output.
+const STDOUT: i32 = 1;
 
 // The levels that an item at depth 1 may take.
 const LEVELS: u64 = 32;
 
 fn say(words: &[u8]) {
-    io::write_all(STDOUT_FILENO, words);
+    io::write_all(STDOUT, words);
 }
 
 fn say_hex(bytes: &[u8]) {
     let mut i = 0;
     while i < bytes.len() {
-        io::print_hex(STDOUT_FILENO, wide(bytes[i]), 2);
+        io::print_hex(STDOUT, wide(bytes[i]), 2);
         i += 1;
     }
 }
@@ -39,7 +43,7 @@ fn say_taken(bytes: &[u8]) {
         say(b"refused 7\n");
         return;
     }
-    io::print_decimal(STDOUT_FILENO, taken as u64);
+    io::print_decimal(STDOUT, taken as u64);
     say(b"\n");
 }
 
@@ -83,14 +87,15 @@ fn answer_all(vectors: &[u8]) {
     }
 }
 
-fn main() {
+fn main(rt: HostRuntime) {
     let mut space = io::large_buffer();
-    let fd = os::open_read(b"vectors");
-    if fd < 0 {
-        os::fail(b"vectors");
-        return;
+    match fs::open(&rt, "vectors") {
+        Err(error) => {
+            let _ = eprintln!(rt; "vectors: {error}");
+        }
+        Ok(file) => {
+            let n = io::read_full(file.as_raw_fd(), &mut space);
+            answer_all(&space[..n]);
+        }
     }
-    let n = io::read_full(fd, &mut space);
-    libc::close(fd);
-    answer_all(&space[..n]);
 }
