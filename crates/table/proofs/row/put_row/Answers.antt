@@ -11,4 +11,4 @@ returns-in-No c = search rows.no_row
 
 pub returns-in-Yes : goal.returns-in-Yes
 returns-in-Yes c = let a = c.args in rows.a-row a.layout a.format a.s.now a.c.now a.v a.size a.end a.owner a.i a.t.now _ _ _ _ _ _ c.in-Yes.is _ _ _ _ c.text_span-name.ensures
-    c.text_span_at-typed.ensures c.text_span_at-digested.ensures c.IsWhole-from.ensures _ c.storage-kept.ensures (omega (arith, c.type_inv)) c.put_twelve.ensures
+    c.text_span_at-typed.ensures c.text_span_at-digested.ensures c.whole_from-entry.ensures _ c.storage-kept.ensures (omega (arith, c.type_inv)) c.put_twelve.ensures
