@@ -26,10 +26,10 @@ impossible : {A : Type 0} {a : A} {n o c : ℕ} → ◌≡◌ {A = Check A} (ref
 impossible e = let z : ◌≡◌ {A = ℕ} 0 1 = cc in omega arith
 
 -- elements that are counted from b on
-at-nth : {A : Type 0} {j b : ℕ} {a : A} {l : List A} → At j a b l → (k : ℕ) × (j ≡ b + k) × (nth k l ≡ some a)
+at-nth : {A : Type 0} {j : ℕ} {a : A} {b : ℕ} {l : List A} → At j a b l → (k : ℕ) × (j ≡ b + k) × (nth k l ≡ some a)
 unfolding nth
 at-nth top = (0, omega arith, refl)
-at-nth {j} {b} (later x) = let h = at-nth x in (suc h.0, (let z : j ≡ suc b + h.0 = h.1 in omega arith), h.2)
+at-nth {j = j} {b = b} (later x) = let h = at-nth x in (suc h.0, (let z : j ≡ suc b + h.0 = h.1 in omega arith), h.2)
 
 pub the-nth : {A : Type 0} {j : ℕ} {a : A} {l : List A} → At j a 0 l → nth j l ≡ some a
 the-nth {A} {j} {a} {l} x = let h = at-nth x in let z : h.0 ≡ j = (let y : j ≡ 0 + h.0 = h.1 in omega arith) in subst (λ (i : ℕ). nth i l ≡ some a) z h.2
