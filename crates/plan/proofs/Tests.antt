@@ -1,19 +1,18 @@
 -- The tests of one offset, branch by branch.
-use Prim.Native.Nat.{ℕ, zero, suc, ◌+◌, ◌-◌, ◌*◌, ◌%◌, ◌≤◌, ◌<◌}
+use Prim.Native.Nat.{ℕ, suc, ◌+◌, ◌-◌, ◌*◌, ◌%◌, ◌≤◌, ◌<◌}
 use native.Mathlib.Omega.{arith}
-use mathlib.Core.List.{List, [], ◌∷◌}
-use mathlib.Core.Bool.{Bool, true, false, not, ◌&&◌, ◌||◌}
+use mathlib.Core.List.{List}
+use mathlib.Core.Bool.{Bool, true, false, not, ◌&&◌}
 use mathlib.Core.Path.{◌≡◌, refl, sym, ap, ◌∙◌, subst}
 use lib.Dec.{eqb, leb}
-use lib.ListN.{length, get_or}
-use borrow.Author.Tests.{not-true, not-false, leb-true, le-leb, lt-leb, eqb-true, eq-eqb, ne_eqb}
+use lib.ListN.{get_or}
+use borrow.Author.Tests.{not-true, not-false, leb-true, le-leb, lt-leb, eq-eqb, ne_eqb}
 use Rattle.meaning.specs.Columns.{component_width, length_column}
 use Rattle.meaning.specs.Limit.{end_limit}
 use Rattle.meaning.specs.Text.{all}
 use Rattle.meaning.specs.Read.{Span}
 use Rattle.meaning.specs.Plan.{ranged, apart, allowed}
-use Rattle.meaning.proofs.Tests.{both_left, both_right}
-use Rattle.readback.specs.Follows.{Before}
+use Rattle.meaning.proofs.Tests.{both_right}
 use Rattle.readback.proofs.Planned.{apart-before}
 use Rattle.rows.proofs.Both.{same_test}
 use Rattle.plan.specs.Earlier.{here, earlier, Earlier, Next}

@@ -1,11 +1,10 @@
 -- One turn of the loop over rows: which are still to be judged, and how far the blobs before them reach.
-use Prim.Native.Nat.{ℕ, zero, suc, ◌+◌, ◌-◌, ◌*◌, ◌≤◌, ◌<◌, max}
+use Prim.Native.Nat.{ℕ, suc, ◌+◌, ◌-◌, ◌*◌, ◌≤◌, ◌<◌, max}
 use native.Mathlib.Omega.{arith}
 use native.Mathlib.Numerals.{add-one}
 use mathlib.Core.List.{List, [], ◌∷◌}
 use mathlib.Core.Bool.{Bool, true, false, ◌&&◌}
 use mathlib.Core.Path.{◌≡◌, refl, sym, ap, ◌∙◌, subst}
-use lib.Dec.{leb}
 use mir.Syntax.{w64}
 use mir.Val.{Fits}
 use lib.ListN.{length, drop, get_or, drop_of_length-le}
@@ -15,10 +14,9 @@ use Rattle.meaning.specs.Refusal.{PLAN}
 use Rattle.meaning.specs.Limit.{end_limit}
 use Rattle.meaning.specs.Columns.{component_width, length_column}
 use Rattle.meaning.specs.Text.{all}
-use Rattle.meaning.specs.Check.{Check, pass, refuse, ◌>>=◌, ◌>>◌, ◌unless◌, in_object}
-use Rattle.meaning.specs.Read.{Span}
+use Rattle.meaning.specs.Check.{pass, refuse, ◌>>◌, ◌unless◌, in_object}
 use Rattle.meaning.specs.Layouts.{magic}
-use Rattle.meaning.specs.Asked.{AskedComponent, each_row, asked_component}
+use Rattle.meaning.specs.Asked.{each_row, asked_component}
 use Rattle.meaning.specs.Placement.{end_from, last_end}
 use Rattle.meaning.specs.Plan.{ranged, apart, allowed, planned_from, planned}
 use Rattle.meaning.proofs.Tests.{both_left}
@@ -27,9 +25,7 @@ use Rattle.rows.specs.Turns.{blob_sizes}
 use Rattle.rows.proofs.EachRow.{no_row, next-row-at}
 use Rattle.readback.specs.Follows.{Before}
 use Rattle.readback.proofs.Planned.{before_more}
-use Rattle.plan.specs.Earlier.{here, earlier, Earlier, Next, sizes, Judges}
-use Rattle.plan.specs.declared.Judged.{Judged}
-use Rattle.plan.specs.declared.Judged.TheVariants.{No, Yes}
+use Rattle.plan.specs.Earlier.{earlier, Earlier, Next, sizes}
 use Rattle.plan.proofs.Tests.{ends_low}
 
 pub too-high : (plan rows : List ℕ) (n ceiling : ℕ) → end_limit < ceiling → planned ceiling plan (sizes plan rows n) ≡ refuse PLAN 0 0

@@ -1,6 +1,5 @@
 -- `plan::verdict` meets its contract: the invariant says what is done and what is still to be.
 use Rattle.plan.proofs.Turns as turns
-use Prim.Native.Nat.{◌-◌}
 use Rattle.plan.proofs.verdict.Goals as goal
 
 pub returns-then-ceiling-gt-END_MOST : goal.returns-then-ceiling-gt-END_MOST
