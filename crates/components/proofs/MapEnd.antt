@@ -5,7 +5,6 @@ use mathlib.Core.List.{List, map}
 use mathlib.Core.Path.{◌≡◌, sym, subst}
 use lib.ListN.{length, length-map}
 use Rattle.meaning.specs.Tree.{Node, Pair}
-use Rattle.meaning.specs.Check.{pass}
 use Rattle.meaning.specs.Limit.{component_limit}
 use Rattle.meaning.specs.Kind.{kind, mapping}
 use Rattle.meaning.specs.Field.{names}

@@ -1,5 +1,4 @@
 -- `components::entries` meets its contract: a law for each branch. The loop keeps what was noted and put of the pairs passed.
-use Prim.Native.Nat.{◌-◌}
 use Rattle.meaning.proofs.Lengths.{place-fits}
 use Rattle.walk.proofs.Passed as walked
 use Rattle.components.proofs.EntryLoop as looping
@@ -66,4 +65,4 @@ loop-e-smaller c = walked.nearer c.loop-e.invariant.walking c.past_key.ensures c
 
 pub loop-e-preserved : goal.loop-e-preserved
 loop-e-preserved c = looping.loops-on c.loop-e.invariant c.past_key.ensures c.in-Value.is c.component-w.ensures.0 c.if-s-v.false c.component-w.ensures.1
-    c.keep-first.ensures.0 c.keep-first.ensures.1 c.put_row.ensures c.put_row.auto.1.1.1.1.1.1.1.1.1.0 c.next_row-next.ensures c.note-names.ensures
+    c.keep-first.ensures.0 c.keep-first.ensures.1 c.put_row.ensures c.put_row.auto.t c.next_row-next.ensures c.note-names.ensures
