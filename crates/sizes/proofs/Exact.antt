@@ -21,7 +21,7 @@ use Rattle.meaning.specs.Manifest.{map_bytes, component_bytes}
 use Rattle.meaning.proofs.Tests.{both_left, both_right}
 use Rattle.meaning.proofs.Lengths.{part_length, each-row-length}
 use Rattle.rows.specs.Placed.{objects_at, components_at}
-use Rattle.rows.specs.Turns.{begun, offset_at, stepped, turn_limit, reached, entries_from, object_from, objects_from, blob_sizes, counted}
+use Rattle.rows.specs.Turns.{blob_lengths, begun, offset_at, stepped, turn_limit, reached, entries_from, object_from, objects_from, blob_sizes, counted}
 use Rattle.rows.proofs.EachRow.{all-taken, all-dropped}
 use Rattle.rows.proofs.Lent.{lent_both}
 use Rattle.rows.proofs.Turns.{last-is-reached}
@@ -130,7 +130,7 @@ module _ (plan buffer : List ℕ) where
   objects-many : (n : ℕ) (os : List AskedObject) (cs : List AskedComponent) → length (objects_from plan n (described_objects buffer os cs)) ≡ length os
   unfolding objects_from described_objects
   objects-many n [] cs = refl
-  objects-many n (o ∷ os) cs = ap suc (objects-many _ os (drop o.count cs))
+  objects-many n (o ∷ os) cs = ap suc (objects-many (reached plan n (blob_lengths (described_object buffer o (take o.count cs)).components)) os (drop o.count cs))
 
 -- ---- all of it
 

@@ -21,7 +21,7 @@ pub slice_bounds-object-start : goal.slice_bounds-object-start
 slice_bounds-object-start c = search turns.object-starts
 
 pub object-requires : goal.object-requires
-object-requires c = (search turns.object-there, search turns.rank-there)
+object-requires c = record { object_width_in_bounds = search turns.object-there; rank_column_bound = search turns.rank-there }
 
 pub overflow_add-own : goal.overflow_add-own
 overflow_add-own c = search turns.own-fits
@@ -39,7 +39,7 @@ pub slice_bounds-components-start : goal.slice_bounds-components-start
 slice_bounds-components-start c = search turns.parts-start
 
 pub components-requires : goal.components-requires
-components-requires c = (search turns.parts-there, search turns.parts-in-time)
+components-requires c = record { n_in_bounds = search turns.parts-there; rows_bound = search turns.parts-in-time }
 
 pub overflow_add-total-in-loop-left : goal.overflow_add-total-in-loop-left
 overflow_add-total-in-loop-left c = search turns.parts-sum-fits
@@ -54,7 +54,7 @@ pub slice_bounds-turn_past-start : goal.slice_bounds-turn_past-start
 slice_bounds-turn_past-start c = search turns.parts-start
 
 pub turn_past-turn-requires : goal.turn_past-turn-requires
-turn_past-turn-requires c = (search turns.parts-there, search turns.parts-in-time)
+turn_past-turn-requires c = record { n_in_bounds = search turns.parts-there; rows_bound = search turns.parts-in-time }
 
 pub overflow_add-row : goal.overflow_add-row
 overflow_add-row c = search turns.next-object-fits

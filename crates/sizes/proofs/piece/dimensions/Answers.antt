@@ -1,6 +1,5 @@
 -- `sizes::piece::dimensions` meets its contract: a law for each way into the loop, on and out of it.
 use Rattle.sizes.proofs.Sums as law
-use Prim.Native.Nat.{◌-◌}
 use Rattle.sizes.proofs.piece.dimensions.Goals as goal
 
 pub loop-i-init : goal.loop-i-init
