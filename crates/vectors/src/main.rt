@@ -2,100 +2,98 @@
 // the length, the higher first, and the bytes. `second vectors` makes the file and what is to be printed.
 #![tactic(auto)]
 
-use endian::{be2, wide};
-use std::fs;
-use std::os::fd::AsRawFd;
+ghost use Rattle.std.specs.Io.{ReadsAtMost};
 
-// Standard output.
-const STDOUT: i32 = 1;
+use endian::be2;
+use std::fs::File;
+use std::io::{Print, Read, Result};
 
 // The levels that an item at depth 1 may take.
 const LEVELS: u64 = 32;
 
-fn say(words: &[u8]) {
-    io::write_all(STDOUT, words);
-}
-
-fn say_hex(bytes: &[u8]) {
-    let mut i = 0;
-    while i < bytes.len() {
-        io::print_hex(STDOUT, wide(bytes[i]), 2);
-        i += 1;
+fn say_hex(out: &impl Print, bytes: &[u8]) -> Result<()> {
+    for byte in bytes {
+        let byte = *byte;
+        print!(out; "{byte:02x}")?;
     }
+    Ok(())
 }
 
-fn say_yes_or_no(yes: bool) {
+fn say_yes_or_no(out: &impl Print, yes: bool) -> Result<()> {
     if yes {
-        say(b"yes\n");
-        return;
+        return println!(out; "yes");
     }
-    say(b"no\n");
+    println!(out; "no")
 }
 
 // How many bytes the item takes, or the refusal.
-fn say_taken(bytes: &[u8]) {
-    let taken = cbor::skip(&bytes[0..], LEVELS);
+fn say_taken(out: &impl Print, bytes: &[u8]) -> Result<()> {
+    let taken = cbor::skip(bytes, LEVELS);
     if taken == cbor::MALFORMED {
-        say(b"refused 6\n");
-        return;
+        return println!(out; "refused 6");
     }
     if taken == cbor::DEEP {
-        say(b"refused 7\n");
-        return;
+        return println!(out; "refused 7");
     }
-    io::print_decimal(STDOUT, taken as u64);
-    say(b"\n");
+    println!(out; "{taken}")
 }
 
-fn say_version(bytes: &[u8]) {
-    if versions::version_shape(&bytes[0..]) {
-        say(b"version, major 1: ");
-        say_yes_or_no(versions::major_one(&bytes[0..]));
-        return;
+fn say_version(out: &impl Print, bytes: &[u8]) -> Result<()> {
+    if versions::version_shape(bytes) {
+        print!(out; "version, major 1: ")?;
+        return say_yes_or_no(out, versions::major_one(bytes));
     }
-    say(b"no version\n");
+    println!(out; "no version")
 }
 
-fn answer(question: u8, bytes: &[u8]) {
-    say(&[question, b' ']);
-    say_hex(&bytes[0..]);
-    say(b" ");
+fn answer(out: &impl Print, question: u8, bytes: &[u8]) -> Result<()> {
+    out.write_all(&[question, b' '])?;
+    say_hex(out, bytes)?;
+    print!(out; " ")?;
     match question {
-        b's' => say_taken(&bytes[0..]),
-        b'u' => say_yes_or_no(utf8::utf8(&bytes[0..])),
-        b'v' => say_version(&bytes[0..]),
-        _ => say(b"unknown question\n"),
+        b's' => say_taken(out, bytes),
+        b'u' => say_yes_or_no(out, utf8::utf8(bytes)),
+        b'v' => say_version(out, bytes),
+        _ => println!(out; "unknown question"),
     }
 }
 
-fn answer_all(vectors: &[u8]) {
+fn answer_all(out: &impl Print, vectors: &[u8]) -> Result<()> {
     let mut at = 0;
     while at < vectors.len() {
         if vectors.len() - at < 3 {
-            say(b"cut off\n");
-            return;
+            return println!(out; "cut off");
         }
         let from = at + 3;
         let size = be2(vectors, at + 1) as usize;
         if vectors.len() - from < size {
-            say(b"cut off\n");
-            return;
+            return println!(out; "cut off");
         }
         let end = from + size;
-        answer(vectors[at], &vectors[from..end]);
+        answer(out, vectors[at], &vectors[from..end])?;
         at = end;
     }
+    Ok(())
 }
 
-fn main(rt: HostRuntime) {
-    let mut space = io::large_buffer();
-    match fs::open(&rt, "vectors") {
-        Err(error) => {
-            let _ = eprintln!(rt; "vectors: {error}");
+// Reads until the space is full or the input ends.
+fn read_full(file: &mut impl Read, space: &mut [u8]) -> Result<usize>
+    ensures { ReadsAtMost result space.new }
+{
+    let mut at = 0;
+    while at < space.len() {
+        let got = file.read(&mut space[at..])?;
+        if got == 0 {
+            return Ok(at);
         }
-        Ok(file) => {
-            let n = io::read_full(file.as_raw_fd(), &mut space);
-            answer_all(&space[..n]);
-        }
+        at += got;
     }
+    Ok(at)
+}
+
+fn main(rt: HostRuntime) -> Result<()> {
+    let mut file = File::open(&rt, "vectors")?;
+    let mut space = [0u8; 65536];
+    let n = read_full(&mut file, &mut space)?;
+    answer_all(&rt, &space[..n])
 }
