@@ -11,7 +11,7 @@ use borrow.Author.Tests.{eq-eqb, ne_eqb, eqb-true, eqb-false}
 use borrow.Author.Rules.{part_to_end}
 use Rattle.meaning.specs.Tree.{Node, Pair}
 use Rattle.meaning.specs.Check.{Check, pass, refuse, ◌>>=◌, ◌>>◌, required_in, optional}
-use Rattle.meaning.specs.Text.{ascii, all}
+use Rattle.meaning.specs.Text.{all}
 use Rattle.meaning.specs.Model.{Word, Object}
 use Rattle.meaning.specs.Kind.{kind, mapping, a_text, a_mapping, as_mapping}
 use Rattle.meaning.specs.Field as field
@@ -29,7 +29,7 @@ use Rattle.object.specs.declared.judge.Measured.{Measured}
 use Rattle.object.specs.declared.judge.Measured.TheVariants.{No}
 use Rattle.object.specs.declared.judge.Fine.{Fine}
 use Rattle.object.specs.declared.judge.Fine.TheVariants.{No as Bad, Yes as Good}
-use Rattle.object.specs.Verdict.{lacks_dtype, shaped, known, Description, described, measured, Fields, Standing, sound, SoundIs, Noted, VerdictIs}
+use Rattle.object.specs.Verdict.{lacks_dtype, shaped, known, Description, described, measured, Fields, Standing, sound, SoundIs, VerdictIs}
 
 -- ---------------------------------------------------------------- what the slots say, a branch each
 

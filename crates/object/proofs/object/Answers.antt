@@ -36,10 +36,10 @@ pub overflow_sub-c : goal.overflow_sub-c
 overflow_sub-c c = opens.size-inside c.args.c.now _ c.map.ensures _ _ _ c.in-Opened.is
 
 pub shape_of-rows-then-c-size : goal.shape_of-rows-then-c-size
-shape_of-rows-then-c-size c = c.verdict-v.auto.1.1.1.1.1.1.1.0 ∙ c.entries-w.auto.1.1.1.1.1.1.1.0
+shape_of-rows-then-c-size c = c.verdict-v.auto.rows ∙ c.entries-w.auto.rows
 
 pub shape_of-t-then-c-size : goal.shape_of-t-then-c-size
-shape_of-t-then-c-size c = c.own-told.auto.1.1.1.1.1.1.0 ∙ c.verdict-v.auto.1.1.1.1.1.1.1.1.0 ∙ c.entries-w.auto.1.1.1.1.1.1.1.1.0
+shape_of-t-then-c-size c = c.own-told.auto.t ∙ c.verdict-v.auto.t ∙ c.entries-w.auto.t
 
 pub returns-then-c-size : goal.returns-then-c-size
 returns-then-c-size c = let a = c.args in whole.whole-faulty a.layout a.s.now a.c.now a.start a.to a.t.now (omega (arith, c.type_inv)) _ c.map.ensures _ _ _ c.in-Opened.is _ _ _ _ _ c.entries-w.ensures
@@ -52,10 +52,10 @@ pub returns-in-NotOpen : goal.returns-in-NotOpen
 returns-in-NotOpen c = search (opens.whole-ends, walks.no-map, whole.no-map)
 
 pub shape_of-rows : goal.shape_of-rows
-shape_of-rows c = c.verdict-v.auto.1.1.1.1.1.1.1.0 ∙ c.entries-w.auto.1.1.1.1.1.1.1.0
+shape_of-rows c = c.verdict-v.auto.rows ∙ c.entries-w.auto.rows
 
 pub shape_of-t : goal.shape_of-t
-shape_of-t c = c.own-told.auto.1.1.1.1.1.1.0 ∙ c.verdict-v.auto.1.1.1.1.1.1.1.1.0 ∙ c.entries-w.auto.1.1.1.1.1.1.1.1.0
+shape_of-t c = c.own-told.auto.t ∙ c.verdict-v.auto.t ∙ c.entries-w.auto.t
 
 pub returns-else-c-size : goal.returns-else-c-size
 returns-else-c-size c = let a = c.args in whole.whole-inside a.layout a.s.now a.c.now a.start a.to a.t.now (omega (arith, c.type_inv)) _ c.map.ensures _ _ _ c.in-Opened.is _ _ _ _ _ c.entries-w.ensures

@@ -1,5 +1,4 @@
 -- `object::pass::entries` meets its contract: a law for each branch. The loop keeps what was noted and put of the pairs passed.
-use Prim.Native.Nat.{◌-◌}
 use mathlib.Core.Path.{sym, ap, ◌∙◌}
 use lib.ListN.{length}
 use Rattle.meaning.proofs.Lengths.{place-fits}
@@ -49,7 +48,7 @@ pub shape_of-rows-then-s-v : goal.shape_of-rows-then-s-v
 shape_of-rows-then-s-v c = c.value-w.ensures.1 ∙ sym c.requires.1
 
 pub shape_of-t-then-s-v : goal.shape_of-t-then-s-v
-shape_of-t-then-s-v c = c.value-w.auto.1.1.1.1.1.1.1.1.0 ∙ c.loop-e.invariant.long
+shape_of-t-then-s-v c = c.value-w.auto.t ∙ c.loop-e.invariant.long
 
 pub returns-then-s-v : goal.returns-then-s-v
 returns-then-s-v c = search (passed.value-fails, looping.none-walked)
