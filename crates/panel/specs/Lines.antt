@@ -1,7 +1,7 @@
 -- Document 01, "The box's job": the listing, from a file and any table with any counts. What the table or the file does not hold is INDEX.
 use Rattle.std.specs.Prelude.{ℕ, zero, suc, ◌+◌, ◌*◌, List, [], ◌∷◌, ◌++◌, Bool, true, ◌&&◌, length, take, drop, get_or, eqb, leb, ltb}
 use Rattle.meaning.specs.Columns.{object_width, component_width, format_column, count_column, dtype_column, offset_column, length_column}
-use Rattle.meaning.specs.Check.{Check, pass, refuse, ◌>>=◌, ◌>>◌, ◌unless◌}
+use Rattle.meaning.specs.Check.{Check, pass, ◌>>◌, ◌unless◌}
 use Rattle.meaning.specs.Refusal.{INDEX}
 use Rattle.meaning.specs.Text.{ascii}
 use Rattle.meaning.specs.Types.{storage_of}

@@ -1,6 +1,6 @@
 -- Request 01 of document 02: the panel's text. The listing, with what is found in a component at the end of its line, and a last line for the file's bytes.
 use Rattle.std.specs.Prelude.{ℕ, ◌%◌, List, [], ◌∷◌, ◌++◌, Bool, true, false, cond, eqb}
-use Rattle.meaning.specs.Check.{Check, pass, refuse, ◌>>=◌, ◌>>◌, ◌unless◌}
+use Rattle.meaning.specs.Check.{Check, pass, ◌>>◌, ◌unless◌}
 use Rattle.meaning.specs.Refusal.{INDEX}
 use Rattle.meaning.specs.Text.{ascii}
 use Rattle.meaning.specs.Listing.{line, decimal}

@@ -4,7 +4,11 @@ use borrow.Author.Rules.{rules}
 use Rattle.panel.proofs.words.Goals as goal
 
 pub returns-then-text-said : goal.returns-then-text-said
-returns-then-text-said c = let a = c.args in search (answers.own-too-long a.text.now a.said.now)
+returns-then-text-said c =
+    let w = answers.own-too-long c.args.text.now c.args.said.now (search rules) c.if-text-said.true in
+    record { answer = w.0; written = w.1 }
 
 pub returns : goal.returns
-returns c = answers.own-whole _ _ (search rules) c.word.ensures c.if-text-said.false
+returns c =
+    let w = answers.own-whole c.args.text.now c.args.said.now (search rules) c.word.ensures c.if-text-said.false in
+    record { answer = w.0; written = w.1 }
