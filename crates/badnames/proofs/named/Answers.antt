@@ -17,10 +17,10 @@ pub entries-keys-requires : goal.entries-keys-requires
 entries-keys-requires c = search opens.modes
 
 pub judged-requires : goal.judged-requires
-judged-requires c = let b23 = c.before.before.before.before.before.before in (
-      omega (arith, ap length (part_to_end b23.args.s.now 0), opens.size-inside b23.args.s.now _ c.map.ensures _ _ _ c.mode.given.1),
-      omega (arith, ap length (part_to_end c.entries.new.1.1.1.1.1.0 0), c.entries.ensures.0, b23.requires.1),
-      omega (arith, ap length (part_to_end c.entries.new.1.1.1.1.1.0 0), c.entries.ensures.0, b23.requires.2),
+judged-requires c = (
+      search opens.size-inside,
+      omega (arith, c.entries-keys.ensures.0, c.requires.1),
+      omega (arith, c.entries-keys.ensures.0, c.requires.2),
     )
 
 pub returns-in-NotOpen : goal.returns-in-NotOpen
