@@ -68,7 +68,7 @@ pub fn module(seed: u64, each: usize) -> String {
         HEADER.to_string(),
         table("files", "FileCase", files.iter().enumerate().map(file_case)),
         table(
-            "firstFiles",
+            "first_files",
             "LayoutCase",
             first_files.iter().enumerate().map(first_case),
         ),
@@ -78,12 +78,12 @@ pub fn module(seed: u64, each: usize) -> String {
             items.iter().map(|item| item_case(item)),
         ),
         table(
-            "programFiles",
+            "program_files",
             "ProgramCase",
             program_files.iter().map(|file| program_case(file)),
         ),
         table(
-            "rowSets",
+            "row_sets",
             "RowCase",
             row_sets.iter().enumerate().map(row_case),
         ),
@@ -98,10 +98,8 @@ pub fn module(seed: u64, each: usize) -> String {
 
 const HEADER: &str =
     "-- Made by `second table`: files, items and row sets with the second program's answers.
-use mathlib.Core.List.{List, [], _∷_, _++_}
-use mathlib.Core.Bool.{true, false}
-use lib.ListN.{replicate}
-use Rattle·agreement·specs.specs.Case.{FileCase, LayoutCase, ItemCase, ProgramCase, RowCase, PlacementCase}
+use Rattle.std.specs.Prelude.{List, [], ◌∷◌, ◌++◌, true, false, replicate}
+use Rattle.agreement.specs.Case.{FileCase, LayoutCase, ItemCase, ProgramCase, RowCase, PlacementCase}
 ";
 
 /// Lengths of blobs: none, empty ones, around a multiple of 64, and a last end at 2^40 and one past it.
