@@ -1,5 +1,4 @@
 -- `differing::same_numbers` meets its contract. The loop's invariant: what is left decides.
-use Prim.Native.Nat.{◌-◌}
 use borrow.Author.Rules.{rules}
 use mathlib.Core.Path.{refl}
 use Rattle.differing.proofs.Columns as columns
