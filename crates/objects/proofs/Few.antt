@@ -7,7 +7,7 @@ use mathlib.Core.Option.{Option}
 use mathlib.Core.Bool.{Bool, true, false}
 use lib.ListN.{length}
 use Rattle.meaning.specs.Tree.{Node}
-use Rattle.meaning.specs.Check.{pass, ◌>>=◌, ◌>>◌, in_component, required, required_in, optional}
+use Rattle.meaning.specs.Check.{pass, in_component, required, required_in, optional}
 use Rattle.meaning.specs.Limit.{component_limit}
 use Rattle.meaning.specs.Model.{Named, Object, Component}
 use Rattle.meaning.specs.Kind.{a_text}

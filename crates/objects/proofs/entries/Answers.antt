@@ -1,5 +1,4 @@
 -- `objects::entries` meets its contract: a law for each branch. The loop keeps what was noted and put of the pairs passed.
-use Prim.Native.Nat.{◌-◌}
 use Rattle.meaning.proofs.Lengths.{place-fits}
 use Rattle.walk.proofs.Passed as walked
 use Rattle.objects.proofs.EntryLoop as looping
@@ -62,4 +61,4 @@ loop-e-smaller c = looping.turn-less c.loop-e.invariant c.past_key.ensures c.in-
 
 pub loop-e-preserved : goal.loop-e-preserved
 loop-e-preserved c = looping.loops-on c.loop-e.invariant c.past_key.ensures c.in-Value.is c.one-w.ensures.0 c.if-s-v.false c.one-w.ensures.1 c.one-w.ensures.2
-    c.one-w.auto.1.1.1.1.1.1.1.0 c.one-w.auto.1.1.1.1.1.1.0 c.keep-first.ensures c.next_row-row.ensures c.beyond-next.ensures c.note-names.ensures
+    c.one-w.auto.t c.one-w.auto.rows c.keep-first.ensures c.next_row-row.ensures c.beyond-next.ensures c.note-names.ensures
