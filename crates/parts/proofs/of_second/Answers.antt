@@ -1,5 +1,4 @@
 -- `parts::of_second` meets its contract. The loop's invariant: what is still to be written, and to be seen.
-use Prim.Native.Nat.{◌-◌}
 use Rattle.parts.proofs.MatchedRows as match
 use Rattle.parts.proofs.Turns as turns
 use Rattle.parts.proofs.of_second.Goals as goal
