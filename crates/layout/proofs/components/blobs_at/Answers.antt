@@ -11,7 +11,7 @@ pub offset_at-start-requires : goal.offset_at-start-requires
 offset_at-start-requires c = search walking.reached-low
 
 pub blob_at-past-requires : goal.blob_at-past-requires
-blob_at-past-requires c = let can = turns.blob-can c.loop-left.invariant c.loop-left-test.true c.offset_at-start.ensures in (can.0, can.1)
+blob_at-past-requires c = let can = turns.blob-can c.loop-left.invariant c.loop-left-test.true c.offset_at-start.ensures in record { within = can.0; blob_room = can.1 }
 
 pub stepped-next-requires : goal.stepped-next-requires
 stepped-next-requires c = search walking.next_low

@@ -9,17 +9,11 @@ pub word_at-a-requires : goal.word_at-a-requires
 unfolding component_at
 word_at-a-requires c = search laying.room-first
 
-pub presence-requires : goal.presence-requires
-presence-requires c = tt
-
-pub presence-requires-2 : goal.presence-requires-2
-presence-requires-2 c = tt
-
 pub head_at-b-requires : goal.head_at-b-requires
 head_at-b-requires c = search (rules, law.room-component-head)
 
 pub component_fields-requires : goal.component_fields-requires
-component_fields-requires c = (c.requires.0, law.room-component-fields _ _ _ c.requires.1 c.word_at-a.ensures c.presence.ensures.0 c.presence-2.ensures.0 c.head_at-b.ensures)
+component_fields-requires c = record { component_row = c.requires.component_row; room = law.room-component-fields _ _ _ c.requires.room c.word_at-a.ensures c.presence.ensures.0 c.presence-2.ensures.0 c.head_at-b.ensures }
 
 pub returns : goal.returns
 returns c = search law.component-laid

@@ -11,7 +11,7 @@ pub offset_at-start-requires : goal.offset_at-start-requires
 offset_at-start-requires c = search walking.reached-low
 
 pub component_at-past-requires : goal.component_at-past-requires
-component_at-past-requires c = let can = turns.component-can c.loop-left.invariant c.loop-left-test.true c.offset_at-start.ensures in (can.0, can.1)
+component_at-past-requires c = let can = turns.component-can c.loop-left.invariant c.loop-left-test.true c.offset_at-start.ensures in record { component_row = can.0; room = can.1 }
 
 pub stepped-next-requires : goal.stepped-next-requires
 stepped-next-requires c = search walking.next_low
@@ -23,4 +23,4 @@ pub shape_of-out : goal.shape_of-out
 shape_of-out c = search laying.same-so-far
 
 pub returns : goal.returns
-returns c = let all = turns.all-components c.loop-left.invariant c.loop-left-test.false in (all.0, all.1)
+returns c = let all = turns.all-components c.loop-left.invariant c.loop-left-test.false in record { laid = all.0; turn = all.1 }

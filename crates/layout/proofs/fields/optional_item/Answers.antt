@@ -2,9 +2,6 @@
 use Rattle.layout.proofs.Present as law
 use Rattle.layout.proofs.fields.optional_item.Goals as goal
 
-pub absent-requires : goal.absent-requires
-absent-requires c = tt
-
 pub returns-then-absent : goal.returns-then-absent
 returns-then-absent c = search law.nothing-laid
 

@@ -3,9 +3,6 @@ use Rattle.meaning.specs.Manifest.{text_bytes}
 use Rattle.layout.proofs.Present as law
 use Rattle.layout.proofs.fields.optional_word.Goals as goal
 
-pub absent-requires : goal.absent-requires
-absent-requires c = tt
-
 pub returns-then-absent : goal.returns-then-absent
 returns-then-absent c = search law.nothing-laid
 

@@ -1,15 +1,11 @@
 -- `layout::fields::storage_field` meets its contract: the name that stands at the code.
-use mathlib.Core.Path.{refl}
 use native.Mathlib.Omega.{arith}
 use Rattle.emit.proofs.LaidPieces as laying
 use Rattle.layout.proofs.Present as law
 use Rattle.layout.proofs.fields.storage_field.Goals as goal
 
 pub text_at-past-requires : goal.text_at-past-requires
-text_at-past-requires c = refl
-
-pub overflow_mul-first : goal.overflow_mul-first
-overflow_mul-first c = search laying.room-first
+text_at-past-requires c = search laying.room-first
 
 pub overflow_cast-end : goal.overflow_cast-end
 overflow_cast-end c = let n = law.name-short c.args.code c.requires.0 in omega arith

@@ -9,14 +9,11 @@ pub word_at-a-requires : goal.word_at-a-requires
 unfolding object_front
 word_at-a-requires c = search laying.room-first
 
-pub presence-requires : goal.presence-requires
-presence-requires c = tt
-
 pub head_at-b-requires : goal.head_at-b-requires
 head_at-b-requires c = search (rules, law.room-object-head)
 
 pub shape_field-requires : goal.shape_field-requires
-shape_field-requires c = (law.shape-lies c.requires.0, law.room-object-shape _ _ c.requires.1 c.word_at-a.ensures c.presence.ensures.0 c.head_at-b.ensures)
+shape_field-requires c = record { rank_column_in_bounds = law.shape-lies c.requires.object_row; room = law.room-object-shape _ _ c.requires.room c.word_at-a.ensures c.presence.ensures.0 c.head_at-b.ensures }
 
 pub returns : goal.returns
 returns c = search law.front-laid

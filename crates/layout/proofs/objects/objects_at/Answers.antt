@@ -26,10 +26,10 @@ pub slice_bounds-object_at-start-in-loop-left : goal.slice_bounds-object_at-star
 slice_bounds-object_at-start-in-loop-left c = let h = turns.row-there c.loop-left.invariant c.loop-left-test.true in omega arith
 
 pub object_at-begun-requires : goal.object_at-begun-requires
-object_at-begun-requires c = let can = turns.object-can c.loop-left.invariant c.loop-left-test.true in (can.0, can.1)
+object_at-begun-requires c = let can = turns.object-can c.loop-left.invariant c.loop-left-test.true in record { object_row = can.0; room = can.1 }
 
 pub components_at-p-requires : goal.components_at-p-requires
-components_at-p-requires c = let can = turns.components-can c.loop-left.invariant c.loop-left-test.true c.object_at-begun.ensures in (can.0, can.1)
+components_at-p-requires c = let can = turns.components-can c.loop-left.invariant c.loop-left-test.true c.object_at-begun.ensures in record { component_rows = can.0; room = can.1 }
 
 pub overflow_mul-from : goal.overflow_mul-from
 overflow_mul-from c = let h = turns.components-there c.loop-left.invariant c.loop-left-test.true in omega arith
@@ -41,7 +41,7 @@ pub overflow_add-row : goal.overflow_add-row
 overflow_add-row c = let h = turns.row-there c.loop-left.invariant c.loop-left-test.true in omega arith
 
 pub loop-left-preserved : goal.loop-left-preserved
-loop-left-preserved c = turns.object-turn c.loop-left.invariant c.loop-left-test.true c.object_at-begun.ensures c.components_at-p.ensures.0 c.components_at-p.ensures.1
+loop-left-preserved c = turns.object-turn c.loop-left.invariant c.loop-left-test.true c.object_at-begun.ensures c.components_at-p.ensures.laid c.components_at-p.ensures.turn
 
 pub shape_of-out : goal.shape_of-out
 shape_of-out c = search laying.same-so-far
