@@ -8,7 +8,7 @@ use lib.ListN.{length, drop, length-append}
 use lib.Seq.{length-take-le}
 use lib.Dec.{leb}
 use borrow.Author.Tests.{le-leb, lt-leb}
-use Rattle.io.specs.Counts.{IsPrefixLen}
+use Rattle.listing.specs.Output.{IsPrefixLen}
 use Rattle.meaning.specs.Check.{Check, pass, refuse}
 use Rattle.meaning.specs.Text.{ascii}
 use Rattle.meaning.specs.Frame.{Reading}

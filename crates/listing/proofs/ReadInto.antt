@@ -8,7 +8,7 @@ use lib.Seq.{length-take-le}
 use borrow.Rule.Slice.PartMut.{put_mid, post_of}
 use mir.Syntax.{w64}
 use mir.Val.{Fits}
-use Rattle.io.specs.Counts.{IsPrefixLen}
+use Rattle.listing.specs.Output.{IsPrefixLen}
 use Rattle.listing.specs.declared.Input.{Input}
 use Rattle.listing.specs.declared.Input.TheVariants.{Read}
 use Rattle.listing.specs.Input.{Within}

@@ -7,7 +7,6 @@ use mathlib.Core.Path.{◌≡◌, refl, sym, ap, subst, ◌∙◌}
 use lib.ListN.{length, take, drop, length-append}
 use lib.Seq.{sets, sets-eq, take_at}
 use borrow.Author.Tests.{le-leb}
-use Rattle.io.specs.Counts.{IsPrefixLen}
 use Rattle.meaning.specs.Check.{pass}
 use Rattle.meaning.specs.Listing.{shown_text, printed}
 use Rattle.put.specs.Wrote.{most, capped, Wrote}
@@ -15,7 +14,7 @@ use Rattle.panel.specs.ListedText.{told, text_after}
 use Rattle.panel.specs.declared.Listed.{Listed}
 use Rattle.put.proofs.PiecesInTurn as writing
 use Rattle.panel.proofs.Answers.{length-counted}
-use Rattle.listing.specs.Output.{heading, lent_path, lent_heading, lent_text, Holds}
+use Rattle.listing.specs.Output.{IsPrefixLen, heading, lent_path, lent_heading, lent_text, Holds}
 use Rattle.listing.proofs.Fits.{text-fits, printed-fits, heading-fits}
 
 -- at the beginning, and what it counts is inside

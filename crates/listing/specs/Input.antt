@@ -1,6 +1,6 @@
 -- How a file was read into a lent space: the bytes that are taken for the file's stand at its beginning, and where a read failed there are none.
 use Rattle.std.specs.Prelude.{ℕ, List}
-use Rattle.io.specs.Counts.{IsPrefixLen}
+use Rattle.listing.specs.Output.{IsPrefixLen}
 use Rattle.listing.specs.declared.Input.{Input}
 use Rattle.listing.specs.declared.Input.TheVariants.{Failed, Read}
 

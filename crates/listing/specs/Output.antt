@@ -1,7 +1,6 @@
 -- What the program writes beside a file's listing: the line of its path where there are several, with the listing's escapes. And what it lends for each text.
-use Rattle.std.specs.Prelude.{ℕ, List, [], ◌∷◌, ◌++◌, ◌≡◌, length, take}
+use Rattle.std.specs.Prelude.{ℕ, ◌≤◌, List, [], ◌∷◌, ◌++◌, ◌≡◌, length, take}
 use Rattle.meaning.specs.Listing.{shown_text}
-use Rattle.io.specs.Counts.{IsPrefixLen}
 
 -- a path, a colon, a newline
 unfoldable pub heading : List ℕ → List ℕ
@@ -16,6 +15,10 @@ lent_heading = 12_290
 
 abbrev pub lent_text : ℕ
 lent_text = 262_144
+
+-- `&text[..n]` is inside, and has n bytes
+abbrev pub IsPrefixLen : ℕ → List ℕ → Type 0
+IsPrefixLen n text = (n ≤ length text) × (n ≡ length (take n text))
 
 -- the first n bytes of a text are these
 pub record Holds (bs text : List ℕ) (n : ℕ) : Type 0 where

@@ -1,6 +1,5 @@
 // What the program prints: of a file, proved for any bytes, and of a path. What is lent always has room.
 ghost use Rattle.std.specs.Prelude.{◌≡◌, ◌≤◌, ◌*◌, length};
-ghost use Rattle.io.specs.Counts.{IsPrefixLen};
 ghost use Rattle.meaning.specs.Check.{pass};
 ghost use Rattle.meaning.specs.Listing as is;
 ghost use Rattle.panel.specs.ListedText.{told, text_after};
@@ -12,7 +11,7 @@ use panel::Listed;
 pub fn print(file: &[u8], text: &mut [u8]) -> Listed
     ensures answer { result ≡ told (pass (is.printed file.now)) (length text.old) }
     ensures written { text.new ≡ text_after (pass (is.printed file.now)) text.old }
-    ensures within { IsPrefixLen result.length text.new }
+    ensures within { out.IsPrefixLen result.length text.new }
 {
     if file.len() > 65536 {
         return panel::words(b"too long\n", text);
@@ -29,7 +28,7 @@ pub fn print(file: &[u8], text: &mut [u8]) -> Listed
 pub fn whole(file: &[u8], text: &mut [u8]) -> usize
     requires { out.lent_text ≤ length text.old }
     ensures holds { out.Holds (is.printed file.now) text.new result }
-    ensures within { IsPrefixLen result text.new }
+    ensures within { out.IsPrefixLen result text.new }
 {
     let listed = print(file, text);
     listed.length as usize
@@ -39,7 +38,7 @@ pub fn whole(file: &[u8], text: &mut [u8]) -> usize
 pub fn escaped(path: &[u8], text: &mut [u8]) -> usize
     requires { 3 * length path.now ≤ length text.old }
     ensures holds { out.Holds (is.shown_text path.now) text.new result }
-    ensures within { IsPrefixLen result text.new }
+    ensures within { out.IsPrefixLen result text.new }
 {
     put::text(text, 0, path)
 }
@@ -49,7 +48,7 @@ pub fn heading(path: &[u8], text: &mut [u8]) -> usize
     requires path_len_bound { length path.now ≤ out.lent_path }
     requires lent_heading_in_bounds { out.lent_heading ≤ length text.old }
     ensures holds { out.Holds (out.heading path.now) text.new result }
-    ensures within { IsPrefixLen result text.new }
+    ensures within { out.IsPrefixLen result text.new }
 {
     let past = put::text(text, 0, path);
     put::word(text, past, b":\n")
