@@ -1,5 +1,4 @@
 -- `root::pass::entries` meets its contract: a law for each branch. The loop is that of every walk that keeps one field (`Looping`).
-use Prim.Native.Nat.{◌-◌}
 use Rattle.meaning.proofs.Lengths.{place-fits}
 use Rattle.walk.proofs.Passed as passed
 use Rattle.fields.proofs.FieldLoop as keeping
