@@ -397,7 +397,7 @@ zt_range zt_engine_view(const uint64_t *shared, size_t numbers, uint64_t engine,
 zt_text zt_engine_list(const uint64_t *shared, size_t numbers, uint64_t engine, const uint8_t *file, size_t length, uint8_t *text, size_t text_room);
 
 /*
- * Words about numbers: plain C, library/words.c, no part of what is proved. The installed libraries hold it; beside the archive that `rt staticlib zt` writes,
+ * Words about numbers: plain C, library/words.c, no part of what is proved. The installed libraries hold it; beside the archive that `library/archive zt` builds,
  * compile it too. Each text ends with a zero, is never null, and stays.
  */
 const char *zt_library_version(void);          /* the library's version, "1.0.0" */

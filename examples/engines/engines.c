@@ -2,7 +2,7 @@
  * Two engines of one box that share a table: the bearing engine and the pump engine each load their model file, show their panel, and give their numbers back. usage: engines BEARING PUMP.
  * A model that is refused, or that finds too few numbers free, leaves the other engine as it is. Exit status 0: both ready; 1: an engine's model was refused; 2: usage, or no file.
  *
- *     rt staticlib zt
+ *     library/archive zt
  *     host/cc -std=gnu99 -Wall -Wextra -Werror -Iinclude -o engines examples/engines/engines.c target/staticlib/libzt.a
  */
 #include "zt.h"

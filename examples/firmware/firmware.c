@@ -3,7 +3,7 @@
  * index or by name. The lines are the listing, or with --summary the panel's whole text, with what the f32 numbers show and where the file's bytes are.
  * usage: firmware [--summary] PATH [INDEX | OBJECT COMPONENT]. Exit status 0: ready; 1: refused; 2: usage, no file, no room, or no such component.
  *
- *     rt staticlib zt
+ *     library/archive zt
  *     host/cc -std=gnu99 -Wall -Wextra -Werror -Iinclude -o firmware examples/firmware/firmware.c target/staticlib/libzt.a
  */
 #include "zt.h"

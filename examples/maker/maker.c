@@ -2,7 +2,7 @@
  * Makes a small model from arrays: rows and a buffer, written as a whole file, which is then read back and listed. usage: maker [PATH], which also gets
  * the file. Exit status 0: written and read back; 1: refused; 2: the path can't be written.
  *
- *     rt staticlib zt
+ *     library/archive zt
  *     host/cc -std=gnu99 -Wall -Wextra -Werror -Iinclude -o maker examples/maker/maker.c target/staticlib/libzt.a
  */
 #include "zt.h"

@@ -1,4 +1,4 @@
-//! Links the static libraries that `rt staticlib exported` and `rt staticlib zt` write. They are for x86-64: on another processor, and where `ROUTE=server` asks for it,
+//! Links the static libraries that `library/archive exported zt` builds. They are for x86-64: on another processor, and where `ROUTE=server` asks for it,
 //! `far/near.c` stands in for them.
 
 use std::env::var;
