@@ -1,6 +1,6 @@
 -- An object by the place of its row and of its components' rows.
-use Rattle.std.specs.Prelude.{ℕ, zero, suc, ◌+◌, ◌*◌, ◌≤◌, List, [], ◌∷◌, ◌++◌, ◌||◌, ◌≡◌, length, drop, get_or}
-use Rattle.meaning.specs.Columns.{object_width, component_width, count_column}
+use Rattle.std.specs.Prelude.{ℕ, ◌+◌, ◌*◌, ◌≤◌, List, ◌++◌, ◌||◌, ◌≡◌, length, drop, get_or}
+use Rattle.meaning.specs.Columns.{component_width, count_column}
 use Rattle.meaning.specs.Limit.{component_limit}
 use Rattle.meaning.specs.Asked.{asked_object}
 use Rattle.meaning.specs.Described.{DescribedComponent, DescribedObject, described_object}

@@ -1,5 +1,4 @@
 -- `models::of_second` meets its contract. The loop's invariant: what is still to be written.
-use Prim.Native.Nat.{◌-◌}
 use Rattle.models.proofs.Objects as objects
 use Rattle.models.proofs.of_second.Goals as goal
 

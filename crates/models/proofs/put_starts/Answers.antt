@@ -1,5 +1,4 @@
 -- `models::put_starts` meets its contract. The loop's invariant: the first j are put.
-use Prim.Native.Nat.{◌-◌}
 use Rattle.models.proofs.Objects as objects
 use Rattle.models.proofs.put_starts.Goals as goal
 
