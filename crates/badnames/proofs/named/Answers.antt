@@ -18,10 +18,10 @@ entries-keys-requires c = search opens.modes
 
 pub judged-requires : goal.judged-requires
 judged-requires c = (
-      search opens.size-inside,
-      omega (arith, c.entries-keys.ensures.0, c.requires.1),
-      omega (arith, c.entries-keys.ensures.0, c.requires.2),
-    )
+  search opens.size-inside,
+  omega (arith, c.entries-keys.ensures.0, c.requires.1),
+  omega (arith, c.entries-keys.ensures.0, c.requires.2),
+)
 
 pub returns-in-NotOpen : goal.returns-in-NotOpen
 returns-in-NotOpen c = search noting.no-map

@@ -4,9 +4,9 @@ use Rattle.sieve.proofs.keep.Goals as goal
 
 pub returns-then-fill : goal.returns-then-fill
 returns-then-fill c = (
-      search putting.keeps-put,
-      (putting.still-bounded c.requires.1 c.args.m c.more.ensures c.plus-components.ensures),
-    )
+  search putting.keeps-put,
+  (putting.still-bounded c.requires.1 c.args.m c.more.ensures c.plus-components.ensures),
+)
 
 pub weigh-sum-requires : goal.weigh-sum-requires
 weigh-sum-requires c = search putting.window-long
