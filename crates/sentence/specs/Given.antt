@@ -1,8 +1,7 @@
 -- The explanation that ten numbers give, and the sentence's parts as the code puts them.
-use Rattle.std.specs.Prelude.{ℕ, ◌+◌, ◌-◌, List, [], ◌∷◌, ◌++◌, Bool, cond, not, ◌&&◌, eqb, ltb}
-use Rattle.meaning.specs.Text.{ascii}
+use Rattle.std.specs.Prelude.{ℕ, List, [], ◌∷◌, ◌++◌, Bool, cond, not, ◌&&◌, eqb, ltb}
 use Rattle.meaning.specs.Layouts.{Layout}
-use Rattle.meaning.specs.Listing.{decimal, shown_text}
+use Rattle.meaning.specs.Listing.{shown_text}
 use Rattle.explained.specs.Explain as explain
 use Rattle.explained.specs.Explain.{span}
 use Rattle.explained.specs.Sentence.{where', refused_line}

@@ -2,11 +2,11 @@
 use Rattle.sentence.proofs.Lines as lines
 use Rattle.sentence.proofs.bounds.Goals as goal
 
-pub blank_number-b-requires : goal.blank_number-b-requires
-blank_number-b-requires c = search lines.needs-room
+pub returns-then-number-eq-ROOM : goal.returns-then-number-eq-ROOM
+returns-then-number-eq-ROOM c = search lines.needs-room
 
-pub blank_number-requires : goal.blank_number-requires
-blank_number-requires c = search lines.at_byte
+pub returns-then-size-eq0 : goal.returns-then-size-eq0
+returns-then-size-eq0 c = search lines.at_byte
 
 pub returns : goal.returns
 returns c = search lines.from-to

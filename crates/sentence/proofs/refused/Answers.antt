@@ -6,7 +6,7 @@ pub bounds-h-requires : goal.bounds-h-requires
 bounds-h-requires c = c.requires
 
 pub shape_of-out : goal.shape_of-out
-shape_of-out c = let a = c.args in lines.line-length _ a.file.now a.e c.word.ensures c.blank-number.ensures c.byte.ensures c.because.ensures c.part.ensures c.belongs.ensures c.part2.ensures c.belongs-g.ensures c.bounds-h.ensures c.byte.ensures
+shape_of-out c = let a = c.args in lines.line-length _ a.file.now a.e c.word-a.ensures c.blank_number-b.ensures c.byte-c.ensures c.because-d.ensures c.part-object.ensures c.belongs-f.ensures c.part-component.ensures c.belongs-g.ensures c.bounds-h.ensures c.byte.ensures
 
 pub returns : goal.returns
-returns c = let a = c.args in lines.line-written _ a.file.now a.e c.word.ensures c.blank-number.ensures c.byte.ensures c.because.ensures c.part.ensures c.belongs.ensures c.part2.ensures c.belongs-g.ensures c.bounds-h.ensures c.byte.ensures
+returns c = let a = c.args in lines.line-written _ a.file.now a.e c.word-a.ensures c.blank_number-b.ensures c.byte-c.ensures c.because-d.ensures c.part-object.ensures c.belongs-f.ensures c.part-component.ensures c.belongs-g.ensures c.bounds-h.ensures c.byte.ensures
