@@ -14,11 +14,10 @@ use Rattle.meaning.specs.Types.{f32}
 use Rattle.meaning.specs.Layouts.{Layout}
 use Rattle.meaning.specs.Model.{Word, Component, Object, Model}
 use Rattle.meaning.specs.Rows.{word_span, optional_span, object_row, component_row, object_rows, rows_of, component_rows, rows, component_count}
-use Rattle.meaning.specs.Listing as listing
 use Rattle.meaning.specs.Every.{Every, IfAny}
 use Rattle.view.proofs.Columns.{name-place, name-size, code_is, type-place, type-size, offset-is, length-is, component-past, objects-at, components-at, components-past}
 use Rattle.finding.specs.Table.{due, at_row}
-use Rattle.panel.specs.Lines.{count_at, text_at, blob_line, blob_lines, object_line, object_lines, text}
+use Rattle.panel.specs.Lines.{count_at, text_at, blob_line, blob_lines, object_lines, text}
 use Rattle.panel.specs.Summary.{more}
 use Rattle.panel.proofs.Columns.{count-is, object-past, object-line}
 use Rattle.shown.specs.Accepted.{WordStands, ComponentAccepted, ObjectAccepted}

@@ -1,19 +1,19 @@
 -- Laws of one call, on every list of numbers, whether calls left it or not.
-use Prim.Native.Nat.{ℕ, zero, suc, ◌+◌, ◌-◌, ◌*◌, ◌≤◌, ◌<◌}
+use Prim.Native.Nat.{ℕ, suc, ◌+◌, ◌-◌, ◌≤◌, ◌<◌}
 use native.Mathlib.Omega.{arith}
-use mathlib.Core.List.{List, [], ◌∷◌, ◌++◌}
-use mathlib.Core.Bool.{Bool, true, false, cond, ◌&&◌}
-use mathlib.Core.Path.{◌≡◌, refl, sym, ap, ap₂, ◌∙◌, subst}
-use lib.Dec.{eqb, leb}
-use lib.ListN.{length, take, drop, get_or, replicate, length-append, length-replicate}
+use mathlib.Core.List.{List, ◌++◌}
+use mathlib.Core.Bool.{true, false}
+use mathlib.Core.Path.{◌≡◌, refl, sym, ap, ap₂, ◌∙◌}
+use lib.Dec.{eqb}
+use lib.ListN.{length, replicate, length-append, length-replicate}
 use borrow.Author.Tests.{le-leb, lt-leb}
-use Rattle.meaning.specs.Check.{Check, pass, refuse, ◌>>=◌, ◌>>◌, ◌unless◌}
+use Rattle.meaning.specs.Check.{Check, pass, refuse, ◌>>=◌}
 use Rattle.meaning.specs.Refusal.{INDEX, ROOM, BUSY}
 use Rattle.meaning.specs.Frame.{Reading}
 use Rattle.engines.specs.Shared.{Who, first, second, who_of, Engine, flag_of, held_of, nothing, Shared, own, other, closed, part_of, opened}
-use Rattle.engines.specs.Calls.{Call, load, drops, holds, view, list, Said, took, reading_as, needed, engine_of, loading, told, taken, given, after, answered, closed_after, leaves}
+use Rattle.engines.specs.Calls.{Call, load, drops, holds, view, list, took, reading_as, needed, engine_of, loading, told, taken, given, after, answered, closed_after, leaves}
 use Rattle.engines.specs.Runs.{number_of}
-use Rattle.engines.proofs.Kept.{OkEngine, Ok, after-ok}
+use Rattle.engines.proofs.Kept.{Ok, after-ok}
 use Rattle.engines.proofs.Opens.{Opened, opened-closed, closed-opens, part-is}
 
 module _ (size : ℕ) where

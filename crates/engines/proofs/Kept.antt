@@ -1,21 +1,21 @@
 -- Sound states: each engine's state fits its rows, and rows and free numbers fill the table. Every call keeps that, and keeps free numbers zeros.
-use Prim.Native.Nat.{ℕ, zero, suc, ◌+◌, ◌-◌, ◌*◌, ◌≤◌, ◌<◌}
+use Prim.Native.Nat.{ℕ, zero, suc, ◌+◌, ◌-◌, ◌*◌, ◌≤◌}
 use native.Mathlib.Omega.{arith}
-use mathlib.Core.List.{List, [], ◌∷◌, ◌++◌, append_assoc}
+use mathlib.Core.List.{List, [], ◌∷◌, ◌++◌}
 use mathlib.Core.Bool.{Bool, true, false, cond, ◌&&◌}
 use mathlib.Core.Path.{◌≡◌, refl, sym, ap, ap₂, ◌∙◌, subst}
 use lib.Dec.{eqb, leb}
-use lib.ListN.{length, take, drop, get_or, replicate, length-append, length-take, length-drop, length-replicate, replicate-append-replicate}
-use lib.Seq.{length-take-le, take_at, drop_at}
-use borrow.Author.Tests.{leb-true, leb-false, eqb-true, eq-eqb, le-leb}
+use lib.ListN.{length, take, drop, get_or, replicate, length-append, length-drop, length-replicate, replicate-append-replicate}
+use lib.Seq.{length-take-le}
+use borrow.Author.Tests.{leb-true, eqb-true, eq-eqb}
 use Rattle.meaning.specs.Check.{Check, pass, refuse, ◌>>=◌, ◌>>◌, ◌unless◌}
 use Rattle.meaning.specs.Text.{all}
 use Rattle.meaning.specs.Frame.{Reading}
 use Rattle.meaning.specs.Columns.{object_width, component_width}
-use Rattle.meaning.specs.Rows.{rows, room_for, component_count}
+use Rattle.meaning.specs.Rows.{rows, room_for}
 use Rattle.meaning.proofs.Tests.{both_left, both_right}
 use Rattle.meaning.proofs.Lengths.{rows_fill, none_left}
-use Rattle.engines.specs.Shared.{Who, first, second, Engine, flag_of, held_of, objects_of, components_of, layout_column, state_sound, nothing, Shared, own, other, none_loaded}
+use Rattle.engines.specs.Shared.{Who, first, second, Engine, flag_of, held_of, objects_of, components_of, layout_column, state_sound, nothing, Shared, own, none_loaded}
 use Rattle.engines.specs.Calls.{Call, load, drops, holds, view, list, needed, layout_number, engine_of, reading_as, loading, taken, given, after}
 
 pub record OkEngine (a : Engine) : Type 0 where

@@ -1,14 +1,14 @@
 -- What calls of both engines leave from zeros: never refused, and all zeros again once both have dropped.
-use Prim.Native.Nat.{ℕ, zero, suc, ◌+◌, ◌-◌, ◌*◌, ◌≤◌, ◌<◌}
+use Prim.Native.Nat.{ℕ}
 use native.Mathlib.Omega.{arith}
-use mathlib.Core.List.{List, [], ◌∷◌, ◌++◌}
-use mathlib.Core.Path.{◌≡◌, refl, sym, ap, ap₂, ◌∙◌, subst}
-use lib.ListN.{length, take, drop, get_or, replicate}
-use Rattle.meaning.specs.Check.{Check, pass, refuse}
+use mathlib.Core.List.{List, [], ◌∷◌}
+use mathlib.Core.Path.{◌≡◌, refl, sym, ap, ap₂, ◌∙◌}
+use lib.ListN.{length, replicate}
+use Rattle.meaning.specs.Check.{pass}
 use Rattle.engines.specs.Shared.{Who, first, second, Engine, nothing, Shared, own, other, closed, part_of, opened, none_loaded, zeros}
-use Rattle.engines.specs.Calls.{Call, load, drops, holds, view, list, given, after, leaves}
+use Rattle.engines.specs.Calls.{Call, drops, given, after, leaves}
 use Rattle.engines.specs.Runs.{Turn, number_of, final}
-use Rattle.engines.proofs.Kept.{OkEngine, Ok, Clean, none-ok, none-clean, after-ok, after-clean}
+use Rattle.engines.proofs.Kept.{Ok, Clean, none-ok, none-clean, after-ok, after-clean}
 use Rattle.engines.proofs.Opens.{Opened, opened-closed, closed-opens, part-is, zeros-closed}
 use Rattle.engines.proofs.EachCall.{leaves-is, leaves-opens}
 

@@ -1,18 +1,18 @@
 -- Shared numbers that are sound come apart as they were put together; so a state left by calls is never refused.
-use Prim.Native.Nat.{ℕ, zero, suc, ◌+◌, ◌-◌, ◌*◌, ◌≤◌, ◌<◌}
+use Prim.Native.Nat.{ℕ, ◌+◌, ◌-◌, ◌≤◌}
 use native.Mathlib.Omega.{arith}
 use mathlib.Core.List.{List, ◌++◌, append_assoc, append-nil}
-use mathlib.Core.Bool.{Bool, true, false, cond}
+use mathlib.Core.Bool.{Bool, true, false}
 use mathlib.Core.Path.{◌≡◌, refl, sym, ap, ap₂, ◌∙◌, subst}
 use lib.Dec.{eqb, leb}
-use lib.ListN.{length, take, drop, get_or, replicate, length-append, length-take, length-drop, length-replicate, replicate-append-replicate, take-append-drop}
+use lib.ListN.{length, take, drop, replicate, length-append, length-drop, replicate-append-replicate, take-append-drop}
 use lib.Seq.{length-take-le, take_at, drop_at, drop-drop}
 use borrow.Author.Tests.{leb-true, eqb-true, eq-eqb, le-leb}
-use Rattle.meaning.specs.Check.{Check, pass, refuse, ◌>>=◌, ◌>>◌, ◌unless◌}
+use Rattle.meaning.specs.Check.{Check, pass, ◌>>◌, ◌unless◌}
 use Rattle.meaning.specs.Refusal.{INDEX}
 use Rattle.meaning.proofs.Tests.{four-true}
-use Rattle.engines.specs.Shared.{Who, first, second, Engine, flag_of, held_of, state_sound, nothing, Shared, own, other, closed, part_of, usable, apart, opened, none_loaded, zeros}
-use Rattle.engines.proofs.Kept.{OkEngine, Ok}
+use Rattle.engines.specs.Shared.{Who, first, second, Engine, held_of, state_sound, nothing, Shared, own, closed, part_of, usable, apart, opened, none_loaded, zeros}
+use Rattle.engines.proofs.Kept.{Ok}
 
 engine-is : (a : Engine) (st rs : List ℕ) → st ≡ a.state → rs ≡ a.rows → ◌≡◌ {A = Engine} (record { state = st; rows = rs }) a
 engine-is a st rs e f = ap₂ {A = List ℕ} {B = List ℕ} (λ x y. record { state = x; rows = y }) e f

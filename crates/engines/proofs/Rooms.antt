@@ -1,19 +1,19 @@
 -- ROOM is given exactly if the free numbers are fewer than needed: no refusal of the reader's is ROOM.
-use Prim.Native.Nat.{ℕ, ◌+◌, ◌-◌, ◌≤◌, ◌<◌}
+use Prim.Native.Nat.{ℕ, ◌<◌}
 use native.Mathlib.Omega.{arith}
 use mathlib.Core.List.{List}
-use mathlib.Core.Bool.{Bool, true, false, cond}
+use mathlib.Core.Bool.{Bool, true, false}
 use mathlib.Core.Path.{◌≡◌, refl, sym, ap, ◌∙◌}
 use lib.Dec.{eqb, leb}
 use borrow.Author.Tests.{leb-true, leb-false}
 use Rattle.meaning.specs.Check.{Check, pass, refuse}
-use Rattle.meaning.specs.Refusal.{ROOM, LENGTH}
-use Rattle.meaning.specs.Frame.{Reading, reading}
+use Rattle.meaning.specs.Refusal.{ROOM}
+use Rattle.meaning.specs.Frame.{Reading}
 use Rattle.meaning.specs.Layouts.{layout_of}
 use Rattle.frame.proofs.Frames.{size_back_lem}
 use Rattle.shown.proofs.AcceptedFile.{refusals-of-reading}
 use Rattle.engines.specs.Shared.{Who, flag_of, Shared, part_of, opened}
-use Rattle.engines.specs.Calls.{load, Said, took, reading_as, needed, answered}
+use Rattle.engines.specs.Calls.{load, Said, reading_as, needed, answered}
 use Rattle.engines.specs.Runs.{number_of}
 use Rattle.engines.proofs.EachCall.{free_in, reader-refuses, room-suffices}
 

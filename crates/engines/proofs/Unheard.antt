@@ -1,17 +1,17 @@
 -- Non-interference: what an engine is answered, and its rows and state, are a function of its own calls and of the numbers that the other holds where it loads.
-use Prim.Native.Nat.{ℕ, zero, suc, ◌+◌, ◌-◌, ◌*◌, ◌≤◌, ◌<◌}
+use Prim.Native.Nat.{ℕ}
 use native.Mathlib.Omega.{arith}
-use mathlib.Core.List.{List, [], ◌∷◌, ◌++◌}
-use mathlib.Core.Path.{◌≡◌, refl, sym, ap, ap₂, ◌∙◌, subst}
-use lib.ListN.{length, take, drop, get_or, replicate}
-use Rattle.meaning.specs.Check.{Check, pass, refuse, ◌>>=◌}
+use mathlib.Core.List.{List, [], ◌∷◌}
+use mathlib.Core.Path.{◌≡◌, refl, sym, ap, ap₂, ◌∙◌}
+use lib.ListN.{length}
+use Rattle.meaning.specs.Check.{Check, pass, refuse}
 use Rattle.meaning.specs.Frame.{Reading}
-use Rattle.engines.specs.Shared.{Who, first, second, Engine, held_of, nothing, Shared, own, other, closed, part_of, opened, none_loaded, zeros}
-use Rattle.engines.specs.Calls.{Call, load, drops, holds, view, list, Said, took, loading, told, taken, given, after, answered, leaves}
+use Rattle.engines.specs.Shared.{Who, first, second, Engine, held_of, Shared, own, other, part_of, zeros}
+use Rattle.engines.specs.Calls.{Call, load, drops, holds, view, list, Said, loading, told, taken, given, after, answered, leaves}
 use Rattle.engines.specs.Runs.{Turn, Heard, heard, mine, number_of, final, history, replies}
 use Rattle.engines.specs.Alone.{takes, free_beside, alone_after, alone, alone_final}
-use Rattle.engines.proofs.Kept.{OkEngine, Ok}
-use Rattle.engines.proofs.Opens.{Opened, opened-closed}
+use Rattle.engines.proofs.Kept.{Ok}
+use Rattle.engines.proofs.Opens.{opened-closed}
 use Rattle.engines.proofs.EachCall.{answered-is, part-opened, part-after, other-untouched}
 use Rattle.engines.proofs.Left.{Left, zeros-left, call-left}
 

@@ -1,16 +1,16 @@
 -- What code stores: a load writes the rows and the engine's eight numbers and nothing else, a drop zeros in their places.
-use Prim.Native.Nat.{ℕ, zero, suc, ◌+◌, ◌-◌, ◌*◌, ◌≤◌, ◌<◌}
+use Prim.Native.Nat.{ℕ, ◌+◌, ◌-◌}
 use native.Mathlib.Omega.{arith}
 use mathlib.Core.List.{List, [], ◌++◌, append_assoc, append-nil}
-use mathlib.Core.Path.{◌≡◌, refl, sym, ap, ap₂, ◌∙◌, subst}
-use lib.ListN.{length, take, drop, get_or, replicate, length-append, length-drop, length-replicate, take-append-drop}
+use mathlib.Core.Path.{◌≡◌, refl, sym, ap, ap₂, ◌∙◌}
+use lib.ListN.{length, take, drop, replicate, length-append, length-drop, length-replicate, take-append-drop}
 use lib.Seq.{length-take-le, take_at, drop_at, sets, sets-eq}
-use Rattle.meaning.specs.Check.{Check, pass, refuse}
+use Rattle.meaning.specs.Check.{pass}
 use Rattle.meaning.specs.Frame.{Reading}
 use Rattle.meaning.proofs.Lengths.{none_left}
-use Rattle.engines.specs.Shared.{Who, first, second, Engine, held_of, nothing, Shared, own, closed}
+use Rattle.engines.specs.Shared.{first, second, Engine, held_of, nothing, Shared, closed}
 use Rattle.engines.specs.Calls.{needed, engine_of, taken, given}
-use Rattle.engines.proofs.Kept.{OkEngine, Ok, Fits, idle-holds-none, rows-needed, engine-ok, nothing_ok}
+use Rattle.engines.proofs.Kept.{Ok, Fits, idle-holds-none, rows-needed, engine-ok}
 
 overwrite : (p q q' r : List ℕ) (n : ℕ) → length p ≡ n → length q ≡ length q' → sets (p ++ (q ++ r)) n q' ≡ p ++ (q' ++ r)
 overwrite p q q' r n e f =

@@ -1,5 +1,5 @@
 -- An engine by itself: its answers and its rows as a function of its own calls and the numbers that the other holds where it loads. Not believed: a means of proof, and what non-interference says at its strongest.
-use Rattle.std.specs.Prelude.{ℕ, ◌+◌, ◌-◌, List, [], ◌∷◌}
+use Rattle.std.specs.Prelude.{ℕ, ◌-◌, List, [], ◌∷◌}
 use Rattle.meaning.specs.Check.{Check, pass, refuse}
 use Rattle.meaning.specs.Frame.{Reading}
 use Rattle.engines.specs.Shared.{Who, Engine, held_of, nothing}

@@ -1,5 +1,5 @@
 -- Document 02, Req 11: the calls of an engine. What each answers, and what the shared numbers are afterwards, for every list of numbers.
-use Rattle.std.specs.Prelude.{ℕ, ◌+◌, ◌-◌, List, [], ◌∷◌, ◌++◌, Bool, true, false, cond, not, length, take, drop, get_or, replicate, eqb, leb}
+use Rattle.std.specs.Prelude.{ℕ, ◌-◌, List, [], ◌∷◌, ◌++◌, cond, not, length, take, drop, replicate, eqb, leb}
 use Rattle.meaning.specs.Check.{Check, pass, refuse, ◌>>=◌, ◌>>◌, ◌unless◌}
 use Rattle.meaning.specs.Refusal.{INDEX, ROOM, BUSY}
 use Rattle.meaning.specs.Read.{Span}

@@ -1,7 +1,7 @@
 -- Document 02, Req 11: any calls of both engines, one after another.
-use Rattle.std.specs.Prelude.{ℕ, zero, suc, List, [], ◌∷◌, Bool, true, false, length}
+use Rattle.std.specs.Prelude.{ℕ, List, [], ◌∷◌}
 use Rattle.meaning.specs.Check.{Check}
-use Rattle.engines.specs.Shared.{Who, first, second, who_of, Engine, held_of, Shared, own, other, part_of}
+use Rattle.engines.specs.Shared.{Who, first, second, held_of, other, part_of}
 use Rattle.engines.specs.Calls.{Call, load, drops, holds, view, list, Said, answered, leaves}
 
 pub record Turn : Type 0 where

@@ -1,7 +1,7 @@
 -- Document 02, Req 11: the numbers that two engines share. A table, then eight numbers of state for each engine. The first engine's rows stand at the table's beginning,
 -- the second's at its end, so that what is free is one piece between them. The product's table has 65,536 numbers; here its size is a parameter.
-use Rattle.std.specs.Prelude.{ℕ, zero, suc, ◌+◌, ◌-◌, ◌*◌, List, [], ◌∷◌, ◌++◌, Bool, true, false, cond, ◌&&◌, length, take, drop, get_or, replicate, eqb, leb}
-use Rattle.meaning.specs.Check.{Check, pass, refuse, ◌>>=◌, ◌>>◌, ◌unless◌}
+use Rattle.std.specs.Prelude.{ℕ, zero, suc, ◌+◌, ◌-◌, ◌*◌, List, [], ◌++◌, Bool, true, cond, ◌&&◌, length, take, drop, get_or, replicate, eqb, leb}
+use Rattle.meaning.specs.Check.{Check, pass, refuse, ◌>>◌, ◌unless◌}
 use Rattle.meaning.specs.Refusal.{INDEX}
 use Rattle.meaning.specs.Text.{all}
 use Rattle.meaning.specs.Columns.{object_width, component_width}

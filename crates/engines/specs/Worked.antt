@@ -1,12 +1,11 @@
 -- A worked example: a table of 40 numbers, and files that need 28 (one of each layout) and none.
-use Rattle.std.specs.Prelude.{ℕ, List, [], ◌∷◌, ◌++◌, map, Bool, ◌&&◌}
+use Rattle.std.specs.Prelude.{ℕ, List, [], ◌∷◌, ◌++◌, Bool}
 use Rattle.meaning.specs.Check.{Check, pass, refuse}
-use Rattle.meaning.specs.Read.{Span}
 use Rattle.meaning.specs.Text.{same}
 use Rattle.cases.specs.Files.{empty, plain_file, two}
 use Rattle.cases.specs.Old.{plain_example}
-use Rattle.engines.specs.Shared.{Who, first, second, zeros, part_of}
-use Rattle.engines.specs.Calls.{Call, load, drops, holds, view, list, Said, took, gone, has, range, text, leaves}
+use Rattle.engines.specs.Shared.{first, second, zeros, part_of}
+use Rattle.engines.specs.Calls.{load, drops, holds, view, Said, took, gone, has, range, text, leaves}
 use Rattle.engines.specs.Runs.{Turn, replies, final}
 
 abbrev one : List ℕ

@@ -8,7 +8,7 @@ use mathlib.Core.Path.{◌≡◌, refl, sym, ap, ◌∙◌, subst}
 use lib.ListN.{length}
 use lib.Dec.{leb}
 use borrow.Author.Tests.{le-leb}
-use Rattle.meaning.specs.Check.{Check, pass, refuse}
+use Rattle.meaning.specs.Check.{Check, pass}
 use Rattle.meaning.specs.Refusal.{ROOM}
 use Rattle.meaning.specs.Layouts.{Layout, current}
 use Rattle.meaning.specs.Frame.{Reading, reading}

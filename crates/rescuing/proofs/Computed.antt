@@ -1,6 +1,6 @@
 -- Rescues that are computed: one object of three, all, none; each refusal and each room in its order; layout 1.0.
 use Prim.Native.Nat.{ℕ}
-use mathlib.Core.List.{List, [], ◌∷◌}
+use mathlib.Core.List.{[], ◌∷◌}
 use mathlib.Core.Path.{◌≡◌, refl}
 use lib.ListN.{length}
 use Rattle.meaning.specs.Refusal.{SHORT, DTYPE, TWICE, RANK, LENGTH}

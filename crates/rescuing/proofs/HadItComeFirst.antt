@@ -11,12 +11,12 @@ use Rattle.meaning.specs.Refusal.{KEY, TEXT, TWICE, COUNT}
 use Rattle.meaning.specs.Limit.{object_limit}
 use Rattle.meaning.specs.Tree.{Node, Pair}
 use Rattle.meaning.specs.Text.{same, one_of, distinct, all, utf8}
-use Rattle.meaning.specs.Check.{Check, pass, refuse, ◌>>=◌, ◌>>◌, ◌unless◌, in_object, required, optional, each}
+use Rattle.meaning.specs.Check.{Check, pass, refuse, ◌>>=◌, ◌>>◌, ◌unless◌, required, optional, each}
 use Rattle.meaning.specs.Notes.{map_check, map_option}
 use Rattle.meaning.specs.Model.{RootFields, Named, Object}
 use Rattle.meaning.specs.Layouts.{Slots, slot, somes, Layout, objects_at}
 use Rattle.meaning.specs.Kind.{a_mapping}
-use Rattle.meaning.specs.Field.{is_some, key_of, named, count, field, fields, root_fields, name_of, names}
+use Rattle.meaning.specs.Field.{is_some, key_of, count, field, fields, root_fields, name_of, names}
 use Rattle.meaning.specs.Judge.{attributes_of, a_version, object, judge}
 use Rattle.meaning.specs.Drop.{in_map, on_field}
 use Rattle.meaning.proofs.DropFields.{field-changed, value_same, key-same, value-apart, a_table-in_map}
@@ -24,7 +24,7 @@ use Rattle.meaning.proofs.FieldsAlike.{named-key}
 use Rattle.meaning.proofs.SameText.{same-turned}
 use Rattle.meaning.specs.Every.{Every}
 use Rattle.roundtrip.proofs.If.{If}
-use Rattle.roundtrip.proofs.AcceptedJudged.{called, Beside, each-beside}
+use Rattle.roundtrip.proofs.AcceptedJudged.{Beside, each-beside}
 use Rattle.rescuing.specs.Sift.{Dropped, Opened, opened, dropped, verdicts}
 use Rattle.rescuing.proofs.RootFirst.{judge-opened}
 

@@ -4,23 +4,22 @@ use Prim.Native.Nat.{ℕ, suc, ◌+◌, ◌≤◌}
 use native.Mathlib.Omega.{arith}
 use mathlib.Core.List.{List, [], ◌∷◌, map}
 use mathlib.Core.Bool.{Bool, true, false, cond, ◌&&◌}
-use mathlib.Core.Option.{Option}
-use mathlib.Core.Path.{◌≡◌, refl, ap, subst}
+use mathlib.Core.Path.{◌≡◌, refl}
 use lib.ListN.{length, take, drop, length-map}
 use lib.Dec.{leb}
 use borrow.Author.Tests.{leb-true, le-leb}
-use Rattle.meaning.specs.Refusal.{SHORT, TEXT, TWICE, COUNT}
+use Rattle.meaning.specs.Refusal.{TEXT, TWICE, COUNT}
 use Rattle.meaning.specs.Limit.{object_limit}
 use Rattle.meaning.specs.Tree.{Node}
 use Rattle.meaning.specs.Text.{same, one_of, distinct, all, utf8}
 use Rattle.meaning.specs.Check.{Check, pass, refuse, ◌>>◌, ◌unless◌, required, optional}
 use Rattle.meaning.specs.Read.{Span, span_to, manifest}
-use Rattle.meaning.specs.Model.{Named, Object, Model}
+use Rattle.meaning.specs.Model.{Named, Object}
 use Rattle.meaning.specs.Layouts.{Layout}
 use Rattle.meaning.specs.Field.{root_fields, names}
 use Rattle.meaning.specs.Judge.{attributes_of, a_version, object}
 use Rattle.meaning.specs.Frame.{frame, checked}
-use Rattle.meaning.specs.Described.{Described, described_by}
+use Rattle.meaning.specs.Described.{described_by}
 use Rattle.meaning.specs.Every.{Every, IfAny}
 use Rattle.readback.specs.Fine.{Fine}
 use Rattle.readback.specs.Lent.{Held}

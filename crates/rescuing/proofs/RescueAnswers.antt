@@ -6,7 +6,7 @@ use mathlib.Core.Bool.{Bool, true, false, cond, ◌&&◌}
 use mathlib.Core.Path.{◌≡◌, refl, sym, ap, ap₂, ◌∙◌, subst}
 use lib.ListN.{length, length-map, length-append}
 use lib.Dec.{eqb, leb}
-use borrow.Author.Tests.{le-leb, leb-true}
+use borrow.Author.Tests.{le-leb}
 use Rattle.meaning.specs.Refusal.{COUNT, BIG, ROOM}
 use Rattle.meaning.specs.Limit.{manifest_limit, end_limit}
 use Rattle.meaning.specs.Check.{Check, pass, refuse, ◌>>◌, ◌unless◌}
@@ -25,7 +25,6 @@ use Rattle.readback.specs.Back.{ReadsBack}
 use Rattle.readback.proofs.ReadBack.{written-plain-is, written-plain-reads-back}
 use Rattle.readback.proofs.RowsOfReading as rows-laws
 use Rattle.shown.specs.Accepted.{Framing}
-use Rattle.shown.proofs.ReadingJudged.{current-framing}
 use Rattle.roundtrip.specs.Again.{placed, plain_file, rewritten, written_again}
 use Rattle.rescuing.specs.Sift.{Dropped, Sifted, sifted}
 use Rattle.rescuing.specs.Rescue.{Rescue, done, refused, short, after, entry_width, rescue_into, rescue, roomed}

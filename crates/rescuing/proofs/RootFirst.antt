@@ -1,10 +1,9 @@
 -- The reader's judgement is that of the manifest up to its objects' names, then of each object in turn: a sound file keeps all, a file that fails earlier is refused as the reader refuses it, and
 -- where an object is refused the first that is dropped is the one that the reader names.
 use Prim.Native.Nat.{ℕ, suc, ◌+◌}
-use native.Mathlib.Omega.{arith}
-use mathlib.Core.List.{List, [], ◌∷◌, map}
+use mathlib.Core.List.{List, [], ◌∷◌}
 use mathlib.Core.Option.{Option}
-use mathlib.Core.Path.{◌≡◌, refl, sym, ap, ◌∙◌}
+use mathlib.Core.Path.{◌≡◌, refl, sym, ◌∙◌}
 use lib.ListN.{take, drop}
 use Rattle.meaning.specs.Limit.{object_limit}
 use Rattle.meaning.specs.Tree.{Node}

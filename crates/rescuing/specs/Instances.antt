@@ -1,7 +1,7 @@
 -- Small files, for rescues that are computed.
 use Rattle.std.specs.Prelude.{ℕ, ◌+◌, List, [], ◌∷◌, ◌++◌, length, replicate}
 use Prim.Native.String.{String}
-use Rattle.std.proofs.Math.Option.{Option, none, some}
+use Rattle.std.proofs.Math.Option.{none, some}
 use Rattle.meaning.specs.Text.{ascii}
 use Rattle.meaning.specs.Described.{DescribedObject, Described}
 use Rattle.cases.specs.Files.{text, map, number, byte_number, little, two}

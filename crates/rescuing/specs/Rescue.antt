@@ -4,7 +4,7 @@ use Rattle.meaning.specs.Refusal.{ROOM}
 use Rattle.meaning.specs.Check.{Check, pass, refuse}
 use Rattle.meaning.specs.Layouts.{Layout}
 use Rattle.meaning.specs.Rows.{room_for}
-use Rattle.meaning.specs.Described.{Described, described_by}
+use Rattle.meaning.specs.Described.{described_by}
 use Rattle.meaning.specs.Write.{written_plain}
 use Rattle.roundtrip.specs.Again.{plain_file}
 use Rattle.rescuing.specs.Sift.{Dropped, Sifted, sifted}

@@ -1,30 +1,28 @@
 -- What an accepted file says passes the checks that the writer makes of a description: the reader has made them.
-use Prim.Native.Nat.{ℕ, suc, ◌+◌, ◌%◌, ◌≤◌}
-use native.Mathlib.Omega.{arith}
+use Prim.Native.Nat.{ℕ, suc, ◌+◌, ◌%◌}
 use mathlib.Core.List.{List, [], ◌∷◌, map}
-use mathlib.Core.Bool.{Bool, true, false, cond, not, ◌&&◌}
+use mathlib.Core.Bool.{true, ◌&&◌}
 use mathlib.Core.Option.{Option, none, some}
-use mathlib.Core.Path.{◌≡◌, refl, sym, ap, ap₂, ◌∙◌, subst}
-use lib.ListN.{length, take, drop, length-take, length-drop, length-map}
+use mathlib.Core.Path.{◌≡◌, refl, ap, ap₂, ◌∙◌}
+use lib.ListN.{length, take, drop, length-map}
 use lib.Dec.{eqb, leb}
-use Rattle.meaning.specs.Tree.{Node, note_of}
-use Rattle.meaning.specs.Check.{Check, pass, refuse, ◌>>=◌, ◌>>◌, ◌unless◌, in_object, in_component, required, required_in, optional, each}
+use Rattle.meaning.specs.Tree.{Node}
+use Rattle.meaning.specs.Check.{Check, pass, refuse, ◌>>◌, in_object, in_component, required, required_in, optional, each}
 use Rattle.meaning.specs.Text.{all, distinct, utf8}
-use Rattle.meaning.specs.Refusal.{KEY, TEXT, TWICE, COUNT, TYPE, ALIGN, BOUNDS}
+use Rattle.meaning.specs.Refusal.{TEXT, TWICE, COUNT, TYPE, ALIGN, BOUNDS}
 use Rattle.meaning.specs.Limit.{object_limit, component_limit, alignment}
-use Rattle.meaning.specs.Read.{Span, span_to, manifest}
-use Rattle.meaning.specs.Notes.{map_option}
+use Rattle.meaning.specs.Read.{span_to, manifest}
 use Rattle.meaning.specs.Model.{Word, Named, Component, Object, Model}
 use Rattle.meaning.specs.Kind.{a_word, a_text, a_number, a_mapping, present}
 use Rattle.meaning.specs.Layouts.{slot, Layout, dtype_at}
 use Rattle.meaning.specs.Field.{root_fields, object_fields, component_fields, name_of, names}
 use Rattle.meaning.specs.Types.{logicals, listed, fits_over}
-use Rattle.meaning.specs.Format.{Part, format_rules}
+use Rattle.meaning.specs.Format.{format_rules}
 use Rattle.meaning.specs.Judge.{or_else, inherited, a_dtype, a_type, raw, attributes_of, component, letters_of, part, shape_of, components_of, object, a_version, objects_of, judge}
 use Rattle.meaning.specs.Frame.{frame, checked, Reading, reading}
 use Rattle.meaning.specs.Every.{Every}
 use Rattle.readback.specs.Judged.{judged_names, judged_type, judged_text}
-use Rattle.roundtrip.proofs.If.{Any, If, passes, anyhow, passed-so, bind, then, tested}
+use Rattle.roundtrip.proofs.If.{If, passes, anyhow, bind, then, tested}
 
 -- ---- each in turn, beside what it came from
 

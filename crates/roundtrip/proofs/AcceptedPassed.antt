@@ -1,26 +1,26 @@
 -- What an accepted file says has nothing left to refuse: the reader has judged all that it would judge of the file that the writer makes of it.
-use Prim.Native.Nat.{ℕ, suc, ◌+◌, ◌≤◌}
+use Prim.Native.Nat.{ℕ, suc}
 use native.Mathlib.Omega.{arith}
-use mathlib.Core.List.{List, [], ◌∷◌, ◌++◌, map}
-use mathlib.Core.Bool.{Bool, true, false, cond, not, ◌&&◌}
+use mathlib.Core.List.{List, [], ◌∷◌, map}
+use mathlib.Core.Bool.{Bool, true, false}
 use mathlib.Core.Option.{Option, none, some}
 use mathlib.Core.Path.{◌≡◌, refl, sym, ap, ap₂, ◌∙◌, subst}
-use lib.ListN.{length, take, drop, length-take, length-drop}
+use lib.ListN.{length, length-take, length-drop}
 use lib.Dec.{leb}
 use Rattle.meaning.specs.Tree.{Node, note_of}
 use Rattle.meaning.specs.Check.{Check, pass, refuse, ◌>>=◌, ◌>>◌, ◌unless◌, in_object, in_component, each}
 use Rattle.meaning.specs.Text.{all, distinct, utf8}
-use Rattle.meaning.specs.Refusal.{DEEP, TEXT, TWICE, COUNT}
-use Rattle.meaning.specs.Limit.{object_limit, component_limit}
-use Rattle.meaning.specs.Read.{Span, bytes_at, item, no_note}
+use Rattle.meaning.specs.Refusal.{TEXT, TWICE, COUNT}
+use Rattle.meaning.specs.Limit.{object_limit}
+use Rattle.meaning.specs.Read.{Span, bytes_at}
 use Rattle.meaning.specs.Notes.{map_option}
 use Rattle.meaning.specs.Model.{Component, Object, Model}
-use Rattle.meaning.specs.Format.{Part, format_rules}
+use Rattle.meaning.specs.Format.{Part}
 use Rattle.meaning.specs.Layouts.{Layout, current}
 use Rattle.meaning.specs.Judge.{letters_of, part}
 use Rattle.meaning.specs.Frame.{Reading, reading}
 use Rattle.meaning.specs.Sound.{root_levels, object_levels}
-use Rattle.meaning.specs.Described.{DescribedComponent, DescribedObject, Described, read_component, read_object, described_by}
+use Rattle.meaning.specs.Described.{DescribedObject, Described, read_component, read_object, described_by}
 use Rattle.meaning.proofs.Checks.{refused-is-not}
 use Rattle.meaning.specs.Every.{Every, IfAny}
 use Rattle.readback.specs.Trees.{is_deep, deep_at}

@@ -1,5 +1,5 @@
 -- What a model whose texts and attributes stand in the manifest says is spelled in the file, and so what an accepted file's does: readback's premise follows from shown's promise.
-use Prim.Native.Nat.{ℕ, suc, ◌+◌, ◌≤◌}
+use Prim.Native.Nat.{ℕ, suc, ◌≤◌}
 use native.Mathlib.Omega.{arith}
 use mathlib.Core.List.{List}
 use mathlib.Core.Path.{◌≡◌}

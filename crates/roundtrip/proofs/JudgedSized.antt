@@ -8,12 +8,12 @@ use lib.ListN.{length, take, drop}
 use lib.Dec.{eqb, leb}
 use borrow.Author.Tests.{leb-true}
 use Rattle.meaning.specs.Tree.{Node, Nodes, Pairs, uint, nint, bytes, text, chunked_bytes, chunked_text, array, dict, tag, simple, float, ε, ◌▸◌, ∅, ◌⇒◌▸◌, Pair, node_list, pair_list}
-use Rattle.meaning.specs.Check.{Check, pass, refuse, ◌>>◌, in_object, in_component, required, required_in, optional, each}
+use Rattle.meaning.specs.Check.{Check, pass, refuse, in_object, in_component, required, required_in, optional, each}
 use Rattle.meaning.specs.Text.{all, distinct, utf8}
 use Rattle.meaning.specs.Refusal.{KEY, TEXT, TWICE, COUNT}
 use Rattle.meaning.specs.Limit.{object_limit, component_limit, rank_limit}
 use Rattle.meaning.specs.Read.{Span, span_to, Outcome, got, refused, manifest}
-use Rattle.meaning.specs.Model.{Word, Named, Component, Object, Model, RootFields, ObjectFields}
+use Rattle.meaning.specs.Model.{Named, Component, Object, RootFields, ObjectFields}
 use Rattle.meaning.specs.Kind.{Kind, number, words, list, mapping, null, another, kind, as_number, as_list, as_mapping, a_number, a_list, a_mapping, a_text}
 use Rattle.meaning.specs.Layouts.{Slots, slot, somes, Layout, dtype_at}
 use Rattle.meaning.specs.Field.{is_some, key_of, count, named, get, field, fields, root_fields, object_fields, name_kind, name_of, names}
@@ -26,7 +26,7 @@ use Rattle.readback.specs.Fine.{Fits}
 use Rattle.shown.proofs.AcceptsExactly.{bytes_take, bytes_drop}
 use Rattle.roundtrip.specs.Sized.{SizedObject, Sized}
 use Rattle.roundtrip.specs.Small.{Small, SmallNodes, SmallPairs}
-use Rattle.roundtrip.proofs.If.{Any, If, passes, anyhow, passed-so, in-object, is-required, bind, then, tested, each-so, any-every}
+use Rattle.roundtrip.proofs.If.{Any, If, passes, anyhow, in-object, is-required, bind, then, tested, each-so, any-every}
 use Rattle.roundtrip.proofs.ReadSmall.{manifest-small}
 
 -- as long as a list within the limit

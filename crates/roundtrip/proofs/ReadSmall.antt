@@ -1,12 +1,12 @@
 -- What is read from bytes has unsigned integers below 2 ^ 64.
-use Prim.Native.Nat.{ℕ, zero, suc, ◌<◌, ◌^◌}
+use Prim.Native.Nat.{ℕ, zero, suc}
 use native.Mathlib.Omega.{arith}
 use mathlib.Core.List.{List, [], ◌∷◌}
-use mathlib.Core.Path.{◌≡◌, refl, ap, sym, ◌∙◌, subst}
+use mathlib.Core.Path.{◌≡◌, refl, ap, ◌∙◌, subst}
 use Rattle.meaning.specs.Limit.{depth_limit}
 use Rattle.meaning.specs.Tree as tree
 use Rattle.meaning.specs.Tree.{Node, Nodes, Pairs, ε, ◌▸◌, ∅, ◌⇒◌▸◌, map_p, map_nodes, map_pairs, nothing, meaning}
-use Rattle.meaning.specs.Read.{Outcome, got, refused, after, closed, item, manifest, no_note, Span}
+use Rattle.meaning.specs.Read.{Outcome, got, refused, after, closed, item, manifest, no_note}
 use Rattle.meaning.specs.Encoding as enc
 use Rattle.meaning.specs.Encoding.{Bytes, Low, Head, head, Encodes, Elements, Entries}
 use Rattle.meaning.proofs.ReadNatural.{map_out, item-follows}

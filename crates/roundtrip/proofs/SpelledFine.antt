@@ -1,12 +1,12 @@
 -- What is spelled in a file of bytes shorter than 2 ^ 64 makes a fine description, if dimensions and counts fit.
-use Prim.Native.Nat.{ℕ, ◌+◌, ◌≤◌, ◌<◌}
+use Prim.Native.Nat.{ℕ, ◌≤◌}
 use native.Mathlib.Omega.{arith}
-use mathlib.Core.List.{List, [], ◌∷◌, ◌++◌, map}
+use mathlib.Core.List.{List, [], ◌∷◌, map}
 use mathlib.Core.Bool.{true}
 use mathlib.Core.Option.{Option, none, some}
 use mathlib.Core.Path.{◌≡◌, refl, ap}
-use lib.ListN.{length, drop, length-map, length-append}
-use Rattle.meaning.specs.Limit.{object_limit, component_limit}
+use lib.ListN.{length, drop, length-map}
+use Rattle.meaning.specs.Limit.{object_limit}
 use Rattle.meaning.specs.Tree.{Node, note_of}
 use Rattle.meaning.specs.Read.{Span, bytes_at}
 use Rattle.meaning.specs.Notes.{map_option}
@@ -14,11 +14,11 @@ use Rattle.meaning.specs.Model.{Word, Component, Object, Model}
 use Rattle.meaning.specs.Judge.{letters_of}
 use Rattle.meaning.specs.Rows.{word_span}
 use Rattle.meaning.specs.Sound.{a_map, absent_or, root_levels, object_levels}
-use Rattle.meaning.specs.Described.{Described, DescribedObject, read_component, read_object, described_by}
+use Rattle.meaning.specs.Described.{read_component, read_object, described_by}
 use Rattle.meaning.proofs.Lengths.{take-shorter, drop-shorter}
 use Rattle.meaning.specs.Every.{IfAny, Every}
 use Rattle.meaning.proofs.Every.{every_map}
-use Rattle.readback.specs.Fine.{Fits, Brief, BriefOption, FineComponent, FineObject, Fine}
+use Rattle.readback.specs.Fine.{Brief, BriefOption, FineComponent, FineObject, Fine}
 use Rattle.readback.specs.Spelled.{SpelledWord, SpelledMap, SpelledComponent, SpelledObject, Spelled}
 use Rattle.roundtrip.specs.Sized.{SizedObject, Sized}
 

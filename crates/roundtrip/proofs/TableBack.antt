@@ -1,22 +1,18 @@
 -- A written file, read into any table with room for its rows: number 0, the counts that were asked, and rows that describe what was asked.
-use Prim.Native.Nat.{ℕ, zero, ◌+◌, ◌*◌, ◌≤◌}
+use Prim.Native.Nat.{ℕ, ◌+◌, ◌*◌, ◌≤◌}
 use native.Mathlib.Omega.{arith}
-use mathlib.Core.List.{List, [], ◌∷◌, ◌++◌, map}
-use mathlib.Core.Bool.{Bool, true, false}
-use mathlib.Core.Path.{◌≡◌, refl, sym, ap, subst, ◌∙◌}
+use mathlib.Core.List.{List, [], ◌∷◌, map}
+use mathlib.Core.Path.{◌≡◌, refl, sym, ap, ◌∙◌}
 use lib.ListN.{length, drop, length-map, length-append}
-use lib.Dec.{leb}
 use borrow.Author.Tests.{le-leb}
-use Rattle.meaning.specs.Check.{Check, pass, refuse, ◌>>=◌}
+use Rattle.meaning.specs.Check.{pass}
 use Rattle.meaning.specs.Read.{Span, bytes_at}
-use Rattle.meaning.specs.Model.{Component, Object, Model}
+use Rattle.meaning.specs.Model.{Object, Model}
 use Rattle.meaning.specs.Layouts.{current}
-use Rattle.meaning.specs.Frame.{Reading, reading}
 use Rattle.meaning.specs.Columns.{object_width, component_width}
-use Rattle.meaning.specs.Rows.{rows, component_count, room_for, roomy, attributes_span, answer, table_after, read_into}
+use Rattle.meaning.specs.Rows.{component_count, room_for, roomy, answer, table_after, read_into}
 use Rattle.meaning.specs.Asked.{AskedComponent, asked_object, asked}
-use Rattle.meaning.specs.Sound.{rows_sound}
-use Rattle.meaning.specs.Described.{DescribedObject, DescribedComponent, Described, blobs_in, blobs, described, read_component, read_object, described_by}
+use Rattle.meaning.specs.Described.{DescribedComponent, Described, blobs_in, blobs, described, read_component, read_object, described_by}
 use Rattle.meaning.specs.Write.{written}
 use Rattle.meaning.proofs.Lengths.{each-row-length, described-counted}
 use Rattle.readback.specs.Lent.{Lent}

@@ -1,5 +1,5 @@
 -- A reading whose counts are within the limits and whose dimensions are below 2 ^ 64.
-use Rattle.std.specs.Prelude.{ℕ, ◌≤◌, List, length}
+use Rattle.std.specs.Prelude.{◌≤◌, length}
 use Rattle.meaning.specs.Limit.{object_limit, component_limit}
 use Rattle.meaning.specs.Model.{Object, Model}
 use Rattle.meaning.specs.Every.{Every}

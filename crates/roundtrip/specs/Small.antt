@@ -1,5 +1,4 @@
 -- Trees whose unsigned integers are below 2 ^ 64, those under a tag apart: no shape stands there.
-use Rattle.std.specs.Prelude.{ℕ}
 use Rattle.meaning.specs.Tree.{Node, Nodes, Pairs, uint, nint, bytes, text, chunked_bytes, chunked_text, array, dict, tag, simple, float, ε, ◌▸◌, ∅, ◌⇒◌▸◌}
 use Rattle.readback.specs.Fine.{Fits}
 

@@ -1,8 +1,6 @@
 -- What a written file reads back as, in the numbers of a table: the answer's counts are those that were asked, and the table's rows, with the file as their buffer, describe what was asked.
 use Rattle.std.specs.Prelude.{ℕ, List, true, ◌≡◌, length}
-use Rattle.meaning.specs.Check.{Check}
 use Rattle.meaning.specs.Layouts.{current}
-use Rattle.meaning.specs.Frame.{Reading}
 use Rattle.meaning.specs.Rows.{Answer, answer, table_after, read_into}
 use Rattle.meaning.specs.Asked.{asked}
 use Rattle.meaning.specs.Sound.{rows_sound}

@@ -2,8 +2,7 @@
 use Prim.Native.Nat.{ℕ, zero, suc, ◌+◌, ◌≤◌}
 use native.Mathlib.Omega.{arith}
 use mathlib.Core.List.{List, [], ◌∷◌}
-use mathlib.Core.Bool.{true, ◌&&◌}
-use mathlib.Core.Logic.{◌⊎◌, inl, inr, ⊎_elim, ◌↔◌}
+use mathlib.Core.Logic.{◌⊎◌, inl, inr, ⊎_elim}
 use mathlib.Core.Path.{◌≡◌, refl, ap, sym, ◌∙◌}
 use lib.ListN.{take, drop}
 use lib.Dec.{ltb}
@@ -29,7 +28,7 @@ use Rattle.reader.specs.Verdict.{verdict}
 use Rattle.shown.specs.Accepted.{Framing}
 use Rattle.shown.specs.Placed.{Placed}
 use Rattle.shown.specs.Exactly.{number, manifest_in, Sound, NoTree, Exactly}
-use Rattle.shown.proofs.Judged.{JudgedFrom, between, passed-so, refused-so}
+use Rattle.shown.proofs.Judged.{between, passed-so, refused-so}
 use Rattle.shown.proofs.ReadingJudged.{Framed, frame-so, tree-so, manifest-refusals}
 use Rattle.shown.proofs.Judgement.{judge-so}
 use Rattle.shown.proofs.AcceptedFile.{accept-zero}

@@ -1,5 +1,5 @@
 -- The format's rules refuse with RANK, ROLE or LENGTH, which are among 1 to 23.
-use Prim.Native.Nat.{ℕ, suc, ◌*◌, ◌/◌, ◌%◌}
+use Prim.Native.Nat.{ℕ, suc, ◌/◌, ◌%◌}
 use mathlib.Core.List.{List, [], ◌∷◌}
 use mathlib.Core.Option.{Option, none, some}
 use lib.ListN.{length}

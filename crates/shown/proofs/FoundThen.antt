@@ -4,24 +4,24 @@ use native.Mathlib.Omega.{arith}
 use mathlib.Core.List.{List, ◌++◌}
 use mathlib.Core.Bool.{Bool, true, false, cond, ◌&&◌}
 use mathlib.Core.Option.{Option, none, some}
-use mathlib.Core.Path.{◌≡◌, refl, sym, ap, ◌∙◌}
-use lib.ListN.{length, take, drop, get_or, get_elem?}
+use mathlib.Core.Path.{◌≡◌, refl}
+use lib.ListN.{length, take, drop, get_elem?}
 use lib.Dec.{eqb}
 use borrow.Author.Tests.{ne_eqb}
-use Rattle.meaning.specs.Columns.{object_width, component_width, dtype_column, type_column, type_length_column, offset_column, length_column}
-use Rattle.meaning.specs.Check.{Check, pass}
+use Rattle.meaning.specs.Columns.{object_width, component_width}
+use Rattle.meaning.specs.Check.{pass}
 use Rattle.meaning.specs.Read.{Span}
 use Rattle.meaning.specs.Model.{Word, Component}
 use Rattle.meaning.specs.Layouts.{Layout}
 use Rattle.meaning.specs.Types.{f32}
 use Rattle.meaning.specs.Frame.{Reading}
-use Rattle.meaning.specs.Rows.{optional_span, word_span, rows, room_for, component_count, answer, table_after, read_into}
+use Rattle.meaning.specs.Rows.{optional_span, word_span, rows, room_for, answer, table_after, read_into}
 use Rattle.meaning.specs.Every.{IfAny}
 use Rattle.view.specs.All.{all_components}
 use Rattle.view.proofs.Columns.{code_is, type-place, type-size, offset-is, length-is}
 use Rattle.view.proofs.OfRows.{row-of-rows, viewed-of-rows}
 use Rattle.finding.specs.Finding.{finding, shown}
-use Rattle.finding.specs.Table.{due, undue, at_row, told, found}
+use Rattle.finding.specs.Table.{due, undue, at_row, found}
 use Rattle.shown.specs.Accepted.{Framing, WordStands}
 use Rattle.shown.specs.Found.{is_none, due_of, finding_of}
 use Rattle.shown.specs.Shown.{found_then}

@@ -5,13 +5,13 @@ use mathlib.Core.Option.{Option, some}
 use mathlib.Core.Path.{◌≡◌, refl, ap, ap₂, sym, subst, ◌∙◌}
 use lib.ListN.{length}
 use lib.Dec.{leb}
-use Rattle.meaning.specs.Tree.{Node, Pair, dict, pair_list, meaning, nothing}
-use Rattle.meaning.specs.Check.{Check, pass, refuse, ◌>>=◌, ◌>>◌, ◌unless◌, in_object, required, optional, each}
+use Rattle.meaning.specs.Tree.{Node, Pair, meaning, nothing}
+use Rattle.meaning.specs.Check.{Check, pass, refuse, ◌>>=◌, ◌unless◌, in_object, required, optional, each}
 use Rattle.meaning.specs.Text.{all, distinct, utf8}
 use Rattle.meaning.specs.Refusal.{KEY, TEXT, TWICE, COUNT}
 use Rattle.meaning.specs.Limit.{object_limit}
 use Rattle.meaning.specs.Read.{Span}
-use Rattle.meaning.specs.Model.{Named, Object, Model}
+use Rattle.meaning.specs.Model.{Named, Object}
 use Rattle.meaning.specs.Kind.{Kind, number, words, list, mapping, null, another, kind, as_mapping, a_mapping}
 use Rattle.meaning.specs.Layouts.{Slots, slot, somes, Layout, objects_at, components_at}
 use Rattle.meaning.specs.Field.{is_some, key_of, count, field, fields, root_fields, object_fields, name_kind, name_of, names}

@@ -21,7 +21,7 @@ use Rattle.meaning.specs.Every.{Every, IfAny}
 use Rattle.shown.specs.Accepted.{InManifest, WordStands, AttributesStand, ComponentAccepted, ObjectAccepted}
 use Rattle.view.proofs.Columns.{shape, ending, nine, objects-at}
 use Rattle.tolerance.specs.Alike.{Inside, TextAt, MapAt, TextsAlike, MapsAlike, EntriesAlike, FieldsAlike}
-use Rattle.tolerance.specs.Alike.{Field, number, text_span, map_span, entry_span, object_fields, component_fields, rows_then, table_fields}
+use Rattle.tolerance.specs.Alike.{Field, number, text_span, map_span, object_fields, component_fields, rows_then, table_fields}
 
 -- ---------------------------------------------------------------- what stands at a span of an accepted file
 
