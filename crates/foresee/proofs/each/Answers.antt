@@ -1,5 +1,4 @@
 -- `foresee::each` meets its contract: a law for each way into the loop, on and out of it.
-use Prim.Native.Nat.{◌-◌}
 use Rattle.foresee.proofs.Objects as law
 use Rattle.foresee.proofs.each.Goals as goal
 

@@ -1,5 +1,4 @@
 -- `foresee::judged::components` meets its contract: a law for each way into the loop, on and out of it.
-use Prim.Native.Nat.{◌-◌}
 use Rattle.foresee.proofs.Components as law
 use Rattle.foresee.proofs.judged.components.Goals as goal
 

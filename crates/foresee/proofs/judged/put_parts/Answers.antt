@@ -1,5 +1,4 @@
 -- `foresee::judged::put_parts` meets its contract: a law for each way into the loop, on and out of it.
-use Prim.Native.Nat.{◌-◌}
 use Rattle.foresee.proofs.Parts as law
 use Rattle.foresee.proofs.judged.put_parts.Goals as goal
 

@@ -1,5 +1,6 @@
 -- `foresee::named::note` meets its contract: a law for each way into the loop, on and out of it.
-use Prim.Native.Nat.{◌-◌}
+use mathlib.Core.Bool.{not}
+use mathlib.Core.Path.{ap}
 use Rattle.foresee.proofs.NamesNoted as law
 use Rattle.foresee.proofs.named.note.Goals as goal
 
@@ -28,7 +29,7 @@ pub overflow_add-at : goal.overflow_add-at
 overflow_add-at c = search law.next_fits
 
 pub loop-i-preserved : goal.loop-i-preserved
-loop-i-preserved c = law.one-more-noted c.loop-i.invariant c.loop-i-test.true c.part.ensures c.utf8-2.ensures c.if-not-utf8.false c.left_at.ensures c.put.ensures c.put-in-loop-i.ensures
+loop-i-preserved c = law.one-more-noted c.loop-i.invariant c.loop-i-test.true c.part.ensures c.utf8-2.ensures (ap not c.if-not-utf8.false) c.left_at.ensures c.put.ensures c.put-in-loop-i.ensures
 
 pub returns : goal.returns
 returns c = (search, search law.all_noted)
