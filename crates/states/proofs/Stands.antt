@@ -2,23 +2,22 @@
 use Prim.Native.Nat.{ℕ, zero, suc, ◌+◌, ◌-◌, ◌≤◌}
 use native.Mathlib.Omega.{arith}
 use mathlib.Core.List.{List, [], ◌∷◌, ◌++◌, append_assoc}
-use mathlib.Core.Bool.{Bool, true, false, cond, not}
-use mathlib.Core.Path.{◌≡◌, refl, sym, ap, ap₂, ◌∙◌, subst}
-use lib.Dec.{eqb, leb}
-use lib.ListN.{length, take, drop, get_or, replicate, length-append}
+use mathlib.Core.Bool.{Bool, true, false, cond}
+use mathlib.Core.Path.{◌≡◌, refl, sym, ap, ap₂, ◌∙◌}
+use lib.Dec.{eqb}
+use lib.ListN.{length, take, drop, get_or, length-append}
 use lib.Seq.{take_at, drop_at}
-use Rattle.meaning.specs.Check.{Check, pass, refuse, ◌>>=◌, ◌>>◌, ◌unless◌}
-use Rattle.meaning.specs.Refusal.{INDEX, BUSY}
-use Rattle.meaning.specs.Text.{all}
-use Rattle.engines.specs.Shared.{Who, first, second, who_of, Engine, flag_of, held_of, objects_of, components_of, state_sound, nothing, Shared, own, closed, part_of, usable, apart, opened}
-use Rattle.engines.specs.Calls.{Call, load, drops, holds, view, list, Said, place_of, loading, told, given, after, answered, leaves}
+use Rattle.meaning.specs.Check.{Check, pass, refuse, ◌>>◌, ◌unless◌}
+use Rattle.meaning.specs.Refusal.{INDEX}
+use Rattle.engines.specs.Shared.{Who, first, second, flag_of, held_of, objects_of, components_of, Shared, own, closed, part_of, usable, apart, opened}
+use Rattle.engines.specs.Calls.{Call, place_of, told, answered, leaves}
 use Rattle.engines.specs.Runs.{number_of}
 use Rattle.states.specs.Places.{stands_by, stands, standing}
 use Rattle.states.specs.declared.Place.{Place}
 use Rattle.states.specs.declared.Place.TheVariants.{Nowhere, Idle, Loaded}
-use Rattle.engines.proofs.Kept.{OkEngine, Ok, eqb_same}
+use Rattle.engines.proofs.Kept.{Ok}
 use Rattle.engines.proofs.Opens.{Opened, opened-closed}
-use Rattle.engines.proofs.EachCall.{leaves-refused, leaves-is, answered-is, stranger-changes-nothing, stranger-is-refused, busy}
+use Rattle.engines.proofs.EachCall.{leaves-refused, answered-is, stranger-changes-nothing, stranger-is-refused}
 
 pub record IdleAt (size engine : ℕ) (l : List ℕ) (free : ℕ) : Type 0 where
   pub who : Who

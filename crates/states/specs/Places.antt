@@ -1,7 +1,7 @@
 -- Where an engine's rows stand in any list of numbers, as the code asks it.
 use Rattle.std.specs.Prelude.{ℕ, ◌+◌, List, Bool, cond, ◌&&◌, length, eqb, leb}
 use Rattle.meaning.specs.Check.{Check, pass, refuse}
-use Rattle.engines.specs.Shared.{Who, first, second, who_of, Engine, flag_of, held_of, objects_of, components_of, state_sound, Shared, own, part_of, usable, opened}
+use Rattle.engines.specs.Shared.{Who, first, second, who_of, flag_of, held_of, objects_of, components_of, state_sound, Shared, own, part_of, usable, opened}
 use Rattle.engines.specs.Calls.{place_of}
 use Rattle.states.specs.declared.Usage.{Usage}
 use Rattle.states.specs.declared.Usage.TheVariants.{Unusable, Holding}

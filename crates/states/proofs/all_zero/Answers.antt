@@ -1,6 +1,5 @@
 -- `states::all_zero` meets its contract: a law for each way out. Assumes nothing.
 use Rattle.states.proofs.Tested as states
-use Prim.Native.Nat.{◌-◌}
 use Rattle.states.proofs.all_zero.Goals as goal
 
 pub loop-i-init : goal.loop-i-init

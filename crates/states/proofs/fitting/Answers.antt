@@ -1,4 +1,6 @@
 -- `states::fitting` meets its contract: a law for each way out. Assumes nothing.
+use mathlib.Core.Bool.{not}
+use mathlib.Core.Path.{ap}
 use Rattle.states.proofs.Tested as states
 use Rattle.states.proofs.fitting.Goals as goal
 
@@ -15,4 +17,4 @@ pub returns-then-front-back : goal.returns-then-front-back
 returns-then-front-back c = search states.back-past
 
 pub returns : goal.returns
-returns c = let a = c.args in states.both-fit 65536 a.first.now a.second.now _ c.sound.ensures c.if-not-sound.false _ c.sound-2.ensures c.if-not-sound-2.false c.if-front-gt-TABLE.false c.if-front-back.false
+returns c = let a = c.args in states.both-fit 65536 a.first.now a.second.now _ c.sound.ensures (ap not c.if-not-sound.false) _ c.sound-2.ensures (ap not c.if-not-sound-2.false) c.if-front-gt-TABLE.false c.if-front-back.false
