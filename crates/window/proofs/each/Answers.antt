@@ -1,5 +1,4 @@
 -- `window::each` meets its contract: a law for each branch. The loop keeps what was noted and put of the pairs passed.
-use Prim.Native.Nat.{◌-◌}
 use Rattle.meaning.proofs.Lengths.{place-fits}
 use Rattle.walk.proofs.Passed as walked
 use Rattle.window.proofs.Sums as summing
@@ -49,5 +48,4 @@ pub loop-k-smaller : goal.loop-k-smaller
 loop-k-smaller c = summing.turn-less c.loop-k.invariant c.past_key.ensures c.in-Value.is c.object-w.ensures.0 c.if-s-v.false
 
 pub loop-k-preserved : goal.loop-k-preserved
-loop-k-preserved c = summing.loops-on c.loop-k.invariant c.past_key.ensures c.in-Value.is c.object-w.ensures.0 c.if-s-v.false c.object-w.ensures.2 c.object-w.auto.1.1.1.1.1.1.0
-    c.object-w.auto.1.1.1.1.1.0 c.add-sum.ensures c.two.ensures c.two.auto.0 c.next_row-next.ensures
+loop-k-preserved c = summing.loops-on c.loop-k.invariant c.past_key.ensures c.in-Value.is c.object-w.ensures.0 c.if-s-v.false c.object-w.ensures.2 c.object-w.auto.t c.object-w.auto.rows (c.add-sum.ensures.sum, c.add-sum.ensures.small) c.two.ensures c.two.auto.t c.next_row-next.ensures
