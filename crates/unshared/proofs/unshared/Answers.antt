@@ -1,6 +1,5 @@
 -- `unshared::unshared` meets its contract: a law for each way through the loop.
 use Rattle.unshared.proofs.Sought as seeking
-use Prim.Native.Nat.{◌-◌}
 use borrow.Author.Rules.{rules}
 use Rattle.unshared.proofs.unshared.Goals as goal
 
