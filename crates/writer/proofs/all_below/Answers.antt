@@ -1,6 +1,5 @@
 -- `writer::all_below` meets its contract: a law for each way on and out of the loop.
 use Rattle.writer.proofs.Checks as checks
-use Prim.Native.Nat.{◌-◌}
 use Rattle.writer.proofs.all_below.Goals as goal
 
 pub loop-i-preserved : goal.loop-i-preserved

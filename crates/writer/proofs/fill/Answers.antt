@@ -6,7 +6,7 @@ pub returns-then-out-end : goal.returns-then-out-end
 returns-then-out-end c = search filling.fill-no-room
 
 pub file-n-requires : goal.file-n-requires
-file-n-requires c = (search, (search, search filling.there-is-room))
+file-n-requires c = record { size_value = c.requires.sound; size_bound = c.requires.turns; size_in_bounds = search filling.there-is-room }
 
 pub returns-in-Fault : goal.returns-in-Fault
 returns-in-Fault c = search filling.fill-refused

@@ -6,7 +6,7 @@ pub fill-requires : goal.fill-requires
 fill-requires c = search checks.measured-yes
 
 pub returns-in-No : goal.returns-in-No
-returns-in-No c = (search checks.plain-refused, search)
+returns-in-No c = record { answer = search checks.plain-refused; lent = c.in-No.ensures.lent }
 
 pub returns-in-Yes : goal.returns-in-Yes
-returns-in-Yes c = (search checks.plain-filled, search)
+returns-in-Yes c = record { answer = search checks.plain-filled; lent = c.in-Yes.ensures.lent }
