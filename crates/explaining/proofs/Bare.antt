@@ -2,18 +2,19 @@
 use Prim.Native.Nat.{ℕ, ◌+◌, ◌-◌, ◌≤◌}
 use native.Mathlib.Omega.{arith}
 use mathlib.Core.List.{List, [], ◌∷◌, ◌++◌, map}
-use mathlib.Core.Bool.{Bool, true, false, cond}
+use mathlib.Core.Bool.{Bool, true, false, cond, not}
 use mathlib.Core.Option.{Option, none, some}
 use mathlib.Core.Path.{◌≡◌, refl, ap, sym, ◌∙◌}
-use Rattle.meaning.specs.Tree.{Node, Pair}
+use Rattle.meaning.specs.Tree.{Node, Pair, note_of}
 use Rattle.meaning.specs.Model.{Named}
-use Rattle.meaning.specs.Text.{utf8}
-use Rattle.meaning.specs.Refusal.{KEY, TEXT}
+use Rattle.meaning.specs.Text.{utf8, one_of}
+use Rattle.meaning.specs.Field.{key_of}
+use Rattle.meaning.specs.Refusal.{KEY, TEXT, TWICE}
 use Rattle.meaning.specs.Notes.{map_option}
 use Rattle.meaning.specs.Layouts.{Layout, Slots}
 use Rattle.explained.specs.Step
-use Rattle.explained.specs.Step.{Step, first, every}
-use Rattle.explained.specs.Order.{word_steps, mapping_steps, version_steps, key_steps, repeat_steps, field_steps, missing, same_name_steps, name_steps}
+use Rattle.explained.specs.Step.{Step, first, every, ◌at◌unless◌}
+use Rattle.explained.specs.Order.{fresh, more, word_steps, mapping_steps, version_steps, key_steps, repeat_steps, field_steps, missing, same_name_steps, name_steps}
 use Rattle.badroot.specs.Opening.{later_steps, value_steps, opening_steps}
 
 -- the same check, of no object, with a number that isn't 0
@@ -61,7 +62,7 @@ module _ {P : Type 0} where
   bare-repeats : (known before : List (List ℕ)) (ps : List (Pair P)) → map bare (repeat_steps known before ps) ≡ repeat_steps known before ps
   unfolding repeat_steps
   bare-repeats known before [] = refl
-  bare-repeats known before (p ∷ ps) = rw (bare-repeats known _ ps) refl
+  bare-repeats known before (p ∷ ps) = ap (λ (l : List (Step P)). (TWICE at note_of p.key unless fresh known before (key_of p)) ++ l) (bare-repeats known (more before (key_of p)) ps)
 
   bare-fields : (known : Slots) (t : Node P) → map bare (field_steps known t) ≡ field_steps known t
   unfolding field_steps
@@ -70,7 +71,7 @@ module _ {P : Type 0} where
   bare-same-names : (before : List (List ℕ)) (ns : List (Named P)) → map bare (same_name_steps before ns) ≡ same_name_steps before ns
   unfolding same_name_steps
   bare-same-names before [] = refl
-  bare-same-names before (n ∷ ns) = rw (bare-same-names _ ns) refl
+  bare-same-names before (n ∷ ns) = ap (λ (l : List (Step P)). (TWICE at n.name.note unless not (one_of before n.name.letters)) ++ l) (bare-same-names (n.name.letters ∷ before) ns)
 
   bare-names : (limit : ℕ) (t : Node P) → map bare (name_steps limit t) ≡ name_steps limit t
   unfolding name_steps
