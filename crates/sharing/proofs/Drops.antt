@@ -1,5 +1,5 @@
 -- A drop: of an idle engine it does nothing, of a loaded one it stores zeros over its rows and its state.
-use Prim.Native.Nat.{ℕ, zero, ◌+◌, ◌-◌, ◌*◌, ◌≤◌}
+use Prim.Native.Nat.{ℕ, ◌+◌, ◌-◌, ◌*◌, ◌≤◌}
 use native.Mathlib.Omega.{arith}
 use mathlib.Core.List.{List, ◌++◌, append-nil}
 use mathlib.Core.Bool.{true}
@@ -7,7 +7,7 @@ use mathlib.Core.Path.{◌≡◌, sym, ap, ap₂, ◌∙◌}
 use lib.Dec.{eqb}
 use lib.ListN.{length, replicate}
 use lib.Seq.{sets, length-sets}
-use Rattle.engines.specs.Shared.{Who, first, second, Engine, flag_of, held_of, nothing, Shared, own, closed, opened}
+use Rattle.engines.specs.Shared.{Who, first, second, Engine, flag_of, held_of, nothing, Shared, own, closed}
 use Rattle.engines.specs.Calls.{drops, place_of, told, given, after, answered, leaves}
 use Rattle.engines.specs.Runs.{number_of}
 use Rattle.sharing.specs.EngineAnswers.{number}

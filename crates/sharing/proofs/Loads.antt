@@ -1,11 +1,11 @@
 -- A load: refused, nothing changes; accepted, the rows are stored next to the engine's end of the table, then its state.
-use Prim.Native.Nat.{ℕ, zero, ◌+◌, ◌-◌, ◌*◌, ◌≤◌, ◌<◌}
+use Prim.Native.Nat.{ℕ, ◌+◌, ◌-◌, ◌*◌, ◌≤◌, ◌<◌}
 use native.Mathlib.Omega.{arith}
 use mathlib.Core.List.{List}
 use mathlib.Core.Bool.{Bool, true, false}
 use mathlib.Core.Path.{◌≡◌, refl, sym, ap, ap₂, ◌∙◌, subst}
 use lib.Dec.{eqb, leb}
-use lib.ListN.{length, take}
+use lib.ListN.{length}
 use lib.Seq.{sets, length-sets}
 use borrow.Author.Tests.{leb-true, eq-eqb, ne_eqb}
 use Rattle.meaning.specs.Check.{Check, pass, refuse, ◌>>=◌, ◌>>◌, ◌unless◌}
@@ -18,7 +18,7 @@ use Rattle.frame.proofs.Frames.{size_back_lem}
 use Rattle.reader.specs.Answer as read
 use Rattle.reader.specs.declared.into.Answer.{Answer}
 use Rattle.shown.proofs.AfterReading.{read-zero}
-use Rattle.engines.specs.Shared.{Who, first, second, Engine, flag_of, Shared, own, closed, opened}
+use Rattle.engines.specs.Shared.{Who, first, second, Engine, flag_of, Shared, own, closed}
 use Rattle.engines.specs.Calls.{Call, load, took, reading_as, needed, layout_number, engine_of, loading, told, taken, after, answered, leaves}
 use Rattle.engines.specs.Runs.{number_of}
 use Rattle.sharing.specs.EngineAnswers as is

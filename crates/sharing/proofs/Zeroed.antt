@@ -2,8 +2,8 @@
 use Prim.Native.Nat.{ℕ, ◌+◌, ◌-◌, ◌≤◌, ◌<◌}
 use native.Mathlib.Omega.{arith}
 use mathlib.Core.List.{List, [], ◌∷◌, ◌++◌, append-nil}
-use mathlib.Core.Path.{◌≡◌, refl, ap, ap₂, ◌∙◌}
-use lib.ListN.{length, take, drop, set, replicate, length-replicate, drop_of_length-le}
+use mathlib.Core.Path.{◌≡◌, refl, ap₂, ◌∙◌}
+use lib.ListN.{length, set, replicate, length-replicate, drop_of_length-le}
 use lib.Seq.{take_all}
 use Rattle.emit.proofs.LaidPieces.{Filling, no-zeros, one-zero}
 

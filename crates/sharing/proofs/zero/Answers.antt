@@ -1,5 +1,4 @@
 -- `sharing::zero` meets its contract: a law for each way out. Assumes nothing.
-use Prim.Native.Nat.{◌-◌}
 use Rattle.sharing.proofs.Zeroed as zeroed
 use Rattle.sharing.proofs.zero.Goals as goal
 
