@@ -1,6 +1,6 @@
 -- The components of a table as ranges, two numbers each: where it begins, and the position past its last.
 use Rattle.std.specs.Prelude.{ℕ, zero, suc, ◌+◌, ◌*◌, ◌≤◌, ◌<◌, ◌^◌, List, [], ◌∷◌, ◌≡◌, length, take, get_or}
-use Rattle.meaning.specs.Columns.{object_width, component_width, offset_column, length_column}
+use Rattle.meaning.specs.Columns.{component_width, offset_column, length_column}
 use Rattle.covering.specs.Order.{Begin, End}
 
 -- n components, the first at this row

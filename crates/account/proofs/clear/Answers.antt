@@ -1,6 +1,5 @@
 -- `account::clear` meets its contract: the invariant says how many are 0. Assumes nothing.
 use Rattle.account.proofs.Zeros as clearing
-use Prim.Native.Nat.{◌-◌}
 use Rattle.account.proofs.clear.Goals as goal
 
 pub loop-i-init : goal.loop-i-init

@@ -1,6 +1,5 @@
 -- `account::gather` meets its contract: the invariant says which ranges stand at the front, and that the rows to come are as they were. Assumes nothing.
 use Rattle.account.proofs.Ranges as gathering
-use Prim.Native.Nat.{◌-◌}
 use Rattle.account.proofs.gather.Goals as goal
 
 pub loop-i-init : goal.loop-i-init

@@ -21,7 +21,7 @@ pub overflow_sub-result-then-a-eq0-3 : goal.overflow_sub-result-then-a-eq0-3
 overflow_sub-result-then-a-eq0-3 c = search answering.inside-before
 
 pub returns-then-a-eq0 : goal.returns-then-a-eq0
-returns-then-a-eq0 c = (search answering.accounted-is, cc)
+returns-then-a-eq0 c = record { answer = search answering.accounted-is; cleared = cc }
 
 pub returns : goal.returns
-returns c = (search answering.refused, cc)
+returns c = record { answer = search answering.refused; cleared = cc }
