@@ -55,7 +55,7 @@ use Rattle.rescuing.specs.Sift.{Dropped, kept, dropped, verdicts}
 use Rattle.rescuing.specs.Rescue.{entry_width, entries}
 use Rattle.rescuing.proofs.Parted.{all-counted}
 use Rattle.sieve.specs.declared.Sieve.{Sieve}
-use Rattle.sieve.specs.Sieved.{more, Bounded, Keeps, Omits, SieveOf, Steps, own, Sieved, AllSieved, Sifted}
+use Rattle.sieve.specs.Sieved.{Bounded, Keeps, Omits, SieveOf, Steps, own, Sieved, AllSieved, Sifted}
 use Rattle.sieve.proofs.ObjectPut.{one_more, none-bounded}
 
 -- ---- one verdict more

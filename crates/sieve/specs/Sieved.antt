@@ -1,5 +1,5 @@
 -- What is kept and dropped of the objects so far, what the kept ones add up to, and what was put of both.
-use Rattle.std.specs.Prelude.{ℕ, suc, ◌+◌, ◌*◌, ◌≤◌, List, [], ◌∷◌, ◌++◌, map, Bool, true, false, cond, ◌≡◌, length, ltb}
+use Rattle.std.specs.Prelude.{ℕ, suc, ◌+◌, ◌*◌, ◌≤◌, List, [], ◌∷◌, ◌++◌, Bool, true, false, cond, ◌≡◌, length, ltb}
 use Rattle.std.proofs.lemmas.List.Edits.{sets}
 use Rattle.meaning.specs.Columns.{object_width, component_width}
 use Rattle.meaning.specs.Limit.{object_limit, component_limit, manifest_limit, end_limit}

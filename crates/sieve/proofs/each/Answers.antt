@@ -1,5 +1,4 @@
 -- `sieve::each` meets its contract: a law for each need.
-use Prim.Native.Nat.{◌-◌}
 use mathlib.Core.Path.{◌∙◌}
 use Rattle.meaning.proofs.Lengths.{place-fits}
 use Rattle.walk.proofs.Passed as walked
@@ -15,7 +14,7 @@ pub past_key-requires : goal.past_key-requires
 past_key-requires c = search walked.still-due
 
 pub returns-in-End : goal.returns-in-End
-returns-in-End c = (search sieving.all-sieved, search)
+returns-in-End c = record { sieve = search sieving.all-sieved; small = search }
 
 pub overflow_add-v : goal.overflow_add-v
 overflow_add-v c = search (place-fits, walked.value-inside)
@@ -39,13 +38,13 @@ pub overflow_sub-s : goal.overflow_sub-s
 overflow_sub-s c = search (rules, walked.value-inside)
 
 pub shape_of-t-then-s-v : goal.shape_of-t-then-s-v
-shape_of-t-then-s-v c = c.step-w.auto.1.1.1.1.1.1.1.1.0 ∙ c.loop-have.invariant.long
+shape_of-t-then-s-v c = c.step-w.auto.t ∙ c.loop-have.invariant.long
 
 pub shape_of-list-then-s-v : goal.shape_of-list-then-s-v
-shape_of-list-then-s-v c = c.step-w.auto.1.1.1.1.1.1.1.1.1.0 ∙ c.loop-have.invariant.listed
+shape_of-list-then-s-v c = c.step-w.auto.list ∙ c.loop-have.invariant.listed
 
 pub returns-then-s-v : goal.returns-then-s-v
-returns-then-s-v c = (search sieving.none-there, search)
+returns-then-s-v c = record { sieve = search sieving.none-there; small = search }
 
 pub overflow_add-at : goal.overflow_add-at
 overflow_add-at c = search sieving.next_fits

@@ -3,7 +3,7 @@ use Rattle.sieve.proofs.ObjectJudged as sieving
 use Rattle.sieve.proofs.step.Goals as goal
 
 pub returns-in-No : goal.returns-in-No
-returns-in-No c = (search sieving.lent-end, (search sieving.steps-omit, search))
+returns-in-No c = record { end = search sieving.lent-end; sieve = search sieving.steps-omit; small = search }
 
 pub returns-in-Yes : goal.returns-in-Yes
-returns-in-Yes c = (search sieving.lent-end, (search sieving.steps-keep, search))
+returns-in-Yes c = record { end = search sieving.lent-end; sieve = search sieving.steps-keep; small = search }
