@@ -8,12 +8,12 @@ use mathlib.Core.Path.{◌≡◌, refl, sym, ap, subst, ◌∙◌}
 use lib.ListN.{length, take, drop, length-take, length-drop}
 use lib.Dec.{eqb, leb}
 use Rattle.meaning.specs.Tree.{Node, Pairs, Pair, uint, nint, bytes, text, chunked_bytes, chunked_text, array, dict, tag, simple, float, ∅, ◌⇒◌▸◌, pair_list}
-use Rattle.meaning.specs.Check.{Check, pass, refuse, ◌>>=◌, ◌>>◌, in_object, in_component, required, required_in, optional, each}
+use Rattle.meaning.specs.Check.{Check, pass, refuse, in_object, in_component, required, required_in, optional, each}
 use Rattle.meaning.specs.Text.{ascii, same, all, distinct, utf8}
 use Rattle.meaning.specs.Refusal.{KEY, TEXT, TWICE, COUNT, ALIGN, BOUNDS}
 use Rattle.meaning.specs.Limit.{object_limit, component_limit, alignment}
 use Rattle.meaning.specs.Read.{Span, span_to, Outcome, got, refused, manifest}
-use Rattle.meaning.specs.Model.{Word, Named, Component, Object, Model, RootFields, ObjectFields}
+use Rattle.meaning.specs.Model.{Word, Named, Component, RootFields, ObjectFields}
 use Rattle.meaning.specs.Kind.{Kind, number, words, list, mapping, null, another, kind, as_word, as_mapping, a_number, a_word, a_mapping, a_text, present}
 use Rattle.meaning.specs.Layouts.{Slots, slot, somes, current, dtype_at}
 use Rattle.meaning.specs.Field.{is_some, is_key, key_of, count, named, get, field, fields, root_fields, object_fields, component_fields, name_kind, name_of, names}
@@ -21,8 +21,7 @@ use Rattle.meaning.specs.Format.{format_rules}
 use Rattle.meaning.specs.Judge.{or_else, inherited, a_dtype, a_type, raw, attributes_of, component, part, shape_of, components_of, object, a_version, objects_of, judge}
 use Rattle.meaning.specs.Frame.{frame, checked, Reading, reading}
 use Rattle.meaning.proofs.SameText.{same-eq}
-use Rattle.meaning.specs.Every.{IfAny}
-use Rattle.roundtrip.proofs.If.{Any, If, passes, anyhow, passed-so, in-object, is-required, bind, then, tested}
+use Rattle.roundtrip.proofs.If.{If, passes, anyhow, in-object, bind, then, tested}
 use Rattle.listing.specs.Weight.{sum_of, weight, weight_of_pairs, pair_weight, named_weight, component_weight, object_weight, model_weight}
 use Rattle.listing.proofs.Weighed.{Got, manifest-light}
 

@@ -14,7 +14,7 @@ use Rattle.meaning.specs.Text.{ascii}
 use Rattle.meaning.specs.Frame.{Reading}
 use Rattle.meaning.specs.Rows as rows
 use Rattle.meaning.specs.Rows.{read_into, table_after}
-use Rattle.meaning.specs.Listing.{line, blanked, decimal, listing, listing_of, printed}
+use Rattle.meaning.specs.Listing.{line, blanked, decimal, listing_of, printed}
 use Rattle.meaning.specs.Layouts.{current}
 use Rattle.reader.specs.declared.into.Answer.{Answer}
 use Rattle.reader.specs.Answer.{answered}

@@ -1,15 +1,15 @@
 -- A text that fits where it was put stands at its beginning.
-use Prim.Native.Nat.{ℕ, ◌+◌, ◌*◌, ◌≤◌, ◌<◌}
+use Prim.Native.Nat.{ℕ, ◌*◌, ◌≤◌}
 use native.Mathlib.Nat.{zero-add}
 use native.Mathlib.Omega.{arith}
 use mathlib.Core.List.{List, [], ◌∷◌, ◌++◌}
-use mathlib.Core.Path.{◌≡◌, refl, sym, ap, subst, ◌∙◌}
-use lib.ListN.{length, take, drop, length-append}
-use lib.Seq.{sets, sets-eq, take_at}
+use mathlib.Core.Path.{◌≡◌, refl, sym, ap, ◌∙◌}
+use lib.ListN.{length, drop, length-append}
+use lib.Seq.{sets-eq, take_at}
 use borrow.Author.Tests.{le-leb}
 use Rattle.meaning.specs.Check.{pass}
 use Rattle.meaning.specs.Listing.{shown_text, printed}
-use Rattle.put.specs.Wrote.{most, capped, Wrote}
+use Rattle.put.specs.Wrote.{Wrote}
 use Rattle.panel.specs.ListedText.{told, text_after}
 use Rattle.panel.specs.declared.Listed.{Listed}
 use Rattle.put.proofs.PiecesInTurn as writing

@@ -1,9 +1,9 @@
 -- What is read weighs no more than the bytes that it takes.
-use Prim.Native.Nat.{ℕ, zero, suc, ◌+◌, ◌*◌, ◌≤◌}
+use Prim.Native.Nat.{ℕ, zero, suc, ◌+◌, ◌≤◌}
 use native.Mathlib.Omega.{arith}
 use mathlib.Core.List.{List, [], ◌∷◌}
 use mathlib.Core.Bool.{Bool, true, false, cond}
-use mathlib.Core.Path.{◌≡◌, refl, sym, ap}
+use mathlib.Core.Path.{◌≡◌, refl, ap}
 use lib.ListN.{length, take, drop, length-take, length-drop}
 use lib.Dec.{eqb, leb}
 use borrow.Author.Tests.{leb-true}
@@ -12,7 +12,7 @@ use Rattle.meaning.specs.Tree.{Node, Pair, uint, nint, bytes, text, chunked_byte
 use Rattle.meaning.specs.Read.{Outcome, got, refused, Reader, after, ◌>>=◌, pure, malformed, here, byte, run, stop, times, until_break, to_break}
 use Rattle.meaning.specs.Read.{Argument, known, indefinite, argument, major_of, info_of, chunk, joined, closed, reserved, close, pair, content, beyond, item, manifest}
 use Rattle.meaning.specs.Read.{Major, unsigned, negative, byte_string, text_string, array_of, map_of, tagged, special}
-use Rattle.meaning.proofs.ReadPrefix.{Exact, Took, took-length, argument-exact, to_break-exact, chunk-exact, chunk-hungry, byte-exact}
+use Rattle.meaning.proofs.ReadPrefix.{Exact, took-length, argument-exact, to_break-exact, chunk-exact, chunk-hungry, byte-exact}
 use Rattle.listing.specs.Weight.{sum_of, weight, weight_of_pairs, pair_weight}
 
 -- ---- if something is got, it is so

@@ -1,6 +1,6 @@
 -- How many bytes of text stand in a tree: those of its whole texts, in maps to any depth. No reading finds more of them than it takes bytes.
 use Rattle.std.specs.Prelude.{ℕ, ◌+◌, List, [], ◌∷◌, length}
-use Rattle.meaning.specs.Tree.{Node, Nodes, Pairs, Pair, uint, nint, bytes, text, chunked_bytes, chunked_text, array, dict, tag, simple, float, ε, ◌▸◌, ∅, ◌⇒◌▸◌}
+use Rattle.meaning.specs.Tree.{Node, Pairs, Pair, uint, nint, bytes, text, chunked_bytes, chunked_text, array, dict, tag, simple, float, ∅, ◌⇒◌▸◌}
 use Rattle.meaning.specs.Model.{Named, Component, Object, Model}
 
 -- of all together

@@ -1,5 +1,4 @@
 -- `listing::fill` meets its contract: each turn reads a byte at least, and what was read lies in the space. Assumes nothing.
-use Prim.Native.Nat.{◌-◌}
 use Rattle.listing.proofs.ReadInto as filling
 use Rattle.listing.proofs.fill.Goals as goal
 

@@ -6,7 +6,7 @@ use Rattle.listing.proofs.printed.print.Goals as goal
 pub returns-then-file-gt65536 : goal.returns-then-file-gt65536
 returns-then-file-gt65536 c =
     let a = c.args in let e = c.words.ensures in
-    let t = printing.told-alike a.text.now (printing.printed-too-long a.file.now c.if1.true) (e.answer, e.written) in
+    let t = printing.told-alike a.text.now (printing.printed-too-long a.file.now c.if-file-gt65536.true) (e.answer, e.written) in
     record { answer = t.0; written = t.1.0; within = t.1.1 }
 
 pub returns-then-a-eq0 : goal.returns-then-a-eq0
