@@ -4,10 +4,10 @@ use borrow.Author.Rules.{rules}
 use Rattle.joint.proofs.both.Goals as goal
 
 pub front-end-requires : goal.front-end-requires
-front-end-requires c = (search rules, (search rules, (search rules, search frames.room-front)))
+front-end-requires c = record { n_bound = search rules; rows = search rules; rows_2 = search rules; room = search frames.room-front }
 
 pub manifest-m-requires : goal.manifest-m-requires
-manifest-m-requires c = (search frames.whole-room-manifest, (search rules, (search rules, search rules)))
+manifest-m-requires c = record { room = search frames.whole-room-manifest; within = search rules; object_rows = search rules; object_rows_2 = search rules }
 
 pub size_and_footer_at-requires : goal.size_and_footer_at-requires
 size_and_footer_at-requires c = search frames.whole-room-behind
