@@ -6,7 +6,7 @@ use mathlib.Core.Bool.{Bool, true, false, cond}
 use mathlib.Core.Path.{◌≡◌, refl, sym, ap, ◌∙◌, subst}
 use lib.ListN.{length, replicate, length-replicate}
 use lib.Dec.{leb}
-use Rattle.meaning.specs.Check.{Check, pass, refuse, ◌>>=◌, ◌>>◌}
+use Rattle.meaning.specs.Check.{Check, pass, refuse, ◌>>=◌}
 use Rattle.meaning.specs.Refusal.{ROOM}
 use Rattle.meaning.specs.Layouts.{Layout, layout_of}
 use Rattle.meaning.specs.Frame.{Reading}
