@@ -3,7 +3,7 @@ use Rattle.comparing.proofs.ComparedFiles as answering
 use Rattle.comparing.proofs.of_files.Goals as goal
 
 pub returns-then-a-ne0 : goal.returns-then-a-ne0
-returns-then-a-ne0 c = (search answering.first-told, (search answering.first-kept, cc))
+returns-then-a-ne0 c = record { answer = search answering.first-told; written = search answering.first-kept; cleared = cc }
 
 pub overflow_mul-room : goal.overflow_mul-room
 overflow_mul-room c = search answering.objects-fit
@@ -24,10 +24,10 @@ pub slice_bounds-read_as-start : goal.slice_bounds-read_as-start
 slice_bounds-read_as-start c = search answering.room_within
 
 pub returns-then-b-ne0 : goal.returns-then-b-ne0
-returns-then-b-ne0 c = (search answering.second-told, (search answering.second-kept, search answering.second-cleared))
+returns-then-b-ne0 c = record { answer = search answering.second-told; written = search answering.second-kept; cleared = search answering.second-cleared }
 
 pub beside-c-requires : goal.beside-c-requires
 beside-c-requires c = (search answering.room-inside, search answering.first-table, search answering.second-table)
 
 pub returns : goal.returns
-returns c = let read = c.read_as.ensures in let fine = c.if1.false in (search answering.beside-told, (search answering.beside-written, search answering.both-cleared))
+returns c = record { answer = search answering.beside-told; written = search answering.beside-written; cleared = search answering.both-cleared }
