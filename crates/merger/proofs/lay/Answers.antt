@@ -7,7 +7,7 @@ pub offset_bounds-rows-cut-2 : goal.offset_bounds-rows-cut-2
 offset_bounds-rows-cut-2 c = search laying.cut_fits
 
 pub join-requires : goal.join-requires
-join-requires c = let p = c.before.before.before.before.before.before.requires in laying.join-asks p.0 p.1 c.read_as.ensures.1 refl c.read-as2.ensures.1
+join-requires c = let p = c.requires in let h = laying.join-asks p.0 p.1 c.read_as.ensures.1 refl c.read_as-2.ensures.1 in record { within = h.0; rows = h.1.0; room = h.1.1 }
 
 pub returns : goal.returns
-returns c = let p = c.before.before.before.before.before.before.requires in let f = c.read_as.ensures.1 in let g = c.read-as2.ensures.1 in (laying.output-is p.0 p.1 f refl g c.join.ensures, laying.still-long p.0 p.1 f refl g)
+returns c = let p = c.requires in let f = c.read_as.ensures.1 in let g = c.read_as-2.ensures.1 in (laying.output-is p.0 p.1 f refl g c.join.ensures, laying.still-long p.0 p.1 f refl g)

@@ -1,5 +1,6 @@
 -- `merger::checks::checked` meets its contract: a law for each way out.
-use mathlib.Core.Path.{refl}
+use mathlib.Core.Bool.{not}
+use mathlib.Core.Path.{refl, ap}
 use native.Mathlib.Omega.{arith}
 use Rattle.merger.proofs.BeforeRoom as checking
 use Rattle.merger.proofs.checks.checked.Goals as goal
@@ -39,7 +40,7 @@ unshared-requires c = let h = c.if-n-k-gt-OBJECTS_MOST_64.false in (omega (arith
 
 pub returns-then-not-unshared : goal.returns-then-not-unshared
 returns-then-not-unshared c = let a = c.args in checking.shares a.one a.first.now a.two a.second.now c.file.ensures c.in-Yes.is c.held.ensures c.held-2.ensures c.file-in-Yes.ensures c.in-Yes-file.is c.if-end-gt-END_MOST.false
-    c.attributes.ensures c.head.ensures c.capped-m.ensures c.if-m-gt-MANIFEST_MOST.false c.if-n-k-gt-OBJECTS_MOST_64.false refl c.unshared.ensures c.if-not-unshared.true
+    c.attributes.ensures c.head.ensures c.capped-m.ensures c.if-m-gt-MANIFEST_MOST.false c.if-n-k-gt-OBJECTS_MOST_64.false refl c.unshared.ensures (ap not c.if-not-unshared.true)
 
 pub overflow_add-result : goal.overflow_add-result
 overflow_add-result c = search checking.end_fits
@@ -55,4 +56,4 @@ returns-in-No-file c = search checking.second-refused
 
 pub returns-else-not-unshared : goal.returns-else-not-unshared
 returns-else-not-unshared c = let a = c.args in checking.ready a.one a.first.now a.two a.second.now c.file.ensures c.in-Yes.is c.held.ensures c.held-2.ensures c.file-in-Yes.ensures c.in-Yes-file.is c.if-end-gt-END_MOST.false
-    c.attributes.ensures c.head.ensures c.capped-m.ensures c.if-m-gt-MANIFEST_MOST.false c.if-n-k-gt-OBJECTS_MOST_64.false refl c.unshared.ensures c.if-not-unshared.false
+    c.attributes.ensures c.head.ensures c.capped-m.ensures c.if-m-gt-MANIFEST_MOST.false c.if-n-k-gt-OBJECTS_MOST_64.false refl c.unshared.ensures (ap not c.if-not-unshared.false)
