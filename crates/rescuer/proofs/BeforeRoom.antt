@@ -39,7 +39,7 @@ use Rattle.window.specs.Summed.{InWindow, Sum, spans}
 use Rattle.totals.proofs.OfModel as of-model
 use Rattle.totals.proofs.OfSum as of-sum
 use Rattle.roundtrip.specs.Again.{plain_file, written_again}
-use Rattle.rescuing.specs.Sift.{kept, dropped, verdicts, sifted}
+use Rattle.rescuing.specs.Sift.{kept, verdicts, sifted}
 use Rattle.rescuing.specs.Rescue.{after, rescue, roomed}
 use Rattle.rescuing.proofs.KeptStands.{kept-spelled}
 use Rattle.rescuing.proofs.RescueAnswers.{refusals, kept-written, rescue-answers}

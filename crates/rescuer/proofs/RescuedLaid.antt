@@ -30,7 +30,7 @@ use Rattle.roundtrip.specs.Again.{plain_file}
 use Rattle.writer.specs.WriterAnswer.{Answered}
 use Rattle.writer.specs.declared.Written.{Written}
 use Rattle.rescuing.specs.Sift.{Dropped, kept, dropped, verdicts}
-use Rattle.rescuing.specs.Rescue.{Rescue, done, refused, short, entry_width, entries, rescue, rescue_answer, rescue_list, rescue_output, rescue_rows}
+use Rattle.rescuing.specs.Rescue.{done, refused, short, entry_width, entries, rescue, rescue_answer, rescue_list, rescue_output, rescue_rows}
 use Rattle.rescuing.proofs.RescueAnswers.{kept-rows}
 use Rattle.sieve.specs.declared.Sieve.{Sieve}
 use Rattle.sieve.specs.Sieved.{SieveOf, Sifted}

@@ -3,4 +3,4 @@ use Rattle.rescuer.proofs.RescuedLaid as laying
 use Rattle.rescuer.proofs.lay.Goals as goal
 
 pub returns : goal.returns
-returns c = (search laying.output-is, (search laying.list-is, search laying.still-long))
+returns c = record { output = search laying.output-is; listed = search laying.list-is; numbers = search laying.still-long }
