@@ -92,7 +92,10 @@ fn read_full(file: &mut impl Read, space: &mut [u8]) -> Result<usize>
 }
 
 fn main(rt: HostRuntime) -> Result<()> {
-    let mut file = File::open(&rt, "vectors")?;
+    let mut file = match File::open(&rt, "vectors") {
+        Ok(file) => file,
+        Err(error) => return eprintln!(rt; "vectors: {error}"),
+    };
     let mut space = [0u8; 65536];
     let n = read_full(&mut file, &mut space)?;
     answer_all(&rt, &space[..n])
