@@ -1,4 +1,4 @@
-// A row's numbers by name (document 01, "The table and the view", and Request 12 of document 02), and whether rows lie in a table. Every width and column of the code stands here and
+// A row's numbers by name (document 01, "The table and the view", and Request 12 of document 02), and whether rows lie in a table and a range in its bytes. Every width and column of the code stands here and
 // nowhere else; the definitions have theirs in `meaning`. A range takes two columns: its place, and after it its length.
 #![tactic(auto)]
 
@@ -61,8 +61,13 @@ pub fn holds(n: usize, objects: u64, components: u64) -> bool
     ensures { result ≡ leb (object_width * objects + component_width * components) n }
 {
     let room = n as u64;
-    if room / OBJECT_64 < objects {
-        return false;
-    }
-    components <= (room - OBJECT_64 * objects) / COMPONENT_64
+    objects <= room / OBJECT_64 && components <= (room - OBJECT_64 * objects) / COMPONENT_64
+}
+
+// A range of n bytes. Its end is never summed, so it can't wrap.
+pub fn inside(n: usize, place: u64, size: u64) -> bool
+    ensures { result ≡ leb (place + size) n }
+{
+    let room = n as u64;
+    place <= room && size <= room - place
 }

@@ -6,12 +6,11 @@ use mathlib.Core.Bool.{Bool, true, false, cond, ◌&&◌}
 use mathlib.Core.Path.{◌≡◌, refl, sym, ap, ◌∙◌, subst}
 use lib.ListN.{length, take, drop, get_or}
 use lib.Dec.{leb, ltb}
-use borrow.Author.Rules.{part_to_end}
 use borrow.Author.Tests.{le-leb, lt-leb, le-ltb, lt-ltb, leb-true}
 use mir.Syntax.{w64}
 use mir.Val.{Fits}
 use Rattle.meaning.specs.Columns.{object_width, component_width, offset_column, length_column}
-use Rattle.meaning.specs.Check.{Check, pass, refuse, ◌>>=◌, ◌>>◌, ◌unless◌}
+use Rattle.meaning.specs.Check.{Check, pass, refuse}
 use Rattle.meaning.specs.Read.{Span}
 use Rattle.meaning.specs.View.{viewed, part_at, view}
 use Rattle.view.specs.Extents.{told, found, within}
@@ -22,24 +21,18 @@ use Rattle.view.specs.declared.Row.TheVariants.{Nowhere, At}
 unfoldable nowhere : Extent
 nowhere = record { number = 26; offset = 0; length = 0 }
 
--- the part of s from a on, as it is lent
-abbrev Here : List ℕ → ℕ → List ℕ
-Here s a = take (length s - a) (drop a s)
-
 -- ---- a range in a file
 
 module _ (size place n : ℕ) where
-  pub lies : place ≤ size → n ≤ size - place → record { number = 0; offset = place; length = n } ≡ within size place n
-  unfolding within
-  lies a b = rw (le-leb (place + n) size (omega (arith, a, b))) refl
+  -- what `columns::inside` said of it
+  module _ {r : Bool} (said : r ≡ leb (place + n) size) where
+    pub lies : r ≡ true → record { number = 0; offset = place; length = n } ≡ within size place n
+    unfolding within
+    lies e = rw (sym said ∙ e) refl
 
-  pub begins-past : size < place → record { number = 26; offset = 0; length = 0 } ≡ within size place n
-  unfolding within
-  begins-past a = rw (lt-leb (place + n) size (omega (arith, a))) refl
-
-  pub ends-past : place ≤ size → size - place < n → record { number = 26; offset = 0; length = 0 } ≡ within size place n
-  unfolding within
-  ends-past a b = rw (lt-leb (place + n) size (omega (arith, a, b))) refl
+    pub lies-not : r ≡ false → record { number = 26; offset = 0; length = 0 } ≡ within size place n
+    unfolding within
+    lies-not e = rw (sym said ∙ e) refl
 
   by_end : (b : Bool) → leb (place + n) size ≡ b → (within size place n).offset + (within size place n).length ≤ size
   unfolding within
@@ -148,13 +141,9 @@ unfolding part_at
 part_of file (pass s) = refl
 part_of file (refuse n o c) = refl
 
--- the same, asked of the two lists lent whole
+-- what `view` lends
 module _ (file table : List ℕ) (objects components index : ℕ) (r : Extent)
-    (e : r ≡ told (viewed (Here file 0) (Here table 0) objects components index)) where
-  asked : r ≡ told (viewed file table objects components index)
-  asked = e ∙ ap (λ (s : List ℕ). told (viewed s (Here table 0) objects components index)) (part_to_end file 0)
-      ∙ ap (λ (s : List ℕ). told (viewed file s objects components index)) (part_to_end table 0)
-
+    (asked : r ≡ told (viewed file table objects components index)) where
   pub viewed-fits : r.offset + r.length ≤ length file
   viewed-fits =
       subst (λ (x : Extent). x.offset + x.length ≤ length file) (sym (asked ∙ told_is file table objects components index))

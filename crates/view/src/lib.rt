@@ -14,6 +14,13 @@ pub struct Extent {
     pub length: u64,
 }
 
+// What lies outside.
+const NOWHERE: Extent = Extent {
+    number: numbers::INDEX,
+    offset: 0,
+    length: 0,
+};
+
 // Where a component's row begins in the table.
 #[derive(Clone, Copy)]
 pub enum Row {
@@ -25,11 +32,8 @@ pub enum Row {
 fn row_of(n: usize, objects: u64, components: u64, index: u64) -> Row
     ensures { result ≡ found n objects components index }
 {
-    if components <= index {
-        return Row::Nowhere;
-    }
     let room = n as u64;
-    if room / columns::OBJECT_64 < objects {
+    if components <= index || room / columns::OBJECT_64 < objects {
         return Row::Nowhere;
     }
     let first = columns::OBJECT_64 * objects;
@@ -43,26 +47,14 @@ fn row_of(n: usize, objects: u64, components: u64, index: u64) -> Row
 fn inside(n: usize, place: u64, size: u64) -> Extent
     ensures { result ≡ within n place size }
 {
-    let room = n as u64;
-    if room < place {
+    if columns::inside(n, place, size) {
         return Extent {
-            number: numbers::INDEX,
-            offset: 0,
-            length: 0,
+            number: 0,
+            offset: place,
+            length: size,
         };
     }
-    if room - place < size {
-        return Extent {
-            number: numbers::INDEX,
-            offset: 0,
-            length: 0,
-        };
-    }
-    Extent {
-        number: 0,
-        offset: place,
-        length: size,
-    }
+    NOWHERE
 }
 
 // Where the component `index` lies in the file; this tells INDEX from an empty component.
@@ -70,11 +62,7 @@ pub fn range(file: &[u8], table: &[u64], objects: u64, components: u64, index: u
     ensures { result ≡ told (meaning.viewed file.now table.now objects components index) }
 {
     match row_of(table.len(), objects, components, index) {
-        Row::Nowhere => Extent {
-            number: numbers::INDEX,
-            offset: 0,
-            length: 0,
-        },
+        Row::Nowhere => NOWHERE,
         Row::At(at) => inside(
             file.len(),
             table[at + columns::OFFSET],
@@ -93,7 +81,7 @@ pub fn view<'a>(
 ) -> &'a [u8]
     ensures { result.now ≡ meaning.view file.now table.now objects components index }
 {
-    let r = range(&file[0..], &table[0..], objects, components, index);
+    let r = range(file, table, objects, components, index);
     let start = r.offset as usize;
     let end = start + r.length as usize;
     &file[start..end]

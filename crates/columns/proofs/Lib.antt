@@ -1,2 +1,0 @@
--- Laws behind columns' proofs.
-pub mod Room
