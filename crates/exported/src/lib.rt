@@ -20,6 +20,8 @@ ghost use Rattle.put.specs.Wrote.{Wrote};
 ghost use Rattle.decimal.specs.Text as decimals;
 ghost use Rattle.exported.specs.Structs.{ruling, place};
 
+use std::cmp::Ordering;
+
 use reader::Verdict;
 
 #[unsafe(no_mangle)]
@@ -61,7 +63,11 @@ pub extern "C" fn leaf_same(a: &[u8], b: &[u8]) -> bool
 pub extern "C" fn leaf_order(a: &[u8], b: &[u8]) -> usize
     ensures { result ≡ orders.order a.now b.now }
 {
-    text::order(a, b)
+    match text::order(a, b) {
+        Ordering::Less => 1,
+        Ordering::Equal => 0,
+        Ordering::Greater => 2,
+    }
 }
 
 #[unsafe(no_mangle)]

@@ -12,6 +12,7 @@ ghost use Rattle.names.specs.Names.{name, listed, Copy, Leading};
 
 use named::name_of;
 use sorted::differ_by_order;
+pub use sorted::insert;
 use tabled::differ_by_digest;
 
 // The name x is that of an earlier one.

@@ -11,7 +11,7 @@ use endian::wide;
 pub fn is_magic(part: &[u8]) -> bool
     ensures { result ≡ texts.same layouts.magic part.now }
 {
-    same(b"ZTEN1000", &part[0..])
+    same(b"ZTEN1000", part)
 }
 
 // The number that four bytes make, the first byte the lowest.

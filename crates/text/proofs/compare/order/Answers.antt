@@ -1,15 +1,7 @@
--- `text::compare::order` meets its contract: the lengths decide, or one of the two loops. Assumes nothing.
-use Rattle.text.proofs.OrderIsTotal as total
+-- `text::compare::order` meets its contract: std's comparison of the lengths, then of the bytes. Assumes nothing.
+use Rattle.std.proofs.Common.{rules}
+use Rattle.text.proofs.OrderByStd as by
 use Rattle.text.proofs.compare.order.Goals as goal
 
-pub returns-then-a-b : goal.returns-then-a-b
-returns-then-a-b c = search total.order-short
-
-pub returns-then-b-a : goal.returns-then-b-a
-returns-then-b-a c = search total.order-long
-
-pub returns-then-a-lt8 : goal.returns-then-a-lt8
-returns-then-a-lt8 c = search total.order-of-wholes
-
 pub returns : goal.returns
-returns c = search total.order-of-wholes
+returns c = by.order-by-std c.args.a.now c.args.b.now _ c.cmp.ensures c.then_with.ensures (λ p. search rules)

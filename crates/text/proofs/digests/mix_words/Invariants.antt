@@ -1,9 +1,5 @@
 use Rattle.text.proofs.DigestSteps as steps
-use Prim.Native.Nat.{◌-◌}
 use Rattle.text.proofs.digests.mix_words.Given as goal
 
-abbrev pub invariant-loop-left : goal.invariant-loop-left
-invariant-loop-left l = steps.MixingWords l.t l.left l.i l.g l.h
-
-abbrev pub decreases-loop-left : goal.decreases-loop-left
-decreases-loop-left l = l.left
+abbrev pub invariant-loop-k : goal.invariant-loop-k
+invariant-loop-k l = steps.MixingWords l.t l.k l.g l.h
