@@ -4,9 +4,11 @@ use native.Mathlib.Omega.{arith}
 use mathlib.Core.List.{List, [], ◌∷◌, ◌++◌, map}
 use mathlib.Core.Bool.{Bool, true, false, ◌&&◌}
 use mathlib.Core.Path.{◌≡◌, refl, sym, ap, ◌∙◌}
-use lib.ListN.{length, take, drop}
+use lib.ListN.{length, take, drop, get_or}
 use lib.Seq.{drop-drop, take_at, drop_at}
-use borrow.Author.Rules.{part_to_end}
+use Rattle.std.specs.Bool.{MatchBool}
+use Rattle.std.specs.List.{range_with_len, AllWithin, HoldsAt}
+use Rattle.std.proofs.lemmas.List.FromFn.{length-range_with_len, get_or-range_with_len}
 use Rattle.meaning.specs.Text.{all}
 use Rattle.meaning.specs.Asked.{each_row}
 use Rattle.meaning.proofs.Tests.{both_left, both_right}
@@ -64,18 +66,9 @@ module _ {A : Type 0} (read : List ℕ → A) (width : ℕ) where
 
 -- what is asked of each row
 module _ {A : Type 0} (p : A → Bool) (read : List ℕ → A) (width n at : ℕ) (rows : List ℕ) where
-  all-of-none : n ≤ 0 → all p (each_row read width n (drop at rows)) ≡ true
-  all-of-none h = ap (all p) (no_row read width n (drop at rows) h)
-
   module _ (h : 0 < n) where
     first-of-all : all p (each_row read width n (drop at rows)) ≡ p (read (drop at rows)) && all p (each_row read width (n - 1) (drop (at + width) rows))
     first-of-all = ap (all p) (next-row-at read width n at rows h)
-
-    all_go : p (read (drop at rows)) ≡ true → all p (each_row read width n (drop at rows)) ≡ all p (each_row read width (n - 1) (drop (at + width) rows))
-    all_go e = first-of-all ∙ ap (λ (b : Bool). b && all p (each_row read width (n - 1) (drop (at + width) rows))) e
-
-    all-stop : p (read (drop at rows)) ≡ false → all p (each_row read width n (drop at rows)) ≡ false
-    all-stop e = first-of-all ∙ ap (λ (b : Bool). b && all p (each_row read width (n - 1) (drop (at + width) rows))) e
 
     pub first_so : all p (each_row read width n (drop at rows)) ≡ true → p (read (drop at rows)) ≡ true
     first_so e = both_left _ (all p (each_row read width (n - 1) (drop (at + width) rows))) (sym first-of-all ∙ e)
@@ -83,33 +76,42 @@ module _ {A : Type 0} (p : A → Bool) (read : List ℕ → A) (width n at : ℕ
     pub others-so : all p (each_row read width n (drop at rows)) ≡ true → all p (each_row read width (n - 1) (drop (at + width) rows)) ≡ true
     others-so e = both_right (p (read (drop at rows))) _ (sym first-of-all ∙ e)
 
--- the loop that asks p of each of n rows: `left` of them to go, from the place `at` on
-pub record Asking {A : Type 0} (p : A → Bool) (read : List ℕ → A) (width n : ℕ) (rows : List ℕ) (at left : ℕ) : Type 0 where
-  pub lie : at + width * left ≤ length rows
-  pub so_far : all p (each_row read width n rows) ≡ all p (each_row read width left (drop at rows))
+-- p asked of each row at its place
+module _ {A : Type 0} (p : A → Bool) (read : List ℕ → A) (width : ℕ) where
+  pub each-holds : (n : ℕ) (rows : List ℕ) → ((k : ℕ) → k < n → p (read (drop (width * k) rows)) ≡ true) → all p (each_row read width n rows) ≡ true
+  unfolding each_row
+  each-holds zero rows h = refl
+  each-holds (suc n) rows h =
+      let z : width * 0 ≡ 0 = omega arith in
+      rw (ap (λ (j : ℕ). p (read (drop j rows))) (sym z) ∙ h 0 (omega arith))
+      (each-holds n (drop width rows) (λ k l. (let e : width * suc k ≡ width + width * k = omega arith in
+      ap (λ (s : List ℕ). p (read s)) (drop-drop (width * k) width rows ∙ ap (λ (j : ℕ). drop j rows) (sym e)) ∙ h (suc k) (omega (arith, l)))))
 
-module _ {A : Type 0} {p : A → Bool} {read : List ℕ → A} {width n : ℕ} {rows : List ℕ} where
-  pub asking-begins : width * n ≤ length rows → Asking p read width n rows 0 n
-  asking-begins h = record { lie = omega (arith, h); so_far = refl }
+  pub one-fails : (n k : ℕ) (rows : List ℕ) → k < n → p (read (drop (width * k) rows)) ≡ false → all p (each_row read width n rows) ≡ false
+  unfolding each_row
+  one-fails zero k rows l e = absurd (omega (arith, l))
+  one-fails (suc n) zero rows l e = (let z : width * 0 ≡ 0 = omega arith in rw (ap (λ (j : ℕ). p (read (drop j rows))) (sym z) ∙ e) refl)
+  one-fails (suc n) (suc k) rows l e = by (p (read rows)) (one-fails n k (drop width rows) (omega (arith, l))
+      (let z : width * suc k ≡ width + width * k = omega arith in
+      ap (λ (s : List ℕ). p (read s)) (drop-drop (width * k) width rows ∙ ap (λ (j : ℕ). drop j rows) (sym z)) ∙ e))
+    where
+      by : (b : Bool) → all p (each_row read width n (drop width rows)) ≡ false → b && all p (each_row read width n (drop width rows)) ≡ false
+      by true q = q
+      by false q = refl
 
-  module _ {at left : ℕ} (w : Asking p read width n rows at left) where
-    pub all_asked : left ≤ 0 → true ≡ all p (each_row read width n rows)
-    all_asked h = sym (w.so_far ∙ all-of-none p read width left at rows h)
-
-    -- the row at `at` was lent to the end of all rows, and r was said of it
-    module _ (more : 0 < left) {r : Bool} (is : r ≡ p (read (take (length rows - at) (drop at rows)))) where
-      said : p (read (drop at rows)) ≡ r
-      said = sym (is ∙ ap (λ (s : List ℕ). p (read s)) (part_to_end rows at))
-
-      pub one-fails : r ≡ false → false ≡ all p (each_row read width n rows)
-      one-fails e = sym (w.so_far ∙ all-stop p read width left at rows more (said ∙ e))
-
-      pub one-more-holds : r ≡ true → Asking p read width n rows (at + width) (left - 1)
-      one-more-holds e = record { lie = one_less left more w.lie; so_far = w.so_far ∙ all_go p read width left at rows more (said ∙ e) }
-        where
-          one_less : (left : ℕ) → 0 < left → at + width * left ≤ length rows → at + width + width * (left - 1) ≤ length rows
-          one_less zero more l = absurd (omega (arith, more))
-          one_less (suc k) more l = let e : suc k - 1 ≡ k = omega arith in rw e (omega (arith, l))
+  -- what `all` answered over the places of n rows
+  module _ (n : ℕ) (rows : List ℕ) where
+    pub all-asked : (r : Bool)
+        → MatchBool r (AllWithin (λ k. p (read (drop (width * k) rows)) ≡ true) (range_with_len 0 n) 0 (length (range_with_len 0 n)))
+        ((k : ℕ) × (k < length (range_with_len 0 n)) × HoldsAt (λ k. p (read (drop (width * k) rows)) ≡ false) (range_with_len 0 n) k)
+        → r ≡ all p (each_row read width n rows)
+    all-asked true h =
+        sym (each-holds n rows (λ k l. (let e : get_or (range_with_len 0 n) k 0 ≡ k = omega (arith, get_or-range_with_len 0 n k 0 l) in
+        rw e at (h k 0 (omega arith) (omega (arith, l, length-range_with_len 0 n))))))
+    all-asked false h =
+        let l : h.0 < n = omega (arith, h.1, length-range_with_len 0 n) in
+        let e : get_or (range_with_len 0 n) h.0 0 ≡ h.0 = omega (arith, get_or-range_with_len 0 n h.0 0 l) in
+        sym (one-fails n h.0 rows l (rw e at (h.2 0)))
 
 -- and of a list's parts
 module _ {A : Type 0} (p : A → Bool) where

@@ -9,13 +9,14 @@ use lib.Seq.{get_or-drop}
 use lib.Dec.{eqb}
 use borrow.Author.Rules.{part_to_end}
 use borrow.Author.Tests.{eq-eqb, ne_eqb}
-use Rattle.meaning.specs.Columns.{object_width, component_width, count_column, owner_column}
-use Rattle.meaning.specs.Text.{same}
+use Rattle.meaning.specs.Columns.{object_width, component_width, count_column}
+use Rattle.meaning.specs.Text.{same, all}
 use Rattle.meaning.specs.Asked.{AskedObject, AskedComponent, each_row, asked_object, asked_component}
 use Rattle.meaning.specs.Sound.{owners}
 use Rattle.meaning.proofs.Lengths.{each-row-length}
 use Rattle.rows.specs.Placed.{objects_at, components_at}
 use Rattle.rows.specs.Owner.{owners_in}
+use Rattle.rows.proofs.Both.{same-equality}
 use Rattle.rows.proofs.EachRow.{no_row, next-row-at, split_rows}
 
 -- ---- two lists of numbers
@@ -48,51 +49,22 @@ owners-counted n s = length-map (each_row asked_component component_width n s) (
 
 -- ---- one owner's components
 
-repeated : (n i : ℕ) → 0 < n → replicate n i ≡ i ∷ replicate (n - 1) i
-repeated zero i h = absurd (omega (arith, h))
-repeated (suc m) i h = let e : m ≡ suc m - 1 = omega arith in ap (λ (k : ℕ). i ∷ replicate k i) e
-
 module _ (i n at : ℕ) (rows : List ℕ) where
   abbrev owned : ℕ → ℕ → Bool
   owned k p = same (replicate k i) (owners_in (components_at k p rows))
 
-  owned-none : n ≤ 0 → owned n at ≡ true
-  unfolding each_row
-  owned-none h = by n h
-    where
-      by : (n : ℕ) → n ≤ 0 → owned n at ≡ true
-      by zero h = refl
-      by (suc m) h = absurd (omega (arith, h))
+-- one owner, asked of each
+owned-each : (i n : ℕ) (cs : List AskedComponent) → length cs ≡ n → all (λ c. eqb c.owner i) cs ≡ same (replicate n i) (owners_in cs)
+owned-each i zero [] e = refl
+owned-each i (suc n) [] e = absurd (omega arith)
+owned-each i zero (c ∷ cs) e = absurd (omega arith)
+owned-each i (suc n) (c ∷ cs) e =
+    rw (same-equality c.owner i i c.owner (λ z. sym z) (λ z. sym z)) (ap (λ (b : Bool). eqb i c.owner && b) (owned-each i n cs (omega arith)))
 
-  module _ (h : 0 < n) where
-    owned-first : owned n at ≡ eqb i (get_or rows (at + owner_column) 0) && owned (n - 1) (at + component_width)
-    unfolding asked_component
-    owned-first =
-        ap (λ (l : List ℕ). same l (owners_in (components_at n at rows))) (repeated n i h)
-        ∙ ap (λ (l : List AskedComponent). same (i ∷ replicate (n - 1) i) (owners_in l)) (next-row-at asked_component component_width n at rows h)
-        ∙ ap (λ (k : ℕ). eqb i k && owned (n - 1) (at + component_width)) (get_or-drop at rows owner_column 0)
-
-    owned-by-it : get_or rows (at + owner_column) 0 ≡ i → owned n at ≡ owned (n - 1) (at + component_width)
-    owned-by-it e = owned-first ∙ ap (λ (b : Bool). b && owned (n - 1) (at + component_width)) (eq-eqb i (get_or rows (at + owner_column) 0) (sym e))
-
-    owned-by-another : (get_or rows (at + owner_column) 0 ≡ i → ⊥) → owned n at ≡ false
-    owned-by-another e = owned-first ∙ ap (λ (b : Bool). b && owned (n - 1) (at + component_width)) (ne_eqb i (get_or rows (at + owner_column) 0) (λ z. e (sym z)))
-
--- the loop over one owner's components: `left` of them to go, from the place `at` on
-pub record Owning (i n : ℕ) (rows : List ℕ) (at left : ℕ) : Type 0 where
-  pub lie : at + component_width * left ≤ length rows
-  pub so_far : same (replicate n i) (owners_in (each_row asked_component component_width n rows)) ≡ owned i 0 0 rows left at
-
-module _ {i n : ℕ} {rows : List ℕ} {at left : ℕ} (w : Owning i n rows at left) where
-  pub all-owned : left ≤ 0 → true ≡ same (replicate n i) (owners_in (each_row asked_component component_width n rows))
-  all-owned h = sym (w.so_far ∙ owned-none i left at rows h)
-
-  module _ (more : 0 < left) where
-    pub another-owns : (get_or rows (at + owner_column) 0 ≡ i → ⊥) → false ≡ same (replicate n i) (owners_in (each_row asked_component component_width n rows))
-    another-owns e = sym (w.so_far ∙ owned-by-another i left at rows more e)
-
-    pub one-more-owned : get_or rows (at + owner_column) 0 ≡ i → Owning i n rows (at + component_width) (left - 1)
-    one-more-owned e = record { lie = (let l = w.lie in omega (arith, more, l)); so_far = w.so_far ∙ owned-by-it i left at rows more e }
+-- of the first n rows it was answered that i owns all of them
+pub owned_as-asked : (i n : ℕ) (rows : List ℕ) (r : Bool) → r ≡ all (λ c. eqb c.owner i) (each_row asked_component component_width n rows)
+    → r ≡ same (replicate n i) (owners_in (each_row asked_component component_width n rows))
+owned_as-asked i n rows r is = is ∙ owned-each i n (each_row asked_component component_width n rows) (each-row-length asked_component component_width n rows)
 
 -- ---- all objects' components
 
@@ -157,46 +129,44 @@ module _ (i left row due from : ℕ) (os cs : List ℕ) where
 abbrev in_order : (objects components : List ℕ) (n all : ℕ) → Bool
 in_order objects components n all = same (owners 0 (each_row asked_object object_width n objects)) (owners_in (each_row asked_component component_width all components))
 
--- the loop over objects: from object `i` on, whose row stands at `row`, with `due` components to go from the place `from` on
-pub record Ordered (objects components : List ℕ) (n all i row from due : ℕ) : Type 0 where
-  pub objects-lie : row + object_width * (n - i) ≤ length objects
+-- the loop over objects: from object `i` on, with `due` components to go from the place `from` on
+pub record Ordered (objects components : List ℕ) (n all i from due : ℕ) : Type 0 where
   pub components-lie : from + component_width * due ≤ length components
-  pub so_far : in_order objects components n all ≡ same (owners i (objects_at (n - i) row objects)) (owners_in (components_at due from components))
+  pub so_far : in_order objects components n all ≡ same (owners i (objects_at (n - i) (object_width * i) objects)) (owners_in (components_at due from components))
 
 module _ {objects components : List ℕ} {n all : ℕ} where
-  pub order-begins : object_width * n ≤ length objects → component_width * all ≤ length components → Ordered objects components n all 0 0 0 all
-  order-begins h k = record {
-    objects-lie = omega arith;
+  pub order-begins : component_width * all ≤ length components → Ordered objects components n all 0 0 all
+  order-begins k = record {
     components-lie = omega arith;
     so_far = let z : n ≡ n - 0 = omega arith in ap (λ (m : ℕ). same (owners 0 (each_row asked_object object_width m objects)) (owners_in (each_row asked_component component_width all components))) z;
   }
 
-  module _ {i row from due : ℕ} (w : Ordered objects components n all i row from due) where
+  module _ {i from due : ℕ} (w : Ordered objects components n all i from due) where
     pub order-ends : n ≤ i → eqb due 0 ≡ in_order objects components n all
-    order-ends h = none-due i (n - i) row due from objects components (omega (arith, h)) ∙ sym w.so_far
+    order-ends h = none-due i (n - i) (object_width * i) due from objects components (omega (arith, h)) ∙ sym w.so_far
 
     module _ (more : i < n) where
       some_left : 0 < n - i
       some_left = omega (arith, more)
 
-      pub too-few-due : due < get_or objects (row + count_column) 0 → false ≡ in_order objects components n all
-      too-few-due h = sym (w.so_far ∙ too_many i (n - i) row due from objects components some_left h)
+      pub too-few-due : due < get_or objects (object_width * i + count_column) 0 → false ≡ in_order objects components n all
+      too-few-due h = sym (w.so_far ∙ too_many i (n - i) (object_width * i) due from objects components some_left h)
 
       -- `by` said r of this object's components, which it was lent from the place `from` on
-      module _ (enough : get_or objects (row + count_column) 0 ≤ due) {r : Bool}
-          (is : r ≡ same (replicate (get_or objects (row + count_column) 0) i) (owners_in (each_row asked_component component_width (get_or objects (row + count_column) 0) (take (length components - from) (drop from components))))) where
-        lent-so : owned i 0 0 components (get_or objects (row + count_column) 0) from ≡ r
-        lent-so = sym (is ∙ ap (λ (s : List ℕ). same (replicate (get_or objects (row + count_column) 0) i) (owners_in (each_row asked_component component_width (get_or objects (row + count_column) 0) s))) (part_to_end components from))
+      module _ (enough : get_or objects (object_width * i + count_column) 0 ≤ due) {r : Bool}
+          (is : r ≡ same (replicate (get_or objects (object_width * i + count_column) 0) i) (owners_in (each_row asked_component component_width (get_or objects (object_width * i + count_column) 0) (take (length components - from) (drop from components))))) where
+        lent-so : owned i 0 0 components (get_or objects (object_width * i + count_column) 0) from ≡ r
+        lent-so = sym (is ∙ ap (λ (s : List ℕ). same (replicate (get_or objects (object_width * i + count_column) 0) i) (owners_in (each_row asked_component component_width (get_or objects (object_width * i + count_column) 0) s))) (part_to_end components from))
 
         pub others-there : r ≡ false → false ≡ in_order objects components n all
-        others-there e = sym (w.so_far ∙ order-stops i (n - i) row due from objects components some_left enough (lent-so ∙ e))
+        others-there e = sym (w.so_far ∙ order-stops i (n - i) (object_width * i) due from objects components some_left enough (lent-so ∙ e))
 
-        pub next-owner : r ≡ true → Ordered objects components n all (i + 1) (row + object_width) (from + component_width * get_or objects (row + count_column) 0) (due - get_or objects (row + count_column) 0)
+        pub next-owner : r ≡ true → Ordered objects components n all (i + 1) (from + component_width * get_or objects (object_width * i + count_column) 0) (due - get_or objects (object_width * i + count_column) 0)
         next-owner e = record {
-          objects-lie = (let l = w.objects-lie in omega (arith, more, l));
           components-lie = (let l = w.components-lie in omega (arith, enough, l));
           so_far = w.so_far
-              ∙ order-goes i (n - i) row due from objects components some_left enough (lent-so ∙ e)
+              ∙ order-goes i (n - i) (object_width * i) due from objects components some_left enough (lent-so ∙ e)
               ∙ (let z : n - i - 1 ≡ n - (i + 1) = omega (arith, more) in
-              ap (λ (k : ℕ). same (owners (i + 1) (objects_at k (row + object_width) objects)) (owners_in (components_at (due - get_or objects (row + count_column) 0) (from + component_width * get_or objects (row + count_column) 0) components))) z);
+              let y : object_width * i + object_width ≡ object_width * (i + 1) = omega arith in
+              rw y (ap (λ (k : ℕ). same (owners (i + 1) (objects_at k (object_width * (i + 1)) objects)) (owners_in (components_at (due - get_or objects (object_width * i + count_column) 0) (from + component_width * get_or objects (object_width * i + count_column) 0) components))) z));
         }

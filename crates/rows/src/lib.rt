@@ -11,10 +11,7 @@ ghost use Rattle.meaning.specs.Sound as is;
 pub fn absent(place: u64, size: u64) -> bool
     ensures { result ≡ eqb place 0 && eqb size 0 }
 {
-    if place != 0 {
-        return false;
-    }
-    size == 0
+    place == 0 && size == 0
 }
 
 pub fn sound(
@@ -31,14 +28,8 @@ pub fn sound(
         return false;
     }
     let first = (columns::OBJECT_64 * objects) as usize;
-    if !owned::in_order(rows, &rows[first..], objects, components) {
-        return false;
-    }
-    if !judge::attributes(buffer, place, size, numbers::IN_ROOT) {
-        return false;
-    }
-    if !judge::objects(buffer, rows, objects) {
-        return false;
-    }
-    judge::components(buffer, &rows[first..], components)
+    owned::in_order(rows, &rows[first..], objects, components)
+        && judge::attributes(buffer, place, size, numbers::IN_ROOT)
+        && judge::objects(buffer, rows, objects)
+        && judge::components(buffer, &rows[first..], components)
 }

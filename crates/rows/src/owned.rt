@@ -11,16 +11,7 @@ fn by(i: u64, rows: &[u64], n: u64) -> bool
     requires { component_width * n ≤ length rows.now }
     ensures { result ≡ same (replicate n i) (owners_in (each_row asked_component component_width n rows.now)) }
 {
-    let mut at = 0;
-    let mut left = n;
-    while 0 < left {
-        if rows[at + columns::OWNER] != i {
-            return false;
-        }
-        at += columns::COMPONENT;
-        left -= 1;
-    }
-    true
+    (0..n as usize).all(|j| rows[columns::COMPONENT * j + columns::OWNER] == i)
 }
 
 // Of n objects and as many components as are due.
@@ -29,23 +20,15 @@ pub fn in_order(objects: &[u64], components: &[u64], n: u64, all: u64) -> bool
     requires all_in_bounds { component_width * all ≤ length components.now }
     ensures { result ≡ same (is.owners 0 (each_row asked_object object_width n objects.now)) (owners_in (each_row asked_component component_width all components.now)) }
 {
-    let mut i = 0;
-    let mut row = 0;
     let mut from = 0;
     let mut due = all;
-    while i < n {
-        let count = objects[row + columns::COUNT];
-        if due < count {
+    for i in 0..n {
+        let count = objects[columns::OBJECT * i as usize + columns::COUNT];
+        if due < count || !by(i, &components[from..], count) {
             return false;
         }
-        if by(i, &components[from..], count) {
-            i += 1;
-            row += columns::OBJECT;
-            from += (columns::COMPONENT_64 * count) as usize;
-            due -= count;
-            continue;
-        }
-        return false;
+        from += columns::COMPONENT * count as usize;
+        due -= count;
     }
     due == 0
 }

@@ -1,18 +1,17 @@
--- `rows::judge::attributes` meets its contract: a law for each branch.
-use Rattle.rows.proofs.Judged as law
+-- `rows::judge::attributes` meets its contract.
+use Rattle.std.proofs.Common.{rules}
+use Rattle.meaning.specs.Asked.{present_at}
+use Rattle.meaning.specs.Sound.{inside, absent_or, attributes_sound}
 use Rattle.rows.proofs.judge.attributes.Goals as goal
 
-pub returns-then-not-inside : goal.returns-then-not-inside
-returns-then-not-inside c = search law.attributes-outside
-
 pub returns-then-absent : goal.returns-then-absent
-returns-then-absent c = search law.attributes-absent
+unfolding attributes_sound inside present_at absent_or
+returns-then-absent c = search rules
 
-pub overflow_add-end : goal.overflow_add-end
-overflow_add-end c = search law.end_fits
+pub returns-else-absent : goal.returns-else-absent
+unfolding attributes_sound inside present_at absent_or
+returns-else-absent c = search rules
 
-pub slice_bounds-a_map-end : goal.slice_bounds-a_map-end
-slice_bounds-a_map-end c = search law.range-lies
-
-pub returns : goal.returns
-returns c = search law.attributes-there
+pub returns-else-inside : goal.returns-else-inside
+unfolding attributes_sound inside present_at absent_or
+returns-else-inside c = search rules

@@ -1,15 +1,14 @@
--- `rows::judge::object` meets its contract: a law for each branch.
-use Rattle.rows.proofs.Judged as law
+-- `rows::judge::object` meets its contract.
+use Rattle.std.proofs.Common.{rules}
+use Rattle.meaning.specs.Types.{storages}
+use Rattle.meaning.specs.Asked.{asked_object}
+use Rattle.meaning.specs.Sound.{inside, object_sound}
 use Rattle.rows.proofs.judge.object.Goals as goal
 
-pub returns-then-not-inside : goal.returns-then-not-inside
-returns-then-not-inside c = search law.object-name
+pub returns-then-inside-2 : goal.returns-then-inside-2
+unfolding object_sound asked_object inside storages
+returns-then-inside-2 c = search rules
 
-pub returns-then-row-gt8 : goal.returns-then-row-gt8
-returns-then-row-gt8 c = search law.object-rank
-
-pub returns-then-not-inside-2 : goal.returns-then-not-inside-2
-returns-then-not-inside-2 c = search law.object-format
-
-pub returns : goal.returns
-returns c = search law.object-attributes
+pub returns-else-inside-2 : goal.returns-else-inside-2
+unfolding object_sound asked_object inside storages
+returns-else-inside-2 c = search rules

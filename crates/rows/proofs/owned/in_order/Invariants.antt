@@ -1,9 +1,5 @@
-use Prim.Native.Nat.{◌-◌}
 use Rattle.rows.proofs.Owners as law
 use Rattle.rows.proofs.owned.in_order.Given as goal
 
 abbrev pub invariant-loop-i : goal.invariant-loop-i
-invariant-loop-i l = law.Ordered l.objects l.components l.n l.all l.i l.row l.from l.due
-
-abbrev pub decreases-loop-i : goal.decreases-loop-i
-decreases-loop-i l = l.n - l.i
+invariant-loop-i l = law.Ordered l.objects l.components l.n l.all l.i l.from l.due
