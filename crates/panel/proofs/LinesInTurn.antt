@@ -1,12 +1,10 @@
 -- A listing's lines, one after the other.
-use Prim.Native.Nat.{ℕ, zero, suc, ◌+◌, ◌-◌, ◌*◌, ◌^◌, ◌≤◌, ◌<◌}
+use Prim.Native.Nat.{ℕ, zero, suc, ◌+◌, ◌-◌, ◌*◌, ◌≤◌, ◌<◌}
 use native.Mathlib.Omega.{arith}
 use mathlib.Core.List.{List, [], ◌∷◌, ◌++◌, append_assoc}
 use mathlib.Core.Bool.{Bool}
 use mathlib.Core.Path.{◌≡◌, refl, ap, ◌∙◌}
 use lib.ListN.{length, take, drop, get_or}
-use mir.Syntax.{w64}
-use mir.Val.{Fits}
 use Rattle.meaning.specs.Columns.{object_width, component_width, format_column, format_length_column, dtype_column, offset_column, length_column}
 use Rattle.meaning.specs.Text.{ascii}
 use Rattle.meaning.specs.Types.{storage_of}
@@ -83,60 +81,56 @@ module _ (file table : List ℕ) where
 
 -- ---- the loops, into `out` from the place `at`; `xs` is what `out` held
 
--- over the lines of n components, the first at `first`: at `row`, with `left` of them to go
-pub record Blobs (file table : List ℕ) (summary : Bool) (n first : ℕ) (xs : List ℕ) (at : ℕ) (out : List ℕ) (past row left : ℕ) : Type 0 where
-  pub lie : row + component_width * left ≤ length table
-  pub rest : Rest (blob_lines file table (more summary file table) n first) at xs (blob_lines file table (more summary file table) left row) past out
+-- over the lines of n components, the first at `first`: from component i on
+pub record Blobs (file table : List ℕ) (summary : Bool) (n first : ℕ) (xs : List ℕ) (at : ℕ) (out : List ℕ) (past i : ℕ) : Type 0 where
+  pub rest : Rest (blob_lines file table (more summary file table) n first) at xs (blob_lines file table (more summary file table) (n - i) (first + component_width * i)) past out
 
-module _ {file table : List ℕ} {summary : Bool} {n first : ℕ} {xs : List ℕ} {at : ℕ} {out : List ℕ} {past row left : ℕ} (w : Blobs file table summary n first xs at out past row left) where
-  pub one-more-blob : 0 < left → {ys : List ℕ} {r : ℕ} → Wrote (blob_line file table (more summary file table) row) past out ys r
-      → Blobs file table summary n first xs at ys r (row + component_width) (left - 1)
-  one-more-blob m b = record {
-    lie = (let l = w.lie in omega (arith, l, m));
-    rest = rest-less w.rest (blobs-next file table (more summary file table) left row m) b;
-  }
+module _ {file table : List ℕ} {summary : Bool} {n first : ℕ} {xs : List ℕ} {at : ℕ} {out : List ℕ} {past i : ℕ} (w : Blobs file table summary n first xs at out past i) where
+  pub one-more-blob : i < n → {ys : List ℕ} {r : ℕ} → Wrote (blob_line file table (more summary file table) (first + component_width * i)) past out ys r
+      → Blobs file table summary n first xs at ys r (i + 1)
+  one-more-blob m b =
+      let z : n - i - 1 ≡ n - (i + 1) = omega (arith, m) in
+      let y : first + component_width * i + component_width ≡ first + component_width * (i + 1) = omega arith in
+      record { rest = rest-less w.rest (rw (z, y) at (blobs-next file table (more summary file table) (n - i) (first + component_width * i) (omega (arith, m)))) b }
 
-  module _ (end : left ≤ 0) where
+  module _ (end : n ≤ i) where
     pub all-blobs : {q : ℕ} → q ≡ capped past → Wrote (blob_lines file table (more summary file table) n first) at xs out q
-    all-blobs e = rest-none _ w.rest (blobs-none file table (more summary file table) left row end) e
+    all-blobs e = rest-none _ w.rest (blobs-none file table (more summary file table) (n - i) (first + component_width * i) (omega (arith, end))) e
 
     pub blobs-length : length out ≡ length xs
     blobs-length = same_length (all-blobs refl)
 
--- over the lines of n objects and their components, which begin at `first`: the next object's at `row`, its components' from `from` on
-pub record Objects (file table : List ℕ) (summary : Bool) (n first : ℕ) (xs : List ℕ) (at : ℕ) (out : List ℕ) (past row from left : ℕ) : Type 0 where
-  pub lie : row + object_width * left ≤ length table
-  pub blobs-lie : from + component_width * counted table left row ≤ length table
-  pub rest : Rest (object_lines file table (more summary file table) n 0 first) at xs (object_lines file table (more summary file table) left row from) past out
+-- over the lines of n objects and their components, which begin at `first`: from object i on, its components from `from` on
+pub record Objects (file table : List ℕ) (summary : Bool) (n first : ℕ) (xs : List ℕ) (at : ℕ) (out : List ℕ) (past i from : ℕ) : Type 0 where
+  pub blobs-lie : from + component_width * counted table (n - i) (object_width * i) ≤ length table
+  pub rest : Rest (object_lines file table (more summary file table) n 0 first) at xs (object_lines file table (more summary file table) (n - i) (object_width * i) from) past out
 
-module _ {file table : List ℕ} {summary : Bool} {n first : ℕ} {xs : List ℕ} {at : ℕ} {out : List ℕ} {past row from left : ℕ}
-    (w : Objects file table summary n first xs at out past row from left) where
-  module _ (m : 0 < left) where
-    pub its-blobs-lie : from + component_width * count_at table row ≤ length table
-    its-blobs-lie = let l = w.blobs-lie in omega (arith, l, counted_next table left row m)
+module _ {file table : List ℕ} {summary : Bool} {n first : ℕ} {xs : List ℕ} {at : ℕ} {out : List ℕ} {past i from : ℕ}
+    (w : Objects file table summary n first xs at out past i from) where
+  module _ (m : i < n) where
+    next-row : object_width * i + object_width ≡ object_width * (i + 1)
+    next-row = omega arith
 
-    module _ (room : length table * 8 < 2 ^ 63) where
-      pub its-blobs-fit : Fits w64 (component_width * count_at table row)
-      its-blobs-fit = record { fits = (let l = its-blobs-lie in omega (arith, l, room)) }
+    one-less : n - i - 1 ≡ n - (i + 1)
+    one-less = omega (arith, m)
 
-      pub next-blobs-fit : Fits w64 (from + component_width * count_at table row)
-      next-blobs-fit = record { fits = (let l = its-blobs-lie in omega (arith, l, room)) }
+    counts : counted table (n - i) (object_width * i) ≡ count_at table (object_width * i) + counted table (n - (i + 1)) (object_width * (i + 1))
+    counts = rw (one-less, next-row) at (counted_next table (n - i) (object_width * i) (omega (arith, m)))
 
-      pub next-row-fits : Fits w64 (row + object_width)
-      next-row-fits = record { fits = (let l = w.lie in omega (arith, l, m, room)) }
+    pub its-blobs-lie : from + component_width * count_at table (object_width * i) ≤ length table
+    its-blobs-lie = let l = w.blobs-lie in omega (arith, l, counts)
 
-    pub one-more-object : {ys zs : List ℕ} {q r : ℕ} → Wrote (object_line file table row) past out ys q
-        → Wrote (blob_lines file table (more summary file table) (count_at table row) from) q ys zs r
-        → Objects file table summary n first xs at zs r (row + object_width) (from + component_width * count_at table row) (left - 1)
+    pub one-more-object : {ys zs : List ℕ} {q r : ℕ} → Wrote (object_line file table (object_width * i)) past out ys q
+        → Wrote (blob_lines file table (more summary file table) (count_at table (object_width * i)) from) q ys zs r
+        → Objects file table summary n first xs at zs r (i + 1) (from + component_width * count_at table (object_width * i))
     one-more-object o b = record {
-      lie = (let l = w.lie in omega (arith, l, m));
-      blobs-lie = (let l = w.blobs-lie in omega (arith, l, counted_next table left row m));
-      rest = rest-less w.rest (objects-next file table (more summary file table) left row from m) (then o b);
+      blobs-lie = (let l = w.blobs-lie in omega (arith, l, counts));
+      rest = rest-less w.rest (rw (one-less, next-row) at (objects-next file table (more summary file table) (n - i) (object_width * i) from (omega (arith, m)))) (then o b);
     }
 
-  module _ (end : left ≤ 0) where
+  module _ (end : n ≤ i) where
     pub all-objects : {q : ℕ} → q ≡ capped past → Wrote (object_lines file table (more summary file table) n 0 first) at xs out q
-    all-objects e = rest-none _ w.rest (objects-none file table (more summary file table) left row from end) e
+    all-objects e = rest-none _ w.rest (objects-none file table (more summary file table) (n - i) (object_width * i) from (omega (arith, end))) e
 
     pub objects-length : length out ≡ length xs
     objects-length = same_length (all-objects refl)

@@ -72,12 +72,15 @@ fn blobs(
     ensures { Wrote (is.blob_lines file.now table.now (more summary file.now table.now) n from) at out.old out.new result }
 {
     let mut past = at;
-    let mut row = from;
-    let mut left = n;
-    while 0 < left {
-        past = blob(file, table, row, summary, out, past);
-        row += columns::COMPONENT;
-        left -= 1;
+    for i in 0..n as usize {
+        past = blob(
+            file,
+            table,
+            from + columns::COMPONENT * i,
+            summary,
+            out,
+            past,
+        );
     }
     capped_place(past)
 }
@@ -115,16 +118,13 @@ fn objects_of(
     ensures { Wrote (is.object_lines file.now table.now (more summary file.now table.now) n 0 first) at out.old out.new result }
 {
     let mut past = at;
-    let mut row = 0;
     let mut from = first;
-    let mut left = n;
-    while 0 < left {
+    for i in 0..n as usize {
+        let row = columns::OBJECT * i;
         let count = table[row + COUNT];
         let next = object(file, table, row, out, past);
         past = blobs(file, table, count, from, summary, out, next);
         from += columns::COMPONENT * count as usize;
-        row += columns::OBJECT;
-        left -= 1;
     }
     capped_place(past)
 }

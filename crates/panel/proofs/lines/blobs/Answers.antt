@@ -2,8 +2,8 @@
 use Rattle.panel.proofs.LinesInTurn as following
 use Rattle.panel.proofs.lines.blobs.Goals as goal
 
-pub loop-left-preserved : goal.loop-left-preserved
-loop-left-preserved c = search following.one-more-blob
+pub loop-i-preserved : goal.loop-i-preserved
+loop-i-preserved c = search following.one-more-blob
 
 pub shape_of-out : goal.shape_of-out
 shape_of-out c = search following.blobs-length

@@ -1,4 +1,5 @@
 -- `panel::lines::objects_of` meets its contract: the invariant says what is still to be written. Assumes nothing.
+use native.Mathlib.Omega.{arith}
 use Rattle.panel.proofs.LinesInTurn as following
 use Rattle.panel.proofs.lines.objects_of.Goals as goal
 
@@ -6,16 +7,13 @@ pub blobs-past-requires : goal.blobs-past-requires
 blobs-past-requires c = search following.its-blobs-lie
 
 pub overflow_mul-from : goal.overflow_mul-from
-overflow_mul-from c = search following.its-blobs-fit
+overflow_mul-from c = omega (arith, following.its-blobs-lie c.loop-i.invariant c.loop-i-test.true)
 
 pub overflow_add-from : goal.overflow_add-from
-overflow_add-from c = search following.next-blobs-fit
+overflow_add-from c = omega (arith, following.its-blobs-lie c.loop-i.invariant c.loop-i-test.true)
 
-pub overflow_add-row : goal.overflow_add-row
-overflow_add-row c = search following.next-row-fits
-
-pub loop-left-preserved : goal.loop-left-preserved
-loop-left-preserved c = following.one-more-object c.loop-left.invariant c.loop-left-test.true c.object-next.ensures c.blobs-past.ensures
+pub loop-i-preserved : goal.loop-i-preserved
+loop-i-preserved c = following.one-more-object c.loop-i.invariant c.loop-i-test.true c.object-next.ensures c.blobs-past.ensures
 
 pub shape_of-out : goal.shape_of-out
 shape_of-out c = search following.objects-length

@@ -1,12 +1,8 @@
--- `panel::rows::inside` meets its contract: a law for each branch. Assumes nothing.
-use Rattle.panel.proofs.Sound as rows
+-- `panel::rows::inside` meets its contract. Assumes nothing.
+use borrow.Author.Rules.{rules}
+use Rattle.panel.specs.Lines.{range_inside}
 use Rattle.panel.proofs.rows.inside.Goals as goal
 
-pub returns-then-room-place : goal.returns-then-room-place
-returns-then-room-place c = search rows.begins-past
-
-pub returns-then-room-place-2 : goal.returns-then-room-place-2
-returns-then-room-place-2 c = search rows.ends-past
-
 pub returns : goal.returns
-returns c = search rows.lies
+unfolding range_inside
+returns c = search rules

@@ -1,12 +1,12 @@
--- `panel::rows::sound_component` meets its contract: a law for each branch. Assumes nothing.
-use Rattle.panel.proofs.Sound as rows
+-- `panel::rows::sound_component` meets its contract. Assumes nothing.
+use borrow.Author.Rules.{rules}
+use Rattle.panel.specs.Lines.{component_sound}
 use Rattle.panel.proofs.rows.sound_component.Goals as goal
 
 pub returns-then-table-row-lt13 : goal.returns-then-table-row-lt13
-returns-then-table-row-lt13 c = search rows.by-range
+unfolding component_sound
+returns-then-table-row-lt13 c = search rules
 
-pub returns-then-inside : goal.returns-then-inside
-returns-then-inside c = search rows.no-storage
-
-pub returns : goal.returns
-returns c = search rows.name-outside
+pub returns-else-table-row-lt13 : goal.returns-else-table-row-lt13
+unfolding component_sound
+returns-else-table-row-lt13 c = search rules
