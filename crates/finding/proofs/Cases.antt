@@ -1,12 +1,11 @@
 -- The definition, computed.
 use mathlib.Core.Bool.{true, false}
-use mathlib.Core.List.{List, [], ◌∷◌}
+use mathlib.Core.List.{[], ◌∷◌}
 use mathlib.Core.Path.{◌≡◌, refl}
 use lib.IntN.{pos, negsuc}
-use lib.Ieee.{Float, inf, fin, of_bits, lt, is_nan}
+use lib.Ieee.{inf, fin, of_bits, lt, is_nan}
 use Rattle.finding.specs.Finding.{finding, values, of_values, of_numbers, nans, numbers, smallest, largest}
-use Rattle.finding.specs.declared.Finding as the
-use Rattle.finding.specs.declared.Finding.TheVariants.{Empty, OnlyNaN, Span}
+use Rattle.finding.specs.declared.Finding.TheVariants.{OnlyNaN, Span}
 
 -- -0 before +0: the first met is kept, as smallest and as largest
 pub zeros : finding (0 ∷ 0 ∷ 0 ∷ 128 ∷ 0 ∷ 0 ∷ 0 ∷ 0 ∷ []) ≡ Span (fin true 0 (pos 0)) (fin true 0 (pos 0)) 0

@@ -1,29 +1,35 @@
 -- One turn of the loop, as a step of the definition.
-use Prim.Native.Nat.{ℕ, zero, suc, ◌+◌, ◌*◌, ◌≤◌, ◌<◌, ◌-◌}
+use Prim.Native.Nat.{ℕ, suc, ◌+◌, ◌≤◌, ◌<◌}
 use native.Mathlib.Omega.{arith}
 use native.Mathlib.Numerals.{add-one}
 use mathlib.Core.Bool.{Bool, true, false, not, cond}
-use mathlib.Core.List.{List, [], ◌∷◌}
+use mathlib.Core.List.{List, [], ◌∷◌, ◌++◌}
 use mathlib.Core.Path.{◌≡◌, refl, sym, ap, ◌∙◌}
 use lib.Dec.{T}
-use lib.ListN.{length, get_or, drop, length-drop}
-use lib.Seq.{drop-cons}
-use lib.IntN.{ℤ}
+use lib.ListN.{length, length-append}
 use lib.Ieee.{Float, nan, inf, fin, binary32, of_bits, nan_bits, is_nan, lt}
 use lib.Ieee.Bits.{nan_bits_is}
 use Rattle.finding.specs.Finding.{pattern, pattern_at, values, nans, numbers, lesser, greater, within, smallest, largest, of_numbers, of_values, finding}
 use Rattle.finding.specs.declared.Finding as the
 use Rattle.finding.specs.declared.Finding.TheVariants.{Empty, OnlyNaN, Span}
 
--- the values from i on begin with the one that stands there
-values-at : (s : List ℕ) (i : ℕ) → i + 4 ≤ length s → values (drop i s) ≡ of_bits binary32 (pattern_at s i) ∷ values (drop (i + 4) s)
+-- the values of four bytes and more
+values-four : (x r : List ℕ) → length x ≡ 4 → values (x ++ r) ≡ of_bits binary32 (pattern_at x 0) ∷ values r
 unfolding values
-values-at s i l =
-    let a : i + 1 ≡ suc i = omega arith in
-    let b : i + 2 ≡ suc (suc i) = omega arith in
-    let c : i + 3 ≡ suc (suc (suc i)) = omega arith in
-    let d : i + 4 ≡ suc (suc (suc (suc i))) = omega arith in
-    rw (drop-cons s i 0 (omega arith), drop-cons s (suc i) 0 (omega arith), drop-cons s (suc (suc i)) 0 (omega arith), drop-cons s (suc (suc (suc i))) 0 (omega arith), a, b, c, d)
+values-four [] r l = absurd (omega arith)
+values-four (a ∷ []) r l = absurd (omega arith)
+values-four (a ∷ b ∷ []) r l = absurd (omega arith)
+values-four (a ∷ b ∷ c ∷ []) r l = absurd (omega arith)
+values-four (a ∷ b ∷ c ∷ d ∷ []) r l = refl
+values-four (a ∷ b ∷ c ∷ d ∷ e ∷ x) r l = absurd (omega arith)
+
+values-some : (s : List ℕ) → 4 ≤ length s → (x : Float) × (xs : List Float) × (values s ≡ x ∷ xs)
+unfolding values
+values-some [] l = absurd (omega arith)
+values-some (a ∷ []) l = absurd (omega arith)
+values-some (a ∷ b ∷ []) l = absurd (omega arith)
+values-some (a ∷ b ∷ c ∷ []) l = absurd (omega arith)
+values-some (a ∷ b ∷ c ∷ d ∷ s) l = (of_bits binary32 (pattern a b c d), values s, refl)
 
 -- fewer than four bytes hold none
 values-short : (s : List ℕ) → length s < 4 → values s ≡ []
@@ -94,9 +100,9 @@ unmet-is xs x ys e =
     rw e (run-unmet 0 (x ∷ ys) ∙ ap (λ (k : ℕ). of_numbers k (numbers (x ∷ ys))) z)
 
 -- what the loop begins with is the finding
-begins : (s : List ℕ) → 4 ≤ length s → run (of_bits binary32 2139095040) (of_bits binary32 4286578688) 0 false (values (drop 0 s)) ≡ finding s
+begins : (s : List ℕ) → 4 ≤ length s → run (of_bits binary32 2139095040) (of_bits binary32 4286578688) 0 false (values s) ≡ finding s
 unfolding finding
-begins s l = rw (first, last) (unmet-is (values (drop 0 s)) _ _ (values-at s 0 (omega arith)))
+begins s l = let k = values-some s l in rw (first, last) (unmet-is (values s) k.0 k.1 k.2)
 
 -- what lies within is kept as neither
 kept : (p q : Bool) (lo hi x : Float) → cond p false (not q) ≡ true → (cond p x lo ≡ lo) × (cond q x hi ≡ hi)
@@ -105,28 +111,27 @@ kept false true lo hi x e = let z : ◌≡◌ {A = ℕ} 0 1 = cc in absurd (omeg
 kept false false lo hi x e = (refl, refl)
 
 -- a turn at a NaN, at a number, and at one that lies within
-module _ (s : List ℕ) (i : ℕ) (l : i + 4 ≤ length s) (lo hi : Float) (n : ℕ) (b : Bool) where
-  turn-nan : nan_bits binary32 (pattern_at s i) ≡ true → run lo hi (n + 1) b (values (drop (i + 4) s)) ≡ run lo hi n b (values (drop i s))
+module _ (x r : List ℕ) (l : length x ≡ 4) (lo hi : Float) (n : ℕ) (b : Bool) where
+  turn-nan : nan_bits binary32 (pattern_at x 0) ≡ true → run lo hi (n + 1) b (values r) ≡ run lo hi n b (values (x ++ r))
   unfolding run
-  turn-nan e = let z : is_nan (of_bits binary32 (pattern_at s i)) ≡ true = sym (nan_bits_is binary32 (pattern_at s i)) ∙ e in rw (values-at s i l, z, add-one n)
+  turn-nan e = let z : is_nan (of_bits binary32 (pattern_at x 0)) ≡ true = sym (nan_bits_is binary32 (pattern_at x 0)) ∙ e in rw (values-four x r l, z, add-one n)
 
-  turn-number : nan_bits binary32 (pattern_at s i) ≡ false
-      → run (lesser lo (of_bits binary32 (pattern_at s i))) (greater hi (of_bits binary32 (pattern_at s i))) n true (values (drop (i + 4) s)) ≡ run lo hi n b (values (drop i s))
+  turn-number : nan_bits binary32 (pattern_at x 0) ≡ false
+      → run (lesser lo (of_bits binary32 (pattern_at x 0))) (greater hi (of_bits binary32 (pattern_at x 0))) n true (values r) ≡ run lo hi n b (values (x ++ r))
   unfolding run
-  turn-number e = let z : is_nan (of_bits binary32 (pattern_at s i)) ≡ false = sym (nan_bits_is binary32 (pattern_at s i)) ∙ e in rw (values-at s i l, z)
+  turn-number e = let z : is_nan (of_bits binary32 (pattern_at x 0)) ≡ false = sym (nan_bits_is binary32 (pattern_at x 0)) ∙ e in rw (values-four x r l, z)
 
-  turn-within : nan_bits binary32 (pattern_at s i) ≡ false → within lo hi (of_bits binary32 (pattern_at s i)) ≡ true
-      → run lo hi n true (values (drop (i + 4) s)) ≡ run lo hi n b (values (drop i s))
+  turn-within : nan_bits binary32 (pattern_at x 0) ≡ false → within lo hi (of_bits binary32 (pattern_at x 0)) ≡ true → run lo hi n true (values r) ≡ run lo hi n b (values (x ++ r))
   turn-within e w =
-      let x = of_bits binary32 (pattern_at s i) in
-      let k = kept (lt x lo) (lt hi x) lo hi x w in
+      let y = of_bits binary32 (pattern_at x 0) in
+      let k = kept (lt y lo) (lt hi y) lo hi y w in
       rw (k.0, k.1) at (turn-number e)
 
 -- where it ends
-ends : (s : List ℕ) (i : ℕ) → length s - i < 4 → i ≤ length s → (lo hi : Float) (n : ℕ) (b t : Bool) {f : the.Finding}
-    → b ≡ t → run lo hi n b (values (drop i s)) ≡ f → cond t (Span lo hi n) (OnlyNaN n) ≡ f
+ends : (r : List ℕ) → length r < 4 → (lo hi : Float) (n : ℕ) (b t : Bool) {f : the.Finding}
+    → b ≡ t → run lo hi n b (values r) ≡ f → cond t (Span lo hi n) (OnlyNaN n) ≡ f
 unfolding run
-ends s i l h lo hi n b t e p = let z : values (drop i s) ≡ [] = values-short (drop i s) (simp length-drop (omega arith)) in rw (← e) (rw z at p)
+ends r l lo hi n b t e p = rw (← e) (rw (values-short r l) at p)
 
 pub is-empty : (s : List ℕ) → length s < 4 → Empty ≡ finding s
 unfolding finding of_values
@@ -135,44 +140,44 @@ is-empty s l = rw (values-short s l)
 pub no : (b : Bool) → b ≡ false → T (not b)
 no b e = rw e tt
 
-pub no_nan : (p : ℕ) {q : Bool} → q ≡ nan_bits binary32 p → q ≡ false → T (not (nan_bits binary32 p))
-no_nan p is e = no _ (sym is ∙ e)
-
 -- ---- the loop: its own fold of the rest is the finding of all
 
-pub record Ran (s : List ℕ) (lo hi : Float) (n : ℕ) (b : Bool) (i : ℕ) : Type 0 where
-  pub inside : i ≤ length s
-  pub few : n ≤ i
-  pub so_far : run lo hi n b (values (drop i s)) ≡ finding s
+-- r is what is left of s
+pub record Ran (s : List ℕ) (lo hi : Float) (n : ℕ) (b : Bool) (r : List ℕ) : Type 0 where
+  pub few : n + length r ≤ length s
+  pub so_far : run lo hi n b (values r) ≡ finding s
 
-pub ran-none : {s : List ℕ} → 4 ≤ length s → Ran s (of_bits binary32 2139095040) (of_bits binary32 4286578688) 0 false 0
-ran-none {s} l = record { inside = omega arith; few = omega arith; so_far = begins s l }
+pub ran-none : {s r : List ℕ} → 4 ≤ length s → r ≡ s → Ran s (of_bits binary32 2139095040) (of_bits binary32 4286578688) 0 false r
+ran-none {s} {r} l e = rw e (record { few = omega arith; so_far = begins s l })
 
-module _ {s : List ℕ} {lo hi : Float} {n : ℕ} {b : Bool} {i : ℕ} (w : Ran s lo hi n b i) where
-  -- p is the next pattern, and q says whether it is a NaN
-  module _ (l : 4 ≤ length s - i) {p : ℕ} (e : p ≡ pattern_at s i) {q : Bool} (is : q ≡ nan_bits binary32 p) where
-    lies : i + 4 ≤ length s
-    lies = omega arith
+module _ {s : List ℕ} {lo hi : Float} {n : ℕ} {b : Bool} {u : List ℕ} (w : Ran s lo hi n b u) where
+  -- p is the pattern of the next four bytes, and q says whether it is a NaN
+  module _ (x r : List ℕ) (goes : u ≡ x ++ r) (l : length x ≡ 4) {p : ℕ} (e : p ≡ pattern_at x 0) {q : Bool} (is : q ≡ nan_bits binary32 p) where
+    left : length u ≡ 4 + length r
+    left = ap length goes ∙ omega (arith, l, length-append x r)
 
-    pub past-nan : q ≡ true → Ran s lo hi (n + 1) b (i + 4)
-    past-nan y = let m = w.few in record { inside = lies; few = omega arith; so_far = turn-nan s i lies lo hi n b (ap (nan_bits binary32) (sym e) ∙ sym is ∙ y) ∙ w.so_far }
+    so-far : run lo hi n b (values (x ++ r)) ≡ finding s
+    so-far = rw goes at w.so_far
 
-    module _ (y : q ≡ false) {x : Float} (ex : x ≡ of_bits binary32 p) where
-      number-here : nan_bits binary32 (pattern_at s i) ≡ false
+    pub past-nan : q ≡ true → Ran s lo hi (n + 1) b r
+    past-nan y = let m = w.few in record { few = omega (arith, left); so_far = turn-nan x r l lo hi n b (ap (nan_bits binary32) (sym e) ∙ sym is ∙ y) ∙ so-far }
+
+    module _ (y : q ≡ false) {z : Float} (ez : z ≡ of_bits binary32 p) where
+      number-here : nan_bits binary32 (pattern_at x 0) ≡ false
       number-here = ap (nan_bits binary32) (sym e) ∙ sym is ∙ y
 
-      here : of_bits binary32 (pattern_at s i) ≡ x
-      here = ap (of_bits binary32) (sym e) ∙ sym ex
+      here : of_bits binary32 (pattern_at x 0) ≡ z
+      here = ap (of_bits binary32) (sym e) ∙ sym ez
 
-      pub past-within : {r : Bool} → r ≡ within lo hi x → r ≡ true → Ran s lo hi n true (i + 4)
-      past-within er v = let m = w.few in record { inside = lies; few = omega arith; so_far = turn-within s i lies lo hi n b number-here (ap (within lo hi) here ∙ sym er ∙ v) ∙ w.so_far }
+      pub past-within : {t : Bool} → t ≡ within lo hi z → t ≡ true → Ran s lo hi n true r
+      past-within er v = let m = w.few in record { few = omega (arith, left); so_far = turn-within x r l lo hi n b number-here (ap (within lo hi) here ∙ sym er ∙ v) ∙ so-far }
 
-      pub past-number : {lo' hi' : Float} → lo' ≡ lesser lo x → hi' ≡ greater hi x → Ran s lo' hi' n true (i + 4)
-      past-number el eh = let m = w.few in record { inside = lies; few = omega arith; so_far = rw (el, eh) ((rw here at (turn-number s i lies lo hi n b number-here)) ∙ w.so_far) }
+      pub past-number : {lo' hi' : Float} → lo' ≡ lesser lo z → hi' ≡ greater hi z → Ran s lo' hi' n true r
+      past-number el eh = let m = w.few in record { few = omega (arith, left); so_far = rw (el, eh) ((rw here at (turn-number x r l lo hi n b number-here)) ∙ so-far) }
 
-  module _ (l : length s - i < 4) where
+  module _ (l : length u < 4) where
     pub ran-span : b ≡ true → Span lo hi n ≡ finding s
-    ran-span e = ends s i l w.inside lo hi n b true e w.so_far
+    ran-span e = ends u l lo hi n b true e w.so_far
 
     pub ran-nans : b ≡ false → OnlyNaN n ≡ finding s
-    ran-nans e = ends s i l w.inside lo hi n b false e w.so_far
+    ran-nans e = ends u l lo hi n b false e w.so_far

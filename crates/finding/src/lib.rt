@@ -16,18 +16,12 @@ pub enum Finding {
     Span(f32, f32, u64),
 }
 
-fn wide(x: u8) -> u32
-    ensures { (result ≡ x) × (result < 256) }
+// The pattern of four bytes.
+fn pattern(four: &[u8]) -> u32
+    requires { length four.now ≡ 4 }
+    ensures { (result ≡ is.pattern_at four.now 0) × (result < 4294967296) }
 {
-    x as u32
-}
-
-// The pattern of the four bytes from i on.
-fn pattern(s: &[u8], i: usize) -> u32
-    requires { i + 4 ≤ length s.now }
-    ensures { (result ≡ is.pattern_at s.now i) × (result < 4294967296) }
-{
-    wide(s[i]) + wide(s[i + 1]) * 256 + wide(s[i + 2]) * 65536 + wide(s[i + 3]) * 16777216
+    u32::from_le_bytes([four[0], four[1], four[2], four[3]])
 }
 
 // Is this the pattern of a NaN?
@@ -37,14 +31,7 @@ fn nan(n: u32) -> bool
     n % 2147483648 > 2139095040
 }
 
-fn number(n: u32) -> f32
-    requires { T (not (nan_bits binary32 n)) }
-    ensures { result ≡ of_bits binary32 n }
-{
-    f32::from_bits(n)
-}
-
-// The lesser of two, the kept one unless the other is below it.
+// The lesser of two, the kept one unless the other is below it. Not `f32::min`, which doesn't say which of two zeros it answers: the first met is kept.
 fn lesser(kept: f32, x: f32) -> f32
     ensures { result ≡ is.lesser kept x }
 {
@@ -61,10 +48,7 @@ fn greater(kept: f32, x: f32) -> f32
 fn within(smallest: f32, largest: f32, x: f32) -> bool
     ensures { result ≡ is.within smallest largest x }
 {
-    if x < smallest {
-        return false;
-    }
-    !(largest < x)
+    !(x < smallest) && !(largest < x)
 }
 
 pub fn find(s: &[u8]) -> Finding
@@ -77,15 +61,13 @@ pub fn find(s: &[u8]) -> Finding
     let mut largest = f32::from_bits(0xff80_0000);
     let mut nans = 0u64;
     let mut some = false;
-    let mut i = 0usize;
-    while 4 <= s.len() - i {
-        let n = pattern(s, i);
-        i += 4;
+    for four in s.chunks_exact(4) {
+        let n = pattern(four);
         if nan(n) {
             nans += 1;
             continue;
         }
-        let x = number(n);
+        let x = f32::from_bits(n);
         some = true;
         if within(smallest, largest, x) {
             continue;
@@ -108,17 +90,11 @@ pub struct Shown {
     pub nans: u64,
 }
 
-fn wider(n: u32) -> u64
-    ensures { result ≡ n }
-{
-    n as u64
-}
-
 fn bits(x: f32) -> u64
     requires { T (not (is_nan x)) }
     ensures { result ≡ to_bits binary32 x }
 {
-    wider(f32::to_bits(x))
+    u64::from(x.to_bits())
 }
 
 pub fn in_numbers(f: Finding) -> Shown

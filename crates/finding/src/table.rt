@@ -22,16 +22,10 @@ fn due(table: &[u64], row: usize) -> bool
     requires { row + component_width ≤ length table.now }
     ensures { result ≡ is.due table.now row }
 {
-    if table[row + DTYPE] != 1 {
-        return false;
-    }
-    if table[row + TYPE] != 0 {
-        return false;
-    }
-    if table[row + TYPE_LENGTH] != 0 {
-        return false;
-    }
-    table[row + LENGTH] % 4 == 0
+    table[row + DTYPE] == 1
+        && table[row + TYPE] == 0
+        && table[row + TYPE_LENGTH] == 0
+        && table[row + LENGTH] % 4 == 0
 }
 
 // Its finding in numbers, 0 where none is due.

@@ -1,18 +1,16 @@
--- `finding::in_numbers` meets its contract: a law for each branch. Assumes nothing.
-use Rattle.finding.proofs.Sound as sound
+-- `finding::in_numbers` meets its contract. Assumes nothing.
+use borrow.Author.Rules.{rules}
+use Rattle.finding.specs.Finding.{shown}
 use Rattle.finding.proofs.in_numbers.Goals as goal
 
-pub bits-requires : goal.bits-requires
-bits-requires c = search sound.low-sound
-
-pub bits-requires-in-Span : goal.bits-requires-in-Span
-bits-requires-in-Span c = search sound.high-sound
-
 pub returns-in-Empty : goal.returns-in-Empty
-returns-in-Empty c = search sound.empty-shown
+unfolding shown
+returns-in-Empty c = search rules
 
 pub returns-in-OnlyNaN : goal.returns-in-OnlyNaN
-returns-in-OnlyNaN c = search sound.nan-shown
+unfolding shown
+returns-in-OnlyNaN c = search rules
 
 pub returns-in-Span : goal.returns-in-Span
-returns-in-Span c = search sound.span-shown
+unfolding shown
+returns-in-Span c = search rules

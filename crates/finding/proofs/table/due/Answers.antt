@@ -1,15 +1,13 @@
--- `finding::table::due` meets its contract: a law for each branch. Assumes nothing.
-use Rattle.finding.proofs.Rows as rows
+-- `finding::table::due` meets its contract. Assumes nothing.
+use borrow.Author.Rules.{rules}
+use Rattle.meaning.specs.Types.{f32}
+use Rattle.finding.specs.Table.{due}
 use Rattle.finding.proofs.table.due.Goals as goal
 
-pub returns-then-table-row-ne1 : goal.returns-then-table-row-ne1
-returns-then-table-row-ne1 c = search rows.other-storage
+pub returns-then-table-row-eq0-2 : goal.returns-then-table-row-eq0-2
+unfolding due f32
+returns-then-table-row-eq0-2 c = search rules
 
-pub returns-then-table-row-ne0 : goal.returns-then-table-row-ne0
-returns-then-table-row-ne0 c = search rows.typed
-
-pub returns-then-table-row-ne0-2 : goal.returns-then-table-row-ne0-2
-returns-then-table-row-ne0-2 c = search rows.named
-
-pub returns : goal.returns
-returns c = search rows.by_length
+pub returns-else-table-row-eq0-2 : goal.returns-else-table-row-eq0-2
+unfolding due f32
+returns-else-table-row-eq0-2 c = search rules
