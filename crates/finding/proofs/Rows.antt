@@ -1,14 +1,13 @@
 -- A component's row that was found lies in the table, and its finding is what its view shows.
-use Prim.Native.Nat.{ℕ, ◌+◌, ◌*◌, ◌%◌, ◌≤◌}
+use Prim.Native.Nat.{ℕ, ◌+◌, ◌*◌, ◌≤◌}
 use native.Mathlib.Omega.{arith}
 use mathlib.Core.Bool.{Bool, true, false, ◌&&◌}
 use mathlib.Core.List.{List}
 use mathlib.Core.Path.{◌≡◌, refl, sym, ap, ◌∙◌, subst}
 use lib.ListN.{length, take, drop, get_or}
-use lib.Dec.{eqb, leb, ltb}
-use borrow.Author.Tests.{leb-true, ne_eqb}
-use Rattle.meaning.specs.Columns.{object_width, component_width, dtype_column, type_column, type_length_column, offset_column, length_column}
-use Rattle.meaning.specs.Types.{f32}
+use lib.Dec.{leb, ltb}
+use borrow.Author.Tests.{leb-true}
+use Rattle.meaning.specs.Columns.{object_width, component_width, offset_column, length_column}
 use Rattle.meaning.specs.View.{viewed}
 use Rattle.meaning.proofs.Tests.{both_right}
 use Rattle.view.specs.Extents as view
@@ -21,25 +20,7 @@ use Rattle.finding.specs.declared.table.Found.{Found}
 twenty-six : ◌≡◌ {A = ℕ} 26 0 → ⊥
 twenty-six e = omega (arith, e)
 
--- ---- whether one is due
-
-module _ (table : List ℕ) (row : ℕ) where
-  pub other-storage : (get_or table (row + dtype_column) 0 ≡ 1 → ⊥) → false ≡ due table row
-  unfolding due f32
-  other-storage h = rw (ne_eqb (get_or table (row + dtype_column) 0) 1 h) refl
-
-  pub typed : get_or table (row + dtype_column) 0 ≡ 1 → (get_or table (row + type_column) 0 ≡ 0 → ⊥) → false ≡ due table row
-  unfolding due f32
-  typed e h = rw (e, ne_eqb (get_or table (row + type_column) 0) 0 h) refl
-
-  pub named : get_or table (row + dtype_column) 0 ≡ 1 → get_or table (row + type_column) 0 ≡ 0 → (get_or table (row + type_length_column) 0 ≡ 0 → ⊥) → false ≡ due table row
-  unfolding due f32
-  named e f h = rw (e, f, ne_eqb (get_or table (row + type_length_column) 0) 0 h) refl
-
-  pub by_length : get_or table (row + dtype_column) 0 ≡ 1 → get_or table (row + type_column) 0 ≡ 0 → get_or table (row + type_length_column) 0 ≡ 0
-      → eqb (get_or table (row + length_column) 0 % 4) 0 ≡ due table row
-  unfolding due f32
-  by_length e f g = rw (e, f, g) refl
+-- ---- one that is due
 
 module _ (file table : List ℕ) (row : ℕ) where
   pub not-due : {d : Bool} → d ≡ due table row → d ≡ false → undue ≡ at_row file table row

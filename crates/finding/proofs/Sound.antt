@@ -1,14 +1,11 @@
 -- The numbers of a finding are no NaNs, so that each has a pattern.
 use Prim.Native.Nat.{ℕ}
-use mathlib.Core.Bool.{Bool, true, false, not, cond}
+use mathlib.Core.Bool.{Bool, true, false, cond}
 use mathlib.Core.List.{List, [], ◌∷◌}
 use mathlib.Core.Path.{◌≡◌, refl}
-use lib.Dec.{T}
-use lib.Ieee.{Float, binary32, is_nan, to_bits, lt}
+use lib.Ieee.{Float, is_nan, lt}
 use Rattle.finding.specs.declared.Finding as the
-use Rattle.finding.specs.declared.Finding.TheVariants.{Empty, OnlyNaN, Span}
-use Rattle.finding.specs.declared.Shown.{Shown}
-use Rattle.finding.specs.Finding.{values, nans, numbers, lesser, greater, smallest, largest, of_numbers, of_values, finding, Sound, shown}
+use Rattle.finding.specs.Finding.{values, nans, numbers, lesser, greater, smallest, largest, of_numbers, of_values, finding, Sound}
 use Rattle.finding.proofs.Turn.{no}
 
 either : (b : Bool) (x y : Float) → is_nan x ≡ false → is_nan y ≡ false → is_nan (cond b x y) ≡ false
@@ -52,25 +49,6 @@ of-values-sound (x ∷ xs) = of-numbers-sound (nans (x ∷ xs)) (x ∷ xs)
 sound : (s : List ℕ) → Sound (finding s)
 unfolding finding
 sound s = of-values-sound (values s)
-
-module _ {f : the.Finding} {a b : Float} {n : ℕ} (e : f ≡ Span a b n) where
-  pub low-sound : Sound f → T (not (is_nan a))
-  low-sound h = (rw e at h).0
-
-  pub high-sound : Sound f → T (not (is_nan b))
-  high-sound h = (rw e at h).1
-
-  pub span-shown : (x y : ℕ) → x ≡ to_bits binary32 a → y ≡ to_bits binary32 b → ◌≡◌ {A = Shown} (record { finding = 3; smallest = x; largest = y; nans = n }) (shown f)
-  unfolding shown
-  span-shown x y p q = rw (e, p, q)
-
-pub nan-shown : {f : the.Finding} {n : ℕ} → f ≡ OnlyNaN n → ◌≡◌ {A = Shown} (record { finding = 2; smallest = 0; largest = 0; nans = n }) (shown f)
-unfolding shown
-nan-shown e = rw e
-
-pub empty-shown : {f : the.Finding} → f ≡ Empty → ◌≡◌ {A = Shown} (record { finding = 1; smallest = 0; largest = 0; nans = 0 }) (shown f)
-unfolding shown
-empty-shown e = rw e
 
 pub as-sound : {f : the.Finding} (s : List ℕ) → f ≡ finding s → Sound f
 as-sound s e = rw e (sound s)
