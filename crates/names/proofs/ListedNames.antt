@@ -10,8 +10,7 @@ use Rattle.meaning.specs.Text.{same, one_of, distinct}
 use Rattle.meaning.proofs.SameText.{same-eq}
 use Rattle.text.proofs.OrderIsTotal.{Which, less, more, equal, which}
 use Rattle.text.proofs.SameIsEqual.{eq-same, ne_same}
-use Rattle.names.specs.Names.{name, listed, Differ, Copy, Leading}
-use Rattle.names.proofs.NamedParts.{wholes, from-wholes}
+use Rattle.names.specs.Names.{listed, Differ, Copy, Leading}
 
 module _ (f : ℕ → List ℕ) where
   pub listed-there : (w : List ℕ) (i k j : ℕ) → i ≤ j → j < i + k → f j ≡ w → one_of (listed f i k) w ≡ true
@@ -86,7 +85,7 @@ module _ {f : ℕ → List ℕ} where
   pub not-said : {x : ℕ} → false ≡ true → Copy f x
   not-said q = let z : ◌≡◌ {A = ℕ} 0 1 = cc in absurd (omega arith)
 
-  leading-decides : {n r : ℕ} → Leading f n r → eqb r n ≡ distinct (listed f 0 n)
+  pub leading-decides : {n r : ℕ} → Leading f n r → eqb r n ≡ distinct (listed f 0 n)
   leading-decides {n} {r} h = go (which r n)
     where
       go : Which r n → eqb r n ≡ distinct (listed f 0 n)
@@ -94,24 +93,12 @@ module _ {f : ℕ → List ℕ} where
       go (more q) = absurd (omega (arith, h.most))
       go (equal q) = rw q (eq-eqb n n refl ∙ sym (differ-once f (rw q at h.differ)))
 
--- ---------------------------------------------------------------- names that were read from whole parts
-
-module _ (m left size : List ℕ) where
   -- a and b are the names i and x, and r says that they are the same
-  pub copy-found : {i x : ℕ} {a b : List ℕ} {r : Bool} → a ≡ wholes m left size i → b ≡ wholes m left size x → r ≡ same a b → r ≡ true → i < x → Copy (name m left size) x
-  copy-found {i} {x} {a} {b} p q e t l = record { first = i; before = l; is = rw (from-wholes m left size) at (sym p ∙ same-eq a b (sym e ∙ t) ∙ q) }
+  pub copy-found : {i x : ℕ} {a b : List ℕ} {r : Bool} → a ≡ f i → b ≡ f x → r ≡ same a b → r ≡ true → i < x → Copy f x
+  copy-found {i} {x} {a} {b} p q e t l = record { first = i; before = l; is = sym p ∙ same-eq a b (sym e ∙ t) ∙ q }
 
-  pub wholes-differ : {k : ℕ} → Differ (wholes m left size) k → Differ (name m left size) k
-  wholes-differ h = rw (from-wholes m left size) at h
+  pub all-lead : {k n : ℕ} → Differ f k → k ≡ n → Leading f n n
+  all-lead h e = leading-all (fewer-differ (omega arith) h)
 
-  pub wholes-lead : {n r : ℕ} → Leading (wholes m left size) n r → Leading (name m left size) n r
-  wholes-lead h = rw (from-wholes m left size) at h
-
-  pub all-lead : {k n : ℕ} → Differ (wholes m left size) k → k ≡ n → Leading (name m left size) n n
-  all-lead h e = leading-all (fewer-differ (omega arith) (wholes-differ h))
-
-  pub some-lead : {k n : ℕ} {r : Bool} → Differ (wholes m left size) k → k ≤ n → (r ≡ true → Copy (wholes m left size) k) → r ≡ true → Leading (name m left size) n k
-  some-lead h l c q = leading-some l (wholes-differ h) (rw (from-wholes m left size) at (c q))
-
-  pub leading-tells : {n r : ℕ} → Leading (wholes m left size) n r → eqb r n ≡ distinct (listed (name m left size) 0 n)
-  leading-tells h = leading-decides (wholes-lead h)
+  pub some-lead : {k n : ℕ} {r : Bool} → Differ f k → k ≤ n → (r ≡ true → Copy f k) → r ≡ true → Leading f n k
+  some-lead h l c q = leading-some l h (c q)

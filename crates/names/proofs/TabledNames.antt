@@ -11,7 +11,6 @@ use Rattle.text.proofs.OrderIsTotal.{Which, less, more, equal, which}
 use Rattle.names.specs.Names.{name, Differ}
 use Rattle.names.specs.Table.{Found, Claimed}
 use Rattle.names.proofs.ListedNames.{none_differ, differ-more, fewer-differ}
-use Rattle.names.proofs.NamedParts.{wholes, from-wholes}
 
 -- the loop of `claim`: the table is as it was, and the places from h's own up to p hold neither 0 nor h
 pub record Probed (old table : List ℕ) (h p : ℕ) : Type 0 where
@@ -93,17 +92,14 @@ pub tabled-none : {m left size table : List ℕ} → Tabled m left size table ta
 tabled-none {m} {left} {size} = record { as_long = refl; every = λ j l. absurd (omega arith); differ = none_differ (name m left size) }
 
 module _ {m left size old table : List ℕ} {i : ℕ} (t : Tabled m left size old table i) where
-  pub tabled-more : {new : List ℕ} {h : ℕ} {r : Bool} → length new ≡ length table → Claimed table new h r → h ≡ digest (wholes m left size i) → r ≡ true
+  pub tabled-more : {new : List ℕ} {h : ℕ} {r : Bool} → length new ≡ length table → Claimed table new h r → h ≡ digest (name m left size i) → r ≡ true
       → Tabled m left size old new (i + 1)
-  tabled-more {new} {h} s c d q = record {
+  tabled-more {new} {h} s c e q = record {
     as_long = s ∙ t.as_long;
     every = λ j l. go j l (which j i);
     differ = differ-more t.differ (λ j l y. c.free q (subst (Found table) (ap digest y ∙ sym e) (t.every j l)));
   }
     where
-      e : h ≡ digest (name m left size i)
-      e = rw (from-wholes m left size) at d
-
       go : (j : ℕ) → j < i + 1 → Which j i → Found new (digest (name m left size j))
       go j l (less w) = c.kept q (digest (name m left size j)) (digest-positive (name m left size j)) (t.every j w)
       go j l (more w) = absurd (omega arith)

@@ -19,15 +19,10 @@ use tabled::differ_by_digest;
 fn is_copy(m: &[u8], left: &[usize], size: &[usize], x: usize) -> bool
     ensures { result ≡ true → Copy (name m.now left.now size.now) x }
 {
-    let mut i: usize = 0;
-    while i < x {
-        if text::same(
-            name_of(&m[0..], &left[0..], &size[0..], i),
-            name_of(&m[0..], &left[0..], &size[0..], x),
-        ) {
+    for i in 0..x {
+        if text::same(name_of(m, left, size, i), name_of(m, left, size, x)) {
             return true;
         }
-        i += 1;
     }
     false
 }
@@ -39,15 +34,15 @@ pub fn leading(m: &[u8], left: &[usize], size: &[usize], n: usize, ix: &mut [u16
     ensures { Leading (name m.now left.now size.now) n result }
 {
     if 16 < n {
-        let k = differ_by_digest(&m[0..], &left[0..], &size[0..], n);
+        let k = differ_by_digest(m, left, size, n);
         if k == n {
             return n;
         }
-        if is_copy(&m[0..], &left[0..], &size[0..], k) {
+        if is_copy(m, left, size, k) {
             return k;
         }
     }
-    differ_by_order(&m[0..], &left[0..], &size[0..], n, ix)
+    differ_by_order(m, left, size, n, ix)
 }
 
 // No name stands twice among the n, at most 65,536. ix is room for the work, n places or more.
@@ -55,5 +50,5 @@ pub fn no_twice(m: &[u8], left: &[usize], size: &[usize], n: usize, ix: &mut [u1
     requires { (n ≤ length ix.old) × (n ≤ 65536) }
     ensures { result ≡ meant.distinct (listed (name m.now left.now size.now) 0 n) }
 {
-    leading(&m[0..], &left[0..], &size[0..], n, ix) == n
+    leading(m, left, size, n, ix) == n
 }

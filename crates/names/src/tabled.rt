@@ -10,7 +10,7 @@ use crate::named::name_of;
 fn digest_of(m: &[u8], left: &[usize], size: &[usize], i: usize) -> u64
     ensures { (result ≡ digests.digest (name m.now left.now size.now i)) × (0 < result) × (result < 4294967296) }
 {
-    text::digest(name_of(&m[0..], &left[0..], &size[0..], i))
+    text::digest(name_of(m, left, size, i))
 }
 
 // Puts h into the table where it isn't there and has room: in the first that holds 0 of the 64 places from its own on.
@@ -19,12 +19,8 @@ fn claim(table: &mut [u32], h: u64) -> bool
     ensures { Claimed table.old table.new h result }
 {
     let g = h as u32;
-    let mut p = (h % 2048) as usize;
-    let end = p + 64;
-    while p < table.len() {
-        if end <= p {
-            return false;
-        }
+    let first = (h % 2048) as usize;
+    for p in first..table.len().min(first + 64) {
         let o = table[p];
         if o == 0 {
             table[p] = g;
@@ -33,7 +29,6 @@ fn claim(table: &mut [u32], h: u64) -> bool
         if o == g {
             return false;
         }
-        p += 1;
     }
     false
 }
@@ -42,14 +37,10 @@ fn claim(table: &mut [u32], h: u64) -> bool
 fn claimed(m: &[u8], left: &[usize], size: &[usize], n: usize, table: &mut [u32]) -> usize
     ensures { (result ≤ n) × Differ (name m.now left.now size.now) result }
 {
-    let mut i: usize = 0;
-    while i < n {
-        let h = digest_of(&m[0..], &left[0..], &size[0..], i);
-        if claim(table, h) {
-            i += 1;
-            continue;
+    for i in 0..n {
+        if !claim(table, digest_of(m, left, size, i)) {
+            return i;
         }
-        return i;
     }
     n
 }
@@ -59,5 +50,5 @@ pub fn differ_by_digest(m: &[u8], left: &[usize], size: &[usize], n: usize) -> u
     ensures { (result ≤ n) × Differ (name m.now left.now size.now) result }
 {
     let mut table = [0u32; 2112];
-    claimed(&m[0..], &left[0..], &size[0..], n, &mut table)
+    claimed(m, left, size, n, &mut table)
 }

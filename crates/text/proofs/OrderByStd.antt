@@ -1,5 +1,5 @@
 -- What std's comparisons answer of two numbers and of two texts, in the numbers of `order`. Assumes nothing.
-use Rattle.std.proofs.Common.{◌≡◌, ℕ, List, [], ◌∷◌, ◌<◌, length, sym, ◌∙◌, ap, refl}
+use Rattle.std.proofs.Common.{◌≡◌, ℕ, zero, suc, List, [], ◌∷◌, ◌<◌, ◌≤◌, length, sym, ◌∙◌, ap, refl, arith}
 use Rattle.std.specs.declared.cmp.Ordering.{Ordering}
 use Rattle.std.specs.declared.cmp.Ordering.TheVariants.{Less, Equal, Greater}
 use Rattle.std.specs.Ordering.{nat_cmp, ordering_then, MatchOrdering}
@@ -35,3 +35,29 @@ order-by-std a b P {q} {r} e m f = go q (ranked (length a) (length b) q e) m
     go Less l h = ap number h ∙ sym (first-less _ _ _ l)
     go Equal l h = ap number (f h) ∙ lex-by-std a b ∙ sym (first-equal _ _ _ l)
     go Greater l h = ap number h ∙ sym (first_more _ _ _ l)
+
+-- one of these numbers as std names it
+abbrev pub ordering : ℕ → Ordering
+ordering zero = Equal
+ordering (suc zero) = Less
+ordering (suc (suc n)) = Greater
+
+pub ordering-of : (o : Ordering) {n : ℕ} → number o ≡ n → o ≡ ordering n
+ordering-of Less e = ap ordering e
+ordering-of Equal e = ap ordering e
+ordering-of Greater e = ap ordering e
+
+pub less-one : (n : ℕ) → ordering n ≡ Less → n ≡ 1
+less-one zero e = cc
+less-one (suc zero) e = refl
+less-one (suc (suc n)) e = cc
+
+pub equal-zero : (n : ℕ) → ordering n ≡ Equal → n ≡ 0
+equal-zero zero e = refl
+equal-zero (suc zero) e = cc
+equal-zero (suc (suc n)) e = cc
+
+pub greater-two : (n : ℕ) → n ≤ 2 → ordering n ≡ Greater → n ≡ 2
+greater-two zero l e = cc
+greater-two (suc zero) l e = cc
+greater-two (suc (suc n)) l e = omega arith

@@ -7,6 +7,3 @@ returns-then-k-n c = search listed.all-lead
 
 pub returns-then-is_copy : goal.returns-then-is_copy
 returns-then-is_copy c = search listed.some-lead
-
-pub returns : goal.returns
-returns c = search listed.wholes-lead

@@ -3,4 +3,4 @@ use Rattle.names.proofs.ListedNames as listed
 use Rattle.names.proofs.no_twice.Goals as goal
 
 pub returns : goal.returns
-returns c = search listed.leading-tells
+returns c = search listed.leading-decides
