@@ -1,12 +1,16 @@
 -- The tests of one offset, branch by branch.
-use Prim.Native.Nat.{ℕ, suc, ◌+◌, ◌-◌, ◌*◌, ◌%◌, ◌≤◌, ◌<◌}
+use Prim.Native.Nat.{ℕ, zero, suc, ◌+◌, ◌*◌, ◌%◌, ◌≤◌, ◌<◌}
 use native.Mathlib.Omega.{arith}
 use mathlib.Core.List.{List}
-use mathlib.Core.Bool.{Bool, true, false, not, ◌&&◌}
-use mathlib.Core.Path.{◌≡◌, refl, sym, ap, ◌∙◌, subst}
+use mathlib.Core.Bool.{Bool, true, false, ◌&&◌}
+use mathlib.Core.Path.{◌≡◌, refl, sym, ◌∙◌}
 use lib.Dec.{eqb, leb}
-use lib.ListN.{get_or}
-use borrow.Author.Tests.{not-true, not-false, leb-true, le-leb, lt-leb, eq-eqb, ne_eqb}
+use lib.ListN.{length, get_or}
+use Rattle.std.specs.Bool.{MatchBool}
+use Rattle.std.specs.List.{range_with_len, AllWithin, HoldsAt}
+use Rattle.std.proofs.lemmas.List.FromFn.{length-range_with_len, get_or-range_with_len}
+use Rattle.readback.specs.Follows.{Before}
+use borrow.Author.Tests.{eqb-true, eqb-false, leb-true}
 use Rattle.meaning.specs.Columns.{component_width, length_column}
 use Rattle.meaning.specs.Limit.{end_limit}
 use Rattle.meaning.specs.Text.{all}
@@ -14,93 +18,57 @@ use Rattle.meaning.specs.Read.{Span}
 use Rattle.meaning.specs.Plan.{ranged, apart, allowed}
 use Rattle.meaning.proofs.Tests.{both_right}
 use Rattle.readback.proofs.Planned.{apart-before}
-use Rattle.rows.proofs.Both.{same_test}
 use Rattle.plan.specs.Earlier.{here, earlier, Earlier, Next}
 
 module _ (offset size ceiling : ℕ) where
-  pub not-a-multiple : (offset % 64 ≡ 0 → ⊥) → false ≡ allowed ceiling (ranged offset size)
-  unfolding allowed
-  not-a-multiple h = rw (ne_eqb (offset % 64) 0 h) refl
-
-  module _ (m : offset % 64 ≡ 0) where
-    pub too-low : offset < 64 → false ≡ allowed ceiling (ranged offset size)
-    unfolding allowed
-    too-low h = rw (eq-eqb (offset % 64) 0 m, lt-leb 64 offset h) refl
-
-    module _ (l : 64 ≤ offset) where
-      pub above-already : ceiling < offset → false ≡ allowed ceiling (ranged offset size)
-      unfolding allowed
-      above-already h = rw (eq-eqb (offset % 64) 0 m, le-leb 64 offset l, lt-leb (offset + size) ceiling (omega (arith, h))) refl
-
-      pub ends-by-then : offset ≤ ceiling → leb size (ceiling - offset) ≡ allowed ceiling (ranged offset size)
-      unfolding allowed
-      ends-by-then h = rw (eq-eqb (offset % 64) 0 m, le-leb 64 offset l) (same_test size (ceiling - offset) (offset + size) ceiling (λ k. omega (arith, h, k)) (λ k. omega (arith, h, k)))
-
   -- an offset that is allowed ends by the ceiling
   pub ends_low : ceiling ≤ end_limit → allowed ceiling (ranged offset size) ≡ true → offset + size ≤ end_limit
   unfolding allowed
   ends_low h e = omega (arith, h, leb-true (offset + size) ceiling (both_right (eqb (offset % 64) 0 && leb 64 offset) (leb (offset + size) ceiling) e))
 
-module _ (o l p m : ℕ) where
-  pub nothing-here : l ≡ 0 → true ≡ apart (ranged o l) (ranged p m)
-  unfolding apart
-  nothing-here e = rw (eq-eqb l 0 e) refl
+-- ---- the earlier ones
 
-  module _ (some : l ≡ 0 → ⊥) where
-    pub nothing-there : m ≡ 0 → true ≡ apart (ranged o l) (ranged p m)
-    unfolding apart
-    nothing-there e = rw (ne_eqb l 0 some, eq-eqb m 0 e) refl
-
-    module _ (more : m ≡ 0 → ⊥) where
-      pub ends-before : o + l ≤ p → true ≡ apart (ranged o l) (ranged p m)
-      unfolding apart
-      ends-before h = rw (ne_eqb l 0 some, ne_eqb m 0 more, le-leb (o + l) p h) refl
-
-      pub begins-after : p < o + l → leb (p + m) o ≡ apart (ranged o l) (ranged p m)
-      unfolding apart
-      begins-after h = rw (ne_eqb l 0 some, ne_eqb m 0 more, lt-leb (o + l) p h) refl
-
--- ---- a loop over the earlier ones
-
--- so many are left to look at, and none of the others shares a byte with this one
-pub record Looking (plan rows : List ℕ) (s : Span) (n i : ℕ) : Type 0 where
-  pub left : Earlier plan rows i
-  pub same : all (apart s) (earlier plan rows n) ≡ all (apart s) (earlier plan rows i)
-
-module _ {plan rows : List ℕ} where
-  fewer : {n : ℕ} → Earlier plan rows (suc n) → Earlier plan rows n
+module _ (plan rows : List ℕ) where
+  its-end : (n k : ℕ) → k < n → Before end_limit (earlier plan rows n) → get_or plan k 0 + get_or rows (component_width * k + length_column) 0 ≤ end_limit
   unfolding earlier
-  fewer e = record { offsets = omega (arith, e.offsets); rows-there = omega (arith, e.rows-there); low = e.low.1 }
+  its-end zero k h b = absurd (omega (arith, h))
+  its-end (suc n) k h b = by (eqb k n) refl (λ l. its-end n k l b.1)
+    where
+      by : (t : Bool) → eqb k n ≡ t → (k < n → get_or plan k 0 + get_or rows (component_width * k + length_column) 0 ≤ end_limit) → get_or plan k 0 + get_or rows (component_width * k + length_column) 0 ≤ end_limit
+      by true e go = rw (eqb-true k n e) b.0
+      by false e go = let z = eqb-false k n e in go (omega (arith, h, z))
 
-  pub look : {s : Span} {n : ℕ} → Earlier plan rows n → Looking plan rows s n n
-  look e = record { left = e; same = refl }
+  pub low-at : (n k : ℕ) → Earlier plan rows n → k < n → get_or plan k 0 + get_or rows (component_width * k + length_column) 0 ≤ end_limit
+  low-at n k e h = its-end n k h e.low
 
-  pub none_left : {s : Span} {n i : ℕ} → Looking plan rows s n i → i ≤ 0 → true ≡ all (apart s) (earlier plan rows n)
+module _ (plan rows : List ℕ) (p : Span → Bool) where
+  each-holds : (n : ℕ) → ((k : ℕ) → k < n → p (here plan rows k) ≡ true) → all p (earlier plan rows n) ≡ true
   unfolding earlier
-  none_left {s} {n} {i} g h = let z : i ≡ 0 = omega (arith, h) in sym (g.same ∙ ap (λ (k : ℕ). all (apart s) (earlier plan rows k)) z)
+  each-holds zero h = refl
+  each-holds (suc n) h = rw (h n (omega arith)) (each-holds n (λ k l. h k (omega (arith, l))))
 
-  module _ {s : Span} {n i : ℕ} (g : Looking plan rows s n i) (some : 0 < i) where
-    is-one-more : suc (i - 1) ≡ i
-    is-one-more = omega (arith, some)
+  one-fails : (n k : ℕ) → k < n → p (here plan rows k) ≡ false → all p (earlier plan rows n) ≡ false
+  unfolding earlier
+  one-fails zero k l e = absurd (omega (arith, l))
+  one-fails (suc n) k l e = by (p (here plan rows n)) (eqb k n) refl refl (λ m. one-fails n k m e)
+    where
+      by : (b t : Bool) → p (here plan rows n) ≡ b → eqb k n ≡ t → (k < n → all p (earlier plan rows n) ≡ false) → p (here plan rows n) && all p (earlier plan rows n) ≡ false
+      by false t f g go = rw f refl
+      by true true f g go = absurd (let z : ◌≡◌ {A = Bool} true false = sym f ∙ (rw (eqb-true k n g) at e) in cc)
+      by true false f g go = rw f (let z = eqb-false k n g in go (omega (arith, l, z)))
 
-    opened : all (apart s) (earlier plan rows n) ≡ (apart s (here plan rows (i - 1)) && all (apart s) (earlier plan rows (i - 1)))
-    unfolding earlier
-    opened = g.same ∙ ap (λ (k : ℕ). all (apart s) (earlier plan rows k)) (sym is-one-more)
-
-    earlier-there : Earlier plan rows (suc (i - 1))
-    earlier-there = subst (Earlier plan rows) (sym is-one-more) g.left
-
-    pub its-end : get_or plan (i - 1) 0 + get_or rows (component_width * (i - 1) + length_column) 0 ≤ end_limit
-    unfolding earlier
-    its-end = earlier-there.low.0
-
-    -- b: the blob there shares no byte with this one
-    module _ (b : Bool) (is : b ≡ apart s (here plan rows (i - 1))) where
-      pub go_on : b ≡ true → Looking plan rows s n (i - 1)
-      go_on e = record { left = fewer earlier-there; same = opened ∙ ap (λ (t : Bool). t && all (apart s) (earlier plan rows (i - 1))) (sym is ∙ e) }
-
-      pub shares : b ≡ false → false ≡ all (apart s) (earlier plan rows n)
-      shares e = sym (opened ∙ ap (λ (t : Bool). t && all (apart s) (earlier plan rows (i - 1))) (sym is ∙ e))
+  -- what `all` answered over the first n
+  pub all-asked : (n : ℕ) (r : Bool)
+      → MatchBool r (AllWithin (λ k. p (here plan rows k) ≡ true) (range_with_len 0 n) 0 (length (range_with_len 0 n)))
+      ((k : ℕ) × (k < length (range_with_len 0 n)) × HoldsAt (λ k. p (here plan rows k) ≡ false) (range_with_len 0 n) k)
+      → r ≡ all p (earlier plan rows n)
+  all-asked n true h =
+      sym (each-holds n (λ k l. (let e : get_or (range_with_len 0 n) k 0 ≡ k = omega (arith, get_or-range_with_len 0 n k 0 l) in
+      rw e at (h k 0 (omega arith) (omega (arith, l, length-range_with_len 0 n))))))
+  all-asked n false h =
+      let l : h.0 < n = omega (arith, h.1, length-range_with_len 0 n) in
+      let e : get_or (range_with_len 0 n) h.0 0 ≡ h.0 = omega (arith, get_or-range_with_len 0 n h.0 0 l) in
+      sym (one-fails n h.0 l (rw e at (h.2 0)))
 
 -- ---- the next offset
 
@@ -114,20 +82,10 @@ module _ {plan rows : List ℕ} {i end ceiling : ℕ} (x : Next plan rows i end 
   abbrev none-shares : Bool
   none-shares = all (apart (ranged offset size)) (earlier plan rows i)
 
-  -- b: what is answered of the offset by itself
-  module _ (b : Bool) (is : b ≡ allowed ceiling (ranged offset size)) where
-    pub not-allowed : not b ≡ true → false ≡ (allowed ceiling (ranged offset size) && none-shares)
-    not-allowed h = ap (λ (t : Bool). t && none-shares) (sym (not-true b h) ∙ is)
+  -- of an offset that is allowed
+  module _ (held : allowed ceiling (ranged offset size) ≡ true) where
+    pub end_low : offset + size ≤ end_limit
+    end_low = ends_low offset size ceiling x.ceiling-low held
 
-    module _ (h : not b ≡ false) where
-      e : true ≡ allowed ceiling (ranged offset size)
-      e = sym (not-false b h) ∙ is
-
-      pub end_low : offset + size ≤ end_limit
-      end_low = ends_low offset size ceiling x.ceiling-low (sym e)
-
-      pub past_all : end ≤ offset → true ≡ (allowed ceiling (ranged offset size) && none-shares)
-      past_all h = sym (apart-before end offset size (earlier plan rows i) h x.ends) ∙ ap (λ (t : Bool). t && none-shares) e
-
-      pub as-looked : {r : Bool} → r ≡ none-shares → r ≡ (allowed ceiling (ranged offset size) && none-shares)
-      as-looked q = q ∙ ap (λ (t : Bool). t && none-shares) e
+    pub past_all : end ≤ offset → none-shares ≡ true
+    past_all h = apart-before end offset size (earlier plan rows i) h x.ends

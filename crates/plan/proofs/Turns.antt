@@ -68,18 +68,21 @@ module _ {plan rows : List ℕ} {n ceiling i end : ℕ} (g : Going plan rows n c
     no-rest : rest rows n i ≡ []
     no-rest = ap blob_sizes (no_row asked_component component_width (n - i) (drop (component_width * i) rows) (omega (arith, none)))
 
-    pub left_over : i < length plan → planned ceiling plan (sizes plan rows n) ≡ refuse PLAN i 0
-    unfolding planned_from
-    left_over h = g.verdict ∙ rw (no-rest, drop-cons plan i 0 h) refl
+    at_end : i ≡ n
+    at_end = omega (arith, none, g.upto)
 
-    module _ (h : length plan ≤ i) where
+    pub left_over : n < length plan → planned ceiling plan (sizes plan rows n) ≡ refuse PLAN n 0
+    unfolding planned_from
+    left_over h = g.verdict ∙ rw (no-rest, drop-cons plan i 0 (omega (arith, h, at_end))) (ap (λ (k : ℕ). refuse PLAN k 0) at_end)
+
+    module _ (h : length plan ≤ n) where
       pub accepted : planned ceiling plan (sizes plan rows n) ≡ pass tt
       unfolding planned_from
-      accepted = g.verdict ∙ rw (no-rest, drop_of_length-le plan h) refl
+      accepted = g.verdict ∙ rw (no-rest, drop_of_length-le plan {i = i} (omega (arith, h, at_end))) refl
 
       pub ends_last : end ≡ last_end plan (sizes plan rows n)
       unfolding end_from
-      ends_last = sym (g.ends ∙ rw (no-rest, drop_of_length-le plan h) refl)
+      ends_last = sym (g.ends ∙ rw (no-rest, drop_of_length-le plan {i = i} (omega (arith, h, at_end))) refl)
 
   -- ---- one more row
 

@@ -1,7 +1,7 @@
 // Which placement plans are accepted (document 02, Request 02): one offset a row, each by the rules, no two blobs sharing a byte, all ends at most at the ceiling.
 #![tactic(auto)]
 
-ghost use Rattle.std.specs.Prelude.{◌≡◌, ◌&&◌, ◌+◌, ◌*◌, ◌≤◌, max, length};
+ghost use Rattle.std.specs.Prelude.{◌≡◌, ◌&&◌, ◌+◌, ◌*◌, ◌≤◌, length};
 ghost use Rattle.meaning.specs.Columns.{component_width};
 ghost use Rattle.meaning.specs.Limit.{end_limit};
 ghost use Rattle.meaning.specs.Text.{all};
@@ -18,29 +18,11 @@ pub enum Judged {
     Yes(u64),
 }
 
-fn farther(a: u64, b: u64) -> u64
-    ensures { result ≡ max a b }
-{
-    if a < b {
-        return b;
-    }
-    a
-}
-
 // What an offset keeps to by itself. The end is never summed, so it can't wrap.
 fn allowed(offset: u64, size: u64, ceiling: u64) -> bool
     ensures { result ≡ is.allowed ceiling (is.ranged offset size) }
 {
-    if offset % 64 != 0 {
-        return false;
-    }
-    if offset < 64 {
-        return false;
-    }
-    if ceiling < offset {
-        return false;
-    }
-    size <= ceiling - offset
+    offset % 64 == 0 && 64 <= offset && offset <= ceiling && size <= ceiling - offset
 }
 
 // Two blobs share no byte; an empty one shares none.
@@ -48,16 +30,7 @@ fn apart(offset: u64, size: u64, other: u64, long: u64) -> bool
     requires { (offset + size ≤ end_limit) × (other + long ≤ end_limit) }
     ensures { result ≡ is.apart (is.ranged offset size) (is.ranged other long) }
 {
-    if size == 0 {
-        return true;
-    }
-    if long == 0 {
-        return true;
-    }
-    if offset + size <= other {
-        return true;
-    }
-    other + long <= offset
+    size == 0 || long == 0 || offset + size <= other || other + long <= offset
 }
 
 // A blob shares no byte with one of the first n.
@@ -66,16 +39,7 @@ fn apart_from(plan: &[u64], rows: &[u64], n: usize, offset: u64, size: u64) -> b
     requires earlier { Earlier plan.now rows.now n }
     ensures { result ≡ all (is.apart (is.ranged offset size)) (earlier plan.now rows.now n) }
 {
-    let mut i = n;
-    while 0 < i {
-        i -= 1;
-        let at = COMPONENT * i;
-        if apart(offset, size, plan[i], rows[at + LENGTH]) {
-            continue;
-        }
-        return false;
-    }
-    true
+    (0..n).all(|i| apart(offset, size, plan[i], rows[COMPONENT * i + LENGTH]))
 }
 
 // The offset of the i-th row, where the earlier blobs end at `end` or before. One that isn't below needs no look at them.
@@ -85,15 +49,8 @@ fn follows(plan: &[u64], rows: &[u64], i: usize, end: u64, ceiling: u64) -> bool
         && all (is.apart (told.here plan.now rows.now i)) (earlier plan.now rows.now i) }
 {
     let offset = plan[i];
-    let at = COMPONENT * i;
-    let size = rows[at + LENGTH];
-    if !allowed(offset, size, ceiling) {
-        return false;
-    }
-    if end <= offset {
-        return true;
-    }
-    apart_from(plan, rows, i, offset, size)
+    let size = rows[COMPONENT * i + LENGTH];
+    allowed(offset, size, ceiling) && (end <= offset || apart_from(plan, rows, i, offset, size))
 }
 
 // A plan for the blobs of n components' rows, under a ceiling.
@@ -104,22 +61,15 @@ pub fn verdict(plan: &[u64], rows: &[u64], n: usize, ceiling: u64) -> Judged
     if numbers::END_MOST < ceiling {
         return Judged::No(0);
     }
-    let mut i = 0;
     let mut end = 8;
-    while i < n {
-        if plan.len() <= i {
+    for i in 0..n {
+        if plan.len() <= i || !follows(plan, rows, i, end, ceiling) {
             return Judged::No(i as u64);
         }
-        if follows(plan, rows, i, end, ceiling) {
-            let at = COMPONENT * i;
-            end = farther(end, plan[i] + rows[at + LENGTH]);
-            i += 1;
-            continue;
-        }
-        return Judged::No(i as u64);
+        end = end.max(plan[i] + rows[COMPONENT * i + LENGTH]);
     }
-    if i < plan.len() {
-        return Judged::No(i as u64);
+    if n < plan.len() {
+        return Judged::No(n as u64);
     }
     Judged::Yes(end)
 }

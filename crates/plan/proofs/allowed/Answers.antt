@@ -1,15 +1,12 @@
--- `plan::allowed` meets its contract: a law for each answer.
-use Rattle.plan.proofs.Tests as tests
+-- `plan::allowed` meets its contract.
+use borrow.Author.Rules.{rules}
+use Rattle.meaning.specs.Plan.{allowed}
 use Rattle.plan.proofs.allowed.Goals as goal
 
-pub returns-then-offset-ne0 : goal.returns-then-offset-ne0
-returns-then-offset-ne0 c = search tests.not-a-multiple
+pub returns-then-offset-ceiling : goal.returns-then-offset-ceiling
+unfolding allowed
+returns-then-offset-ceiling c = search rules
 
-pub returns-then-offset-lt64 : goal.returns-then-offset-lt64
-returns-then-offset-lt64 c = search tests.too-low
-
-pub returns-then-ceiling-offset : goal.returns-then-ceiling-offset
-returns-then-ceiling-offset c = search tests.above-already
-
-pub returns : goal.returns
-returns c = search tests.ends-by-then
+pub returns-else-offset-ceiling : goal.returns-else-offset-ceiling
+unfolding allowed
+returns-else-offset-ceiling c = search rules

@@ -1,15 +1,11 @@
--- `plan::follows` meets its contract: a law for each answer.
+-- `plan::follows` meets its contract.
+use mathlib.Core.Path.{sym, ◌∙◌}
+use borrow.Author.Rules.{rules}
 use Rattle.plan.proofs.Tests as tests
 use Rattle.plan.proofs.follows.Goals as goal
 
-pub returns-then-not-allowed : goal.returns-then-not-allowed
-returns-then-not-allowed c = search tests.not-allowed
+pub apart_from-requires-clause-size_bound : goal.apart_from-requires-clause-size_bound
+apart_from-requires-clause-size_bound c = tests.end_low c.requires (sym c.allowed.ensures ∙ c.if-allowed.true)
 
 pub returns-then-end-offset : goal.returns-then-end-offset
-returns-then-end-offset c = search tests.past_all
-
-pub apart_from-requires : goal.apart_from-requires
-apart_from-requires c = search tests.end_low
-
-pub returns : goal.returns
-returns c = search tests.as-looked
+returns-then-end-offset c = let h = tests.past_all c.requires (sym c.allowed.ensures ∙ c.if-allowed.true) c.if-end-offset.true in search (rules, h)
