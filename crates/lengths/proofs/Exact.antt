@@ -1,7 +1,7 @@
 -- Products and quotients of numbers, exact. Assumes nothing.
 use mathlib.Core.Path.{◌≡◌, refl, sym, ap, ◌∙◌}
-use mathlib.Core.List.{List}
-use mathlib.Core.Bool.{Bool, true, false}
+use mathlib.Core.List.{List, [], ◌∷◌}
+use mathlib.Core.Bool.{Bool, true, false, ◌||◌}
 use Prim.Native.Nat.{ℕ, zero, suc, ◌+◌, ◌-◌, ◌*◌, ◌/◌, ◌%◌, ◌≤◌, ◌<◌}
 use native.Mathlib.Numerals.{add-one}
 use native.Mathlib.Omega.{arith}
@@ -11,6 +11,8 @@ use lib.Seq.{drop-cons}
 use lib.Dec.{ltb, eqb}
 use borrow.Author.Tests.{eq-eqb, ne_eqb, eqb-true, eqb-false, lt-ltb, le-ltb, ltb-true, ltb-false}
 use borrow.Author.Rules.{part_to_end}
+use Rattle.std.proofs.Common.{nat_eq}
+use Rattle.std.specs.List.{list_any}
 use Rattle.meaning.specs.Types.{product}
 
 -- ---------------------------------------------------------------- a product and a bound
@@ -49,41 +51,24 @@ module _ (a b : ℕ) {t : Bool} (is : t ≡ ltb 18446744073709551615 (a * b)) wh
 
 -- ---------------------------------------------------------------- the product of a shape
 
-zero-here : (s : List ℕ) (i : ℕ) → i < length s → get_or s i 0 ≡ 0 → product (drop i s) ≡ 0
+-- one of the numbers is 0: so is their product
+any-zero : (s : List ℕ) → list_any (λ y. nat_eq y 0) s ≡ eqb (product s) 0
 unfolding product
-zero-here s i h e = rw (drop-cons s i 0 h, e) (zero-mul _)
-
-some-here : (s : List ℕ) (i : ℕ) → i < length s → (get_or s i 0 ≡ 0 → ⊥) → eqb (product (drop i s)) 0 ≡ eqb (product (drop (i + 1) s)) 0
-unfolding product
-some-here s i h n = rw (drop-cons s i 0 h, add-one) (go (product (drop (suc i) s)) (eqb (product (drop (suc i) s)) 0) refl)
+any-zero [] = refl
+any-zero (x ∷ s) = go (any-zero s) (eqb x 0) refl (eqb (product s) 0) refl
   where
-    go : (p : ℕ) (t : Bool) → eqb p 0 ≡ t → eqb (get_or s i 0 * p) 0 ≡ t
-    go p true e = rw (eqb-true p 0 e) (eq-eqb _ 0 (mul-zero (get_or s i 0)))
-    go p false e =
-        let x : 0 < p = omega (arith, eqb-false p 0 e) in let y : 0 < get_or s i 0 = omega (arith, n) in let z = mul-pos y x in
-        ne_eqb (get_or s i 0 * p) 0 (λ (w : get_or s i 0 * p ≡ 0). omega arith)
+    go : list_any (λ y. nat_eq y 0) s ≡ eqb (product s) 0 → (t : Bool) → eqb x 0 ≡ t → (u : Bool) → eqb (product s) 0 ≡ u → (nat_eq x 0 || list_any (λ y. nat_eq y 0) s) ≡ eqb (x * product s) 0
+    go h true e u d = let z = eqb-true x 0 e in rw (z, zero-mul (product s)) refl
+    go h false e true d = let z : x * product s ≡ 0 = rw (eqb-true (product s) 0 d) (mul-zero x) in rw (e, h, d) (sym (eq-eqb _ 0 z))
+    go h false e false d =
+        let x' : 0 < x = omega (arith, eqb-false x 0 e) in
+        let p' : 0 < product s = omega (arith, eqb-false (product s) 0 d) in
+        let z = mul-pos x' p' in
+        rw (e, h, d) (sym (ne_eqb (x * product s) 0 (λ (w : x * product s ≡ 0). omega arith)))
 
 product-end : (s : List ℕ) (i : ℕ) → length s ≤ i → product (drop i s) ≡ 1
 unfolding product
 product-end s i h = rw (drop_of_length-le s h)
-
--- none of the numbers before i is 0
-pub record NoZero (s : List ℕ) (i : ℕ) : Type 0 where
-  pub inside : i ≤ length s
-  pub rest-says : eqb (product s) 0 ≡ eqb (product (drop i s)) 0
-
-pub no-zero-yet : {s : List ℕ} → NoZero s 0
-no-zero-yet = record { inside = omega arith; rest-says = refl }
-
-module _ {s : List ℕ} {i : ℕ} (w : NoZero s i) where
-  pub zero-found : i < length s → get_or s i 0 ≡ 0 → true ≡ eqb (product s) 0
-  zero-found l e = sym (w.rest-says ∙ eq-eqb _ 0 (zero-here s i l e))
-
-  pub no-zero-here : i < length s → (get_or s i 0 ≡ 0 → ⊥) → NoZero s (i + 1)
-  no-zero-here l e = record { inside = omega arith; rest-says = w.rest-says ∙ some-here s i l e }
-
-  pub no_zero : length s ≤ i → false ≡ eqb (product s) 0
-  no_zero l = sym (w.rest-says ∙ ap (λ n. eqb n 0) (product-end s i l))
 
 -- p is the product of the unit and the numbers before i
 pub record Multiplied (s : List ℕ) (unit p i : ℕ) : Type 0 where
@@ -106,9 +91,9 @@ module _ {s : List ℕ} {unit p i : ℕ} (w : Multiplied s unit p i) where
     multiplied-more = record { inside = omega arith; so = one_more }
 
     -- z says whether the rest has a zero
-    module _ (n : ℕ) {z : Bool} (is : z ≡ eqb (product (take (length s - i) (drop i s))) 0) where
+    module _ (n : ℕ) {z : Bool} (is : z ≡ list_any (λ y. nat_eq y 0) (take (length s - i) (drop i s))) where
       rest : {t : Bool} → z ≡ t → eqb (product (drop i s)) 0 ≡ t
-      rest e = ap (λ l. eqb (product l) 0) (sym (part_to_end s i)) ∙ sym is ∙ e
+      rest e = ap (λ l. eqb (product l) 0) (sym (part_to_end s i)) ∙ sym (any-zero _) ∙ sym is ∙ e
 
       pub zero_left : z ≡ true → eqb n 0 ≡ eqb n (product s * unit)
       zero_left e = rw (w.so, eqb-true (product (drop i s)) 0 (rest e)) (ap (eqb n) (sym (mul-zero p)))

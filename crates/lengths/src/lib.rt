@@ -32,35 +32,19 @@ pub fn is_product(n: u64, a: u64, b: u64) -> bool
     n == a * b
 }
 
-// One of the numbers is 0.
-fn has_zero(s: &[u64]) -> bool
-    ensures { result ≡ eqb (product s.now) 0 }
-{
-    let mut i = 0;
-    while i < s.len() {
-        if s[i] == 0 {
-            return true;
-        }
-        i += 1;
-    }
-    false
-}
-
 // A dense component of this shape, with `unit` bytes to an element, is n bytes long.
 pub fn dense_length(n: u64, shape: &[u64], unit: u64) -> bool
     ensures { result ≡ eqb n (product shape.now * unit) }
 {
     let mut p = unit;
-    let mut i = 0;
-    while i < shape.len() {
-        if too_big(p, shape[i]) {
-            if has_zero(&shape[i..]) {
+    for (i, x) in shape.iter().enumerate() {
+        if too_big(p, *x) {
+            if shape[i..].contains(&0) {
                 return n == 0;
             }
             return false;
         }
-        p = p * shape[i];
-        i += 1;
+        p *= *x;
     }
     n == p
 }

@@ -5,8 +5,6 @@ ghost use Rattle.std.specs.Prelude.{◌≡◌, ◌<◌};
 ghost use Rattle.meaning.specs.Version as meant;
 ghost use Rattle.versions.specs.Room as rooms;
 
-use endian::wide;
-
 const DOT: u64 = 46;
 
 const ZERO: u64 = 48;
@@ -33,16 +31,14 @@ pub fn version_shape(v: &[u8]) -> bool
 {
     let mut dots: usize = 0;
     let mut room: u64 = 9;
-    let mut i: usize = 0;
-    while i < v.len() {
-        let b = wide(v[i]);
+    for x in v {
+        let b = u64::from(*x);
         if b == DOT {
             if room == 9 {
                 return false;
             }
             dots += 1;
             room = 9;
-            i += 1;
             continue;
         }
         if b < ZERO {
@@ -55,7 +51,6 @@ pub fn version_shape(v: &[u8]) -> bool
             return false;
         }
         room = room_after(room, b);
-        i += 1;
     }
     if room == 9 {
         return false;

@@ -1,16 +1,15 @@
 -- `lengths::dense_length` meets its contract: the number so far times the product of what is left is the whole; past 2^64 - 1 only a later 0 counts. Assumes nothing.
 use Rattle.lengths.proofs.Exact as laws
-use Prim.Native.Nat.{◌-◌}
 use Rattle.lengths.proofs.dense_length.Goals as goal
 
 pub loop-i-init : goal.loop-i-init
 loop-i-init c = search laws.multiplied-none
 
-pub returns-then-has_zero : goal.returns-then-has_zero
-returns-then-has_zero c = search laws.zero_left
+pub returns-then-contains : goal.returns-then-contains
+returns-then-contains c = laws.zero_left c.loop-i.invariant c.loop-i-test.true _ c.contains.ensures.value c.if-contains.true
 
 pub returns-then-too_big : goal.returns-then-too_big
-returns-then-too_big c = search laws.over-already
+returns-then-too_big c = laws.over-already c.loop-i.invariant c.loop-i-test.true _ c.contains.ensures.value c.if-contains.false c.ranges.n.fits c.too_big.ensures c.if-too_big.true
 
 pub overflow_mul-p : goal.overflow_mul-p
 overflow_mul-p c = record { fits = laws.product-fits _ _ c.too_big.ensures c.if-too_big.false }
