@@ -8,7 +8,8 @@ use mathlib.Core.Path.{◌≡◌, refl, sym, ap, ◌∙◌}
 use lib.ListN.{length, drop, get_or, drop_of_length-le}
 use lib.Seq.{drop-cons}
 use lib.Dec.{ltb, eqb}
-use borrow.Author.Tests.{lt-ltb, le-ltb, le-leb, lt-leb}
+use borrow.Author.Tests.{lt-ltb, le-ltb}
+use Rattle.std.specs.Char.{is_ascii_graphic}
 use Rattle.meaning.specs.Text.{within}
 use Rattle.meaning.specs.Listing.{digits, decimal, hex, shown, shown_text}
 
@@ -32,17 +33,13 @@ module _ (w : List ℕ) (i : ℕ) where
 -- ---- one shown byte
 
 module _ (b : ℕ) where
-  pub low : b < 33 → false ≡ within 33 126 b && not (eqb b 92)
+  pub graphic : {r : Bool} → r ≡ is_ascii_graphic b → r ≡ true → not (eqb b 92) ≡ within 33 126 b && not (eqb b 92)
   unfolding within
-  low h = rw (lt-leb 33 b h) refl
+  graphic e t = rw (sym e ∙ t)
 
-  pub high : 126 < b → 33 ≤ b → false ≡ within 33 126 b && not (eqb b 92)
+  pub not-graphic : {r : Bool} → r ≡ is_ascii_graphic b → r ≡ false → r ≡ within 33 126 b && not (eqb b 92)
   unfolding within
-  high h g = rw (le-leb 33 b g, lt-leb b 126 h) refl
-
-  pub between : 33 ≤ b → b ≤ 126 → not (eqb b 92) ≡ within 33 126 b && not (eqb b 92)
-  unfolding within
-  between g h = rw (le-leb 33 b g, le-leb b 126 h) refl
+  not-graphic e t = t ∙ (rw (sym e ∙ t))
 
   pub shown-plain : within 33 126 b && not (eqb b 92) ≡ true → b ∷ [] ≡ shown b
   unfolding shown

@@ -1,15 +1,14 @@
 -- Pieces of writing, one after the other. Where a place is stopped nothing is written any more, so what is left is the same.
-use Prim.Native.Nat.{ℕ, suc, ◌+◌, ◌-◌, ◌*◌, ◌/◌, ◌%◌, ◌≤◌, ◌<◌}
+use Prim.Native.Nat.{ℕ, suc, ◌+◌, ◌-◌, ◌*◌, ◌/◌, ◌%◌, ◌^◌, ◌≤◌, ◌<◌, min}
 use native.Mathlib.Nat.{add-zero, add-suc, suc-add}
 use native.Mathlib.Omega.{arith}
 use mathlib.Core.List.{List, [], ◌∷◌, ◌++◌}
 use mathlib.Core.Bool.{Bool, true, false, ◌&&◌, not}
 use mathlib.Core.Path.{◌≡◌, refl, sym, ap, ◌∙◌, subst}
-use lib.ListN.{length, get_or, take, drop, set, length-append}
+use lib.ListN.{length, get_or, drop, set, length-append}
 use lib.Seq.{sets, length-sets, set_out}
 use lib.Dec.{ltb, eqb}
 use borrow.Author.Tests.{lt-ltb, le-ltb, ltb-true, ltb-false}
-use borrow.Author.Rules.{part_to_end}
 use Rattle.meaning.specs.Text.{within}
 use Rattle.meaning.specs.Listing.{decimal, hex, shown, shown_text}
 use Rattle.put.proofs.Pieces.{next, at-end, next-shown, shown-end, shown-plain, shown-escaped, decimal-one, decimal-more}
@@ -30,6 +29,13 @@ by_place n {A} low high = by (ltb n most) refl
     by : (b : Bool) → ltb n most ≡ b → A
     by true e = low (ltb-true n most e)
     by false e = high (ltb-false n most e)
+
+pub capped-least : (n : ℕ) {r : ℕ} → r ≡ min n most → r ≡ capped n
+capped-least n e = e ∙ by_place n (λ h. (omega arith) ∙ sym (capped-low n h)) (λ h. (omega arith) ∙ sym (capped-high n h))
+
+-- two numbers that are equal or both past all places
+capped_more : (m n : ℕ) → m ≤ n → (m < most → m ≡ n) → capped m ≡ capped n
+capped_more m n l e = by_place m (λ h. ap capped (e h)) (λ h. capped-high m h ∙ sym (capped-high n (omega arith)))
 
 capped-add : (n m : ℕ) → capped (capped n + m) ≡ capped (n + m)
 capped-add n m =
@@ -90,11 +96,8 @@ module _ (xs : List ℕ) (at b : ℕ) (short : length xs < most) where
   pub one_in : at < length xs → Wrote (b ∷ []) at xs (set xs at b) (at + 1)
   one_in h = record { short = short; stored = refl; past = sym (capped-low (at + 1) (omega (arith, h, short))) }
 
-  pub one-past : length xs ≤ at → at < most → Wrote (b ∷ []) at xs xs (at + 1)
-  one-past h p = record { short = short; stored = sym (set_out xs at b h); past = by_place (at + 1) (λ l. sym (capped-low (at + 1) l)) (λ m. let e : at + 1 ≡ most = omega (arith, p, m) in e ∙ sym (capped-high (at + 1) m)) }
-
-  pub one-stopped : most ≤ at → Wrote (b ∷ []) at xs xs most
-  one-stopped p = record { short = short; stored = sym (set_out xs at b (omega (arith, p, short))); past = sym (capped-high (at + 1) (omega (arith, p))) }
+  pub one-past : length xs ≤ at → {n r : ℕ} → n ≡ min (at + 1) (2 ^ 64 - 1) → r ≡ capped n → Wrote (b ∷ []) at xs xs r
+  one-past h {n} p q = record { short = short; stored = sym (set_out xs at b h); past = q ∙ capped_more n (at + 1) (omega arith) (omega arith) }
 
 -- what is still to be written, after which all is
 abbrev pub Rest : List ℕ → ℕ → List ℕ → List ℕ → ℕ → List ℕ → Type 0
@@ -131,11 +134,6 @@ module _ (n : ℕ) {xs ys : List ℕ} {at r : ℕ} where
 
   pub more-digits : n < 18446744073709551616 → 10 ≤ n → {zs : List ℕ} {q : ℕ} → Wrote (decimal (n / 10)) at xs ys r → Wrote ((48 + n % 10) ∷ []) r ys zs q → Wrote (decimal n) at xs zs q
   more-digits s h v w = as_bytes (decimal-more n s h) (then v w)
-
--- ---- a text after a blank
-
-pub blank-then-text : (t : List ℕ) {xs ys zs : List ℕ} {at r q : ℕ} → Wrote (32 ∷ []) at xs ys r → Wrote (shown_text (take (length t - 0) (drop 0 t))) r ys zs q → Wrote (32 ∷ shown_text t) at xs zs q
-blank-then-text t v w = as_bytes (ap (λ (s : List ℕ). 32 ∷ shown_text s) (part_to_end t 0)) (then v w)
 
 -- ---- the loops over a text, at its place i: what each writes for the rest of it is still to be written
 

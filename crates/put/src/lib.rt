@@ -13,7 +13,7 @@ const MOST: usize = 0x8000_0000_0000_0000;
 pub fn capped_place(at: usize) -> usize
     ensures { result ≡ capped at }
 {
-    if at < MOST { at } else { MOST }
+    at.min(MOST)
 }
 
 pub fn byte(out: &mut [u8], at: usize, b: u8) -> usize
@@ -23,20 +23,15 @@ pub fn byte(out: &mut [u8], at: usize, b: u8) -> usize
         out[at] = b;
         return at + 1;
     }
-    if at < MOST {
-        return at + 1;
-    }
-    MOST
+    capped_place(at.saturating_add(1))
 }
 
 pub fn word(out: &mut [u8], at: usize, w: &[u8]) -> usize
     ensures { Wrote w.now at out.old out.new result }
 {
     let mut past = at;
-    let mut i = 0;
-    while i < w.len() {
-        past = byte(out, past, w[i]);
-        i += 1;
+    for b in w {
+        past = byte(out, past, *b);
     }
     capped_place(past)
 }
@@ -54,13 +49,7 @@ fn hex(n: u8) -> u8
 fn plain(b: u8) -> bool
     ensures { result ≡ within 33 126 b && not (eqb b 92) }
 {
-    if b < 33 {
-        return false;
-    }
-    if 126 < b {
-        return false;
-    }
-    b != 92
+    b.is_ascii_graphic() && b != 92
 }
 
 fn shown(out: &mut [u8], at: usize, b: u8) -> usize
@@ -78,10 +67,8 @@ pub fn text(out: &mut [u8], at: usize, t: &[u8]) -> usize
     ensures { Wrote (is.shown_text t.now) at out.old out.new result }
 {
     let mut past = at;
-    let mut i = 0;
-    while i < t.len() {
-        past = shown(out, past, t[i]);
-        i += 1;
+    for b in t {
+        past = shown(out, past, *b);
     }
     capped_place(past)
 }
@@ -118,7 +105,7 @@ pub fn blank_text(out: &mut [u8], at: usize, t: &[u8]) -> usize
     ensures { Wrote (32 ∷ is.shown_text t.now) at out.old out.new result }
 {
     let from = byte(out, at, 32);
-    text(out, from, &t[0..])
+    text(out, from, t)
 }
 
 pub fn blank_number(out: &mut [u8], at: usize, n: u64) -> usize

@@ -3,4 +3,4 @@ use Rattle.put.proofs.PiecesInTurn as writing
 use Rattle.put.proofs.blank_text.Goals as goal
 
 pub returns : goal.returns
-returns c = search writing.blank-then-text
+returns c = search writing.byte-then

@@ -1,12 +1,9 @@
--- `put::plain` meets its contract: a law for each branch. Assumes nothing.
+-- `put::plain` meets its contract. Assumes nothing.
 use Rattle.put.proofs.Pieces as pieces
 use Rattle.put.proofs.plain.Goals as goal
 
-pub returns-then-b-lt33 : goal.returns-then-b-lt33
-returns-then-b-lt33 c = search pieces.low
+pub returns-then-is_ascii_graphic : goal.returns-then-is_ascii_graphic
+returns-then-is_ascii_graphic c = pieces.graphic _ c.is_ascii_graphic.ensures.value c.if-is_ascii_graphic.true
 
-pub returns-then-b-gt126 : goal.returns-then-b-gt126
-returns-then-b-gt126 c = search pieces.high
-
-pub returns : goal.returns
-returns c = search pieces.between
+pub returns-else-is_ascii_graphic : goal.returns-else-is_ascii_graphic
+returns-else-is_ascii_graphic c = pieces.not-graphic _ c.is_ascii_graphic.ensures.value c.if-is_ascii_graphic.false

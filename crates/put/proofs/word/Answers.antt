@@ -2,11 +2,11 @@
 use Rattle.put.proofs.PiecesInTurn as writing
 use Rattle.put.proofs.word.Goals as goal
 
-pub loop-i-init : goal.loop-i-init
-loop-i-init c = search writing.written_none
+pub loop-b-init : goal.loop-b-init
+loop-b-init c = search writing.written_none
 
-pub loop-i-preserved : goal.loop-i-preserved
-loop-i-preserved c = search writing.byte-written
+pub loop-b-preserved : goal.loop-b-preserved
+loop-b-preserved c = search writing.byte-written
 
 pub shape_of-out : goal.shape_of-out
 shape_of-out c = search writing.bytes-as-long

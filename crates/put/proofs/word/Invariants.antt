@@ -1,11 +1,7 @@
-use Prim.Native.Nat.{ℕ, ◌-◌}
-use lib.ListN.{length}
-use Rattle.put.proofs.PiecesInTurn as writing
+use Prim.Native.Nat.{ℕ}
 use mathlib.Core.List.{List}
+use Rattle.put.proofs.PiecesInTurn as writing
 use Rattle.put.proofs.word.Given as goal
 
-abbrev pub invariant-loop-i : goal.invariant-loop-i
-invariant-loop-i l = writing.Writing (λ (u : List ℕ). u) l.w l.at l.initial.out l.past l.i l.out
-
-abbrev pub decreases-loop-i : goal.decreases-loop-i
-decreases-loop-i l = length l.w - l.i
+abbrev pub invariant-loop-b : goal.invariant-loop-b
+invariant-loop-b l = writing.Writing (λ (u : List ℕ). u) l.w l.at l.initial.out l.past l.b-index l.out
