@@ -3,7 +3,7 @@ use Prim.Native.Nat.{ℕ, zero, suc, ◌+◌, ◌-◌, ◌*◌, ◌≤◌, ◌<�
 use native.Mathlib.Omega.{arith}
 use mathlib.Core.List.{List, [], ◌∷◌, ◌++◌, map}
 use mathlib.Core.Bool.{Bool, true, false, ◌&&◌}
-use mathlib.Core.Path.{◌≡◌, refl, sym, ap, ◌∙◌}
+use mathlib.Core.Path.{◌≡◌, refl, sym, ap, ◌∙◌, subst}
 use lib.ListN.{length, take, drop, get_or}
 use lib.Seq.{drop-drop, take_at, drop_at}
 use Rattle.std.specs.Bool.{MatchBool}
@@ -112,6 +112,14 @@ module _ {A : Type 0} (p : A → Bool) (read : List ℕ → A) (width : ℕ) whe
         let l : h.0 < n = omega (arith, h.1, length-range_with_len 0 n) in
         let e : get_or (range_with_len 0 n) h.0 0 ≡ h.0 = omega (arith, get_or-range_with_len 0 n h.0 0 l) in
         sym (one-fails n h.0 rows l (rw e at (h.2 0)))
+
+-- a turn of a loop over n rows: what is kept of the place and of how many are left goes on to the next row
+module _ (P : ℕ → ℕ → Type 0) (width n : ℕ) where
+  pub row-on : (i : ℕ) → i < n → P (width * i + width) (n - i - 1) → P (width * (i + 1)) (n - (i + 1))
+  row-on i h p =
+      let y : width * i + width ≡ width * (i + 1) = omega arith in
+      let z : n - i - 1 ≡ n - (i + 1) = omega (arith, h) in
+      subst (λ (k : ℕ). P k (n - (i + 1))) y (subst (P (width * i + width)) z p)
 
 -- and of a list's parts
 module _ {A : Type 0} (p : A → Bool) where

@@ -23,7 +23,6 @@ use Rattle.meaning.proofs.Lengths.{part_length, each-row-length}
 use Rattle.rows.specs.Placed.{objects_at, components_at}
 use Rattle.rows.specs.Turns.{blob_lengths, begun, offset_at, stepped, turn_limit, reached, entries_from, object_from, objects_from, blob_sizes, counted}
 use Rattle.rows.proofs.EachRow.{all-taken, all-dropped}
-use Rattle.rows.proofs.Lent.{lent_both}
 use Rattle.rows.proofs.Turns.{last-is-reached}
 use Rattle.rows.proofs.Whole.{sound-lies, sound-attributes, sound-objects, sound-components}
 use Rattle.rows.proofs.SoundRow.{component-name-inside, component-type-inside, component-blob-inside, component-digest-inside, attributes-inside, object-name-inside, object-rank-small, object-format-inside, object-attributes-sound}
@@ -193,17 +192,14 @@ module _ (plan buffer rows : List ℕ) (objects components : ℕ) (attributes : 
 
 -- ---- what is measured
 
--- the rows as they are lent: all of them, and from the components' on
-abbrev whole : List ℕ → List ℕ
-whole rows = take (length rows - 0) (drop 0 rows)
-
+-- the rows as they are lent from the components' on
 abbrev after : ℕ → List ℕ → List ℕ
 after objects rows = take (length rows - object_width * objects) (drop (object_width * objects) rows)
 
 module _ {plan rows : List ℕ} {objects components : ℕ} (m : Measurable plan rows objects components) where
-  pub all_fit : Fits plan (whole rows) (after objects rows) objects 0 0 (begun plan)
+  pub all_fit : Fits plan rows (after objects rows) objects 0 0 (begun plan)
   all_fit =
-      rw (part_to_end rows 0, part_to_end rows (object_width * objects)) (record {
+      rw (part_to_end rows (object_width * objects)) (record {
         objects = omega (arith, m.lie);
         components = omega (arith, m.lie, m.counts, length-drop (object_width * objects) rows);
         ranks = m.ranks;
@@ -211,7 +207,7 @@ module _ {plan rows : List ℕ} {objects components : ℕ} (m : Measurable plan 
       })
 
   module _ (attributes : Span) {t h p : ℕ} (copied : t ≡ capped (optional_copy 11 attributes)) (headed : h ≡ head_size objects)
-      (held : p ≡ capped (objects_size_in plan (whole rows) (after objects rows) objects)) where
+      (held : p ≡ capped (objects_size_in plan rows (after objects rows) objects)) where
     measured : capped (23 + t + h + p) ≡ capped (manifest_size plan (asked rows objects components attributes))
     unfolding manifest_size asked
     measured =
@@ -219,7 +215,7 @@ module _ {plan rows : List ℕ} {objects components : ℕ} (m : Measurable plan 
           arith,
           copied,
           headed,
-          held ∙ lent_both rows rows (object_width * objects) (λ os cs. capped (objects_size_in plan os cs objects)),
+          held ∙ ap (λ (cs : List ℕ). capped (objects_size_in plan rows cs objects)) (part_to_end rows (object_width * objects)),
           ap head_size (each-row-length asked_object object_width objects rows),
           ap (λ (k : ℕ). objects_size plan (begun plan) (each_row asked_object object_width objects rows) (components_at k (object_width * objects) rows)) m.counts,
         )

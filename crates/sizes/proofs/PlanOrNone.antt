@@ -3,7 +3,7 @@ use Prim.Native.Nat.{ℕ, ◌+◌, ◌-◌, ◌*◌, ◌≤◌, ◌<◌}
 use native.Mathlib.Omega.{arith}
 use mathlib.Core.List.{List, [], ◌∷◌}
 use mathlib.Core.Path.{◌≡◌, refl, sym, ap, ◌∙◌}
-use lib.ListN.{length, get_or, get_or-eq_default, length-map}
+use lib.ListN.{length, get_or, length-map}
 use mir.Syntax.{w64}
 use mir.Val.{Fits as FitsIn}
 use Rattle.meaning.specs.Columns.{component_width, length_column}
@@ -78,9 +78,6 @@ pub record Placing (rows : List ℕ) (n start at left place : ℕ) : Type 0 wher
   pub so_far : end_of_all rows n start ≡ reached [] place (blob_sizes (components_at left at rows))
 
 module _ {rows : List ℕ} {n start : ℕ} where
-  pub none-placed : component_width * n ≤ length rows → start ≤ end_limit → Placing rows n start 0 n start
-  none-placed h k = record { lie = omega (arith, h); low = k; so_far = refl }
-
   module _ {at left place : ℕ} (w : Placing rows n start at left place) where
     pub all_placed : left ≤ 0 → place ≡ capped_end (end_of_all rows n start)
     all_placed h = omega (arith, w.low, w.so_far, reached-none [] left at place rows h)
@@ -133,9 +130,6 @@ module _ (plan : List ℕ) (some : length plan ≡ 0 → ⊥) where
       by : (p : List ℕ) → (length p ≡ 0 → ⊥) → get_or p n 0 ≡ offset_at p n
       by [] e = absurd (e refl)
       by (o ∷ os) e = refl
-
-  pub past-plan : {n : ℕ} → length plan ≤ n → 0 ≡ offset_at plan n
-  past-plan {n} h = sym (get_or-eq_default plan 0 h) ∙ by-plan n
 
   pub one-more-turn : (n l : ℕ) → n + 1 ≡ stepped plan n l
   unfolding stepped

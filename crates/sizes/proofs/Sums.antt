@@ -4,15 +4,14 @@ use native.Mathlib.Omega.{arith}
 use mathlib.Core.List.{List, [], ◌∷◌}
 use mathlib.Core.Bool.{Bool, true, false, ◌&&◌}
 use mathlib.Core.Path.{◌≡◌, refl, sym, ap, ◌∙◌}
-use lib.ListN.{length, take, drop, get_or, get_or-eq_default, length-drop}
-use lib.Seq.{get_or-drop, drop-drop}
+use lib.ListN.{length, take, drop, get_or, get_or-eq_default}
+use lib.Seq.{get_or-drop}
 use lib.Dec.{eqb}
 use mir.Syntax.{w64}
 use mir.Val.{Fits as FitsIn}
-use borrow.Author.Rules.{part_to_end}
 use borrow.Author.Tests.{leb-true}
 use Rattle.meaning.specs.Columns.{object_width, component_width, rank_column, shape_column, format_length_column, attributes_column, attributes_length_column, count_column, dtype_column, type_column, type_length_column, length_column, digest_column, digest_length_column}
-use Rattle.meaning.specs.Limit.{manifest_limit, end_limit}
+use Rattle.meaning.specs.Limit.{end_limit}
 use Rattle.meaning.specs.Read.{Span}
 use Rattle.meaning.specs.Types.{Storage, storages, storage_of}
 use Rattle.meaning.specs.Asked.{AskedObject, asked_object, asked_component}
@@ -42,17 +41,13 @@ one-object total left own head parts rest o h p r e f g k l = omega (arith, e, f
 -- ---- texts and fields
 
 module _ (n : ℕ) where
-  pub text-large : manifest_limit < n → suc manifest_limit ≡ capped (text_size n)
-  unfolding text_size
-  text-large h = omega (arith, h)
+  module _ {h t : ℕ} (head-is : h ≡ head_size n) (text-is : t ≡ capped n) where
+    pub text-fits : FitsIn w64 (h + t)
+    text-fits = record { fits = omega (arith, text-is, head-is, head_small n) }
 
-  module _ {h : ℕ} (head-is : h ≡ head_size n) where
-    pub text-fits : n ≤ manifest_limit → FitsIn w64 (h + n)
-    text-fits k = record { fits = omega (arith, k, head-is, head_small n) }
-
-    pub text-whole : {r : ℕ} → r ≡ capped (h + n) → r ≡ capped (text_size n)
+    pub text-whole : {r : ℕ} → r ≡ capped (h + t) → r ≡ capped (text_size n)
     unfolding text_size
-    text-whole e = e ∙ ap (λ (k : ℕ). capped (k + n)) head-is
+    text-whole e = omega (arith, e, head-is, text-is)
 
 -- `absent` said a of a range
 module _ (place size : ℕ) {a : Bool} (absent : a ≡ eqb place 0 && eqb size 0) where
@@ -73,13 +68,9 @@ module _ (place size : ℕ) {a : Bool} (absent : a ≡ eqb place 0 && eqb size 0
     unfolding optional_text when_present
     text-present key h k = rw (← absent, e) (omega (arith, h, k))
 
-    pub copy-large : manifest_limit < size → suc manifest_limit ≡ capped (optional_copy 11 range)
+    pub copy-present : {t r : ℕ} → t ≡ capped size → r ≡ capped (11 + t) → r ≡ capped (optional_copy 11 range)
     unfolding optional_copy when_present
-    copy-large h = rw (← absent, e) (omega (arith, h))
-
-    pub copy-present : {r : ℕ} → r ≡ capped (11 + size) → r ≡ capped (optional_copy 11 range)
-    unfolding optional_copy when_present
-    copy-present h = rw (← absent, e) h
+    copy-present h k = rw (← absent, e) (omega (arith, h, k))
 
 pub called-none : (c : ℕ) → 13 ≤ c → 0 ≡ length (storage_of c).called
 unfolding storages storage_of
@@ -87,57 +78,12 @@ called-none c h = sym (ap (λ (s : Storage). length s.called) (get_or-eq_default
 
 -- ---- a shape
 
-no-dimension : (n : ℕ) (s : List ℕ) → n ≤ 0 → take n s ≡ []
-no-dimension zero s h = refl
-no-dimension (suc n) s h = absurd (omega (arith, h))
-
-next-dimension : (n : ℕ) (s : List ℕ) → 0 < n → 0 < length s → take n s ≡ get_or s 0 0 ∷ take (n - 1) (drop 1 s)
-next-dimension zero s h k = absurd (omega (arith, h))
-next-dimension (suc n) [] h k = absurd (omega (arith, k))
-next-dimension (suc n) (x ∷ s) h k = let e : n ≡ suc n - 1 = omega arith in ap (λ (j : ℕ). x ∷ take j s) e
-
--- the loop over a row's dimensions: i of them are added
-pub record Dimensions (row : List ℕ) (i total : ℕ) : Type 0 where
-  pub within : i ≤ get_or row rank_column 0
-  pub small : total ≤ 9 * i
-  pub so_far : dimensions_size (take (get_or row rank_column 0) (drop shape_column row)) ≡ total + dimensions_size (take (get_or row rank_column 0 - i) (drop (i + shape_column) row))
-
-pub none-added : {row : List ℕ} → Dimensions row 0 0
-none-added {row} =
-    let a : get_or row rank_column 0 ≡ get_or row rank_column 0 - 0 = omega arith in
-    record { within = omega arith; small = omega arith; so_far = omega (arith, ap (λ (k : ℕ). dimensions_size (take k (drop shape_column row))) a) }
-
-module _ {row : List ℕ} {i total : ℕ} (w : Dimensions row i total) where
-  abbrev rank : ℕ
-  rank = get_or row rank_column 0
-
-  pub all-added : rank ≤ i → total ≡ dimensions_size (take rank (drop shape_column row))
-  unfolding dimensions_size
-  all-added h = omega (arith, w.so_far, ap dimensions_size (no-dimension (rank - i) (drop (i + shape_column) row) (omega (arith, h))))
-
-  pub few_bytes : rank ≤ 8 → total ≤ 72
-  few_bytes k = omega (arith, w.within, w.small, k)
-
-  module _ (more : i < rank) (few : rank ≤ 8) {h : ℕ} (head-is : h ≡ head_size (get_or row (i + shape_column) 0)) where
-    pub dimension-fits : FitsIn w64 (total + h)
-    dimension-fits = record { fits = omega (arith, more, few, head-is, w.small, head_small (get_or row (i + shape_column) 0)) }
-
-    pub one-more-added : object_width ≤ length row → Dimensions row (i + 1) (total + h)
-    unfolding dimensions_size
-    one-more-added l =
-        let a : rank - i - 1 ≡ rank - (i + 1) = omega (arith, more) in
-        let b : i + shape_column + 1 ≡ i + 1 + shape_column = omega arith in
-        let d : i + shape_column + 0 ≡ i + shape_column = omega arith in
-        let next = ap dimensions_size
-        (next-dimension (rank - i) (drop (i + shape_column) row) (omega (arith, more)) (omega (arith, l, more, few, length-drop (i + shape_column) row))
-        ∙ ap (λ (x : ℕ). x ∷ take (rank - i - 1) (drop 1 (drop (i + shape_column) row))) (get_or-drop (i + shape_column) row 0 0 ∙ ap (λ (j : ℕ). get_or row j 0) d)
-        ∙ ap (λ (s : List ℕ). get_or row (i + shape_column) 0 ∷ take (rank - i - 1) s) (drop-drop 1 (i + shape_column) row ∙ ap (λ (j : ℕ). drop j row) b)
-        ∙ ap (λ (j : ℕ). get_or row (i + shape_column) 0 ∷ take j (drop (i + 1 + shape_column) row)) a) in
-        record {
-          within = omega (arith, more);
-          small = omega (arith, head-is, w.small, head_small (get_or row (i + shape_column) 0));
-          so_far = omega (arith, w.so_far, head-is, next);
-        }
+-- one dimension more
+pub dimension-more : (i : ℕ) (s : List ℕ) → i < length s → dimensions_size (take (i + 1) s) ≡ dimensions_size (take i s) + head_size (get_or s i 0)
+unfolding dimensions_size
+dimension-more i [] h = absurd (omega (arith, h))
+dimension-more zero (x ∷ s) h = omega arith
+dimension-more (suc i) (x ∷ s) h = let e : suc i + 1 ≡ suc (i + 1) = omega arith in rw e (omega (arith, dimension-more i s (omega (arith, h))))
 
 -- ---- ends
 
@@ -188,23 +134,11 @@ module _ (plan : List ℕ) (n at place : ℕ) (rows : List ℕ) where
       ∙ ap (λ (k : ℕ). component_size (offset_at plan place) (asked_component (drop at rows)) + components_size plan (stepped plan place k) (components_at (n - 1) (at + component_width) rows))
       (get_or-drop at rows length_column 0)
 
--- an object's row as it is lent whole
-abbrev lent : List ℕ → List ℕ
-lent row = take (length row - 0) (drop 0 row)
-
-pub row-lent : (row : List ℕ) → object_width ≤ length row → object_width ≤ length (lent row)
-row-lent row h = rw (part_to_end row 0) h
-
-pub rank-lent : (row : List ℕ) → get_or row rank_column 0 ≤ 8 → get_or (lent row) rank_column 0 ≤ 8
-rank-lent row h = rw (part_to_end row 0) h
-
 pub object-sum : (row : List ℕ) {t u d a r : ℕ} → t ≡ capped (text_size (get_or row 1 0)) → u ≡ capped (text_size (get_or row format_length_column 0))
-    → d ≡ dimensions_size (take (get_or (lent row) rank_column 0) (drop shape_column (lent row))) → a ≡ capped (optional_copy 11 (record { place = get_or row attributes_column 0; size = get_or row attributes_length_column 0 }))
+    → d ≡ dimensions_size (take (get_or row rank_column 0) (drop shape_column row)) → a ≡ capped (optional_copy 11 (record { place = get_or row attributes_column 0; size = get_or row attributes_length_column 0 }))
     → r ≡ capped (t + u + 26 + d + a) → r ≡ capped (object_size (asked_object row))
 unfolding object_size asked_object
-object-sum row e f g h k =
-    let g' = g ∙ ap (λ (s : List ℕ). dimensions_size (take (get_or s rank_column 0) (drop shape_column s))) (part_to_end row 0) in
-    omega (arith, e, f, g', h, k)
+object-sum row e f g h k = omega (arith, e, f, g, h, k)
 
 -- ---- objects with their components
 

@@ -2,7 +2,7 @@
 use Prim.Native.Nat.{ℕ, ◌+◌, ◌-◌, ◌*◌, ◌^◌, ◌≤◌, ◌<◌}
 use native.Mathlib.Omega.{arith}
 use mathlib.Core.List.{List}
-use mathlib.Core.Path.{◌≡◌, ap, sym, ◌∙◌, subst}
+use mathlib.Core.Path.{◌≡◌, ap, sym, ◌∙◌}
 use lib.ListN.{length, take, drop, get_or, length-drop}
 use mir.Syntax.{w64}
 use mir.Val.{Fits as FitsIn}
@@ -11,12 +11,12 @@ use Rattle.meaning.specs.Columns.{object_width, component_width, rank_column, co
 use Rattle.meaning.specs.Limit.{manifest_limit}
 use Rattle.meaning.specs.Asked.{each_row, asked_object, asked_component}
 use Rattle.rows.specs.Placed.{objects_at, components_at}
-use Rattle.rows.specs.Turns.{begun, offset_at, stepped, turn_limit, reached, blob_sizes, counted}
+use Rattle.rows.specs.Turns.{offset_at, stepped, turn_limit, reached, blob_sizes, counted}
 use Rattle.rows.proofs.Turns.{reached-above, reached-next}
-use Rattle.sizes.specs.Size.{capped, head_size, component_size, components_size, object_size, objects_size, objects_size_in}
+use Rattle.sizes.specs.Size.{capped, head_size, component_size, components_size, object_size, objects_size}
 use Rattle.sizes.specs.Measured.{Fits}
 use Rattle.sizes.proofs.Heads.{head_small}
-use Rattle.sizes.proofs.Sums.{from_nothing, one_more, one-object, components-none, components-next, objects-none, objects-next, rank-small, components-there, ends-in-time, fits_next}
+use Rattle.sizes.proofs.Sums.{one_more, one-object, components-none, components-next, objects-none, objects-next, rank-small, components-there, ends-in-time, fits_next}
 
 -- what is lent from a place on
 abbrev from_on : ℕ → List ℕ → List ℕ
@@ -29,12 +29,6 @@ pub record PartsLeft (plan rows : List ℕ) (whole at left turn total : ℕ) : T
   pub ends : reached plan turn (blob_sizes (components_at left at rows)) ≤ turn_limit plan
   pub small : total ≤ manifest_limit + 1
   pub same : capped whole ≡ capped (total + components_size plan turn (components_at left at rows))
-
-pub parts-begin : {plan rows : List ℕ} {n turn : ℕ} → component_width * n ≤ length rows
-    → reached plan turn (blob_sizes (each_row asked_component component_width n rows)) ≤ turn_limit plan
-    → PartsLeft plan rows (components_size plan turn (each_row asked_component component_width n rows)) 0 n turn 0
-parts-begin {plan} {rows} {n} {turn} h k =
-    record { lie = omega (arith, h); ends = k; small = omega arith; same = from_nothing (components_size plan turn (each_row asked_component component_width n rows)) }
 
 module _ {plan rows : List ℕ} {whole at left turn total : ℕ} (p : PartsLeft plan rows whole at left turn total) where
   pub turn-in-time : turn ≤ turn_limit plan
@@ -56,21 +50,9 @@ module _ {plan rows : List ℕ} {whole at left turn total : ℕ} (p : PartsLeft 
     pub step-in-time : stepped plan turn size ≤ turn_limit plan
     step-in-time = omega (arith, ends_next, reached-above plan (stepped plan turn size) others)
 
-    pub row-starts : at ≤ length rows
-    row-starts = omega (arith, p.lie)
-
-    pub row-there : component_width ≤ length (from_on at rows)
-    row-there = rw (part_to_end rows at) (omega (arith, p.lie, some, length-drop at rows))
-
-    pub length-there : at + length_column < length rows
-    length-there = omega (arith, p.lie, some)
-
     module _ (room : length rows * 8 < 2 ^ 63) where
       pub length-fits : FitsIn w64 (at + length_column)
       length-fits = record { fits = omega (arith, p.lie, some, room) }
-
-      pub next_fits : FitsIn w64 (at + component_width)
-      next_fits = record { fits = omega (arith, p.lie, some, room) }
 
     pub sum_fits : (n : ℕ) {s : ℕ} → s ≡ capped n → FitsIn w64 (total + s)
     sum_fits n e = record { fits = omega (arith, p.small, e) }
@@ -96,11 +78,6 @@ pub record ObjectsLeft (plan rows parts : List ℕ) (whole row from left turn to
   pub small : total ≤ manifest_limit + 1
   pub same : capped whole ≡ capped (total + objects_size plan turn (objects_at left row rows) (components_at (counted (objects_at left row rows)) from parts))
 
-pub objects-begin : {plan rows parts : List ℕ} {n turn : ℕ} → Fits plan rows parts n 0 0 (begun plan) → turn ≡ begun plan → ObjectsLeft plan rows parts (objects_size_in plan rows parts n) 0 0 n turn 0
-objects-begin {plan} {rows} {parts} {n} f e =
-    subst (λ (k : ℕ). ObjectsLeft plan rows parts (objects_size_in plan rows parts n) 0 0 n k 0) (sym e)
-    (record { fits = f; small = omega arith; same = from_nothing (objects_size_in plan rows parts n) })
-
 module _ {plan rows parts : List ℕ} {whole row from left turn total : ℕ} (p : ObjectsLeft plan rows parts whole row from left turn total) where
   pub all-objects : left ≤ 0 → total ≡ capped whole
   all-objects h = omega (arith, p.small, p.same, objects-none plan rows parts left row from turn h)
@@ -118,20 +95,8 @@ module _ {plan rows parts : List ℕ} {whole row from left turn total : ℕ} (p 
     parts-long : from + component_width * count ≤ length parts
     parts-long = components-there plan rows parts left row from turn some p.fits
 
-    pub object-starts : row ≤ length rows
-    object-starts = omega (arith, object-long)
-
-    pub count-there : row + count_column < length rows
-    count-there = omega (arith, object-long)
-
-    pub object-there : object_width ≤ length (from_on row rows)
-    object-there = rw (part_to_end rows row) (omega (arith, object-long, length-drop row rows))
-
     pub rank-there : get_or (from_on row rows) rank_column 0 ≤ 8
     rank-there = rw (part_to_end rows row) (rank-small plan rows parts left row from turn some p.fits)
-
-    pub parts-start : from ≤ length parts
-    parts-start = omega (arith, parts-long)
 
     pub parts-there : component_width * count ≤ length (from_on from parts)
     parts-there = rw (part_to_end parts from) (omega (arith, parts-long, length-drop from parts))
@@ -143,16 +108,7 @@ module _ {plan rows parts : List ℕ} {whole row from left turn total : ℕ} (p 
       pub count_fits : FitsIn w64 (row + count_column)
       count_fits = record { fits = omega (arith, object-long, room) }
 
-      pub object-fits : FitsIn w64 (row * 8)
-      object-fits = record { fits = omega (arith, object-long, room) }
-
-      pub next-object-fits : FitsIn w64 (row + object_width)
-      next-object-fits = record { fits = omega (arith, object-long, room) }
-
     module _ (room : length parts * 8 < 2 ^ 63) where
-      pub from-fits : FitsIn w64 (from * 8)
-      from-fits = record { fits = omega (arith, parts-long, room) }
-
       pub parts-fit : FitsIn w64 (component_width * count)
       parts-fit = record { fits = omega (arith, parts-long, room) }
 

@@ -37,17 +37,13 @@ pub fn components(plan: &[u64], rows: &[u64], n: u64, first: u64) -> u64
     requires rows_bound { reached plan.now first (blob_sizes (each_row asked_component component_width n rows.now)) ≤ turn_limit plan.now }
     ensures { result ≡ is.capped (is.components_size plan.now first (each_row asked_component component_width n rows.now)) }
 {
-    let mut at = 0;
-    let mut left = n;
     let mut turn = first;
     let mut total = 0;
-    while 0 < left {
-        let offset = offset_at(plan, turn);
-        let size = component(&rows[at..], offset);
+    for i in 0..n as usize {
+        let at = columns::COMPONENT * i;
+        let size = component(&rows[at..], offset_at(plan, turn));
         total = capped(total + size);
         turn = stepped(plan, turn, rows[at + LENGTH]);
-        at += columns::COMPONENT;
-        left -= 1;
     }
     total
 }
@@ -59,7 +55,7 @@ pub fn object(row: &[u64]) -> u64
     ensures { result ≡ is.capped (is.object_size (asked_object row.now)) }
 {
     let texts = text(row[NAME_LENGTH]) + text(row[FORMAT_LENGTH]);
-    capped(texts + 26 + dimensions(&row[0..]) + attributes(row[ATTRIBUTES], row[ATTRIBUTES_LENGTH]))
+    capped(texts + 26 + dimensions(row) + attributes(row[ATTRIBUTES], row[ATTRIBUTES_LENGTH]))
 }
 
 // n objects, their components in order.
@@ -67,19 +63,16 @@ pub fn objects(plan: &[u64], rows: &[u64], parts: &[u64], n: u64) -> u64
     requires { Fits plan.now rows.now parts.now n 0 0 (begun plan.now) }
     ensures { result ≡ is.capped (is.objects_size_in plan.now rows.now parts.now n) }
 {
-    let mut row = 0;
     let mut from = 0;
-    let mut left = n;
     let mut turn = first_turn(plan);
     let mut total = 0;
-    while 0 < left {
+    for i in 0..n as usize {
+        let row = columns::OBJECT * i;
         let count = rows[row + COUNT];
         let own = object(&rows[row..]) + head(count);
         total = capped(total + own + components(plan, &parts[from..], count, turn));
         turn = turn_past(plan, &parts[from..], count, turn);
-        row += columns::OBJECT;
-        from += (columns::COMPONENT_64 * count) as usize;
-        left -= 1;
+        from += columns::COMPONENT * count as usize;
     }
     total
 }

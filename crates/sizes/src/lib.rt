@@ -31,6 +31,6 @@ pub fn manifest(
     ensures { is.ManifestIs plan.now rows.now objects components (record { place = place; size = size }) result }
 {
     let first = (columns::OBJECT_64 * objects) as usize;
-    let held = entries::objects(plan, &rows[0..], &rows[first..], objects);
+    let held = entries::objects(plan, rows, &rows[first..], objects);
     piece::capped(23 + piece::attributes(place, size) + piece::head(objects) + held)
 }

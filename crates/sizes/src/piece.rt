@@ -10,10 +10,7 @@ const NAMES: u64 = 0x4_2333_2333_4333;
 pub fn capped(n: u64) -> u64
     ensures { result ≡ is.capped n }
 {
-    if n <= numbers::MANIFEST_MOST {
-        return n;
-    }
-    numbers::MANIFEST_MOST + 1
+    n.min(numbers::MANIFEST_MOST + 1)
 }
 
 pub fn head(n: u64) -> u64
@@ -37,10 +34,7 @@ pub fn head(n: u64) -> u64
 pub fn text(n: u64) -> u64
     ensures { result ≡ is.capped (is.text_size n) }
 {
-    if numbers::MANIFEST_MOST < n {
-        return numbers::MANIFEST_MOST + 1;
-    }
-    capped(head(n) + n)
+    capped(head(n) + capped(n))
 }
 
 // A text under a key that takes so many bytes.
@@ -61,10 +55,7 @@ pub fn attributes(place: u64, size: u64) -> u64
     if rows::absent(place, size) {
         return 0;
     }
-    if numbers::MANIFEST_MOST < size {
-        return numbers::MANIFEST_MOST + 1;
-    }
-    capped(11 + size)
+    capped(11 + capped(size))
 }
 
 // How long a storage's name is.
@@ -83,12 +74,11 @@ pub fn dimensions(row: &[u64]) -> u64
     requires rank_column_bound { get_or row.now rank_column 0 ≤ 8 }
     ensures { (result ≡ is.dimensions_size (take (get_or row.now rank_column 0) (drop shape_column row.now))) × (result ≤ 72) }
 {
-    let rank = row[columns::RANK] as usize;
-    let mut i = 0;
+    let end = columns::SHAPE + row[columns::RANK] as usize;
+    let shape = &row[columns::SHAPE..end];
     let mut total = 0;
-    while i < rank {
-        total += head(row[i + columns::SHAPE]);
-        i += 1;
+    for n in shape {
+        total += head(*n);
     }
     total
 }

@@ -24,18 +24,14 @@ pub fn end(rows: &[u64], n: u64, start: u64) -> u64
     requires start_le_end_limit { start ≤ end_limit }
     ensures { result ≡ capped_end (is.reached [] start (blob_sizes (each_row asked_component component_width n rows.now))) }
 {
-    let mut at = 0;
-    let mut left = n;
     let mut place = start;
-    while 0 < left {
+    for i in 0..n as usize {
         let offset = aligned(place);
-        let size = rows[at + LENGTH];
+        let size = rows[columns::COMPONENT * i + LENGTH];
         if numbers::END_MOST - offset < size {
             return numbers::END_MOST + 1;
         }
         place = offset + size;
-        at += columns::COMPONENT;
-        left -= 1;
     }
     place
 }
@@ -43,10 +39,7 @@ pub fn end(rows: &[u64], n: u64, start: u64) -> u64
 pub fn first_turn(plan: &[u64]) -> u64
     ensures { result ≡ is.begun plan.now }
 {
-    if plan.len() == 0 {
-        return 8;
-    }
-    0
+    if plan.is_empty() { 8 } else { 0 }
 }
 
 // Where the blob stands whose turn it is.
@@ -54,14 +47,10 @@ pub fn offset_at(plan: &[u64], turn: u64) -> u64
     requires { turn ≤ is.turn_limit plan.now }
     ensures { result ≡ is.offset_at plan.now turn }
 {
-    if plan.len() == 0 {
+    if plan.is_empty() {
         return aligned(turn);
     }
-    if turn < plan.len() as u64 {
-        let i = turn as usize;
-        return plan[i];
-    }
-    0
+    plan.get(turn as usize).copied().unwrap_or(0)
 }
 
 // The turn after a blob of this length.
@@ -69,7 +58,7 @@ pub fn stepped(plan: &[u64], turn: u64, size: u64) -> u64
     requires { is.stepped plan.now turn size ≤ is.turn_limit plan.now }
     ensures { result ≡ is.stepped plan.now turn size }
 {
-    if plan.len() == 0 {
+    if plan.is_empty() {
         return aligned(turn) + size;
     }
     turn + 1
@@ -81,7 +70,7 @@ pub fn turn_past(plan: &[u64], rows: &[u64], n: u64, turn: u64) -> u64
     requires rows_bound { is.reached plan.now turn (blob_sizes (each_row asked_component component_width n rows.now)) ≤ is.turn_limit plan.now }
     ensures { result ≡ is.reached plan.now turn (blob_sizes (each_row asked_component component_width n rows.now)) }
 {
-    if plan.len() == 0 {
+    if plan.is_empty() {
         return end(rows, n, turn);
     }
     turn + n

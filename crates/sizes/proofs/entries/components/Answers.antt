@@ -1,36 +1,22 @@
--- `sizes::entries::components` meets its contract: a law for each way into the loop, on and out of it.
+-- `sizes::entries::components` meets its contract.
+use native.Mathlib.Omega.{arith}
+use Rattle.meaning.specs.Columns.{component_width}
+use Rattle.meaning.specs.Asked.{each_row, asked_component}
+use Rattle.sizes.specs.Size.{components_size}
+use Rattle.rows.proofs.EachRow.{row-on}
 use Rattle.sizes.proofs.Turns as turns
 use Rattle.sizes.proofs.entries.components.Goals as goal
 
-pub loop-left-init : goal.loop-left-init
-loop-left-init c = search turns.parts-begin
-
-pub offset_at-offset-requires : goal.offset_at-offset-requires
-offset_at-offset-requires c = search turns.turn-in-time
-
-pub slice_bounds-component-start : goal.slice_bounds-component-start
-slice_bounds-component-start c = search turns.row-starts
-
-pub component-size-requires : goal.component-size-requires
-component-size-requires c = search turns.row-there
-
-pub overflow_add-total : goal.overflow_add-total
-overflow_add-total c = search turns.sum_fits
-
-pub overflow_add-at : goal.overflow_add-at
-overflow_add-at c = search turns.length-fits
-
-pub bounds-rows-at : goal.bounds-rows-at
-bounds-rows-at c = search turns.length-there
+pub offset_at-requires : goal.offset_at-requires
+offset_at-requires c = turns.turn-in-time c.loop-i.invariant
 
 pub stepped-turn-requires : goal.stepped-turn-requires
-stepped-turn-requires c = search turns.step-in-time
+stepped-turn-requires c = turns.step-in-time c.loop-i.invariant (omega arith)
 
-pub overflow_add-at-in-loop-left : goal.overflow_add-at-in-loop-left
-overflow_add-at-in-loop-left c = search turns.next_fits
-
-pub loop-left-preserved : goal.loop-left-preserved
-loop-left-preserved c = search turns.parts-turn
+pub loop-i-preserved : goal.loop-i-preserved
+loop-i-preserved c =
+    row-on (λ at left. turns.PartsLeft c.args.plan.now c.args.rows.now (components_size c.args.plan.now c.args.first (each_row asked_component component_width c.args.n c.args.rows.now)) at left c.stepped-turn.result c.capped-total.result) component_width c.args.n c.loop-i.i c.loop-i-test.true
+    (turns.parts-turn c.loop-i.invariant (omega arith) c.offset_at.ensures c.component-size.ensures c.capped-total.ensures c.stepped-turn.ensures)
 
 pub returns : goal.returns
-returns c = search turns.all-parts
+returns c = turns.all-parts c.loop-i.invariant (omega arith)

@@ -1,11 +1,8 @@
-use Rattle.sizes.proofs.Sums as law
-use Prim.Native.Nat.{◌-◌}
-use lib.ListN.{get_or}
-use Rattle.meaning.specs.Columns.{rank_column}
+use Prim.Native.Nat.{◌*◌, ◌≤◌}
+use mathlib.Core.Path.{◌≡◌}
+use lib.ListN.{take}
+use Rattle.sizes.specs.Size.{dimensions_size}
 use Rattle.sizes.proofs.piece.dimensions.Given as goal
 
-abbrev pub invariant-loop-i : goal.invariant-loop-i
-invariant-loop-i l = law.Dimensions l.row l.i l.total
-
-abbrev pub decreases-loop-i : goal.decreases-loop-i
-decreases-loop-i l = get_or l.row rank_column 0 - l.i
+abbrev pub invariant-loop-n : goal.invariant-loop-n
+invariant-loop-n l = (l.total ≡ dimensions_size (take l.n-index l.shape)) × (l.total ≤ 9 * l.n-index)

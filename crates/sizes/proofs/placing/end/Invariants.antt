@@ -1,8 +1,7 @@
+use Prim.Native.Nat.{◌-◌, ◌*◌}
+use Rattle.meaning.specs.Columns.{component_width}
 use Rattle.sizes.proofs.PlanOrNone as law
 use Rattle.sizes.proofs.placing.end.Given as goal
 
-abbrev pub invariant-loop-left : goal.invariant-loop-left
-invariant-loop-left l = law.Placing l.rows l.n l.start l.at l.left l.place
-
-abbrev pub decreases-loop-left : goal.decreases-loop-left
-decreases-loop-left l = l.left
+abbrev pub invariant-loop-i : goal.invariant-loop-i
+invariant-loop-i l = law.Placing l.rows l.n l.start (component_width * l.i) (l.n - l.i) l.place

@@ -1,16 +1,17 @@
--- `sizes::placing::turn_past` meets its contract: a law for each branch.
-use Rattle.sizes.proofs.PlanOrNone as law
+-- `sizes::placing::turn_past` meets its contract.
 use borrow.Author.Rules.{rules}
+use borrow.Author.Tests.{tests}
+use Rattle.sizes.proofs.PlanOrNone as law
 use Rattle.sizes.proofs.placing.turn_past.Goals as goal
 
-pub end-requires : goal.end-requires
-end-requires c = record { n_in_bounds = search rules; start_le_end_limit = search law.starts-low }
+pub end-requires-clause-start_le_end_limit : goal.end-requires-clause-start_le_end_limit
+end-requires-clause-start_le_end_limit c = search (rules, tests, law.starts-low)
 
-pub returns-then-plan-eq0 : goal.returns-then-plan-eq0
-returns-then-plan-eq0 c = search law.ends_there
+pub returns-then-is_empty : goal.returns-then-is_empty
+returns-then-is_empty c = search (rules, tests, law.ends_there)
 
 pub overflow_add-result : goal.overflow_add-result
-overflow_add-result c = search law.turns_fit
+overflow_add-result c = search (rules, tests, law.turns_fit)
 
 pub returns : goal.returns
-returns c = search law.turns-are
+returns c = search (rules, tests, law.turns-are)
