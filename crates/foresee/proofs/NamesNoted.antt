@@ -1,5 +1,5 @@
 -- Names noted row by row, and judged together.
-use Prim.Native.Nat.{ℕ, zero, suc, ◌+◌, ◌-◌, ◌*◌, ◌^◌, ◌≤◌, ◌<◌, min}
+use Prim.Native.Nat.{ℕ, zero, suc, ◌+◌, ◌-◌, ◌*◌, ◌≤◌, ◌<◌, min}
 use native.Mathlib.Omega.{arith}
 use mathlib.Core.List.{List, [], ◌∷◌, ◌++◌, map}
 use mathlib.Core.Bool.{Bool, true, false, not}
@@ -8,8 +8,6 @@ use mathlib.Core.Path.{◌≡◌, refl, sym, ap, ◌∙◌}
 use lib.ListN.{length, take, drop, get_or, length-append, drop_of_length-le}
 use lib.Seq.{get_or-drop, take_all, take-nil}
 use lib.Dec.{leb}
-use mir.Syntax.{w64}
-use mir.Val.{Fits}
 use borrow.Author.Tests.{not-true, not-false, le-leb, lt-leb, leb-true}
 use Rattle.meaning.specs.Columns.{object_width, component_width, name_column}
 use Rattle.endian.proofs.Which.{lt-or}
@@ -30,15 +28,6 @@ use Rattle.readback.specs.Judged.{judged_names}
 use Rattle.foresee.specs.declared.texts.Held.TheVariants.{Right, Wrong}
 use Rattle.foresee.specs.Foretold.{told}
 use Rattle.foresee.specs.Names.{names_of, Noted, NotedOr}
-
--- room for a row before the last
-row_fits : (width i n : ℕ) → i < n → width * i + width ≤ width * n
-row_fits width i (suc n) h = by width
-  where
-    by : (w : ℕ) → w * i + w ≤ w * suc n
-    by zero = omega arith
-    by (suc w) = let z : w * i + w ≤ w * suc n = by w in omega (arith, h, z)
-row_fits width i zero h = absurd (omega (arith, h))
 
 -- what is left at a place gives the place back, as far as bytes go
 left_at : (buffer : List ℕ) (place k : ℕ) → take k (drop (length buffer - (length buffer - place)) buffer) ≡ take k (drop place buffer)
@@ -67,12 +56,12 @@ pub record Noting (buffer rows : List ℕ) (width n : ℕ) (left₀ left size : 
   pub noted : Noted buffer (names_of buffer width i rows) left size
 
 module _ {buffer rows : List ℕ} {width n : ℕ} where
-  pub none-noted : {left size : List ℕ} → length size ≡ length left → Noting buffer rows width n left left size 0 0
+  pub none-noted : {left size : List ℕ} → length size ≡ length left → Noting buffer rows width n left left size (width * 0) 0
   unfolding names_of each_row listed
   none-noted {left} e =
       let z : min 0 (length left) ≡ 0 = omega arith in
       record {
-        at_row = omega arith;
+        at_row = refl;
         within = omega arith;
         same-room = refl;
         noted = record { texts = refl; same-room = e; listed-are = rw z (sym (take-nil {A = List ℕ} (length left))) };
@@ -83,30 +72,6 @@ module _ {buffer rows : List ℕ} {width n : ℕ} where
     all_noted h = let z : i ≡ n = (let k = w.within in omega (arith, h, k)) in record { well = λ e. rw z at w.noted; odd = λ e. absurd (false-not (sym e)) }
 
     module _ (more : i < n) where
-      -- its row lies among the rows
-      module _ (wide : 2 ≤ width) (lie : width * n ≤ length rows) where
-        row_lies : at + width ≤ length rows
-        row_lies = let k = w.at_row in omega (arith, k, lie, row_fits width i n more)
-
-        pub place-there : at < length rows
-        place-there = omega (arith, wide, row_lies)
-
-        pub length-there : at + 1 < length rows
-        length-there = omega (arith, wide, row_lies)
-
-        module _ (room : length rows * 8 < 2 ^ 63) where
-          pub place-fits : Fits w64 (at * 8)
-          place-fits = record { fits = omega (arith, room, row_lies) }
-
-          pub column_fits : Fits w64 (at + 1)
-          column_fits = record { fits = omega (arith, wide, room, row_lies) }
-
-          pub length-fits : Fits w64 ((at + 1) * 8)
-          length-fits = record { fits = omega (arith, wide, room, row_lies) }
-
-          pub next_fits : Fits w64 (at + width)
-          next_fits = record { fits = omega (arith, room, row_lies) }
-
       abbrev place : ℕ
       place = get_or rows at 0
 

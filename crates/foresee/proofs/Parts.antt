@@ -8,7 +8,6 @@ use lib.ListN.{length, take, drop, get_or}
 use lib.Seq.{length-take-le}
 use lib.Dec.{eqb}
 use borrow.Author.Rules.{part_to_end}
-use borrow.Author.Tests.{eq-eqb, ne_eqb}
 use Rattle.meaning.specs.Columns.{component_width, rank_column, shape_column, dtype_column, type_column, type_length_column, offset_column, length_column}
 use Rattle.meaning.specs.Types.{u64, type_ratio, width_of, ratio_of, listed, logicals}
 use Rattle.meaning.specs.Format.{Part, untyped, plain, format_rules}
@@ -48,17 +47,6 @@ module _ (buffer : List ℕ) (place size : ℕ) where
       by : (b : Bool) → b ≡ (eqb place 0 && eqb size 0) → untyped (present_at buffer range) ≡ b
       by true e = rw (nothing-there buffer place size e refl) refl
       by false e = rw (something-there buffer place size e refl) refl
-
-module _ (place size code : ℕ) where
-  pub other-code : (code ≡ 8 → ⊥) → 0 ≡ flag (eqb code 8 && (eqb place 0 && eqb size 0))
-  other-code e = rw (ne_eqb code 8 e) refl
-
-  module _ (words : code ≡ 8) {n : Bool} (absent : n ≡ (eqb place 0 && eqb size 0)) where
-    pub plain-words : n ≡ true → 1 ≡ flag (eqb code 8 && (eqb place 0 && eqb size 0))
-    plain-words e = rw (eq-eqb code 8 words, sym absent ∙ e) refl
-
-    pub typed-words : n ≡ false → 0 ≡ flag (eqb code 8 && (eqb place 0 && eqb size 0))
-    typed-words e = rw (eq-eqb code 8 words, sym absent ∙ e) refl
 
 module _ (buffer row : List ℕ) where
   abbrev pub the_part : Part

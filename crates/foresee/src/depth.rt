@@ -11,11 +11,7 @@ use view::part;
 pub fn deep(buffer: &[u8], place: u64, size: u64, levels: u64) -> bool
     ensures { result ≡ deep_option levels (present_at buffer.now (record { place = place; size = size })) }
 {
-    if absent(place, size) {
-        return false;
-    }
-    let s = part(buffer, place, size);
-    cbor::skip(s, levels) == cbor::DEEP
+    !absent(place, size) && cbor::skip(part(buffer, place, size), levels) == cbor::DEEP
 }
 
 // Those of any of n objects.
@@ -23,9 +19,8 @@ pub fn any_deep(rows: &[u64], n: usize, buffer: &[u8]) -> bool
     requires { object_width * n ≤ length rows.now }
     ensures { (cs : List AskedComponent) → result ≡ any_too_deep (described_objects buffer.now (each_row asked_object object_width n rows.now) cs) }
 {
-    let mut at = 0;
-    let mut left = n;
-    while 0 < left {
+    for i in 0..n {
+        let at = columns::OBJECT * i;
         if deep(
             buffer,
             rows[at + columns::ATTRIBUTES],
@@ -34,8 +29,6 @@ pub fn any_deep(rows: &[u64], n: usize, buffer: &[u8]) -> bool
         ) {
             return true;
         }
-        at += columns::OBJECT;
-        left -= 1;
     }
     false
 }

@@ -28,17 +28,10 @@ fn components(rows: &[u64], n: usize, buffer: &[u8]) -> Ruled
     requires { component_width * n ≤ length rows.now }
     ensures { each_component 0 (map (described_component buffer.now) (each_row asked_component component_width n rows.now)) ≡ rules.told result }
 {
-    let mut at = 0;
-    let mut j = 0;
-    while j < n {
-        match component(&rows[at..], buffer) {
-            Held::Wrong(c) => {
-                return Ruled::Wrong(c, j);
-            }
-            Held::Right => {
-                at += columns::COMPONENT;
-                j += 1;
-            }
+    for j in 0..n {
+        match component(&rows[columns::COMPONENT * j..], buffer) {
+            Held::Wrong(c) => return Ruled::Wrong(c, j),
+            Held::Right => {}
         }
     }
     Ruled::Right
@@ -58,12 +51,7 @@ fn unit(buffer: &[u8], place: u64, size: u64, code: u64) -> u64
 fn plain(place: u64, size: u64, code: u64) -> u64
     ensures { result ≡ rules.flag (eqb code 8 && (eqb place 0 && eqb size 0)) }
 {
-    if code == 8 {
-        if absent(place, size) {
-            return 1;
-        }
-    }
-    0
+    u64::from(code == 8 && absent(place, size))
 }
 
 // Puts what the format's rules read of component j, whose row these numbers begin with.
@@ -89,12 +77,8 @@ fn put_parts(rows: &[u64], n: usize, buffer: &[u8], out: &mut [u64])
     requires { (component_width * n ≤ length rows.now) × (n ≤ 16) × (length out.old ≡ 64) }
     ensures { (length out.new ≡ 64) × (take (4 * n) out.new ≡ part_rows (map part_of (map (described_component buffer.now) (each_row asked_component component_width n rows.now)))) }
 {
-    let mut at = 0;
-    let mut j = 0;
-    while j < n {
-        put_part(&rows[at..], buffer, j, out);
-        at += columns::COMPONENT;
-        j += 1;
+    for j in 0..n {
+        put_part(&rows[columns::COMPONENT * j..], buffer, j, out);
     }
 }
 

@@ -28,23 +28,17 @@ fn each(rows: &[u64], n: usize, rest: &[u64], components: usize, buffer: &[u8]) 
     requires { is.Counted buffer.now rows.now n rest.now components }
     ensures { is.each_object 0 (is.objects_of buffer.now rows.now n rest.now components) ≡ is.foretold result }
 {
-    let mut at = 0;
     let mut from = 0;
     let mut due = components;
-    let mut i = 0;
-    while i < n {
+    for i in 0..n {
+        let at = columns::OBJECT * i;
         match judged::object(&rows[at..], &rest[from..], buffer) {
-            Ruled::Wrong(c, j) => {
-                return Foreseen::Fault(c, i, j);
-            }
-            Ruled::Right => {
-                let count = rows[at + columns::COUNT] as usize;
-                from += columns::COMPONENT * count;
-                due -= count;
-                at += columns::OBJECT;
-                i += 1;
-            }
+            Ruled::Wrong(c, j) => return Foreseen::Fault(c, i, j),
+            Ruled::Right => {}
         }
+        let count = rows[at + columns::COUNT] as usize;
+        from += columns::COMPONENT * count;
+        due -= count;
     }
     Foreseen::Fine
 }
@@ -83,11 +77,8 @@ pub fn verdict(
     requires { rows_sound buffer.now rows.now objects components (record { place = place; size = size }) ≡ true }
     ensures { judged (described buffer.now (asked rows.now objects components (record { place = place; size = size }))) ≡ is.foretold result }
 {
-    if depth::deep(buffer, place, size, numbers::IN_ROOT) {
-        return Foreseen::Fault(numbers::DEEP, 0, 0);
-    }
     let n = objects as usize;
-    if depth::any_deep(rows, n, buffer) {
+    if depth::deep(buffer, place, size, numbers::IN_ROOT) || depth::any_deep(rows, n, buffer) {
         return Foreseen::Fault(numbers::DEEP, 0, 0);
     }
     let from = columns::OBJECT * n;

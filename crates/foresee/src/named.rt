@@ -1,22 +1,11 @@
 // What the reader asks of names that stand in rows: UTF-8, count, repeats.
-ghost use Rattle.std.specs.Prelude.{◌≡◌, ◌-◌, ◌*◌, ◌≤◌, length};
+ghost use Rattle.std.specs.Prelude.{◌≡◌, ◌*◌, ◌≤◌, length};
 ghost use Rattle.readback.specs.Judged.{judged_names};
 ghost use Rattle.foresee.specs.Foretold.{told};
 ghost use Rattle.foresee.specs.Names.{names_of, NotedOr};
 
 use crate::texts::Held;
 use view::part;
-
-// Bytes left at a place of a buffer of n bytes.
-fn left_at(n: usize, place: u64) -> usize
-    ensures { result ≡ n - place }
-{
-    let room = n as u64;
-    if room < place {
-        return 0;
-    }
-    (room - place) as usize
-}
 
 // Notes the names of n rows of a width in left and size, as far as there is room, and as far as they are UTF-8.
 fn note(
@@ -30,18 +19,15 @@ fn note(
     requires { (2 ≤ width) × (width * n ≤ length rows.now) × (length size.old ≡ length left.old) }
     ensures { (length left.new ≡ length left.old) × NotedOr buffer.now (names_of buffer.now width n rows.now) left.new size.new result }
 {
-    let mut at = 0;
-    let mut i = 0;
-    while i < n {
+    for i in 0..n {
+        let at = width * i;
         let place = rows[at];
         let k = rows[at + columns::NAME_LENGTH];
         if !utf8::utf8(part(buffer, place, k)) {
             return false;
         }
-        naming::put(left, i, left_at(buffer.len(), place));
+        naming::put(left, i, buffer.len().saturating_sub(place as usize));
         naming::put(size, i, k as usize);
-        at += width;
-        i += 1;
     }
     true
 }

@@ -113,13 +113,24 @@ module _ {A : Type 0} (p : A → Bool) (read : List ℕ → A) (width : ℕ) whe
         let e : get_or (range_with_len 0 n) h.0 0 ≡ h.0 = omega (arith, get_or-range_with_len 0 n h.0 0 l) in
         sym (one-fails n h.0 rows l (rw e at (h.2 0)))
 
--- a turn of a loop over n rows: what is kept of the place and of how many are left goes on to the next row
+-- a turn of a loop over rows: what is kept of the place goes on to the next row
+pub place-on : (P : ℕ → Type 0) (width i : ℕ) → P (width * i + width) → P (width * (i + 1))
+place-on P width i p = let y : width * i + width ≡ width * (i + 1) = omega arith in subst P y p
+
+-- and of how many are left of n
 module _ (P : ℕ → ℕ → Type 0) (width n : ℕ) where
   pub row-on : (i : ℕ) → i < n → P (width * i + width) (n - i - 1) → P (width * (i + 1)) (n - (i + 1))
   row-on i h p =
       let y : width * i + width ≡ width * (i + 1) = omega arith in
       let z : n - i - 1 ≡ n - (i + 1) = omega (arith, h) in
       subst (λ (k : ℕ). P k (n - (i + 1))) y (subst (P (width * i + width)) z p)
+
+-- the same, where the rows begin at a place
+pub row-on-from : (P : ℕ → ℕ → Type 0) (first width n i : ℕ) → i < n → P (first + width * i + width) (n - i - 1) → P (first + width * (i + 1)) (n - (i + 1))
+row-on-from P first width n i h p =
+    let y : first + width * i + width ≡ first + width * (i + 1) = omega arith in
+    let z : n - i - 1 ≡ n - (i + 1) = omega (arith, h) in
+    subst (λ (k : ℕ). P k (n - (i + 1))) y (subst (P (first + width * i + width)) z p)
 
 -- and of a list's parts
 module _ {A : Type 0} (p : A → Bool) where

@@ -1,15 +1,17 @@
--- `foresee::verdict` meets its contract: a law for each branch.
+-- `foresee::verdict` meets its contract.
 use Rattle.foresee.proofs.Objects as law
 use Rattle.foresee.proofs.verdict.Goals as goal
-
-pub returns-then-deep : goal.returns-then-deep
-returns-then-deep c = search law.root-deep
+use Rattle.foresee.proofs.verdict.Goals.{then-deep-via-then-deep, then-deep-via-else-deep+then-any_deep}
 
 pub any_deep-requires : goal.any_deep-requires
 any_deep-requires c = search law.objects-lie
 
-pub returns-then-any_deep : goal.returns-then-any_deep
-returns-then-any_deep c = search law.object-deep
+pub returns-then-deep : goal.returns-then-deep
+returns-then-deep c =
+    elim c.then-deep.branch [
+      | then-deep-via-then-deep w ↦ search law.root-deep
+      | then-deep-via-else-deep+then-any_deep w ↦ search law.object-deep
+    ]
 
 pub overflow_mul-from : goal.overflow_mul-from
 overflow_mul-from c = search law.objects-fit

@@ -1,8 +1,7 @@
+use Prim.Native.Nat.{◌-◌, ◌*◌}
+use Rattle.meaning.specs.Columns.{object_width}
 use Rattle.foresee.proofs.DeepLaws as law
 use Rattle.foresee.proofs.depth.any_deep.Given as goal
 
-abbrev pub invariant-loop-left : goal.invariant-loop-left
-invariant-loop-left l = law.NoneDeep l.buffer l.rows l.n l.at l.left
-
-abbrev pub decreases-loop-left : goal.decreases-loop-left
-decreases-loop-left l = l.left
+abbrev pub invariant-loop-i : goal.invariant-loop-i
+invariant-loop-i l = law.NoneDeep l.buffer l.rows l.n (object_width * l.i) (l.n - l.i)

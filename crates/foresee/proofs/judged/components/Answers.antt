@@ -1,15 +1,17 @@
--- `foresee::judged::components` meets its contract: a law for each way into the loop, on and out of it.
+-- `foresee::judged::components` meets its contract.
+use Prim.Native.Nat.{◌+◌}
+use Rattle.meaning.specs.Columns.{component_width}
+use Rattle.rows.proofs.EachRow.{place-on}
 use Rattle.foresee.proofs.Components as law
 use Rattle.foresee.proofs.judged.components.Goals as goal
 
-pub loop-j-init : goal.loop-j-init
-loop-j-init c = search law.components-begin
-
 pub returns-in-Wrong : goal.returns-in-Wrong
-returns-in-Wrong c = search law.component-faulty
+returns-in-Wrong c = law.component-faulty c.loop-j.invariant c.loop-j-test.true _ c.component.ensures c.in-Wrong.is
 
 pub loop-j-preserved : goal.loop-j-preserved
-loop-j-preserved c = search law.component-passes
+loop-j-preserved c =
+    place-on (λ at. law.Judging c.args.buffer.now c.args.rows.now c.args.n at (c.loop-j.j + 1)) component_width c.loop-j.j
+    (law.component-passes c.loop-j.invariant c.loop-j-test.true _ c.component.ensures c.in-Right.is)
 
 pub returns : goal.returns
-returns c = search law.components-end
+returns c = law.components-end c.loop-j.invariant c.loop-j-test.false

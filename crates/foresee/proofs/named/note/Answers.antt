@@ -1,35 +1,21 @@
--- `foresee::named::note` meets its contract: a law for each way into the loop, on and out of it.
+-- `foresee::named::note` meets its contract.
+use Prim.Native.Nat.{◌+◌}
+use Rattle.rows.proofs.EachRow.{place-on}
+use Rattle.foresee.proofs.NamesNoted as law
 use mathlib.Core.Bool.{not}
 use mathlib.Core.Path.{ap}
-use Rattle.foresee.proofs.NamesNoted as law
 use Rattle.foresee.proofs.named.note.Goals as goal
 
 pub loop-i-init : goal.loop-i-init
-loop-i-init c = search law.none-noted
-
-pub offset_bounds-rows-at : goal.offset_bounds-rows-at
-offset_bounds-rows-at c = search law.place-fits
-
-pub bounds-rows-at : goal.bounds-rows-at
-bounds-rows-at c = search law.place-there
-
-pub overflow_add-k : goal.overflow_add-k
-overflow_add-k c = search law.column_fits
-
-pub offset_bounds-rows-at-in-loop-i : goal.offset_bounds-rows-at-in-loop-i
-offset_bounds-rows-at-in-loop-i c = search law.length-fits
-
-pub bounds-rows-at-in-loop-i : goal.bounds-rows-at-in-loop-i
-bounds-rows-at-in-loop-i c = search law.length-there
+loop-i-init c = law.none-noted c.requires.2
 
 pub returns-then-not-utf8 : goal.returns-then-not-utf8
-returns-then-not-utf8 c = (search, search law.odd-name)
-
-pub overflow_add-at : goal.overflow_add-at
-overflow_add-at c = search law.next_fits
+returns-then-not-utf8 c = (c.loop-i.invariant.same-room, law.odd-name c.loop-i.invariant c.loop-i-test.true c.part.ensures c.utf8-2.ensures (ap not c.if-not-utf8.true))
 
 pub loop-i-preserved : goal.loop-i-preserved
-loop-i-preserved c = law.one-more-noted c.loop-i.invariant c.loop-i-test.true c.part.ensures c.utf8-2.ensures (ap not c.if-not-utf8.false) c.left_at.ensures c.put.ensures c.put-in-loop-i.ensures
+loop-i-preserved c =
+    place-on (λ at. law.Noting c.args.buffer.now c.args.rows.now c.args.width c.args.n c.args.left.now c.put.new.a c.put-in-loop-i.new.a at (c.loop-i.i + 1)) c.args.width c.loop-i.i
+    (law.one-more-noted c.loop-i.invariant c.loop-i-test.true c.part.ensures c.utf8-2.ensures (ap not c.if-not-utf8.false) c.saturating_sub.ensures c.put.ensures c.put-in-loop-i.ensures)
 
 pub returns : goal.returns
-returns c = (search, search law.all_noted)
+returns c = (c.loop-i.invariant.same-room, law.all_noted c.loop-i.invariant c.loop-i-test.false)
