@@ -6,4 +6,5 @@ pub mod FirstByte
 pub mod Loops
 pub mod Answers
 pub mod Agree
+pub mod Refusals
 pub mod Returns

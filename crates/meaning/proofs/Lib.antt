@@ -7,6 +7,7 @@ pub mod Every
 pub mod ReadNatural
 pub mod ReadPrefix
 pub mod ReadTurns
+pub mod ReadRefuses
 pub mod ExactEvery
 pub mod ExactOnly
 pub mod Exact
