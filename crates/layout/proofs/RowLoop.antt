@@ -12,14 +12,13 @@ use Rattle.meaning.specs.Asked.{each_row, asked_object, asked_component}
 use Rattle.rows.specs.Turns.{offset_at, stepped, turn_limit, blob_sizes, counted}
 use Rattle.rows.proofs.Turns.{reached-above, reached-next, reached-split}
 use Rattle.rows.proofs.Describes.{counted_next}
-use Rattle.rows.proofs.Lent.{lent_both}
+use borrow.Author.Rules.{part_to_end}
 use Rattle.layout.specs.Pieces.{range, component_at, object_front, object_rest, object_at, blobs_of, components_of, reached_past, objects_of}
 use Rattle.layout.specs.Rows.{Within, ComponentRow, ObjectRow, ComponentRows, ObjectRows}
 
--- what is asked of a buffer that is lent whole, and of rows that are lent from a place on
-pub as_lent : (buffer rows : List ℕ) (k : ℕ) (P : List ℕ → List ℕ → Type 0) → P buffer (drop k rows)
-    → P (take (length buffer - 0) (drop 0 buffer)) (take (length rows - k) (drop k rows))
-as_lent buffer rows k P h = subst (λ (T : Type 0). T) (sym (lent_both buffer rows k P)) h
+-- what is asked of rows that are lent from a place on
+pub as_lent : (rows : List ℕ) (k : ℕ) (P : List ℕ → Type 0) → P (drop k rows) → P (take (length rows - k) (drop k rows))
+as_lent rows k P h = subst P (sym (part_to_end rows k)) h
 
 pub within-length : {buffer : List ℕ} {place size : ℕ} → Within buffer place size → length (range buffer place size) ≡ size
 within-length {buffer} {place} {size} w = length-take-le size (drop place buffer) (omega (arith, w.inside, length-drop place buffer))

@@ -11,7 +11,7 @@ use Rattle.rows.specs.Turns.{offset_at, stepped}
 use Rattle.emit.specs.Laid.{Room, Laid}
 use Rattle.emit.proofs.LaidPieces.{Going, going, go_on, all_laid, room-one, room_as, as_bytes, same_length, stands, front_of, relaid, part}
 use Rattle.rows.proofs.Turns.{reached-next, reached-none}
-use Rattle.rows.proofs.Lent.{lent_both}
+use borrow.Author.Rules.{part_to_end}
 use Rattle.layout.specs.Pieces.{range, component_at, object_at, blobs_of, components_of, reached_past, objects_of}
 use Rattle.layout.specs.Rows.{Within, FrontRoom, BlobRoom, ComponentRow, ObjectRow, ComponentRows, ObjectRows}
 use Rattle.layout.proofs.RowLoop.{as_lent, within-length, first-component, first-blob, next-components, blobs-next, blobs-none, blobs-grow, components-next, components-none, first-object, object-long, its-components, next-objects, objects-next, objects-none}
@@ -95,13 +95,13 @@ module _ {buffer plan rows all xs ys : List ℕ} {at final left row end past : �
 
   module _ (some : 0 < left) {start : ℕ} (e : start ≡ offset_at plan end) where
     abbrev lent-entry : List ℕ
-    lent-entry = component_at (part 0 buffer) (part row rows) start
+    lent-entry = component_at buffer (part row rows) start
 
     entry-is : lent-entry ≡ component_at buffer (drop row rows) (offset_at plan end)
-    entry-is = lent_both buffer rows row (λ s r. component_at s r start) ∙ ap (component_at buffer (drop row rows)) e
+    entry-is = ap (λ (r : List ℕ). component_at buffer r start) (part_to_end rows row) ∙ ap (component_at buffer (drop row rows)) e
 
-    pub component-can : ComponentRow (part 0 buffer) (part row rows) × Room lent-entry past ys
-    component-can = (as_lent buffer rows row ComponentRow (first-component b.rest some), room_as (sym entry-is) (room-one _ b.going (components-next buffer plan rows left row end some)))
+    pub component-can : ComponentRow buffer (part row rows) × Room lent-entry past ys
+    component-can = (as_lent rows row (ComponentRow buffer) (first-component b.rest some), room_as (sym entry-is) (room-one _ b.going (components-next buffer plan rows left row end some)))
 
     pub component-turn : {zs : List ℕ} {next u : ℕ} → Laid lent-entry past ys zs next → u ≡ stepped plan end (get_or rows (row + length_column) 0)
         → ComponentsLeft buffer plan rows all at xs final (left - 1) (row + component_width) u next zs
@@ -137,13 +137,13 @@ module _ {buffer plan rows all xs ys : List ℕ} {at left row from reached past 
     pub components-there : from + component_width * count ≤ length rows
     components-there = (its-components b.rest some).lie
 
-    lent-object : object_at (part 0 buffer) (part row rows) ≡ object_at buffer (drop row rows)
-    lent-object = lent_both buffer rows row object_at
+    lent-object : object_at buffer (part row rows) ≡ object_at buffer (drop row rows)
+    lent-object = ap (object_at buffer) (part_to_end rows row)
 
-    pub object-can : ObjectRow (part 0 buffer) (part row rows) × Room (object_at (part 0 buffer) (part row rows)) past ys
-    object-can = (as_lent buffer rows row ObjectRow (first-object b.rest some), room_as (sym lent-object) (room-one _ b.going (objects-next buffer plan rows left row from reached some)))
+    pub object-can : ObjectRow buffer (part row rows) × Room (object_at buffer (part row rows)) past ys
+    object-can = (as_lent rows row (ObjectRow buffer) (first-object b.rest some), room_as (sym lent-object) (room-one _ b.going (objects-next buffer plan rows left row from reached some)))
 
-    module _ {us : List ℕ} {p : ℕ} (v : Laid (object_at (part 0 buffer) (part row rows)) past ys us p) where
+    module _ {us : List ℕ} {p : ℕ} (v : Laid (object_at buffer (part row rows)) past ys us p) where
       after-object : Going all at xs (components_of buffer plan rows count from reached
           ++ objects_of buffer plan rows (left - 1) (row + object_width) (from + component_width * count) (reached_past plan rows count from reached)) p us
       after-object = go_on b.going (objects-next buffer plan rows left row from reached some) (as_bytes lent-object v)

@@ -1,5 +1,5 @@
 // Components: their blobs, and their entries in the manifest.
-ghost use Rattle.std.specs.Prelude.{◌≡◌, max, take};
+ghost use Rattle.std.specs.Prelude.{◌≡◌, take};
 ghost use Rattle.meaning.specs.WrittenFile.{over};
 ghost use Rattle.emit.specs.Laid.{Room, Laid};
 ghost use Rattle.layout.specs.Pieces as is;
@@ -17,15 +17,6 @@ pub struct Past {
     pub turn: u64,
 }
 
-fn farther(a: usize, b: usize) -> usize
-    ensures { result ≡ max a b }
-{
-    if a < b {
-        return b;
-    }
-    a
-}
-
 // A range of the buffer as a blob over the front of the output, which is laid up to `past`; zeros up to it where that isn't so far. Answers where the front then ends.
 fn blob_at(out: &mut [u8], past: usize, start: usize, buffer: &[u8], place: u64, size: u64) -> usize
     requires within { Within buffer.now place size }
@@ -37,7 +28,7 @@ fn blob_at(out: &mut [u8], past: usize, start: usize, buffer: &[u8], place: u64,
         return range_at(out, from, buffer, place, size);
     }
     let end = range_at(out, start, buffer, place, size);
-    farther(past, end)
+    past.max(end)
 }
 
 // The blobs of n components over the front of the output, which is laid up to `at`, where the turn `turn` is reached: in any order, each at its offset.
@@ -56,16 +47,13 @@ pub fn blobs_at(
     ensures { Laid (is.blobs_of buffer.now plan.now rows.now (take at out.old) n first turn) 0 out.old out.new result }
 {
     let mut past = at;
-    let mut row = first;
-    let mut left = n;
     let mut next = turn;
-    while 0 < left {
+    for i in 0..n as usize {
+        let row = first + columns::COMPONENT * i;
         let start = offset_at(plan, next) as usize;
         let size = rows[row + LENGTH];
         past = blob_at(out, past, start, buffer, rows[row + OFFSET], size);
         next = stepped(plan, next, size);
-        row += columns::COMPONENT;
-        left -= 1;
     }
     past
 }
@@ -112,15 +100,12 @@ pub fn components_at(
     ensures turn { result.turn ≡ is.reached_past plan.now rows.now n first turn }
 {
     let mut past = at;
-    let mut row = first;
-    let mut left = n;
     let mut next = turn;
-    while 0 < left {
+    for i in 0..n as usize {
+        let row = first + columns::COMPONENT * i;
         let start = offset_at(plan, next);
-        past = component_at(out, past, &buffer[0..], &rows[row..], start);
+        past = component_at(out, past, buffer, &rows[row..], start);
         next = stepped(plan, next, rows[row + LENGTH]);
-        row += columns::COMPONENT;
-        left -= 1;
     }
     Past {
         at: past,

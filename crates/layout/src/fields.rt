@@ -16,10 +16,7 @@ use rows::absent;
 pub fn presence(place: u64, size: u64) -> u64
     ensures { (result ≡ is.presence place size) × (result ≤ 1) }
 {
-    if absent(place, size) {
-        return 0;
-    }
-    1
+    u64::from(!absent(place, size))
 }
 
 // A range's bytes as they are.

@@ -83,19 +83,16 @@ pub fn objects_at(
     ensures { Laid (is.objects_of buffer.now plan.now rows.now n 0 first turn) at out.old out.new result }
 {
     let mut past = at;
-    let mut row = 0;
     let mut from = first;
     let mut next = turn;
-    let mut left = n;
-    while 0 < left {
+    for i in 0..n as usize {
+        let row = columns::OBJECT * i;
         let count = rows[row + COUNT];
-        let begun = object_at(out, past, &buffer[0..], &rows[row..]);
+        let begun = object_at(out, past, buffer, &rows[row..]);
         let p = components_at(out, begun, buffer, plan, rows, count, from, next);
         past = p.at;
         next = p.turn;
         from += columns::COMPONENT * count as usize;
-        row += columns::OBJECT;
-        left -= 1;
     }
     past
 }

@@ -125,6 +125,13 @@ module _ (P : ℕ → ℕ → Type 0) (width n : ℕ) where
       let z : n - i - 1 ≡ n - (i + 1) = omega (arith, h) in
       subst (λ (k : ℕ). P k (n - (i + 1))) y (subst (P (width * i + width)) z p)
 
+-- before the first of n rows from a place on
+pub rows-begin : (P : ℕ → ℕ → Type 0) (first n : ℕ) → P first n → P (first + 0) (n - 0)
+rows-begin P first n p =
+    let y : first ≡ first + 0 = omega arith in
+    let z : n ≡ n - 0 = omega arith in
+    subst (λ (k : ℕ). P k (n - 0)) y (subst (P first) z p)
+
 -- the same, where the rows begin at a place
 pub row-on-from : (P : ℕ → ℕ → Type 0) (first width n i : ℕ) → i < n → P (first + width * i + width) (n - i - 1) → P (first + width * (i + 1)) (n - (i + 1))
 row-on-from P first width n i h p =

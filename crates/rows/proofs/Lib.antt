@@ -1,6 +1,5 @@
 -- Laws about the writer's rows: each row by its place, and what is asked of it.
 pub mod Both
-pub mod Lent
 pub mod EachRow
 pub mod Judged
 pub mod Owners

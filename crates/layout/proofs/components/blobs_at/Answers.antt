@@ -1,26 +1,38 @@
 -- `layout::components::blobs_at` meets its contract: the invariant says what is done and what is still to be.
+use native.Mathlib.Omega.{arith}
+use lib.ListN.{take}
+use Rattle.meaning.specs.Columns.{component_width}
 use Rattle.emit.proofs.LaidPieces as laying
+use Rattle.rows.proofs.EachRow.{rows-begin, row-on-from}
+use Rattle.layout.specs.Pieces.{blobs_of}
 use Rattle.layout.proofs.RowLoop as walking
 use Rattle.layout.proofs.Turns as turns
 use Rattle.layout.proofs.components.blobs_at.Goals as goal
 
-pub loop-left-init : goal.loop-left-init
-loop-left-init c = search turns.blobs-begin
+pub loop-i-init : goal.loop-i-init
+loop-i-init c =
+    rows-begin (λ row left. turns.BlobsLeft c.args.buffer.now c.args.plan.now c.args.rows.now (blobs_of c.args.buffer.now c.args.plan.now c.args.rows.now (take c.args.at c.args.out.now) c.args.n c.args.first c.args.turn) c.args.out.now left row c.args.turn c.args.at c.args.out.now) c.args.first c.args.n
+    (turns.blobs-begin c.requires.component_rows c.requires.front_room)
 
 pub offset_at-start-requires : goal.offset_at-start-requires
-offset_at-start-requires c = search walking.reached-low
+offset_at-start-requires c = walking.reached-low c.loop-i.invariant.rest
 
 pub blob_at-past-requires : goal.blob_at-past-requires
-blob_at-past-requires c = let can = turns.blob-can c.loop-left.invariant c.loop-left-test.true c.offset_at-start.ensures in record { within = can.0; blob_room = can.1 }
+blob_at-past-requires c = let can = turns.blob-can c.loop-i.invariant (omega arith) c.offset_at-start.ensures in record { within = can.0; blob_room = can.1 }
 
 pub stepped-next-requires : goal.stepped-next-requires
-stepped-next-requires c = search walking.next_low
+stepped-next-requires c = walking.next_low c.loop-i.invariant.rest (omega arith)
 
-pub loop-left-preserved : goal.loop-left-preserved
-loop-left-preserved c = search turns.blob-turn
+pub loop-i-preserved : goal.loop-i-preserved
+loop-i-preserved c =
+    row-on-from
+    (λ row left. turns.BlobsLeft c.args.buffer.now c.args.plan.now c.args.rows.now
+    (blobs_of c.args.buffer.now c.args.plan.now c.args.rows.now (take c.args.at c.args.out.now) c.args.n c.args.first c.args.turn) c.args.out.now left row c.stepped-next.result c.blob_at-past.result c.blob_at-past.new.out)
+    c.args.first component_width c.args.n c.loop-i.i c.loop-i-test.true
+    (turns.blob-turn c.loop-i.invariant (omega arith) c.offset_at-start.ensures c.blob_at-past.ensures c.stepped-next.ensures)
 
 pub shape_of-out : goal.shape_of-out
 shape_of-out c = search laying.same_length
 
 pub returns : goal.returns
-returns c = search turns.all-blobs
+returns c = turns.all-blobs c.loop-i.invariant (omega arith)

@@ -1,10 +1,10 @@
+use Prim.Native.Nat.{◌+◌, ◌-◌, ◌*◌}
 use lib.ListN.{take}
+use Rattle.meaning.specs.Columns.{component_width}
 use Rattle.layout.specs.Pieces.{blobs_of}
 use Rattle.layout.proofs.Turns as turns
 use Rattle.layout.proofs.components.blobs_at.Given as goal
 
-abbrev pub invariant-loop-left : goal.invariant-loop-left
-invariant-loop-left l = turns.BlobsLeft l.buffer l.plan l.rows (blobs_of l.buffer l.plan l.rows (take l.at l.initial.out) l.n l.first l.turn) l.initial.out l.left l.row l.next l.past l.out
-
-abbrev pub decreases-loop-left : goal.decreases-loop-left
-decreases-loop-left l = l.left
+abbrev pub invariant-loop-i : goal.invariant-loop-i
+invariant-loop-i l =
+    turns.BlobsLeft l.buffer l.plan l.rows (blobs_of l.buffer l.plan l.rows (take l.at l.initial.out) l.n l.first l.turn) l.initial.out (l.n - l.i) (l.first + component_width * l.i) l.next l.past l.out
