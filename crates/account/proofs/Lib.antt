@@ -1,5 +1,4 @@
 -- Laws behind account's proofs, and that its parts add up.
 pub mod Ranges
-pub mod Zeros
 pub mod OfModel
 pub mod AccountAnswer

@@ -29,13 +29,11 @@ fn gather(table: &mut [u64], first: usize, n: usize, most: u64)
     requires { Rows table.old first n most }
     ensures { Gathered table.old first n table.new }
 {
-    let mut i = 0usize;
-    while i < n {
+    for i in 0..n {
         let row = first + columns::COMPONENT * i;
         let begins = table[row + OFFSET];
         let past = begins + table[row + LENGTH];
         covering::order::put(table, 2 * i, begins, past);
-        i += 1;
     }
 }
 
@@ -52,11 +50,7 @@ fn inside(table: &mut [u64], first: usize, n: usize, most: u64) -> u64
 pub fn clear(a: &mut [u64])
     ensures { a.new ≡ replicate (length a.old) 0 }
 {
-    let mut i = 0usize;
-    while i < a.len() {
-        a[i] = 0;
-        i += 1;
-    }
+    a.fill(0);
 }
 
 // A file of this layout, lent whole, with room for its rows.

@@ -151,23 +151,13 @@ pub fn load(shared: &mut [u64], engine: u64, layout: u64, file: &[u8]) -> Answer
     }
 }
 
-fn zero(s: &mut [u64])
-    ensures { s.new ≡ replicate (length s.old) 0 }
-{
-    let mut i = 0;
-    while i < s.len() {
-        s[i] = 0;
-        i += 1;
-    }
-}
-
 // So many numbers from a place on become zeros.
 fn clear(shared: &mut [u64], from: usize, count: usize)
     requires { from + count ≤ length shared.old }
     ensures { shared.new ≡ sets shared.old from (replicate count 0) }
 {
     let end = from + count;
-    zero(&mut shared[from..end]);
+    shared[from..end].fill(0);
 }
 
 // An engine's rows and state become zeros.

@@ -1,13 +1,14 @@
 -- Laws of the state's test, one for each way out of the code.
 use Prim.Native.Nat.{ℕ, zero, suc, ◌+◌, ◌-◌, ◌*◌, ◌/◌, ◌≤◌, ◌<◌}
-use native.Mathlib.Numerals.{add-one}
 use native.Mathlib.Omega.{arith}
 use mathlib.Core.List.{List, [], ◌∷◌}
 use mathlib.Core.Bool.{Bool, true, false, cond, not, ◌&&◌}
 use mathlib.Core.Path.{◌≡◌, refl, sym, ap, ◌∙◌}
 use lib.Dec.{eqb}
-use lib.ListN.{length, take, drop, get_or, length-drop, drop_of_length-le}
-use lib.Seq.{drop-cons, drop-drop, take_all, length-take-le}
+use lib.Pointwise.{pointwise}
+use Rattle.std.proofs.Common.{nat_eq, replicate}
+use lib.ListN.{length, take, drop, get_or, length-drop}
+use lib.Seq.{drop-drop, take_all, length-take-le}
 use borrow.Author.Tests.{eq-eqb, ne_eqb, le-leb, lt-leb, eqb-true, not-true, not-false}
 use borrow.Author.Rules.{part_to_end}
 use Rattle.meaning.specs.Check.{pass, refuse}
@@ -45,30 +46,10 @@ module _ (h o c : ℕ) where
 
 -- ---- zeros
 
--- the first i are zeros
-pub record ZerosTo (s : List ℕ) (i : ℕ) : Type 0 where
-  pub within : i ≤ length s
-  pub same : all (λ n. eqb n 0) (drop i s) ≡ all (λ n. eqb n 0) s
-
-pub zeros-begin : (s : List ℕ) → ZerosTo s 0
-zeros-begin s = record { within = omega arith; same = refl }
-
-next-is : (s : List ℕ) (i : ℕ) → i < length s → all (λ n. eqb n 0) (drop i s) ≡ (eqb (get_or s i 0) 0 && all (λ n. eqb n 0) (drop (suc i) s))
-next-is s i h = ap (all (λ n. eqb n 0)) (drop-cons s i 0 h)
-
-pub zeros-more : (s : List ℕ) (i : ℕ) → ZerosTo s i → i < length s → get_or s i 0 ≡ 0 → ZerosTo s (i + 1)
-zeros-more s i z h e = record {
-  within = omega (arith, h);
-  same =
-      rw (add-one i)
-      (sym (next-is s i h ∙ ap (λ (b : Bool). b && all (λ n. eqb n 0) (drop (suc i) s)) (eq-eqb (get_or s i 0) 0 e)) ∙ z.same);
-}
-
-pub zeros-not : (s : List ℕ) (i : ℕ) → ZerosTo s i → i < length s → (get_or s i 0 ≡ 0 → ⊥) → false ≡ all (λ n. eqb n 0) s
-zeros-not s i z h e = sym (sym z.same ∙ next-is s i h ∙ ap (λ (b : Bool). b && all (λ n. eqb n 0) (drop (suc i) s)) (ne_eqb (get_or s i 0) 0 e))
-
-pub zeros-all : (s : List ℕ) (i : ℕ) → ZerosTo s i → length s ≤ i → true ≡ all (λ n. eqb n 0) s
-zeros-all s i z h = sym (sym z.same ∙ ap (all (λ n. eqb n 0)) (drop_of_length-le s h))
+-- eight numbers against eight zeros
+pub eight-zeros : (s : List ℕ) {u : List ℕ} → length s ≡ 8 → u ≡ replicate 8 0 → pointwise nat_eq s u ≡ all (λ n. eqb n 0) s
+eight-zeros (a ∷ b ∷ c ∷ d ∷ e ∷ f ∷ g ∷ h ∷ []) l q = rw q refl
+eight-zeros s l q = absurd (omega arith)
 
 -- ---- a state
 
@@ -93,11 +74,11 @@ module _ (s : List ℕ) where
       just : just_held ≡ true
       just = sym asked ∙ not-false j h
 
-      pub idle-sound : flag_of s ≡ 0 → (z : Bool) → z ≡ all (λ n. eqb n 0) (take (length s - 0) (drop 0 s)) → z ≡ state_sound s
+      pub idle-sound : flag_of s ≡ 0 → (z : Bool) → z ≡ all (λ n. eqb n 0) s → z ≡ state_sound s
       unfolding state_sound
       idle-sound e z zeros =
           let k = just in
-          zeros ∙ ap (λ (x : List ℕ). all (λ n. eqb n 0) x) (part_to_end s 0) ∙ (rw (le-leb (flag_of s) 1 f, le-leb (layout_column s) 1 l, k, eq-eqb (flag_of s) 0 e) refl)
+          zeros ∙ (rw (le-leb (flag_of s) 1 f, le-leb (layout_column s) 1 l, k, eq-eqb (flag_of s) 0 e) refl)
 
       pub loaded-sound : (flag_of s ≡ 0 → ⊥) → true ≡ state_sound s
       unfolding state_sound

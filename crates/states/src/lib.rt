@@ -46,20 +46,6 @@ fn just(held: u64, objects: u64, components: u64) -> bool
     rest == columns::COMPONENT_64 * components
 }
 
-fn all_zero(s: &[u64]) -> bool
-    ensures { result ≡ all (λ n. eqb n 0) s.now }
-{
-    let mut i = 0;
-    while i < s.len() {
-        if s[i] == 0 {
-            i += 1;
-            continue;
-        }
-        return false;
-    }
-    true
-}
-
 // A state that calls can leave.
 fn sound(s: &[u64]) -> bool
     requires { length s.now ≡ 8 }
@@ -75,7 +61,7 @@ fn sound(s: &[u64]) -> bool
         return false;
     }
     if s[0] == 0 {
-        return all_zero(&s[0..]);
+        return s == [0; STATE].as_slice();
     }
     true
 }

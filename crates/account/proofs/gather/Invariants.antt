@@ -1,9 +1,5 @@
 use Rattle.account.proofs.Ranges.{Gathering}
-use Prim.Native.Nat.{◌-◌}
 use Rattle.account.proofs.gather.Given as goal
 
 abbrev pub invariant-loop-i : goal.invariant-loop-i
 invariant-loop-i l = Gathering l.initial.table l.first l.n l.most l.table l.i
-
-abbrev pub decreases-loop-i : goal.decreases-loop-i
-decreases-loop-i l = l.n - l.i
