@@ -20,14 +20,6 @@ abbrev absence : ℕ → ℕ → Bool
 absence place size = eqb place 0 && eqb size 0
 
 module _ (place size : ℕ) {b : Bool} (e : b ≡ absence place size) where
-  pub none-there : b ≡ true → (0 ≡ presence place size) × (0 ≤ 1)
-  unfolding presence
-  none-there h = (ap (λ (t : Bool). cond t 0 1) (sym h ∙ e), omega arith)
-
-  pub one-there : b ≡ false → (1 ≡ presence place size) × (1 ≤ 1)
-  unfolding presence
-  one-there h = (ap (λ (t : Bool). cond t 0 1) (sym h ∙ e), omega arith)
-
   abbrev field_of : List ℕ → List ℕ → (List ℕ → List ℕ) → List ℕ
   field_of buffer key write = text_bytes key ++ write (range buffer place size)
 
