@@ -8,16 +8,19 @@ use lib.ListN.{length}
 use Rattle.meaning.specs.Text.{one_of}
 use Rattle.names.specs.Names.{listed}
 use Rattle.names.proofs.ListedNames.{listed-there, listed-not}
-use Rattle.matching.specs.Matched.{First}
-use Rattle.matching.specs.Named.{name_at, named, Rows}
+use Rattle.std.specs.Prelude.{Option, Some, None}
+use Rattle.std.specs.Option.{is_some}
+use Rattle.meaning.proofs.Tests.{false-not}
+use Rattle.matching.specs.Matched.{Earliest, First}
+use Rattle.matching.specs.Named.{named, Rows}
 use Rattle.unshared.specs.Unshared.{none_of}
 
 module _ (f : ℕ → List ℕ) (w : List ℕ) where
-  sought-is : {n r : ℕ} → First f n w r → r < n → one_of (listed f 0 n) w ≡ true
-  sought-is {n} {r} s l = listed-there f w 0 n r (omega arith) (omega (arith, l)) (s.is l)
+  sought-is : {n r : ℕ} → Earliest f n w r → one_of (listed f 0 n) w ≡ true
+  sought-is {n} {r} s = listed-there f w 0 n r (omega arith) (omega (arith, s.below)) s.is
 
-  sought-not : {n r : ℕ} → First f n w r → n ≤ r → one_of (listed f 0 n) w ≡ false
-  sought-not {n} {r} s l = listed-not f w 0 n λ j low high. s.before j (omega (arith, high, l))
+  sought-not : {n : ℕ} → ((j : ℕ) → j < n → f j ≡ w → ⊥) → one_of (listed f 0 n) w ≡ false
+  sought-not {n} s = listed-not f w 0 n λ j low high. s j (omega (arith, high))
 
 -- what is left of the second's names decides
 pub record Left (xs : List (List ℕ)) (g : ℕ → List ℕ) (n k i : ℕ) : Type 0 where
@@ -56,18 +59,15 @@ module _ (xs : List (List ℕ)) (g : ℕ → List ℕ) (n k : ℕ) where
 pub rows_lie : (table : List ℕ) (n k : ℕ) → 2 * (n + k) ≤ length table → Rows table 0 2 n
 rows_lie table n k h = record { wide = omega arith; lie = omega (arith, h) }
 
-name-there : (second table : List ℕ) {w : List ℕ} (i : ℕ) → w ≡ name_at second table (2 * i) → named second table 0 2 i ≡ w
-unfolding named
-name-there second table i e = let z : 0 + 2 * i ≡ 2 * i = omega arith in ap (name_at second table) z ∙ sym e
-
--- the name w of the i-th row, sought among the first's: it is found at p
-module _ (first second table : List ℕ) (n k i : ℕ) (l : Left (listed (named first table 0 2) 0 n) (named second table 0 2) n k i) (some : i < n + k) (w : List ℕ) (is : w ≡ name_at second table (2 * i)) (p : ℕ)
-    (f : First (named first table 0 2) n w p) where
+-- the name w of the i-th row, sought among the first's: it is found, or is none of theirs
+module _ (first second table : List ℕ) (n k i : ℕ) (l : Left (listed (named first table 0 2) 0 n) (named second table 0 2) n k i) (some : i < n + k) (w : List ℕ) (is : w ≡ named second table 0 2 i) where
   abbrev Ours : List (List ℕ)
   Ours = listed (named first table 0 2) 0 n
 
-  pub shared-one : p < n → false ≡ none_of (listed (named first table 0 2) 0 n) (listed (named second table 0 2) n k)
-  shared-one h = found-one Ours (named second table 0 2) n k i l some (ap (one_of Ours) (name-there second table i is) ∙ sought-is (named first table 0 2) w f h)
+  pub shared-one : (o : Option ℕ) → First (named first table 0 2) n w o → true ≡ is_some o → false ≡ none_of (listed (named first table 0 2) 0 n) (listed (named second table 0 2) n k)
+  shared-one (Some r) f e = found-one Ours (named second table 0 2) n k i l some (ap (one_of Ours) (sym is) ∙ sought-is (named first table 0 2) w f)
+  shared-one None f e = absurd (false-not (sym e))
 
-  pub one_fewer : n ≤ p → Left (listed (named first table 0 2) 0 n) (named second table 0 2) n k (i + 1)
-  one_fewer h = one_less Ours (named second table 0 2) n k i l some (ap (one_of Ours) (name-there second table i is) ∙ sought-not (named first table 0 2) w f h)
+  pub one_fewer : (o : Option ℕ) → First (named first table 0 2) n w o → false ≡ is_some o → Left (listed (named first table 0 2) 0 n) (named second table 0 2) n k (i + 1)
+  one_fewer (Some r) f e = absurd (false-not e)
+  one_fewer None f e = one_less Ours (named second table 0 2) n k i l some (ap (one_of Ours) (sym is) ∙ sought-not (named first table 0 2) w f)

@@ -1,11 +1,7 @@
 use Rattle.unshared.proofs.Sought as seeking
 use Rattle.matching.specs.Named.{named}
 use Rattle.names.specs.Names.{listed}
-use Prim.Native.Nat.{◌+◌, ◌-◌}
 use Rattle.unshared.proofs.unshared.Given as goal
 
 abbrev pub invariant-loop-i : goal.invariant-loop-i
 invariant-loop-i l = seeking.Left (listed (named l.first l.table 0 2) 0 l.n) (named l.second l.table 0 2) l.n l.k l.i
-
-abbrev pub decreases-loop-i : goal.decreases-loop-i
-decreases-loop-i l = l.n + l.k - l.i
