@@ -1,14 +1,16 @@
 // What differs between two components of one name, and between two objects of one name by themselves, from the rows of two files.
 #![tactic(auto)]
 
-ghost use Rattle.std.specs.Prelude.{◌≡◌, not, ◌+◌, ◌≤◌, length, eqb};
-ghost use Rattle.meaning.specs.Text as meant;
-ghost use Rattle.meaning.specs.Columns.{object_width, component_width};
+ghost use Rattle.std.specs.Prelude.{◌≡◌, ◌≤◌, MatchOption};
+ghost use Rattle.std.proofs.Math.Option.{none, some};
 ghost use Rattle.changes.specs.Changes.{other_type, bit};
 ghost use Rattle.differing.specs.Rows.{part_at, shape_at, format_at, Ranked};
 ghost use Rattle.differing.specs.Bits.{told, own_what};
 
-use columns::{DTYPE, FORMAT, FORMAT_LENGTH, LENGTH, OFFSET, RANK, SHAPE, TYPE, TYPE_LENGTH};
+use columns::{
+    COMPONENT, DTYPE, FORMAT, FORMAT_LENGTH, LENGTH, OFFSET, RANK, SHAPE, TYPE, TYPE_LENGTH,
+};
+use matching::Row;
 use rows::absent;
 
 // 8, 16 and 32 where dtype, type and bytes differ, else 0; and where the bytes do, and at how many positions.
@@ -21,28 +23,28 @@ pub struct Differences {
     pub count: u64,
 }
 
-// One type is there and the other isn't, or both are and differ.
-fn other_type(first: &[u8], a: &[u64], p: usize, second: &[u8], b: &[u64], q: usize) -> bool
-    requires { (p + component_width ≤ length a.now) × (q + component_width ≤ length b.now) }
-    ensures { result ≡ other_type (part_at first.now a.now p) (part_at second.now b.now q) }
+// What the component's type is called, if it has one.
+fn type_name<'a>(part: Row<'a, COMPONENT>) -> Option<&'a [u8]>
+    ensures { let type = (part_at part.entry.file.now part.entry.table.now part.entry.at).type in MatchOption result (type ≡ none) (λ name. type ≡ some name.now) }
 {
-    let x = a[p + TYPE];
-    let m = a[p + TYPE_LENGTH];
-    let y = b[q + TYPE];
-    let n = b[q + TYPE_LENGTH];
-    if absent(x, m) {
-        if absent(y, n) {
-            return false;
-        }
-        return true;
+    let place = part.table[part.at + TYPE];
+    let length = part.table[part.at + TYPE_LENGTH];
+    if absent(place, length) {
+        None
+    } else {
+        Some(view::part(part.file, place, length))
     }
-    if absent(y, n) {
-        return true;
+}
+
+// One type is there and the other isn't, or both are and differ.
+fn other_type(first: Row<'_, COMPONENT>, second: Row<'_, COMPONENT>) -> bool
+    ensures { result ≡ other_type (part_at first.entry.file.now first.entry.table.now first.entry.at) (part_at second.entry.file.now second.entry.table.now second.entry.at) }
+{
+    match (type_name(first), type_name(second)) {
+        (None, None) => false,
+        (Some(x), Some(y)) => !text::same(x, y),
+        _ => true,
     }
-    if text::same(view::part(first, x, m), view::part(second, y, n)) {
-        return false;
-    }
-    true
 }
 
 fn flag(n: u64, differ: bool) -> u64
@@ -51,81 +53,66 @@ fn flag(n: u64, differ: bool) -> u64
     if differ { n } else { 0 }
 }
 
-fn unequal(x: u64, y: u64) -> bool
-    ensures { result ≡ not (eqb x y) }
+// The bytes of the component.
+fn blob<'a>(part: Row<'a, COMPONENT>) -> &'a [u8]
+    ensures { result.now ≡ (part_at part.entry.file.now part.entry.table.now part.entry.at).blob }
 {
-    if x == y { false } else { true }
+    view::part(
+        part.file,
+        part.table[part.at + OFFSET],
+        part.table[part.at + LENGTH],
+    )
 }
 
-// Of the components whose rows begin at p and q.
-pub fn of_parts(
-    first: &[u8],
-    a: &[u64],
-    p: usize,
-    second: &[u8],
-    b: &[u64],
-    q: usize,
-) -> Differences
-    requires { (p + component_width ≤ length a.now) × (q + component_width ≤ length b.now) }
-    ensures { result ≡ told (part_at first.now a.now p) (part_at second.now b.now q) }
+// Of two components.
+pub fn of_parts(first: Row<'_, COMPONENT>, second: Row<'_, COMPONENT>) -> Differences
+    ensures { result ≡ told (part_at first.entry.file.now first.entry.table.now first.entry.at) (part_at second.entry.file.now second.entry.table.now second.entry.at) }
 {
-    let dtype = flag(8, unequal(a[p + DTYPE], b[q + DTYPE]));
-    let kind = flag(16, other_type(first, a, p, second, b, q));
-    let s = apart::of_bytes(
-        view::part(first, a[p + OFFSET], a[p + LENGTH]),
-        view::part(second, b[q + OFFSET], b[q + LENGTH]),
-    );
-    let bytes = flag(32, unequal(s.count, 0));
+    let dtypes = first.table[first.at + DTYPE] != second.table[second.at + DTYPE];
+    let s = apart::of_bytes(blob(first), blob(second));
     Differences {
-        dtype: dtype,
-        kind: kind,
-        bytes: bytes,
+        dtype: flag(8, dtypes),
+        kind: flag(16, other_type(first, second)),
+        bytes: flag(32, s.count != 0),
         position: s.position,
         count: s.count,
     }
 }
 
-fn same_numbers(x: &[u64], y: &[u64]) -> bool
-    ensures { result ≡ meant.same x.now y.now }
-{
-    if x.len() != y.len() {
-        return false;
-    }
-    let mut i: usize = 0;
-    while i < x.len() {
-        if x[i] != y[i] {
-            return false;
-        }
-        i += 1;
-    }
-    true
+// An object of a file, by the place of its row in the file's table.
+#[derive(Clone, Copy)]
+pub struct Object<'a> {
+    pub file: &'a [u8],
+    pub table: &'a [u64],
+    pub at: usize,
+    ghost ranked: { Ranked table.now at },
 }
 
-// The dimensions of the object whose row begins at p.
-fn shape(a: &[u64], p: usize) -> &[u64]
-    requires { Ranked a.now p }
-    ensures { result.now ≡ shape_at a.now p }
-{
-    let start = p + SHAPE;
-    let end = start + a[p + RANK] as usize;
-    &a[start..end]
+impl<'a> Object<'a> {
+    fn shape(self) -> &'a [u64]
+        ensures { result.now ≡ shape_at self.entry.table.now self.entry.at }
+    {
+        let start = self.at + SHAPE;
+        let end = start + self.table[self.at + RANK] as usize;
+        &self.table[start..end]
+    }
+
+    fn format(self) -> &'a [u8]
+        ensures { result.now ≡ format_at self.entry.file.now self.entry.table.now self.entry.at }
+    {
+        view::part(
+            self.file,
+            self.table[self.at + FORMAT],
+            self.table[self.at + FORMAT_LENGTH],
+        )
+    }
 }
 
-// 1 where the shapes of the objects at p and q differ, 2 where the formats do.
-pub fn of_objects(first: &[u8], a: &[u64], p: usize, second: &[u8], b: &[u64], q: usize) -> u64
-    requires { Ranked a.now p × Ranked b.now q }
-    ensures { (result ≡ own_what (shape_at a.now p) (format_at first.now a.now p) (shape_at b.now q) (format_at second.now b.now q)) × (result ≤ 3) }
+// 1 where the shapes of two objects differ, 2 where the formats do.
+pub fn of_objects(first: Object<'_>, second: Object<'_>) -> u64
+    ensures { (result ≡ own_what (shape_at first.entry.table.now first.entry.at) (format_at first.entry.file.now first.entry.table.now first.entry.at) (shape_at second.entry.table.now second.entry.at) (format_at second.entry.file.now second.entry.table.now second.entry.at)) × (result ≤ 3) }
 {
-    let x = view::part(first, a[p + FORMAT], a[p + FORMAT_LENGTH]);
-    let y = view::part(second, b[q + FORMAT], b[q + FORMAT_LENGTH]);
-    if same_numbers(shape(a, p), shape(b, q)) {
-        if text::same(x, y) {
-            return 0;
-        }
-        return 2;
-    }
-    if text::same(x, y) {
-        return 1;
-    }
-    3
+    let shapes = first.shape() != second.shape();
+    let formats = !text::same(first.format(), second.format());
+    flag(1, shapes) + flag(2, formats)
 }

@@ -1,16 +1,9 @@
--- `differing::of_objects` meets its contract: a law for each branch.
-use borrow.Author.Rules.{rules}
+-- `differing::of_objects` meets its contract.
 use Rattle.differing.proofs.Columns as columns
 use Rattle.differing.proofs.of_objects.Goals as goal
 
-pub returns-then-same : goal.returns-then-same
-returns-then-same c = (search columns.none-differs, search rules)
-
-pub returns-then-same_numbers : goal.returns-then-same_numbers
-returns-then-same_numbers c = (search columns.formats-differ, search rules)
-
-pub returns-then-same-2 : goal.returns-then-same-2
-returns-then-same-2 c = (search columns.shapes-differ, search rules)
-
 pub returns : goal.returns
-returns c = (search columns.both-differ, search rules)
+returns c = (
+  columns.own_is c.shape.ensures c.shape-2.ensures c.ne-shapes.ensures c.format.ensures c.format-2.ensures c.same-formats.ensures c.flag.ensures c.flag-2.ensures,
+  columns.own-small _ _ c.flag.ensures c.flag-2.ensures,
+)
