@@ -1,6 +1,10 @@
--- `entries::entry` meets its contract.
-use Rattle.put.proofs.PiecesInTurn.{then}
+-- `entries::entry` meets its contract. The loop's invariant: the numbers that are still to be written.
+use borrow.Author.Rules.{rules}
+use lib.Seq.{drop-cons}
+use mathlib.Core.Path.{refl, ◌∙◌}
+use native.Mathlib.Numerals.{add-one}
+use Rattle.put.proofs.PiecesInTurn.{rest-less}
 use Rattle.entries.proofs.entry.Goals as goal
 
-pub returns : goal.returns
-returns c = then c.number-past.ensures (then c.number-past-2.ensures (then c.number-past-3.ensures (then c.number-past-4.ensures (then c.number-past-5.ensures (then c.number-past-6.ensures (then c.number-past-7.ensures c.number.ensures))))))
+pub loop-x-preserved : goal.loop-x-preserved
+loop-x-preserved c = rest-less c.loop-x.invariant (drop-cons c.args.numbers c.loop-x.x-index 0 (search rules) ∙ rw (add-one c.loop-x.x-index) refl) c.number-past.ensures
