@@ -12,7 +12,6 @@ use mir.Syntax.{w64}
 use mir.Val.{Fits}
 use borrow.Author.Rules.{part_to_end}
 use borrow.Author.Tests.{le-leb, lt-leb, leb-true, leb-false}
-use Rattle.text.proofs.SameIsEqual.{whole}
 use Rattle.meaning.specs.Columns.{object_width, component_width}
 use Rattle.meaning.specs.Check.{Check, pass, refuse}
 use Rattle.meaning.specs.Refusal.{ROOM}
@@ -89,37 +88,6 @@ module _ (first a : List ℕ) (m : ℕ) (second b : List ℕ) (n : ℕ) (s : Tab
       by : (ms : List ℕ) → length ms ≤ 0 → xs ≡ sets xs 0 ms
       by [] l = refl
       by (a ∷ ms) l = absurd (omega arith)
-
--- ---- parts
-
-abbrev W : List ℕ → List ℕ
-W s = take (length s - 0) (drop 0 s)
-
--- the first's part ends, and the second's begins, at `room`
-module _ (work : List ℕ) (room : ℕ) where
-  abbrev front-part : List ℕ
-  front-part = take (room - 0) (drop 0 work)
-
-  abbrev back-part : List ℕ
-  back-part = take (length work - room) (drop room work)
-
-  front-is : front-part ≡ take room work
-  front-is = let z : room - 0 ≡ room = omega arith in ap (λ (i : ℕ). take i work) z
-
-  pub lent-front : {m : ℕ} → Table (take room work) m → Table front-part m
-  lent-front s = rw front-is s
-
-  pub lent_back : {n : ℕ} → Table (drop room work) n → Table back-part n
-  lent_back t = rw (part_to_end work room) t
-
-  module _ (first second : List ℕ) (m n : ℕ) where
-    pub lent-told : {c : Changes} (list : List ℕ) → c ≡ is.fitting (is.numbers_of first front-part m second back-part n) (length list)
-        → c ≡ is.fitting (is.numbers_of first (take room work) m second (drop room work) n) (length list)
-    lent-told list w = rw (front-is, part_to_end work room) at w
-
-    pub lent_written : {list' : List ℕ} (list : List ℕ) → list' ≡ is.list_after (is.numbers_of first front-part m second back-part n) list
-        → list' ≡ is.list_after (is.numbers_of first (take room work) m second (drop room work) n) list
-    lent_written list w = rw (front-is, part_to_end work room) at w
 
 -- ---- a refusal
 
@@ -407,27 +375,34 @@ module _ (layout : ℕ) (first work : List ℕ) (a : Answer) (e : a ≡ answered
       abbrev second-held : Held (layout_of other) second part left b
       second-held = held (layout_of other) (size_back_lem other) second part left b f u y
 
-      beside-asks : (room ≤ length (W (now left))) × Table (take room (W (now left))) a.objects × Table (drop room (W (now left))) b.objects
-      beside-asks = rw (whole (now left)) (both-asked (size_back_lem layout) (size_back_lem other) first-held refl second-held part-long (drop (length table - room) (drop room table)))
+      -- the rows of the second, as they are lent
+      abbrev rest-part : List ℕ
+      rest-part = take (length (now left) - room) (drop room (now left))
 
-      pub room-inside : room ≤ length (W (now left))
-      room-inside = beside-asks.0
+      both-lie : (room ≤ length (now left)) × Table (take room (now left)) a.objects × Table (drop room (now left)) b.objects
+      both-lie = both-asked (size_back_lem layout) (size_back_lem other) first-held refl second-held part-long (drop (length table - room) (drop room table))
 
-      pub first-table : Table (take room (W (now left))) a.objects
-      first-table = beside-asks.1
+      pub room-inside : room ≤ length (now left)
+      room-inside = both-lie.0
 
-      pub second-table : Table (drop room (W (now left))) b.objects
-      second-table = beside-asks.2
+      pub front-long : room ≡ length (take room (now left))
+      front-long = sym (length-take-le room (now left) room-inside)
 
-      beside-tells : {c : Changes} (list : List ℕ) {list' : List ℕ} → Answered (is.numbers_of first (take room (W (now left))) a.objects second (drop room (W (now left))) b.objects) c list list'
+      pub first-table : Table (take room (now left)) a.objects
+      first-table = both-lie.1
+
+      pub second-table : Table rest-part b.objects
+      second-table = rw (part_to_end (now left) room) both-lie.2
+
+      beside-tells : {c : Changes} (list : List ℕ) {list' : List ℕ} → Answered (is.numbers_of first (take room (now left)) a.objects second rest-part b.objects) c list list'
           → (c ≡ is.told (is.compared (layout_of layout) first (layout_of other) second (length work)) (length list)) × (list' ≡ is.after (is.compared (layout_of layout) first (layout_of other) second (length work)) list)
-      beside-tells list w = both_told (size_back_lem layout) (size_back_lem other) first-held refl second-held part-long (drop (length table - room) (drop room table)) list (rw (whole (now left)) at w)
+      beside-tells list w = both_told (size_back_lem layout) (size_back_lem other) first-held refl second-held part-long (drop (length table - room) (drop room table)) list (rw (part_to_end (now left) room) at w)
 
-      pub beside-told : {c : Changes} (list : List ℕ) → c ≡ is.fitting (is.numbers_of first (take room (W (now left))) a.objects second (drop room (W (now left))) b.objects) (length list)
+      pub beside-told : {c : Changes} (list : List ℕ) → c ≡ is.fitting (is.numbers_of first (take room (now left)) a.objects second rest-part b.objects) (length list)
           → c ≡ is.told (is.compared (layout_of layout) first (layout_of other) second (length work)) (length list)
       beside-told list w = (beside-tells list (w, refl)).0
 
-      pub beside-written : {list' : List ℕ} (list : List ℕ) → list' ≡ is.list_after (is.numbers_of first (take room (W (now left))) a.objects second (drop room (W (now left))) b.objects) list
+      pub beside-written : {list' : List ℕ} (list : List ℕ) → list' ≡ is.list_after (is.numbers_of first (take room (now left)) a.objects second rest-part b.objects) list
           → list' ≡ is.after (is.compared (layout_of layout) first (layout_of other) second (length work)) list
       beside-written list w = (beside-tells list (refl, w)).1
 

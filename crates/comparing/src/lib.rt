@@ -1,13 +1,13 @@
 // What changed between two files, each of its own layout: both are read into the room that is lent, their objects compared, and the room ends as zeros.
 #![tactic(auto)]
 
-ghost use Rattle.std.specs.Prelude.{◌≡◌, ◌≤◌, length, take, drop, replicate};
+ghost use Rattle.std.specs.Prelude.{◌≡◌, length, replicate};
 ghost use Rattle.meaning.specs.Layouts.{layout_of};
 ghost use Rattle.meaning.specs.Frame.{reading};
-ghost use Rattle.models.specs.Tables.{Table};
 ghost use Rattle.comparing.specs.Comparison as is;
 
 use account::clear;
+use models::Objects;
 
 // The verdict, the file that is refused, or 0; and how many entries the list has. All but the first four are 0 on refusal, unless the list is too short.
 #[repr(C)]
@@ -54,21 +54,12 @@ fn refusal(layout: u64, first: &[u8], other: u64, second: &[u8]) -> Changes
 }
 
 // By the tables of both: counted in a list of one number, then written if it fits and there are any.
-fn compared(
-    first: &[u8],
-    a: &[u64],
-    m: usize,
-    second: &[u8],
-    b: &[u64],
-    n: usize,
-    list: &mut [u64],
-) -> Changes
-    requires { Table a.now m × Table b.now n }
-    ensures answer { result ≡ is.fitting (is.numbers_of first.now a.now m second.now b.now n) (length list.old) }
-    ensures written { list.new ≡ is.list_after (is.numbers_of first.now a.now m second.now b.now n) list.old }
+fn compared(first: Objects<'_>, second: Objects<'_>, list: &mut [u64]) -> Changes
+    ensures answer { let a = first.entry in let b = second.entry in result ≡ is.fitting (is.numbers_of a.file.now a.table.now a.count b.file.now b.table.now b.count) (length list.old) }
+    ensures written { let a = first.entry in let b = second.entry in list.new ≡ is.list_after (is.numbers_of a.file.now a.table.now a.count b.file.now b.table.now b.count) list.old }
 {
     let mut scrap = [0u64; 1];
-    let k = models::of_tables(first, a, m, second, b, n, &mut scrap);
+    let k = models::of_tables(first, second, &mut scrap);
     let entries = k as u64 / 8;
     if list.len() < k {
         return Changes {
@@ -80,7 +71,7 @@ fn compared(
         };
     }
     if 0 < k {
-        models::of_tables(first, a, m, second, b, n, list);
+        models::of_tables(first, second, list);
     }
     Changes {
         number: 0,
@@ -89,23 +80,6 @@ fn compared(
         component: 0,
         entries: entries,
     }
-}
-
-// The first's table ends, and the second's begins, at `room`.
-fn beside(
-    first: &[u8],
-    m: usize,
-    second: &[u8],
-    n: usize,
-    work: &[u64],
-    room: usize,
-    list: &mut [u64],
-) -> Changes
-    requires { (room ≤ length work.now) × Table (take room work.now) m × Table (drop room work.now) n }
-    ensures answer { result ≡ is.fitting (is.numbers_of first.now (take room work.now) m second.now (drop room work.now) n) (length list.old) }
-    ensures written { list.new ≡ is.list_after (is.numbers_of first.now (take room work.now) m second.now (drop room work.now) n) list.old }
-{
-    compared(first, &work[0..room], m, second, &work[room..], n, list)
 }
 
 // Two files, lent whole, the first of `layout`, the second of `other`, with room for the rows of both.
@@ -133,7 +107,18 @@ pub fn of_files(
         clear(work);
         return refusal(layout, first, other, second);
     }
-    let c = beside(first, m, second, b.objects as usize, &work[0..], room, list);
+    let both = &work[..];
+    let ours = Objects {
+        file: first,
+        table: &both[..room],
+        count: m,
+    };
+    let theirs = Objects {
+        file: second,
+        table: &both[room..],
+        count: b.objects as usize,
+    };
+    let c = compared(ours, theirs, list);
     clear(work);
     c
 }

@@ -1,11 +1,9 @@
 -- The objects of a table by their numbers, and what is known of a table that was read.
-use Rattle.std.specs.Prelude.{ℕ, zero, suc, ◌+◌, ◌*◌, ◌≤◌, ◌<◌, List, [], ◌∷◌, ◌++◌, ◌≡◌, length, get_or}
+use Rattle.std.specs.Prelude.{ℕ, zero, suc, ◌+◌, ◌*◌, ◌≤◌, ◌<◌, List, [], ◌∷◌, ◌++◌, ◌≡◌, length, get_or, Option, MatchOption}
 use Rattle.std.proofs.Math.Option.{none, some}
 use Rattle.meaning.specs.Columns.{object_width, component_width}
 use Rattle.meaning.specs.Limit.{object_limit}
 use Rattle.meaning.specs.Described.{DescribedObject}
-use Rattle.matching.specs.Named.{named}
-use Rattle.matching.specs.Matched.{Sorted}
 use Rattle.changes.specs.Changes.{Entry, entry, across, object, of_object, if_absent}
 use Rattle.pairs.specs.Objects.{object_at, count_at, Sized}
 
@@ -33,16 +31,11 @@ pub record Starts (table : List ℕ) (n : ℕ) (starts : List ℕ) : Type 0 wher
   pub long : n ≤ length starts
   pub is : (j : ℕ) → j < n → get_or starts j 0 ≡ start_of table n j
 
--- n objects' rows lie there, and their names are sorted
-pub record Known (file table : List ℕ) (n : ℕ) (ix : List ℕ) (sorted : ℕ) : Type 0 where
-  pub rows : Table table n
-  pub room : sorted ≤ length ix
-  pub names : Sorted (named file table 0 object_width) n ix sorted
-
--- r is the number of the object of this name among the n, or n or more if there is none
-pub record Beside (name file table : List ℕ) (n r : ℕ) : Type 0 where
-  pub found : r < n → object name (objects_from file table n 0 n) ≡ some (record { index = r; it = object_of file table n r })
-  pub lacks : n ≤ r → object name (objects_from file table n 0 n) ≡ none
+-- the number of the object of this name among the n, if there is one
+abbrev pub Beside : List ℕ → List ℕ → List ℕ → ℕ → Option ℕ → Type 0
+Beside name file table n o =
+    MatchOption o (object name (objects_from file table n 0 n) ≡ none)
+    (λ r. (r < n) × (object name (objects_from file table n 0 n) ≡ some (record { index = r; it = object_of file table n r })))
 
 -- all but the 2s, from the object i on, beside the second's; the 2s, from the object j on, beside the first's
 abbrev pub olds_from : List DescribedObject → ℕ → List DescribedObject → List Entry

@@ -1,211 +1,164 @@
 // All objects of two tables: the list of what changed between their models, in n log n comparisons of names.
 #![tactic(auto)]
 
-ghost use Rattle.std.specs.Prelude.{◌≡◌, ◌+◌, ◌*◌, ◌<◌, ◌≤◌, length};
+ghost use Rattle.std.specs.Prelude.{◌≡◌, ◌*◌, ◌<◌, ◌≤◌, length};
 ghost use Rattle.meaning.specs.Columns.{object_width};
 ghost use Rattle.put.specs.Wrote.{Wrote};
-ghost use Rattle.matching.specs.Named.{name_at};
 ghost use Rattle.changes.specs.Changes.{flat, of_object, object, if_absent, entry};
-ghost use Rattle.models.specs.Tables.{Starts, Table, Known, Beside, object_of, objects_from, olds_from, news_from, changes_of};
+ghost use Rattle.models.specs.Tables.{start_of, Starts, Table, Beside, object_of, objects_from, olds_from, news_from, changes_of};
 
 use columns::{COMPONENT, COUNT, OBJECT};
-use matching::{find, name_at};
+use matching::{Names, SortedNames};
+use parts::Pair;
 
-// Where the components' rows of each of n objects begin.
-fn put_starts(table: &[u64], n: usize, starts: &mut [usize])
-    requires { Table table.now n × (n ≤ length starts.old) }
-    ensures { Starts table.now n starts.new × (length starts.new ≡ length starts.old) }
-{
-    let mut at = OBJECT * n;
-    let mut j: usize = 0;
-    while j < n {
-        starts[j] = at;
-        let row = OBJECT * j;
-        at += COMPONENT * table[row + COUNT] as usize;
-        j += 1;
+// All objects of a file, by the file's table.
+#[derive(Clone, Copy)]
+pub struct Objects<'a> {
+    pub file: &'a [u8],
+    pub table: &'a [u64],
+    pub count: usize,
+    ghost read: { Table table.now count },
+}
+
+impl<'a> Objects<'a> {
+    fn names(self) -> Names<'a, OBJECT>
+        ensures { (result.file ≡ self.entry.file) × (result.table ≡ self.entry.table) × (result.first ≡ 0) × (result.count ≡ self.entry.count) }
+    {
+        Names {
+            file: self.file,
+            table: self.table,
+            first: 0,
+            count: self.count,
+        }
+    }
+
+    // Where the components' rows of each begin.
+    fn put_starts(self, starts: &mut [usize])
+        requires { self.count ≤ length starts.old }
+        ensures { Starts self.entry.table.now self.entry.count starts.new × (length starts.new ≡ length starts.old) }
+    {
+        let mut at = OBJECT * self.count;
+        for j in 0..self.count {
+            starts[j] = at;
+            at += COMPONENT * self.table[OBJECT * j + COUNT] as usize;
+        }
+    }
+
+    // With room for the numbers of their names and for where their components begin.
+    fn model<'b>(self, numbers: &'b mut [u16], starts: &'b mut [usize]) -> Model<'a, 'b>
+        requires { (self.count ≤ length numbers.old) × (self.count ≤ length starts.old) }
+        ensures { (result.sorted.names.file ≡ self.entry.file) × (result.sorted.names.table ≡ self.entry.table) × (result.sorted.names.count ≡ self.entry.count) }
+    {
+        self.put_starts(starts);
+        let sorted = self.names().sort(numbers);
+        Model { sorted, starts }
     }
 }
 
-// The number of the object among the n of the second, whose names are sorted in ix, that has the name of the first's whose row begins at p; n if none has.
-fn beside(
-    first: &[u8],
-    a: &[u64],
-    p: usize,
-    second: &[u8],
-    b: &[u64],
-    n: usize,
-    ix: &[u16],
-    sorted: usize,
-) -> usize
-    requires { (p + object_width ≤ length a.now) × Known second.now b.now n ix.now sorted }
-    ensures { Beside (name_at first.now a.now p) second.now b.now n result }
-{
-    find(second, b, 0, OBJECT, n, ix, sorted, name_at(first, a, p))
+// A file's objects, their names sorted, and where the components' rows of each begin.
+#[derive(Clone, Copy)]
+struct Model<'a, 'b> {
+    sorted: SortedNames<'a, 'b, OBJECT>,
+    starts: &'b [usize],
+    ghost from: { sorted.names.first ≡ 0 },
+    ghost read: { Table sorted.names.table.now sorted.names.count },
+    ghost begin: { Starts sorted.names.table.now sorted.names.count starts.now },
 }
 
-// The object i of the first, of m, beside the n of the second, whose names are sorted in ix.
+impl<'a, 'b> Model<'a, 'b> {
+    // The number of the object of this name.
+    fn find(&self, name: &[u8]) -> Option<usize>
+        ensures { Beside name.now self.now.sorted.names.file.now self.now.sorted.names.table.now self.now.sorted.names.count result }
+    {
+        self.sorted.find(name)
+    }
+
+    // The object of number i.
+    fn object(&self, i: usize) -> pairs::Object<'a>
+        requires { i < self.now.sorted.names.count }
+        ensures { (result.file ≡ self.now.sorted.names.file) × (result.table ≡ self.now.sorted.names.table) × (result.at ≡ object_width * i) × (result.parts ≡ start_of self.now.sorted.names.table.now self.now.sorted.names.count i) }
+    {
+        pairs::Object {
+            file: self.sorted.names.file,
+            table: self.sorted.names.table,
+            at: OBJECT * i,
+            parts: self.starts[i],
+        }
+    }
+}
+
+// The object i of the first, beside the second's.
 fn of_object(
-    first: &[u8],
-    a: &[u64],
-    m: usize,
-    from: &[usize],
+    first: &Model<'_, '_>,
     i: usize,
-    second: &[u8],
-    b: &[u64],
-    n: usize,
-    to: &[usize],
-    ix: &[u16],
-    sorted: usize,
+    second: &Model<'_, '_>,
     list: &mut [u64],
     at: usize,
 ) -> usize
-    requires { Table a.now m × Starts a.now m from.now × (i < m) × Starts b.now n to.now × Known second.now b.now n ix.now sorted }
-    ensures { Wrote (flat (of_object i (object_of first.now a.now m i) (object (object_of first.now a.now m i).name (objects_from second.now b.now n 0 n)))) at list.old list.new result }
+    requires { i < first.now.sorted.names.count }
+    ensures { let a = first.now.sorted.names in let b = second.now.sorted.names in let o = object_of a.file.now a.table.now a.count i in Wrote (flat (of_object i o (object o.name (objects_from b.file.now b.table.now b.count 0 b.count)))) at list.old list.new result }
 {
-    let p = OBJECT * i;
-    let j = beside(first, a, p, second, b, n, ix, sorted);
-    if n <= j {
-        return entries::entry(list, at, 1, i as u64, 0, 0, 0, 0, 0, 0);
+    match second.find(first.sorted.names.name(i)) {
+        None => entries::entry(list, at, [1, i as u64, 0, 0, 0, 0, 0, 0]),
+        Some(j) => {
+            let pair = Pair {
+                i: i as u64,
+                j: j as u64,
+            };
+            pairs::of_pair(first.object(i), second.object(j), pair, list, at)
+        }
     }
-    let q = OBJECT * j;
-    pairs::of_pair(
-        first, a, p, from[i], second, b, q, to[j], i as u64, j as u64, list, at,
-    )
 }
 
 // All of the first's objects.
-fn of_first(
-    first: &[u8],
-    a: &[u64],
-    m: usize,
-    from: &[usize],
-    second: &[u8],
-    b: &[u64],
-    n: usize,
-    to: &[usize],
-    ix: &[u16],
-    sorted: usize,
-    list: &mut [u64],
-    at: usize,
-) -> usize
-    requires { Table a.now m × Starts a.now m from.now × Starts b.now n to.now × Known second.now b.now n ix.now sorted }
-    ensures { Wrote (flat (olds_from (objects_from second.now b.now n 0 n) 0 (objects_from first.now a.now m 0 m))) at list.old list.new result }
+fn of_first(first: &Model<'_, '_>, second: &Model<'_, '_>, list: &mut [u64], at: usize) -> usize
+    ensures { let a = first.now.sorted.names in let b = second.now.sorted.names in Wrote (flat (olds_from (objects_from b.file.now b.table.now b.count 0 b.count) 0 (objects_from a.file.now a.table.now a.count 0 a.count))) at list.old list.new result }
 {
     let mut past = at;
-    let mut i: usize = 0;
-    while i < m {
-        past = of_object(
-            first, a, m, from, i, second, b, n, to, ix, sorted, list, past,
-        );
-        i += 1;
+    for i in 0..first.sorted.names.count {
+        past = of_object(first, i, second, list, past);
     }
     put::capped_place(past)
 }
 
-// The object j of the second if the m of the first lack its name.
+// The object j of the second if the first's lack its name.
 fn of_new(
-    second: &[u8],
-    b: &[u64],
-    n: usize,
+    second: &Model<'_, '_>,
     j: usize,
-    first: &[u8],
-    a: &[u64],
-    m: usize,
-    ix: &[u16],
-    sorted: usize,
+    first: &Model<'_, '_>,
     list: &mut [u64],
     at: usize,
 ) -> usize
-    requires { Table b.now n × (j < n) × Known first.now a.now m ix.now sorted }
-    ensures { Wrote (flat (if_absent (entry 2 0 j 0 0 0 0 0) (object (object_of second.now b.now n j).name (objects_from first.now a.now m 0 m)))) at list.old list.new result }
+    requires { j < second.now.sorted.names.count }
+    ensures { let a = first.now.sorted.names in let b = second.now.sorted.names in Wrote (flat (if_absent (entry 2 0 j 0 0 0 0 0) (object (object_of b.file.now b.table.now b.count j).name (objects_from a.file.now a.table.now a.count 0 a.count)))) at list.old list.new result }
 {
-    let q = OBJECT * j;
-    let i = beside(second, b, q, first, a, m, ix, sorted);
-    if m <= i {
-        return entries::entry(list, at, 2, 0, j as u64, 0, 0, 0, 0, 0);
+    match first.find(second.sorted.names.name(j)) {
+        None => entries::entry(list, at, [2, 0, j as u64, 0, 0, 0, 0, 0]),
+        Some(_) => put::capped_place(at),
     }
-    put::capped_place(at)
 }
 
 // All of the second's objects.
-fn of_second(
-    second: &[u8],
-    b: &[u64],
-    n: usize,
-    first: &[u8],
-    a: &[u64],
-    m: usize,
-    ix: &[u16],
-    sorted: usize,
-    list: &mut [u64],
-    at: usize,
-) -> usize
-    requires { Table b.now n × Known first.now a.now m ix.now sorted }
-    ensures { Wrote (flat (news_from (objects_from first.now a.now m 0 m) 0 (objects_from second.now b.now n 0 n))) at list.old list.new result }
+fn of_second(second: &Model<'_, '_>, first: &Model<'_, '_>, list: &mut [u64], at: usize) -> usize
+    ensures { let a = first.now.sorted.names in let b = second.now.sorted.names in Wrote (flat (news_from (objects_from a.file.now a.table.now a.count 0 a.count) 0 (objects_from b.file.now b.table.now b.count 0 b.count))) at list.old list.new result }
 {
     let mut past = at;
-    let mut j: usize = 0;
-    while j < n {
-        past = of_new(second, b, n, j, first, a, m, ix, sorted, list, past);
-        j += 1;
+    for j in 0..second.sorted.names.count {
+        past = of_new(second, j, first, list, past);
     }
     put::capped_place(past)
 }
 
-// The entries of the first's objects, from the list's beginning on.
-fn olds(
-    first: &[u8],
-    a: &[u64],
-    m: usize,
-    second: &[u8],
-    b: &[u64],
-    n: usize,
-    list: &mut [u64],
-) -> usize
-    requires { Table a.now m × Table b.now n }
-    ensures { Wrote (flat (olds_from (objects_from second.now b.now n 0 n) 0 (objects_from first.now a.now m 0 m))) 0 list.old list.new result }
-{
-    let mut from = [0usize; 1024];
-    let mut to = [0usize; 1024];
-    let mut y = [0u16; 1024];
-    put_starts(a, m, &mut from);
-    put_starts(b, n, &mut to);
-    let sorted = matching::sort(second, b, 0, OBJECT, n, &mut y);
-    of_first(first, a, m, &from, second, b, n, &to, &y, sorted, list, 0)
-}
-
-// Those of the second's objects that the first lacks.
-fn news(
-    second: &[u8],
-    b: &[u64],
-    n: usize,
-    first: &[u8],
-    a: &[u64],
-    m: usize,
-    list: &mut [u64],
-    at: usize,
-) -> usize
-    requires { Table a.now m × Table b.now n }
-    ensures { Wrote (flat (news_from (objects_from first.now a.now m 0 m) 0 (objects_from second.now b.now n 0 n))) at list.old list.new result }
-{
-    let mut x = [0u16; 1024];
-    let sorted = matching::sort(first, a, 0, OBJECT, m, &mut x);
-    of_second(second, b, n, first, a, m, &x, sorted, list, at)
-}
-
 // The whole list, as far as it fits, and the place past it.
-pub fn of_tables(
-    first: &[u8],
-    a: &[u64],
-    m: usize,
-    second: &[u8],
-    b: &[u64],
-    n: usize,
-    list: &mut [u64],
-) -> usize
-    requires { Table a.now m × Table b.now n }
-    ensures { Wrote (flat (changes_of (objects_from first.now a.now m 0 m) (objects_from second.now b.now n 0 n))) 0 list.old list.new result }
+pub fn of_tables(first: Objects<'_>, second: Objects<'_>, list: &mut [u64]) -> usize
+    ensures { let a = first.entry in let b = second.entry in Wrote (flat (changes_of (objects_from a.file.now a.table.now a.count 0 a.count) (objects_from b.file.now b.table.now b.count 0 b.count))) 0 list.old list.new result }
 {
-    let past = olds(first, a, m, second, b, n, list);
-    news(second, b, n, first, a, m, list, past)
+    let mut numbers = [0u16; 1024];
+    let mut starts = [0usize; 1024];
+    let ours = first.model(&mut numbers, &mut starts);
+    let mut other_numbers = [0u16; 1024];
+    let mut other_starts = [0usize; 1024];
+    let theirs = second.model(&mut other_numbers, &mut other_starts);
+    let past = of_first(&ours, &theirs, list, 0);
+    of_second(&theirs, &ours, list, past)
 }

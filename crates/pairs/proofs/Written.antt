@@ -23,12 +23,10 @@ use Rattle.differing.specs.Rows.{part_at, shape_at, format_at}
 use Rattle.differing.specs.Bits.{own_what}
 use Rattle.parts.specs.declared.Seen.{Seen}
 use Rattle.parts.specs.declared.Lone.{Lone}
-use Rattle.matching.specs.Named.{named}
-use Rattle.matching.specs.Matched.{Sorted}
-use Rattle.parts.specs.Parts.{parts_at, Known}
+use Rattle.parts.specs.Parts.{parts_at}
 use Rattle.parts.specs.Seen.{PartsSeen, LonesSeen}
 use Rattle.parts.proofs.Turns.{flat_append, across-same, bit-small}
-use Rattle.pairs.specs.Objects.{object_at, count_at, Lie, BothSeen}
+use Rattle.pairs.specs.Objects.{object_at, count_at, BothSeen}
 
 -- ---- later first
 
@@ -217,11 +215,3 @@ module _ (first a : List ℕ) (p c : ℕ) (second b : List ℕ) (q d : ℕ) {i j
 
   pub objects-same : own + s.names + s.dtypes + s.kinds + s.bytes ≡ 0 → {r : ℕ} → r ≡ capped at → Wrote (flat (in_both i j (object_at first a p c) (object_at second b q d))) at xs zs r
   objects-same z h = pair_same (object_at first a p c) (object_at second b q d) i j at xs ep (seen-is first a p c second b q d hs) (own_is first a p c second b q d ho) z h
-
--- the place past an entry is no higher than the last
-pub past-last : (at : ℕ) → most ≤ at → most ≡ capped (at + 8)
-past-last at l = sym (capped-high (at + 8) (omega (arith, l)))
-
--- what was sorted, handed on
-pub known : {file table : List ℕ} {first n : ℕ} → Lie table first n → {ix : List ℕ} {k : ℕ} → Sorted (named file table first component_width) n ix k → length ix ≡ 16 → Known file table first n ix k
-known l s e = record { rows = record { wide = omega arith; lie = l.parts }; room = omega (arith, s.few, l.few); names = s }

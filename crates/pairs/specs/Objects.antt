@@ -24,11 +24,6 @@ pub record Sized (table : List ℕ) (row first : ℕ) : Type 0 where
   pub few : count_at table row ≤ component_limit
   pub parts : first + component_width * count_at table row ≤ length table
 
--- so few rows of components lie there
-pub record Lie (table : List ℕ) (first n : ℕ) : Type 0 where
-  pub few : n ≤ component_limit
-  pub parts : first + component_width * n ≤ length table
-
 -- the components of both: the 4s and 5s, then the 6s, and what of them differs
 pub record BothSeen (cs ds : List DescribedComponent) (i j at : ℕ) (xs ys : List ℕ) (r : Seen) : Type 0 where
   pub wrote : Wrote (flat (firsts_from i j ds 0 cs) ++ flat (seconds_from i j cs 0 ds)) at xs ys r.at

@@ -1,130 +1,120 @@
 // Two objects of one name: what differs between them, an entry for that, and those of their components after it. The entry's place is kept free until its components have been seen.
 #![tactic(auto)]
 
-ghost use Rattle.std.specs.Prelude.{◌≡◌, ◌+◌};
-ghost use Rattle.put.specs.Wrote.{Wrote, capped};
+ghost use Rattle.std.specs.Prelude.{◌≡◌, ◌+◌, ◌≤◌};
+ghost use Rattle.meaning.specs.Limit.{component_limit};
+ghost use Rattle.put.specs.Wrote.{Wrote};
 ghost use Rattle.changes.specs.Changes.{flat, in_both};
 ghost use Rattle.parts.specs.Parts.{parts_at};
 ghost use Rattle.parts.specs.Seen.{PartsSeen, LonesSeen};
-ghost use Rattle.pairs.specs.Objects.{object_at, Lie, Sized, BothSeen};
+ghost use Rattle.pairs.specs.Objects.{object_at, count_at, Sized, BothSeen};
 
 use columns::{COMPONENT, COUNT};
-use parts::{Lone, Seen, either};
+use matching::Names;
+use parts::{Lone, Pair, Seen, either};
 
-// No list is as long as this, and no place is above it.
-const MOST: usize = 0x8000_0000_0000_0000;
-
-// The place past an entry at `at`.
-fn past_one(at: usize) -> usize
-    ensures { result ≡ capped (at + 8) }
-{
-    if at < MOST {
-        return put::capped_place(at + 8);
-    }
-    MOST
+// An object of a file, by the places in the file's table of its row and of its components' rows.
+#[derive(Clone, Copy)]
+pub struct Object<'a> {
+    pub file: &'a [u8],
+    pub table: &'a [u64],
+    pub at: usize,
+    pub parts: usize,
+    ghost sized: { Sized table.now at parts },
 }
 
-// The components of the first, m from the row c on, beside the n of the second from d on.
+impl<'a> Object<'a> {
+    fn components(self) -> Names<'a, COMPONENT>
+        ensures { (result.file ≡ self.entry.file) × (result.table ≡ self.entry.table) × (result.first ≡ self.entry.parts) × (result.count ≡ count_at self.entry.table.now self.entry.at) }
+    {
+        Names {
+            file: self.file,
+            table: self.table,
+            first: self.parts,
+            count: self.table[self.at + COUNT] as usize,
+        }
+    }
+
+    fn itself(self) -> differing::Object<'a>
+        ensures { (result.file ≡ self.entry.file) × (result.table ≡ self.entry.table) × (result.at ≡ self.entry.at) }
+    {
+        differing::Object {
+            file: self.file,
+            table: self.table,
+            at: self.at,
+        }
+    }
+}
+
+// The components of the first, beside those of the second.
 fn firsts(
-    first: &[u8],
-    a: &[u64],
-    c: usize,
-    m: usize,
-    second: &[u8],
-    b: &[u64],
-    d: usize,
-    n: usize,
-    i: u64,
-    j: u64,
+    first: Names<'_, COMPONENT>,
+    second: Names<'_, COMPONENT>,
+    pair: Pair,
     list: &mut [u64],
     at: usize,
 ) -> Seen
-    requires { Lie a.now c m × Lie b.now d n }
-    ensures { PartsSeen (parts_at first.now a.now c m) (parts_at second.now b.now d n) i j at list.old list.new result }
+    requires { second.count ≤ component_limit }
+    ensures { PartsSeen (parts_at first.entry.file.now first.entry.table.now first.entry.first first.entry.count) (parts_at second.entry.file.now second.entry.table.now second.entry.first second.entry.count) pair.i pair.j at list.old list.new result }
 {
-    let mut y = [0u16; 16];
-    let sorted = matching::sort(second, b, d, COMPONENT, n, &mut y);
-    parts::of_first(first, a, c, m, second, b, d, n, &y, sorted, i, j, list, at)
+    let mut numbers = [0u16; 16];
+    let sorted = second.sort(&mut numbers);
+    parts::of_first(first, &sorted, pair, list, at)
 }
 
 // Those of the second whose names the first's lack.
 fn seconds(
-    second: &[u8],
-    b: &[u64],
-    d: usize,
-    n: usize,
-    first: &[u8],
-    a: &[u64],
-    c: usize,
-    m: usize,
-    i: u64,
-    j: u64,
+    second: Names<'_, COMPONENT>,
+    first: Names<'_, COMPONENT>,
+    pair: Pair,
     list: &mut [u64],
     at: usize,
 ) -> Lone
-    requires { Lie a.now c m × Lie b.now d n }
-    ensures { LonesSeen (parts_at second.now b.now d n) (parts_at first.now a.now c m) i j at list.old list.new result }
+    requires { first.count ≤ component_limit }
+    ensures { LonesSeen (parts_at second.entry.file.now second.entry.table.now second.entry.first second.entry.count) (parts_at first.entry.file.now first.entry.table.now first.entry.first first.entry.count) pair.i pair.j at list.old list.new result }
 {
-    let mut x = [0u16; 16];
-    let sorted = matching::sort(first, a, c, COMPONENT, m, &mut x);
-    parts::of_second(second, b, d, n, first, a, c, m, &x, sorted, i, j, list, at)
+    let mut numbers = [0u16; 16];
+    let sorted = first.sort(&mut numbers);
+    parts::of_second(second, &sorted, pair, list, at)
 }
 
-// Their components: m in the first from the row c on, n in the second from d on.
+// The components of both.
 fn of_components(
-    first: &[u8],
-    a: &[u64],
-    c: usize,
-    m: usize,
-    second: &[u8],
-    b: &[u64],
-    d: usize,
-    n: usize,
-    i: u64,
-    j: u64,
+    first: Names<'_, COMPONENT>,
+    second: Names<'_, COMPONENT>,
+    pair: Pair,
     list: &mut [u64],
     at: usize,
 ) -> Seen
-    requires { Lie a.now c m × Lie b.now d n }
-    ensures { BothSeen (parts_at first.now a.now c m) (parts_at second.now b.now d n) i j at list.old list.new result }
+    requires { (first.count ≤ component_limit) × (second.count ≤ component_limit) }
+    ensures { BothSeen (parts_at first.entry.file.now first.entry.table.now first.entry.first first.entry.count) (parts_at second.entry.file.now second.entry.table.now second.entry.first second.entry.count) pair.i pair.j at list.old list.new result }
 {
-    let f = firsts(first, a, c, m, second, b, d, n, i, j, list, at);
-    let s = seconds(second, b, d, n, first, a, c, m, i, j, list, f.at);
+    let f = firsts(first, second, pair, list, at);
+    let s = seconds(second, first, pair, list, f.at);
     Seen {
         at: s.at,
         names: either(f.names, s.names),
-        dtypes: f.dtypes,
-        kinds: f.kinds,
-        bytes: f.bytes,
+        ..f
     }
 }
 
-// The object i of the first, its row at p and its components' rows from c on, and the object j of the second, at q and from d on.
+// Two objects of one name.
 pub fn of_pair(
-    first: &[u8],
-    a: &[u64],
-    p: usize,
-    c: usize,
-    second: &[u8],
-    b: &[u64],
-    q: usize,
-    d: usize,
-    i: u64,
-    j: u64,
+    first: Object<'_>,
+    second: Object<'_>,
+    pair: Pair,
     list: &mut [u64],
     at: usize,
 ) -> usize
-    requires { Sized a.now p c × Sized b.now q d }
-    ensures { Wrote (flat (in_both i j (object_at first.now a.now p c) (object_at second.now b.now q d))) at list.old list.new result }
+    ensures { Wrote (flat (in_both pair.i pair.j (object_at first.entry.file.now first.entry.table.now first.entry.at first.entry.parts) (object_at second.entry.file.now second.entry.table.now second.entry.at second.entry.parts))) at list.old list.new result }
 {
-    let m = a[p + COUNT] as usize;
-    let n = b[q + COUNT] as usize;
-    let own = differing::of_objects(first, a, p, second, b, q);
-    let s = of_components(first, a, c, m, second, b, d, n, i, j, list, past_one(at));
+    let own = differing::of_objects(first.itself(), second.itself());
+    let past = entries::past(at, 8);
+    let s = of_components(first.components(), second.components(), pair, list, past);
     let what = own + s.names + s.dtypes + s.kinds + s.bytes;
     if what == 0 {
         return put::capped_place(at);
     }
-    entries::entry(list, at, 3, i, j, 0, 0, what, 0, 0);
+    entries::entry(list, at, [3, pair.i, pair.j, 0, 0, what, 0, 0]);
     s.at
 }

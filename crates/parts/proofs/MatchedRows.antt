@@ -1,21 +1,21 @@
 -- Components by their rows, and the one that a name was matched with.
-use Prim.Native.Nat.{ℕ, zero, suc, ◌+◌, ◌-◌, ◌*◌, ◌^◌, ◌≤◌, ◌<◌}
+use Prim.Native.Nat.{ℕ, zero, suc, ◌+◌, ◌-◌, ◌*◌, ◌≤◌, ◌<◌}
 use native.Mathlib.Omega.{arith}
 use mathlib.Core.List.{List, [], ◌∷◌}
 use mathlib.Core.Bool.{true, false}
 use mathlib.Core.Option.{Option, none, some, some-injective, none-ne-some}
 use mathlib.Core.Path.{◌≡◌, refl, sym, ap, ◌∙◌, subst}
-use lib.ListN.{length, get_elem?}
+use lib.ListN.{get_elem?}
 use lib.Seq.{get_or-drop}
-use mir.Syntax.{w64}
-use mir.Val.{Fits}
 use Rattle.meaning.specs.Columns.{component_width, name_column, name_length_column}
 use Rattle.meaning.specs.Text.{same}
 use Rattle.meaning.specs.Asked.{asked_component}
 use Rattle.meaning.specs.Described.{DescribedComponent, described_component}
 use Rattle.text.proofs.SameIsEqual.{eq-same, ne_same}
 use Rattle.matching.specs.Named.{name_at, named}
-use Rattle.matching.specs.Matched.{First}
+use Rattle.std.specs.Prelude.{Some, None}
+use Rattle.std.specs.Prelude as std
+use Rattle.matching.specs.Matched.{Earliest, First}
 use Rattle.changes.specs.Changes.{Found, seek, part}
 use Rattle.changes.proofs.Lists.{seek-lacks}
 use Rattle.differing.specs.Rows.{part_at}
@@ -72,16 +72,16 @@ module _ (file table : List ℕ) where
   unfolding named
   called row i = part-name (row + component_width * i)
 
-  module _ (row n : ℕ) {r : ℕ} {w : List ℕ} (f : First (named file table row component_width) n w r) where
-    part-found : r < n → part w (parts_at file table row n) ≡ some (record { index = r; it = part_at file table (row + component_width * r) })
-    part-found l =
-        seek-first (λ (c : DescribedComponent). c.name) (parts_at file table row n) w r (part_at file table (row + component_width * r)) (part_elem row n r l) (called row r ∙ f.is l)
+  module _ (row n : ℕ) {w : List ℕ} where
+    part-found : {r : ℕ} → Earliest (named file table row component_width) n w r → part w (parts_at file table row n) ≡ some (record { index = r; it = part_at file table (row + component_width * r) })
+    part-found {r} f =
+        seek-first (λ (c : DescribedComponent). c.name) (parts_at file table row n) w r (part_at file table (row + component_width * r)) (part_elem row n r f.below) (called row r ∙ f.is)
         (λ j b m h e. let q = elem-part row n j b h in f.before j m (sym (called row j) ∙ ap (λ (c : DescribedComponent). c.name) q.1 ∙ e))
 
-    part-lacks : n ≤ r → part w (parts_at file table row n) ≡ none
-    part-lacks l =
+    part-lacks : ((j : ℕ) → j < n → named file table row component_width j ≡ w → ⊥) → part w (parts_at file table row n) ≡ none
+    part-lacks f =
         seek-lacks (λ (c : DescribedComponent). c.name) (parts_at file table row n) w
-        (λ j b h e. let q = elem-part row n j b h in f.before j (omega (arith, q.0)) (sym (called row j) ∙ ap (λ (c : DescribedComponent). c.name) q.1 ∙ e))
+        (λ j b h e. let q = elem-part row n j b h in f j q.0 (sym (called row j) ∙ ap (λ (c : DescribedComponent). c.name) q.1 ∙ e))
 
   pub parts-step : (p m k : ℕ) → k < m
       → parts_at file table (p + component_width * k) (m - k) ≡ part_at file table (p + component_width * k) ∷ parts_at file table (p + component_width * (k + 1)) (m - (k + 1))
@@ -92,11 +92,10 @@ module _ (file table : List ℕ) where
 
 -- ---- the component of a name
 
-pub matched : (first a : List ℕ) (p : ℕ) (second b : List ℕ) (q n : ℕ) {r : ℕ} {w : List ℕ} → First (named second b q component_width) n w r → w ≡ name_at first a p
-    → Beside (part_at first a p) second b q n r
-matched first a p second b q n {r} {w} f e =
-    let g : First (named second b q component_width) n (part_at first a p).name r = subst (λ (v : List ℕ). First (named second b q component_width) n v r) (e ∙ sym (part-name first a p)) f in
-    record { found = part-found second b q n g; lacks = part-lacks second b q n g }
+module _ (first a : List ℕ) (p : ℕ) (second b : List ℕ) (q n : ℕ) {w : List ℕ} (e : w ≡ name_at first a p) where
+  pub matched : (o : std.Option ℕ) → First (named second b q component_width) n w o → Beside (part_at first a p) second b q n o
+  matched (Some r) f = (f.below, subst (λ (v : List ℕ). part v (parts_at second b q n) ≡ some (record { index = r; it = part_at second b (q + component_width * r) })) (e ∙ sym (part-name first a p)) (part-found second b q n f))
+  matched None f = subst (λ (v : List ℕ). part v (parts_at second b q n) ≡ none) (e ∙ sym (part-name first a p)) (part-lacks second b q n f)
 
 -- those from the k-th on of the m that begin at p
 abbrev pub still : List ℕ → List ℕ → ℕ → ℕ → ℕ → List DescribedComponent
@@ -107,15 +106,3 @@ parts-begin file table p m = let z : p + component_width * 0 ≡ p = omega arith
 
 pub parts-end : (file table : List ℕ) (p m k : ℕ) → m ≤ k → still file table p m k ≡ []
 parts-end file table p m k l = parts_none file table (p + component_width * k) (m - k) (omega (arith, l))
-
--- the row of one of m that lie in a table
-module _ (p m k : ℕ) (table : List ℕ) (l : k < m) (lie : p + component_width * m ≤ length table) where
-  pub row_lies : p + component_width * k + component_width ≤ length table
-  row_lies = omega (arith, l, lie)
-
-  module _ (room : length table * 8 < 2 ^ 63) where
-    pub offset-fits : Fits w64 (component_width * k)
-    offset-fits = record { fits = omega (arith, l, lie, room) }
-
-    pub row_fits : Fits w64 (p + component_width * k)
-    row_fits = record { fits = omega (arith, l, lie, room) }

@@ -3,7 +3,7 @@ use Prim.Native.Nat.{ℕ, suc, ◌+◌, ◌*◌, ◌^◌, ◌≤◌, ◌<◌}
 use native.Mathlib.Omega.{arith}
 use mathlib.Core.List.{List, [], ◌∷◌, ◌++◌}
 use mathlib.Core.Bool.{Bool, true, false, cond, ◌||◌}
-use mathlib.Core.Option.{some}
+use mathlib.Core.Option.{none, some}
 use mathlib.Core.Path.{◌≡◌, refl, sym, ap, ap₂, ◌∙◌, subst}
 use lib.ListN.{length}
 use lib.Dec.{eqb}
@@ -14,13 +14,13 @@ use Rattle.meaning.specs.Described.{DescribedComponent}
 use Rattle.meaning.specs.Columns.{component_width}
 use Rattle.put.specs.Wrote.{capped, Wrote}
 use Rattle.put.proofs.PiecesInTurn.{Rest, rest_all, rest-less, rest-none, nothing, same_length}
-use Rattle.changes.specs.Changes.{Entry, entry, numbers, flat, across, bit, absent, found, lone, shared, part, part_what, of_part, if_absent, other_dtype, other_type, other_bytes}
+use Rattle.changes.specs.Changes.{Entry, Found, entry, numbers, flat, across, bit, absent, found, lone, shared, part, part_what, of_part, if_absent, other_dtype, other_type, other_bytes}
 use Rattle.differing.specs.declared.Differences.{Differences}
 use Rattle.differing.specs.Bits as differing
 use Rattle.differing.specs.Rows.{part_at}
 use Rattle.parts.specs.declared.Seen.{Seen}
 use Rattle.parts.specs.declared.Lone.{Lone}
-use Rattle.parts.specs.Parts.{parts_at, Beside}
+use Rattle.parts.specs.Parts.{parts_at}
 use Rattle.parts.specs.Seen.{PartSeen, PartsSeen, LoneSeen, LonesSeen}
 use Rattle.parts.proofs.MatchedRows.{still, parts-begin, parts-end, parts-step}
 
@@ -101,22 +101,20 @@ module _ {c : DescribedComponent} {i j k at : ℕ} {xs : List ℕ} where
           bytes = sym w ∙ ap (λ (r : Differences). r.bytes) h;
         }
 
-  -- `c` beside n components of the other model
-  module _ {file table : List ℕ} {row n r : ℕ} (s : Beside c file table row n r) where
-    pub part-absent : n ≤ r → {ys : List ℕ} {past : ℕ} → Wrote (numbers (entry 5 i j k 0 0 0 0)) at xs ys past
-        → PartSeen c (part c.name (parts_at file table row n)) i j k at xs ys (record { at = past; names = 4; dtypes = 0; kinds = 0; bytes = 0 })
-    part-absent l w = rw (s.lacks l) (record { wrote = w; names = refl; dtypes = refl; kinds = refl; bytes = refl })
+  -- `c` beside the components of the other model
+  module _ (ds : List DescribedComponent) where
+    pub part-absent : part c.name ds ≡ none → {ys : List ℕ} {past : ℕ} → Wrote (numbers (entry 5 i j k 0 0 0 0)) at xs ys past
+        → PartSeen c (part c.name ds) i j k at xs ys (record { at = past; names = 4; dtypes = 0; kinds = 0; bytes = 0 })
+    part-absent l w = rw l (record { wrote = w; names = refl; dtypes = refl; kinds = refl; bytes = refl })
 
-    pub part-there : r < n → {ys : List ℕ} {o : Seen} → PartSeen c (some (record { index = r; it = part_at file table (row + component_width * r) })) i j k at xs ys o
-        → PartSeen c (part c.name (parts_at file table row n)) i j k at xs ys o
-    part-there l w = rw (s.found l) w
+    pub part-there : {f : Found DescribedComponent} → part c.name ds ≡ some f → {ys : List ℕ} {o : Seen} → PartSeen c (some f) i j k at xs ys o → PartSeen c (part c.name ds) i j k at xs ys o
+    part-there l w = rw l w
 
-    pub lone-absent : n ≤ r → {ys : List ℕ} {past : ℕ} → Wrote (numbers (entry 6 i j 0 k 0 0 0)) at xs ys past
-        → LoneSeen c (parts_at file table row n) i j k at xs ys (record { at = past; names = 4 })
-    lone-absent l w = record { wrote = rw (s.lacks l) w; names = rw (s.lacks l) refl }
+    pub lone-absent : part c.name ds ≡ none → {ys : List ℕ} {past : ℕ} → Wrote (numbers (entry 6 i j 0 k 0 0 0)) at xs ys past → LoneSeen c ds i j k at xs ys (record { at = past; names = 4 })
+    lone-absent l w = record { wrote = rw l w; names = rw l refl }
 
-    pub lone-there : r < n → length xs * 8 < 2 ^ 63 → {past : ℕ} → past ≡ capped at → LoneSeen c (parts_at file table row n) i j k at xs xs (record { at = past; names = 0 })
-    lone-there l room q = record { wrote = rw (s.found l) (nothing _ (omega (arith, room)) q); names = rw (s.found l) refl }
+    pub lone-there : {f : Found DescribedComponent} → part c.name ds ≡ some f → length xs * 8 < 2 ^ 63 → {past : ℕ} → past ≡ capped at → LoneSeen c ds i j k at xs xs (record { at = past; names = 0 })
+    lone-there l room q = record { wrote = rw l (nothing _ (omega (arith, room)) q); names = rw l refl }
 
 -- ---- a loop over the m components of a table from p on, beside the components ds of the other model: k of them done
 

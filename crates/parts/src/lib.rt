@@ -1,18 +1,15 @@
 // The components of two objects of one name: an entry for each that differs or is in one only, and what of them differs.
 #![tactic(auto)]
 
-ghost use Rattle.std.specs.Prelude.{◌≡◌, cond, ◌+◌, ◌*◌, ◌≤◌, length, eqb};
+ghost use Rattle.std.specs.Prelude.{◌≡◌, cond, eqb};
 ghost use Rattle.std.proofs.Math.Option.{some};
-ghost use Rattle.meaning.specs.Columns.{component_width};
-ghost use Rattle.matching.specs.Named.{named, Rows};
-ghost use Rattle.matching.specs.Matched.{Sorted};
 ghost use Rattle.changes.specs.Changes.{part};
 ghost use Rattle.differing.specs.Rows.{part_at};
-ghost use Rattle.parts.specs.Parts.{parts_at, Known, Beside};
+ghost use Rattle.parts.specs.Parts.{parts_at, Beside};
 ghost use Rattle.parts.specs.Seen.{PartSeen, PartsSeen, LoneSeen, LonesSeen};
 
 use columns::COMPONENT;
-use matching::{find, name_at};
+use matching::{Names, Row, SortedNames};
 
 // The place past the entries; 4, 8, 16 and 32 where names, dtypes, types and bytes differ, else 0.
 #[derive(Clone, Copy)]
@@ -37,56 +34,68 @@ pub fn either(a: u64, b: u64) -> u64
     if a == 0 { b } else { a }
 }
 
-// The number of the component among the n of the second from q on, whose names are sorted in ix, that has the name of the first's whose row begins at p; n if none has.
-fn beside(
-    first: &[u8],
-    a: &[u64],
-    p: usize,
-    second: &[u8],
-    b: &[u64],
-    q: usize,
-    n: usize,
-    ix: &[u16],
-    sorted: usize,
-) -> usize
-    requires { (p + component_width ≤ length a.now) × Known second.now b.now q n ix.now sorted }
-    ensures { Beside (part_at first.now a.now p) second.now b.now q n result }
-{
-    find(second, b, q, COMPONENT, n, ix, sorted, name_at(first, a, p))
+impl Seen {
+    // Nothing differs, and nothing is written.
+    fn none(at: usize) -> Seen
+        ensures { result ≡ record { at = at; names = 0; dtypes = 0; kinds = 0; bytes = 0 } }
+    {
+        Seen {
+            at,
+            names: 0,
+            dtypes: 0,
+            kinds: 0,
+            bytes: 0,
+        }
+    }
+
+    // With what was seen after it.
+    fn then(self, later: Seen) -> Seen
+        ensures { result ≡ record { at = later.at; names = cond (eqb self.names 0) later.names self.names; dtypes = cond (eqb self.dtypes 0) later.dtypes self.dtypes; kinds = cond (eqb self.kinds 0) later.kinds self.kinds; bytes = cond (eqb self.bytes 0) later.bytes self.bytes } }
+    {
+        Seen {
+            at: later.at,
+            names: either(self.names, later.names),
+            dtypes: either(self.dtypes, later.dtypes),
+            kinds: either(self.kinds, later.kinds),
+            bytes: either(self.bytes, later.bytes),
+        }
+    }
 }
 
-// The component k of the first, whose row begins at p, and the second's of its name, which is l and whose row begins at q.
+// The numbers of the two objects in their models.
+#[derive(Clone, Copy)]
+pub struct Pair {
+    pub i: u64,
+    pub j: u64,
+}
+
+// The number of the component among the other object's that has this one's name.
+fn beside(part: Row<'_, COMPONENT>, others: &SortedNames<'_, '_, COMPONENT>) -> Option<usize>
+    ensures { Beside (part_at part.entry.file.now part.entry.table.now part.entry.at) others.now.names.file.now others.now.names.table.now others.now.names.first others.now.names.count result }
+{
+    others.find(part.name())
+}
+
+// The component k of the first, and the second's of its name, which is l.
 fn of_shared(
-    first: &[u8],
-    a: &[u64],
-    p: usize,
-    second: &[u8],
-    b: &[u64],
-    q: usize,
-    i: u64,
-    j: u64,
+    first: Row<'_, COMPONENT>,
+    second: Row<'_, COMPONENT>,
+    pair: Pair,
     k: u64,
     l: u64,
     list: &mut [u64],
     at: usize,
 ) -> Seen
-    requires { (p + component_width ≤ length a.now) × (q + component_width ≤ length b.now) }
-    ensures { PartSeen (part_at first.now a.now p) (some (record { index = l; it = part_at second.now b.now q })) i j k at list.old list.new result }
+    ensures { PartSeen (part_at first.entry.file.now first.entry.table.now first.entry.at) (some (record { index = l; it = part_at second.entry.file.now second.entry.table.now second.entry.at })) pair.i pair.j k at list.old list.new result }
 {
-    let d = differing::of_parts(first, a, p, second, b, q);
+    let d = differing::of_parts(first, second);
     let what = d.dtype + d.kind + d.bytes;
     if what == 0 {
-        return Seen {
-            at: put::capped_place(at),
-            names: 0,
-            dtypes: 0,
-            kinds: 0,
-            bytes: 0,
-        };
+        return Seen::none(put::capped_place(at));
     }
-    let past = entries::entry(list, at, 4, i, j, k, l, what, d.position, d.count);
+    let numbers = [4, pair.i, pair.j, k, l, what, d.position, d.count];
     Seen {
-        at: past,
+        at: entries::entry(list, at, numbers),
         names: 0,
         dtypes: d.dtype,
         kinds: d.kind,
@@ -94,153 +103,92 @@ fn of_shared(
     }
 }
 
-// The component k of the first, whose row begins at p, beside the n of the second from q on, whose names are sorted in ix.
+// The component k of the first, beside the second's.
 fn of_part(
-    first: &[u8],
-    a: &[u64],
-    p: usize,
-    second: &[u8],
-    b: &[u64],
-    q: usize,
-    n: usize,
-    ix: &[u16],
-    sorted: usize,
-    i: u64,
-    j: u64,
+    first: Row<'_, COMPONENT>,
+    second: &SortedNames<'_, '_, COMPONENT>,
+    pair: Pair,
     k: u64,
     list: &mut [u64],
     at: usize,
 ) -> Seen
-    requires { (p + component_width ≤ length a.now) × Known second.now b.now q n ix.now sorted }
-    ensures { PartSeen (part_at first.now a.now p) (part (part_at first.now a.now p).name (parts_at second.now b.now q n)) i j k at list.old list.new result }
+    ensures { let c = part_at first.entry.file.now first.entry.table.now first.entry.at in PartSeen c (part c.name (parts_at second.now.names.file.now second.now.names.table.now second.now.names.first second.now.names.count)) pair.i pair.j k at list.old list.new result }
 {
-    let l = beside(first, a, p, second, b, q, n, ix, sorted);
-    if n <= l {
-        let past = entries::entry(list, at, 5, i, j, k, 0, 0, 0, 0);
-        return Seen {
-            at: past,
-            names: 4,
-            dtypes: 0,
-            kinds: 0,
-            bytes: 0,
-        };
+    match beside(first, second) {
+        None => {
+            let past = entries::entry(list, at, [5, pair.i, pair.j, k, 0, 0, 0, 0]);
+            Seen {
+                names: 4,
+                ..Seen::none(past)
+            }
+        }
+        Some(l) => of_shared(first, second.names.row(l), pair, k, l as u64, list, at),
     }
-    let row = q + COMPONENT * l;
-    of_shared(first, a, p, second, b, row, i, j, k, l as u64, list, at)
 }
 
-// The m components of the first from p on.
+// The components of the first.
 pub fn of_first(
-    first: &[u8],
-    a: &[u64],
-    p: usize,
-    m: usize,
-    second: &[u8],
-    b: &[u64],
-    q: usize,
-    n: usize,
-    ix: &[u16],
-    sorted: usize,
-    i: u64,
-    j: u64,
+    first: Names<'_, COMPONENT>,
+    second: &SortedNames<'_, '_, COMPONENT>,
+    pair: Pair,
     list: &mut [u64],
     at: usize,
 ) -> Seen
-    requires { (p + component_width * m ≤ length a.now) × Known second.now b.now q n ix.now sorted }
-    ensures { PartsSeen (parts_at first.now a.now p m) (parts_at second.now b.now q n) i j at list.old list.new result }
+    ensures { PartsSeen (parts_at first.entry.file.now first.entry.table.now first.entry.first first.entry.count) (parts_at second.now.names.file.now second.now.names.table.now second.now.names.first second.now.names.count) pair.i pair.j at list.old list.new result }
 {
-    let mut past = at;
-    let mut names: u64 = 0;
-    let mut dtypes: u64 = 0;
-    let mut kinds: u64 = 0;
-    let mut bytes: u64 = 0;
-    let mut k: usize = 0;
-    while k < m {
-        let row = p + COMPONENT * k;
-        let s = of_part(
-            first, a, row, second, b, q, n, ix, sorted, i, j, k as u64, list, past,
-        );
-        past = s.at;
-        names = either(names, s.names);
-        dtypes = either(dtypes, s.dtypes);
-        kinds = either(kinds, s.kinds);
-        bytes = either(bytes, s.bytes);
-        k += 1;
+    let mut seen = Seen::none(at);
+    for k in 0..first.count {
+        let s = of_part(first.row(k), second, pair, k as u64, list, seen.at);
+        seen = seen.then(s);
     }
     Seen {
-        at: put::capped_place(past),
-        names: names,
-        dtypes: dtypes,
-        kinds: kinds,
-        bytes: bytes,
+        at: put::capped_place(seen.at),
+        ..seen
     }
 }
 
-// The component l of the second, whose row begins at q, if the n of the first from p on lack its name.
+// The component l of the second, if the first's lack its name.
 fn of_lone(
-    second: &[u8],
-    b: &[u64],
-    q: usize,
-    first: &[u8],
-    a: &[u64],
-    p: usize,
-    n: usize,
-    ix: &[u16],
-    sorted: usize,
-    i: u64,
-    j: u64,
+    part: Row<'_, COMPONENT>,
+    first: &SortedNames<'_, '_, COMPONENT>,
+    pair: Pair,
     l: u64,
     list: &mut [u64],
     at: usize,
 ) -> Lone
-    requires { (q + component_width ≤ length b.now) × Known first.now a.now p n ix.now sorted }
-    ensures { LoneSeen (part_at second.now b.now q) (parts_at first.now a.now p n) i j l at list.old list.new result }
+    ensures { LoneSeen (part_at part.entry.file.now part.entry.table.now part.entry.at) (parts_at first.now.names.file.now first.now.names.table.now first.now.names.first first.now.names.count) pair.i pair.j l at list.old list.new result }
 {
-    let k = beside(second, b, q, first, a, p, n, ix, sorted);
-    if n <= k {
-        let past = entries::entry(list, at, 6, i, j, 0, l, 0, 0, 0);
-        return Lone { at: past, names: 4 };
-    }
-    Lone {
-        at: put::capped_place(at),
-        names: 0,
+    match beside(part, first) {
+        None => Lone {
+            at: entries::entry(list, at, [6, pair.i, pair.j, 0, l, 0, 0, 0]),
+            names: 4,
+        },
+        Some(_) => Lone {
+            at: put::capped_place(at),
+            names: 0,
+        },
     }
 }
 
-// The m components of the second from q on.
+// The components of the second.
 pub fn of_second(
-    second: &[u8],
-    b: &[u64],
-    q: usize,
-    m: usize,
-    first: &[u8],
-    a: &[u64],
-    p: usize,
-    n: usize,
-    ix: &[u16],
-    sorted: usize,
-    i: u64,
-    j: u64,
+    second: Names<'_, COMPONENT>,
+    first: &SortedNames<'_, '_, COMPONENT>,
+    pair: Pair,
     list: &mut [u64],
     at: usize,
 ) -> Lone
-    requires { (q + component_width * m ≤ length b.now) × Known first.now a.now p n ix.now sorted }
-    ensures { LonesSeen (parts_at second.now b.now q m) (parts_at first.now a.now p n) i j at list.old list.new result }
+    ensures { LonesSeen (parts_at second.entry.file.now second.entry.table.now second.entry.first second.entry.count) (parts_at first.now.names.file.now first.now.names.table.now first.now.names.first first.now.names.count) pair.i pair.j at list.old list.new result }
 {
     let mut past = at;
     let mut names: u64 = 0;
-    let mut l: usize = 0;
-    while l < m {
-        let row = q + COMPONENT * l;
-        let s = of_lone(
-            second, b, row, first, a, p, n, ix, sorted, i, j, l as u64, list, past,
-        );
+    for l in 0..second.count {
+        let s = of_lone(second.row(l), first, pair, l as u64, list, past);
         past = s.at;
         names = either(names, s.names);
-        l += 1;
     }
     Lone {
         at: put::capped_place(past),
-        names: names,
+        names,
     }
 }

@@ -26,8 +26,23 @@ slice_bounds-read_as-start c = search answering.room_within
 pub returns-then-b-ne0 : goal.returns-then-b-ne0
 returns-then-b-ne0 c = record { answer = search answering.second-told; written = search answering.second-kept; cleared = search answering.second-cleared }
 
-pub beside-c-requires : goal.beside-c-requires
-beside-c-requires c = (search answering.room-inside, search answering.first-table, search answering.second-table)
+pub slice_bounds-ours-end : goal.slice_bounds-ours-end
+slice_bounds-ours-end c = search answering.front-long
+
+pub offset_bounds-both-room : goal.offset_bounds-both-room
+offset_bounds-both-room c = search answering.room-scaled
+
+pub slice_bounds-theirs-count : goal.slice_bounds-theirs-count
+slice_bounds-theirs-count c = search answering.room-inside
+
+pub slice_bounds-theirs-start : goal.slice_bounds-theirs-start
+slice_bounds-theirs-start c = search answering.room-inside
+
+pub invariant_of-ours : goal.invariant_of-ours
+invariant_of-ours c = record { read = search answering.first-table }
+
+pub invariant_of-theirs : goal.invariant_of-theirs
+invariant_of-theirs c = record { read = search answering.second-table }
 
 pub returns : goal.returns
 returns c = record { answer = search answering.beside-told; written = search answering.beside-written; cleared = search answering.both-cleared }

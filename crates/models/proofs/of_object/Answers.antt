@@ -1,15 +1,12 @@
 -- `models::of_object` meets its contract: a law for each branch.
-use Rattle.models.proofs.Objects as objects
+use Rattle.models.proofs.Numbered as objects
 use Rattle.models.proofs.of_object.Goals as goal
 
-pub beside-j-requires : goal.beside-j-requires
-beside-j-requires c = search objects.row_lies
+pub returns-in-None : goal.returns-in-None
+returns-in-None c = objects.first-only _ _ _ _ _ _ _ (rw c.args.first.now.from at c.name.ensures) c.in-None.ensures c.entry.ensures
 
-pub returns-then-n-j : goal.returns-then-n-j
-returns-then-n-j c = search objects.first-only
-
-pub of_pair-requires : goal.of_pair-requires
-of_pair-requires c = search objects.sized
-
-pub returns : goal.returns
-returns c = search objects.in_both_lem
+pub returns-in-Some : goal.returns-in-Some
+returns-in-Some c =
+    let p = c.object.ensures in
+    let q = c.object-in-Some.ensures in
+    objects.in_both_lem _ _ _ _ _ _ _ (rw c.args.first.now.from at c.name.ensures) c.in-Some.ensures (rw (p.0, p.1, p.2, p.3, q.0, q.1, q.2, q.3) at c.of_pair.ensures)

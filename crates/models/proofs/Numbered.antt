@@ -4,26 +4,27 @@ use native.Mathlib.Omega.{arith}
 use native.Mathlib.Nat.{zero-add}
 use mathlib.Core.List.{List, [], ◌∷◌}
 use mathlib.Core.Option.{none, some, some-injective, none-ne-some}
-use mathlib.Core.Path.{◌≡◌, refl, sym, ap, ◌∙◌, subst}
+use mathlib.Core.Path.{◌≡◌, refl, sym, ap, ◌∙◌}
 use lib.ListN.{length, get_or, get_elem?, set, length-set}
 use lib.Seq.{get_or-drop, get_or-set_same, get_or-set_other}
 use mir.Syntax.{w64}
 use mir.Val.{Fits}
 use Rattle.text.proofs.OrderIsTotal.{Which, less, more, equal, which}
 use Rattle.meaning.specs.Columns.{object_width, component_width, name_column, name_length_column, count_column}
-use Rattle.meaning.specs.Limit.{object_limit}
 use Rattle.meaning.specs.Asked.{asked_object}
 use Rattle.meaning.specs.Described.{DescribedObject, described_object}
 use Rattle.put.specs.Wrote.{capped, Wrote}
 use Rattle.put.proofs.PiecesInTurn.{Rest, rest_all, rest-less, rest-none, same_length, nothing, then, as_bytes}
-use Rattle.matching.specs.Named.{name_at, named, Rows}
-use Rattle.matching.specs.Matched.{First, Sorted}
+use Rattle.matching.specs.Named.{name_at, named}
+use Rattle.std.specs.Prelude.{Some, None}
+use Rattle.std.specs.Prelude as std
+use Rattle.matching.specs.Matched.{First}
 use Rattle.changes.specs.Changes.{Entry, entry, numbers, flat, across, object, of_object, if_absent, in_both}
 use Rattle.changes.proofs.Lists.{seek-lacks}
 use Rattle.parts.proofs.MatchedRows.{seek-first}
 use Rattle.parts.proofs.Turns.{across-next, flat_append}
 use Rattle.pairs.specs.Objects.{object_at, count_at, Sized}
-use Rattle.models.specs.Tables.{start_of, Starts, Table, Known, Beside, object_of, objects_from, olds_from, news_from, changes_of}
+use Rattle.models.specs.Tables.{start_of, Starts, Table, Beside, object_of, objects_from, olds_from, news_from, changes_of}
 
 module _ (file table : List ℕ) where
   object-name : (row first : ℕ) → (object_at file table row first).name ≡ name_at file table row
@@ -60,20 +61,20 @@ module _ (file table : List ℕ) where
     unfolding named
     called i = let z : 0 + object_width * i ≡ object_width * i = omega arith in object-name (object_width * i) (start_of table n i) ∙ ap (name_at file table) (sym z)
 
-    module _ {r : ℕ} {w : List ℕ} (f : First (named file table 0 object_width) n w r) where
-      at_zero : (j : ℕ) (o : DescribedObject) → get_elem? (objects_from file table n 0 n) j ≡ some o → (j < n) × (object_of file table n j ≡ o)
-      at_zero j o h = let q = elem-object 0 n j o h in (q.0, ap (object_of file table n) (sym (zero-add j)) ∙ q.1)
+    at_zero : (j : ℕ) (o : DescribedObject) → get_elem? (objects_from file table n 0 n) j ≡ some o → (j < n) × (object_of file table n j ≡ o)
+    at_zero j o h = let q = elem-object 0 n j o h in (q.0, ap (object_of file table n) (sym (zero-add j)) ∙ q.1)
 
-      not-before : (j : ℕ) (o : DescribedObject) → get_elem? (objects_from file table n 0 n) j ≡ some o → o.name ≡ w → j < r → ⊥
-      not-before j o h e l = let q = at_zero j o h in f.before j l (sym (called j) ∙ ap (λ (x : DescribedObject). x.name) q.1 ∙ e)
+    module _ {w : List ℕ} {k : ℕ} (f : (j : ℕ) → j < k → named file table 0 object_width j ≡ w → ⊥) where
+      not-before : (j : ℕ) (o : DescribedObject) → get_elem? (objects_from file table n 0 n) j ≡ some o → o.name ≡ w → j < k → ⊥
+      not-before j o h e l = let q = at_zero j o h in f j l (sym (called j) ∙ ap (λ (x : DescribedObject). x.name) q.1 ∙ e)
 
-      object-found : r < n → object w (objects_from file table n 0 n) ≡ some (record { index = r; it = object_of file table n r })
-      object-found l =
-          seek-first (λ (o : DescribedObject). o.name) (objects_from file table n 0 n) w r (object_of file table n r)
-          (object-elem 0 n r l ∙ ap (λ x. some (object_of file table n x)) (zero-add r)) (called r ∙ f.is l) (λ j o m h e. not-before j o h e m)
-
-      object-lacks : n ≤ r → object w (objects_from file table n 0 n) ≡ none
-      object-lacks l = seek-lacks (λ (o : DescribedObject). o.name) (objects_from file table n 0 n) w (λ j o h e. not-before j o h e (omega (arith, (at_zero j o h).0)))
+    pub object-beside : (w : List ℕ) (o : std.Option ℕ) → First (named file table 0 object_width) n w o → Beside w file table n o
+    object-beside w (Some r) f = (
+      f.below,
+      seek-first (λ (o : DescribedObject). o.name) (objects_from file table n 0 n) w r (object_of file table n r)
+          (object-elem 0 n r f.below ∙ ap (λ x. some (object_of file table n x)) (zero-add r)) (called r ∙ f.is) (λ j o m h e. not-before f.before j o h e m),
+    )
+    object-beside w None f = seek-lacks (λ (o : DescribedObject). o.name) (objects_from file table n 0 n) w (λ j o h e. not-before f j o h e (at_zero j o h).0)
 
 -- the row of the object j, and the count in it; `at` is where its components begin
 module _ {table : List ℕ} {n j : ℕ} (t : Table table n) (l : j < n) where
@@ -99,39 +100,36 @@ module _ {table : List ℕ} {n j : ℕ} (t : Table table n) (l : j < n) where
     pub next_fits : {at : ℕ} → at ≡ start_of table n j → Fits w64 (at + component_width * count_at table (object_width * j))
     next_fits e = record { fits = omega (arith, (t.each _ l).parts, room, e) }
 
-pub asked : {file table ix : List ℕ} {n sorted : ℕ} → Known file table n ix sorted → Rows table 0 object_width n × (sorted ≤ length ix) × Sorted (named file table 0 object_width) n ix sorted
-asked k = (record { wide = omega arith; lie = omega (arith, k.rows.lie) }, k.room, k.names)
+-- ---- one object, beside those of the other model
 
-pub matched : (first a : List ℕ) (p : ℕ) (second b : List ℕ) (n : ℕ) {r : ℕ} {w : List ℕ} → First (named second b 0 object_width) n w r → w ≡ name_at first a p → Beside (name_at first a p) second b n r
-matched first a p second b n {r} {w} f e =
-    let g : First (named second b 0 object_width) n (name_at first a p) r = subst (λ (v : List ℕ). First (named second b 0 object_width) n v r) e f in
-    record { found = object-found second b n g; lacks = object-lacks second b n g }
+module _ (first a : List ℕ) (m i : ℕ) (second b : List ℕ) (n : ℕ) {w : List ℕ} (is : w ≡ named first a 0 object_width i) where
+  named-so : w ≡ (object_of first a m i).name
+  named-so = is ∙ sym (called first a m i)
 
--- ---- one object
+  module _ {r : ℕ} (f : (r < n) × (object w (objects_from second b n 0 n) ≡ some (record { index = r; it = object_of second b n r }))) where
+    is_found : object (object_of first a m i).name (objects_from second b n 0 n) ≡ some (record { index = r; it = object_of second b n r })
+    is_found = rw (← named-so) f.1
 
-module _ (first a : List ℕ) (m i : ℕ) (second b : List ℕ) (n : ℕ) {r : ℕ} (f : Beside (name_at first a (object_width * i)) second b n r) where
-  is_found : r < n → object (object_of first a m i).name (objects_from second b n 0 n) ≡ some (record { index = r; it = object_of second b n r })
-  is_found l = rw (object-name first a (object_width * i) (start_of a m i)) (f.found l)
+    module _ {at past : ℕ} {xs ys : List ℕ} where
+      pub in_both_lem : Wrote (flat (in_both i r (object_of first a m i) (object_of second b n r))) at xs ys past
+          → Wrote (flat (of_object i (object_of first a m i) (object (object_of first a m i).name (objects_from second b n 0 n)))) at xs ys past
+      in_both_lem w = rw is_found w
 
-  is-absent : n ≤ r → object (object_of first a m i).name (objects_from second b n 0 n) ≡ none
-  is-absent l = rw (object-name first a (object_width * i) (start_of a m i)) (f.lacks l)
+    pub not_new : {at past : ℕ} {xs : List ℕ} → length xs * 8 < 2 ^ 63 → past ≡ capped at
+        → Wrote (flat (if_absent (entry 2 0 i 0 0 0 0 0) (object (object_of first a m i).name (objects_from second b n 0 n)))) at xs xs past
+    not_new room e = rw is_found (nothing _ (omega (arith, room)) e)
 
-  module _ {at past : ℕ} {xs ys : List ℕ} where
-    pub first-only : n ≤ r → Wrote (numbers (entry 1 i 0 0 0 0 0 0)) at xs ys past → Wrote (flat (of_object i (object_of first a m i) (object (object_of first a m i).name (objects_from second b n 0 n)))) at xs ys past
-    first-only l w = rw (is-absent l) w
+  module _ (f : object w (objects_from second b n 0 n) ≡ none) where
+    is-absent : object (object_of first a m i).name (objects_from second b n 0 n) ≡ none
+    is-absent = rw (← named-so) f
 
-    pub in_both_lem : r < n → {from to : List ℕ} → Starts a m from → i < m → Starts b n to
-        → Wrote (flat (in_both i r (object_at first a (object_width * i) (get_or from i 0)) (object_at second b (object_width * r) (get_or to r 0)))) at xs ys past
-        → Wrote (flat (of_object i (object_of first a m i) (object (object_of first a m i).name (objects_from second b n 0 n)))) at xs ys past
-    in_both_lem l s h z w = rw (is_found l) (rw (s.is i h, z.is r l) at w)
+    module _ {at past : ℕ} {xs ys : List ℕ} where
+      pub first-only : Wrote (numbers (entry 1 i 0 0 0 0 0 0)) at xs ys past → Wrote (flat (of_object i (object_of first a m i) (object (object_of first a m i).name (objects_from second b n 0 n)))) at xs ys past
+      first-only w = rw is-absent w
 
-    pub second-only : n ≤ r → Wrote (numbers (entry 2 0 i 0 0 0 0 0)) at xs ys past
-        → Wrote (flat (if_absent (entry 2 0 i 0 0 0 0 0) (object (object_of first a m i).name (objects_from second b n 0 n)))) at xs ys past
-    second-only l w = rw (is-absent l) w
-
-  module _ {at past : ℕ} {xs : List ℕ} where
-    pub not_new : r < n → length xs * 8 < 2 ^ 63 → past ≡ capped at → Wrote (flat (if_absent (entry 2 0 i 0 0 0 0 0) (object (object_of first a m i).name (objects_from second b n 0 n)))) at xs xs past
-    not_new l room e = rw (is_found l) (nothing _ (omega (arith, room)) e)
+      pub second-only : Wrote (numbers (entry 2 0 i 0 0 0 0 0)) at xs ys past
+          → Wrote (flat (if_absent (entry 2 0 i 0 0 0 0 0) (object (object_of first a m i).name (objects_from second b n 0 n)))) at xs ys past
+      second-only w = rw is-absent w
 
 -- ---- where components' rows begin
 
@@ -219,10 +217,6 @@ module _ (others : List DescribedObject) {file table : List ℕ} {m at : ℕ} {x
 
   pub all-news : Turned (new others) file table m at xs i past ys → m ≤ i → {q : ℕ} → q ≡ capped past → Wrote (flat (news_from others 0 (objects_from file table m 0 m))) at xs ys q
   all-news w end e = all-turned w end e
-
--- what was sorted, handed on
-pub known : {file table : List ℕ} {n : ℕ} → Table table n → {ix : List ℕ} {k : ℕ} → Sorted (named file table 0 object_width) n ix k → length ix ≡ object_limit → Known file table n ix k
-known t s e = record { rows = t; room = omega (arith, s.few, t.few, e); names = s }
 
 pub both-written : (os ps : List DescribedObject) {at q r : ℕ} {xs ys zs : List ℕ} → Wrote (flat (olds_from ps 0 os)) at xs ys q → Wrote (flat (news_from os 0 ps)) q ys zs r
     → Wrote (flat (changes_of os ps)) at xs zs r
