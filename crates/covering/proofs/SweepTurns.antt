@@ -1,5 +1,5 @@
 -- A sweep, turn by turn.
-use Prim.Native.Nat.{ℕ, suc, ◌+◌, ◌-◌, ◌*◌, ◌%◌, ◌^◌, ◌≤◌, ◌<◌}
+use Prim.Native.Nat.{ℕ, suc, ◌+◌, ◌-◌, ◌*◌, ◌%◌, ◌^◌, ◌≤◌, ◌<◌, max}
 use native.Mathlib.Numerals.{add-one}
 use native.Mathlib.Omega.{arith}
 use mathlib.Core.List.{List, ◌∷◌}
@@ -10,7 +10,7 @@ use lib.Seq.{drop-cons}
 use lib.Dec.{ltb}
 use mir.Syntax.{w64}
 use mir.Val.{Fits}
-use borrow.Author.Tests.{lt-ltb, le-ltb}
+use borrow.Author.Tests.{lt-ltb, le-ltb, ltb-true, ltb-false}
 use Rattle.covering.specs.Sweep.{from, swept}
 
 pub from-reach : (reach begins : ℕ) → begins < reach → reach ≡ from reach begins
@@ -18,6 +18,13 @@ from-reach reach begins h = rw (lt-ltb begins reach h) refl
 
 pub from-begins : (reach begins : ℕ) → reach ≤ begins → begins ≡ from reach begins
 from-begins reach begins h = rw (le-ltb begins reach h) refl
+
+pub from-most : (reach begins : ℕ) {r : ℕ} → r ≡ max reach begins → r ≡ from reach begins
+from-most reach begins {r} e = go (ltb begins reach) refl
+  where
+    go : (t : Bool) → ltb begins reach ≡ t → r ≡ from reach begins
+    go true q = let l = ltb-true begins reach q in omega arith ∙ from-reach reach begins l
+    go false q = let l = ltb-false begins reach q in omega arith ∙ from-begins reach begins l
 
 -- what is summed, and what the ranges from i on add to it, is the whole
 pub record Sweeping (a : List ℕ) (sum reach i : ℕ) : Type 0 where

@@ -9,13 +9,6 @@ ghost use Rattle.covering.specs.Ranges as is;
 ghost use Rattle.covering.specs.Order.{Begin, End};
 ghost use Rattle.covering.specs.Sweep as sweep;
 
-// Where what a range adds begins, once all before `reach` is counted.
-fn from(reach: u64, begins: u64) -> u64
-    ensures { result ≡ sweep.from reach begins }
-{
-    if begins < reach { reach } else { begins }
-}
-
 // Ranges in order.
 fn sweep(a: &[u64]) -> u64
     requires { (length a.now % 2 ≡ 0) × (sweep.swept 0 a.now < 2 ^ 64) }
@@ -26,7 +19,7 @@ fn sweep(a: &[u64]) -> u64
     let mut i = 0usize;
     while i < a.len() {
         let past = a[i + 1];
-        let begins = from(reach, a[i]);
+        let begins = reach.max(a[i]);
         i += 2;
         if begins < past {
             sum += past - begins;

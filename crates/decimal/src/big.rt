@@ -11,12 +11,10 @@ pub fn times(a: &mut [u64; 13], c: u64)
     ensures { Limbs a.new × (value a.new ≡ c * value a.old) }
 {
     let mut carry = 0u64;
-    let mut i = 0usize;
-    while i < 13 {
-        let t = a[i] * c + carry;
-        a[i] = t % 4294967296;
+    for limb in a.iter_mut() {
+        let t = *limb * c + carry;
+        *limb = t % 4294967296;
         carry = t / 4294967296;
-        i += 1;
     }
 }
 
@@ -26,9 +24,7 @@ pub fn tenth(a: &mut [u64; 13]) -> u64
     ensures { Limbs a.new × ((value a.old ≡ 10 * value a.new + result) × (result < 10)) }
 {
     let mut rest = 0u64;
-    let mut i = 13usize;
-    while 0 < i {
-        i -= 1;
+    for i in (0..13).rev() {
         let t = rest * 4294967296 + a[i];
         a[i] = t / 10;
         rest = t % 10;
@@ -41,12 +37,10 @@ pub fn large(a: &[u64; 13]) -> bool
     requires { Limbs a.now }
     ensures { result ≡ leb is.billion (value a.now) }
 {
-    let mut i = 4usize;
-    while i < 13 {
+    for i in 4..13 {
         if a[i] != 0 {
             return true;
         }
-        i += 1;
     }
     a[3] >= 1000000000
 }

@@ -5,7 +5,7 @@ use native.Mathlib.Numerals.{add-one}
 use native.Mathlib.Omega.{arith}
 use mathlib.Core.List.{List, [], ◌∷◌, ◌++◌, map, append_assoc, append-nil}
 use mathlib.Core.Path.{◌≡◌, refl, sym, ap, ◌∙◌, subst}
-use lib.ListN.{length, take, drop, get_or, set, replicate, length-replicate, get_or-replicate, length-append, length-drop, length-set, drop_of_length-le, take-append-drop}
+use lib.ListN.{length, take, drop, get_or, set, replicate, length-replicate, length-append, length-drop, length-set, drop_of_length-le, take-append-drop}
 use lib.Seq.{take-suc, drop-cons, set_at, set_split, take_at, drop_at, take-length, drop-append-add, drop-drop, length-take-le}
 use borrow.Author.Rules.{part_to_end}
 use Rattle.meaning.specs.Manifest.{number_bytes}
@@ -217,23 +217,6 @@ filled {bs} {xs} {ys} {n} {i} {r} f l e =
 
 pub all-filled : {bs xs ys : List ℕ} {n i : ℕ} → Filling bs n xs ys i → n ≤ i → Laid bs 0 xs ys n
 all-filled f l = filled f l refl
-
--- a text, and zeros
-pub copy-none : {s xs : List ℕ} → length s ≤ length xs → Filling s (length s) xs xs 0
-copy-none {s} {xs} h = begin s (length s) xs refl h
-
-pub copy_more : {s xs ys : List ℕ} {i : ℕ} → Filling s (length s) xs ys i → i < length s → Filling s (length s) xs (set ys i (get_or s i 0)) (i + 1)
-copy_more f l = more f l refl
-
-pub copy-all : {s xs ys : List ℕ} {i : ℕ} → Filling s (length s) xs ys i → length s ≤ i → Laid s 0 xs ys i
-copy-all f l = filled f l (omega (arith, f.within))
-
-module _ {n : ℕ} {xs : List ℕ} where
-  pub no-zeros : n ≤ length xs → Filling (replicate n 0) n xs xs 0
-  no-zeros h = begin _ n xs (length-replicate n 0) h
-
-  pub one-zero : {ys : List ℕ} {i : ℕ} → Filling (replicate n 0) n xs ys i → i < n → Filling (replicate n 0) n xs (set ys i 0) (i + 1)
-  one-zero {i = i} f l = more f l (sym (get_or-replicate n i 0 0 l))
 
 -- ---- the part of xs from a place on, lent, and the whole with what it then holds
 

@@ -77,10 +77,8 @@ fn numbers_at(out: &mut [u8], at: usize, ns: &[u64]) -> usize
     ensures { Laid (joined (map number_bytes ns.now)) at out.old out.new result }
 {
     let mut past = at;
-    let mut i = 0;
-    while i < ns.len() {
-        past = number_at(out, past, ns[i]);
-        i += 1;
+    for n in ns {
+        past = number_at(out, past, *n);
     }
     past
 }

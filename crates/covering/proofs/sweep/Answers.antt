@@ -18,13 +18,13 @@ pub overflow_add-i : goal.overflow_add-i
 overflow_add-i c = search sweeping.next_fits
 
 pub overflow_add-sum : goal.overflow_add-sum
-overflow_add-sum c = search sweeping.sum_fits
+overflow_add-sum c = let e = sweeping.from-most _ _ c.max-begins.ensures in search sweeping.sum_fits
 
 pub loop-i-preserved-then-begins-past : goal.loop-i-preserved-then-begins-past
-loop-i-preserved-then-begins-past c = search sweeping.sweeping-more
+loop-i-preserved-then-begins-past c = let e = sweeping.from-most _ _ c.max-begins.ensures in search sweeping.sweeping-more
 
 pub loop-i-preserved : goal.loop-i-preserved
-loop-i-preserved c = sweeping.sweeping-none c.requires.0 c.loop-i.invariant c.loop-i-test.true _ c.from-begins.ensures c.if-begins-past.false
+loop-i-preserved c = sweeping.sweeping-none c.requires.0 c.loop-i.invariant c.loop-i-test.true _ (sweeping.from-most _ _ c.max-begins.ensures) c.if-begins-past.false
 
 pub returns : goal.returns
 returns c = search sweeping.sweeping-done

@@ -2,14 +2,14 @@
 use Rattle.emit.proofs.LaidPieces as laying
 use Rattle.emit.proofs.numbers_at.Goals as goal
 
-pub loop-i-init : goal.loop-i-init
-loop-i-init c = search laying.no-numbers
+pub loop-n-init : goal.loop-n-init
+loop-n-init c = search laying.no-numbers
 
 pub number_at-past-requires : goal.number_at-past-requires
 number_at-past-requires c = search laying.room-for-number
 
-pub loop-i-preserved : goal.loop-i-preserved
-loop-i-preserved c = search laying.one_number
+pub loop-n-preserved : goal.loop-n-preserved
+loop-n-preserved c = search laying.one_number
 
 pub shape_of-out : goal.shape_of-out
 shape_of-out c = search laying.numbers-as-long

@@ -3,6 +3,3 @@ use Rattle.decimal.proofs.big.tenth.Given as goal
 
 abbrev pub invariant-loop-i : goal.invariant-loop-i
 invariant-loop-i l = glue.Divided l.initial.a l.a l.rest l.i
-
-abbrev pub decreases-loop-i : goal.decreases-loop-i
-decreases-loop-i l = l.i

@@ -2,8 +2,8 @@
 use Rattle.decimal.proofs.Glue as glue
 use Rattle.decimal.proofs.big.times.Goals as goal
 
-pub loop-i-init : goal.loop-i-init
-loop-i-init c = search glue.timed-first
+pub loop-limb-init : goal.loop-limb-init
+loop-limb-init c = search glue.timed-first
 
 pub overflow_mul-t : goal.overflow_mul-t
 overflow_mul-t c = search glue.product-fits
@@ -11,8 +11,8 @@ overflow_mul-t c = search glue.product-fits
 pub overflow_add-t : goal.overflow_add-t
 overflow_add-t c = search glue.sum_fits
 
-pub loop-i-preserved : goal.loop-i-preserved
-loop-i-preserved c = search glue.timed-next
+pub loop-limb-preserved : goal.loop-limb-preserved
+loop-limb-preserved c = search glue.timed-next
 
 pub returns : goal.returns
 returns c = search glue.timed-done
