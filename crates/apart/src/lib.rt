@@ -19,7 +19,7 @@ const BLOCK: usize = 128;
 fn differ(a: u8, b: u8) -> u8
     ensures { (result ≡ bit 1 (not (eqb a b))) × (result ≤ 1) }
 {
-    if a == b { 0 } else { 1 }
+    u8::from(a != b)
 }
 
 // How many of the bytes of the first block differ.
@@ -28,10 +28,8 @@ fn of_block(x: &[u8], y: &[u8]) -> u8
     ensures { (result ≡ many_apart x.now y.now block) × (result ≤ block) }
 {
     let mut count: u8 = 0;
-    let mut i: usize = 0;
-    while i < BLOCK {
+    for i in 0..BLOCK {
         count += differ(x[i], y[i]);
-        i += 1;
     }
     count
 }
@@ -56,14 +54,12 @@ fn run(x: &[u8], y: &[u8], n: usize) -> usize
     requires { Both x.now y.now n }
     ensures { Run x.now y.now n result }
 {
-    let mut i = run_of_blocks(x, y, n);
-    while i < n {
+    for i in run_of_blocks(x, y, n)..n {
         if x[i] != y[i] {
             return i;
         }
-        i += 1;
     }
-    i
+    n
 }
 
 // How many of the first n bytes differ, where those before `from` agree.

@@ -1,4 +1,3 @@
-use Prim.Native.Nat.{◌-◌}
 use Rattle.apart.specs.Positions.{block}
 use Rattle.apart.proofs.Counts.{Counted}
 use Rattle.apart.proofs.of_block.Given as goal
@@ -6,5 +5,3 @@ use Rattle.apart.proofs.of_block.Given as goal
 abbrev pub invariant-loop-i : goal.invariant-loop-i
 invariant-loop-i l = Counted l.x l.y block l.i l.count
 
-abbrev pub decreases-loop-i : goal.decreases-loop-i
-decreases-loop-i l = block - l.i

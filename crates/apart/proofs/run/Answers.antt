@@ -1,4 +1,5 @@
 -- `apart::run` meets its contract. The loop's invariant: the bytes before i agree.
+use mathlib.Core.Path.{◌≡◌}
 use native.Mathlib.Omega.{arith}
 use Rattle.apart.proofs.Counts as counting
 use Rattle.apart.proofs.run.Goals as goal
@@ -13,4 +14,4 @@ pub loop-i-preserved : goal.loop-i-preserved
 loop-i-preserved c = let l = c.loop-i in let a = c.args in record { most = omega arith; agree = counting.agree-one (a.x.now) (a.y.now) (l.i) (l.invariant.agree) (omega arith) }
 
 pub returns : goal.returns
-returns c = record { passed = c.loop-i.invariant; stops = λ l. absurd (omega arith) }
+returns c = let z : c.loop-i.i ≡ c.args.n = omega (arith, c.loop-i.invariant.most) in record { passed = rw z at c.loop-i.invariant; stops = λ l. absurd (omega arith) }
