@@ -7,14 +7,12 @@ use mathlib.Core.Option.{none, some, some-injective, none-ne-some}
 use mathlib.Core.Path.{◌≡◌, refl, sym, ap, ◌∙◌}
 use lib.ListN.{length, get_or, get_elem?, set, length-set}
 use lib.Seq.{get_or-drop, get_or-set_same, get_or-set_other}
-use mir.Syntax.{w64}
-use mir.Val.{Fits}
 use Rattle.text.proofs.OrderIsTotal.{Which, less, more, equal, which}
-use Rattle.meaning.specs.Columns.{object_width, component_width, name_column, name_length_column, count_column}
+use Rattle.meaning.specs.Columns.{object_width, component_width, name_column, name_length_column}
 use Rattle.meaning.specs.Asked.{asked_object}
 use Rattle.meaning.specs.Described.{DescribedObject, described_object}
 use Rattle.put.specs.Wrote.{capped, Wrote}
-use Rattle.put.proofs.PiecesInTurn.{Rest, rest_all, rest-less, rest-none, same_length, nothing, then, as_bytes}
+use Rattle.put.proofs.PiecesInTurn.{Rest, rest-less, rest-none, nothing, then, as_bytes}
 use Rattle.matching.specs.Named.{name_at, named}
 use Rattle.std.specs.Prelude.{Some, None}
 use Rattle.std.specs.Prelude as std
@@ -23,8 +21,8 @@ use Rattle.changes.specs.Changes.{Entry, entry, numbers, flat, across, object, o
 use Rattle.changes.proofs.Lists.{seek-lacks}
 use Rattle.parts.proofs.MatchedRows.{seek-first}
 use Rattle.parts.proofs.Turns.{across-next, flat_append}
-use Rattle.pairs.specs.Objects.{object_at, count_at, Sized}
-use Rattle.models.specs.Tables.{start_of, Starts, Table, Beside, object_of, objects_from, olds_from, news_from, changes_of}
+use Rattle.pairs.specs.Objects.{object_at, count_at}
+use Rattle.models.specs.Tables.{start_of, Beside, object_of, objects_from, olds_from, news_from, changes_of}
 
 module _ (file table : List ℕ) where
   object-name : (row first : ℕ) → (object_at file table row first).name ≡ name_at file table row
@@ -76,30 +74,6 @@ module _ (file table : List ℕ) where
     )
     object-beside w None f = seek-lacks (λ (o : DescribedObject). o.name) (objects_from file table n 0 n) w (λ j o h e. not-before f j o h e (at_zero j o h).0)
 
--- the row of the object j, and the count in it; `at` is where its components begin
-module _ {table : List ℕ} {n j : ℕ} (t : Table table n) (l : j < n) where
-  pub row_lies : object_width * j + object_width ≤ length table
-  row_lies = (t.each _ l).own.lies
-
-  pub count-lies : object_width * j + count_column < length table
-  count-lies = omega (arith, row_lies)
-
-  module _ (room : length table * 8 < 2 ^ 63) where
-    pub row_fits : Fits w64 (object_width * j)
-    row_fits = record { fits = omega (arith, row_lies, room) }
-
-    pub count_fits : Fits w64 (object_width * j + count_column)
-    count_fits = record { fits = omega (arith, row_lies, room) }
-
-    pub count-scaled : Fits w64 ((object_width * j + count_column) * 8)
-    count-scaled = record { fits = omega (arith, row_lies, room) }
-
-    pub parts-fit : Fits w64 (component_width * count_at table (object_width * j))
-    parts-fit = record { fits = omega (arith, (t.each _ l).parts, room) }
-
-    pub next_fits : {at : ℕ} → at ≡ start_of table n j → Fits w64 (at + component_width * count_at table (object_width * j))
-    next_fits e = record { fits = omega (arith, (t.each _ l).parts, room, e) }
-
 -- ---- one object, beside those of the other model
 
 module _ (first a : List ℕ) (m i : ℕ) (second b : List ℕ) (n : ℕ) {w : List ℕ} (is : w ≡ named first a 0 object_width i) where
@@ -133,9 +107,6 @@ module _ (first a : List ℕ) (m i : ℕ) (second b : List ℕ) (n : ℕ) {w : L
 
 -- ---- where components' rows begin
 
-pub sized : {table : List ℕ} {n : ℕ} → Table table n → {starts : List ℕ} → Starts table n starts → {j : ℕ} → j < n → Sized table (object_width * j) (get_or starts j 0)
-sized t s {j} l = rw (s.is j l) (t.each j l)
-
 starts-next : (table : List ℕ) (n j : ℕ) → start_of table n (j + 1) ≡ start_of table n j + component_width * count_at table (object_width * j)
 unfolding start_of
 starts-next table n j = let z : j + 1 ≡ suc j = omega arith in rw z
@@ -165,9 +136,6 @@ begun_more {table} {n} {j} {at} {old} {starts} h b l = record {
     go i m (more w) = absurd (omega arith)
     go i m (equal w) = rw w (get_or-set_same starts j at 0 (omega (arith, b.size)) ∙ b.here)
 
-pub begun_all : {table : List ℕ} {n j at : ℕ} {old starts : List ℕ} → n ≤ length old → Begun table n j at old starts → n ≤ j → Starts table n starts
-begun_all h b l = record { long = omega (arith, h, b.size); is = λ i m. b.is i (omega arith) }
-
 -- ---- a loop over the m objects of a table: of the object o whose number is x `f x o` is written; i of them are done
 
 module _ (file table : List ℕ) (m : ℕ) (f : ℕ → DescribedObject → List Entry) where
@@ -180,10 +148,6 @@ module _ (file table : List ℕ) (m : ℕ) (f : ℕ → DescribedObject → List
 pub record Turned (f : ℕ → DescribedObject → List Entry) (file table : List ℕ) (m at : ℕ) (xs : List ℕ) (i past : ℕ) (ys : List ℕ) : Type 0 where
   pub within : i ≤ m
   pub rest : Rest (whole-list file table m f) at xs (still file table m f i) past ys
-
-module _ (f : ℕ → DescribedObject → List Entry) (file table : List ℕ) (m at : ℕ) (xs : List ℕ) where
-  pub begins : length xs * 8 < 2 ^ 63 → Turned f file table m at xs 0 at xs
-  begins room = record { within = omega arith; rest = (let z : m - 0 ≡ m = omega arith in rw z (rest_all _ _ _ (omega (arith, room)))) }
 
 module _ {f : ℕ → DescribedObject → List Entry} {file table : List ℕ} {m at : ℕ} {xs : List ℕ} {i past : ℕ} {ys : List ℕ} (w : Turned f file table m at xs i past ys) where
   of-these : List DescribedObject → List ℕ
@@ -200,9 +164,6 @@ module _ {f : ℕ → DescribedObject → List Entry} {file table : List ℕ} {m
     all-turned : {q : ℕ} → q ≡ capped past → Wrote (whole-list file table m f) at xs ys q
     unfolding of-these
     all-turned e = rest-none _ w.rest (ap of-these (objects-none file table m i (m - i) (omega (arith, end)))) e
-
-    pub turned-length : length ys ≡ length xs
-    turned-length = same_length (all-turned refl)
 
 -- what is written of the first's object o beside the second's, and of the second's beside the first's
 abbrev pub old : List DescribedObject → ℕ → DescribedObject → List Entry

@@ -9,8 +9,6 @@ use mathlib.Core.Path.{◌≡◌, refl, sym, ap, ap₂, ◌∙◌}
 use lib.ListN.{length, take, set}
 use lib.Seq.{sets, set_comm, set_out, length-sets, get_or-drop, drop-drop}
 use lib.Dec.{eqb}
-use mir.Syntax.{w64}
-use mir.Val.{Fits}
 use borrow.Author.Tests.{ne_eqb}
 use Rattle.meaning.specs.Columns.{component_width, rank_column, shape_column, format_column, format_length_column}
 use Rattle.meaning.specs.Asked.{asked_object, asked_component, each_row}
@@ -25,7 +23,7 @@ use Rattle.parts.specs.declared.Seen.{Seen}
 use Rattle.parts.specs.declared.Lone.{Lone}
 use Rattle.parts.specs.Parts.{parts_at}
 use Rattle.parts.specs.Seen.{PartsSeen, LonesSeen}
-use Rattle.parts.proofs.Turns.{flat_append, across-same, bit-small}
+use Rattle.parts.proofs.Turns.{flat_append, across-same}
 use Rattle.pairs.specs.Objects.{object_at, count_at, BothSeen}
 
 -- ---- later first
@@ -142,25 +140,6 @@ both-seen {cs} {ds} hf hs he = record {
     go : (s t : Bool) → cond (eqb (bit 4 s) 0) (bit 4 t) (bit 4 s) ≡ bit 4 (s || t)
     go true t = refl
     go false t = refl
-
--- what both differ in adds up to no more than 63
-module _ {cs ds : List DescribedComponent} {i j at own : ℕ} {xs zs : List ℕ} {s : Seen} (l : own ≤ 3) (h : BothSeen cs ds i j at xs zs s) where
-  what-small : own + s.names + s.dtypes + s.kinds + s.bytes ≤ 63
-  what-small =
-      rw (h.names, h.dtypes, h.kinds, h.bytes)
-      (omega (arith, l, bit-small 4 (lone cs ds || lone ds cs), bit-small 8 (shared other_dtype cs ds), bit-small 16 (shared other_type cs ds), bit-small 32 (shared other_bytes cs ds)))
-
-  pub two-fit : Fits w64 (own + s.names)
-  two-fit = record { fits = omega (arith, what-small) }
-
-  pub three-fit : Fits w64 (own + s.names + s.dtypes)
-  three-fit = record { fits = omega (arith, what-small) }
-
-  pub four-fit : Fits w64 (own + s.names + s.dtypes + s.kinds)
-  four-fit = record { fits = omega (arith, what-small) }
-
-  pub five-fit : Fits w64 (own + s.names + s.dtypes + s.kinds + s.bytes)
-  five-fit = record { fits = omega (arith, what-small) }
 
 module _ (o p : DescribedObject) (i j at : ℕ) (xs : List ℕ) {past : ℕ} {zs : List ℕ} {s : Seen} {own : ℕ} (ep : past ≡ capped (at + 8))
     (hs : BothSeen o.components p.components i j past xs zs s) (ho : own ≡ own_what o.shape o.format p.shape p.format) where

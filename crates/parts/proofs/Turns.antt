@@ -3,20 +3,15 @@ use Prim.Native.Nat.{ℕ, suc, ◌+◌, ◌*◌, ◌^◌, ◌≤◌, ◌<◌}
 use native.Mathlib.Omega.{arith}
 use mathlib.Core.List.{List, [], ◌∷◌, ◌++◌}
 use mathlib.Core.Bool.{Bool, true, false, cond, ◌||◌}
-use mathlib.Core.Option.{none, some}
-use mathlib.Core.Path.{◌≡◌, refl, sym, ap, ap₂, ◌∙◌, subst}
+use mathlib.Core.Path.{◌≡◌, refl, ap, ap₂, ◌∙◌, subst}
 use lib.ListN.{length}
 use lib.Dec.{eqb}
-use mir.Syntax.{w64}
-use mir.Val.{Fits}
-use borrow.Author.Tests.{eq-eqb, ne_eqb, eqb-true}
+use borrow.Author.Tests.{eqb-true}
 use Rattle.meaning.specs.Described.{DescribedComponent}
 use Rattle.meaning.specs.Columns.{component_width}
 use Rattle.put.specs.Wrote.{capped, Wrote}
-use Rattle.put.proofs.PiecesInTurn.{Rest, rest_all, rest-less, rest-none, nothing, same_length}
-use Rattle.changes.specs.Changes.{Entry, Found, entry, numbers, flat, across, bit, absent, found, lone, shared, part, part_what, of_part, if_absent, other_dtype, other_type, other_bytes}
-use Rattle.differing.specs.declared.Differences.{Differences}
-use Rattle.differing.specs.Bits as differing
+use Rattle.put.proofs.PiecesInTurn.{Rest, rest_all, rest-less, rest-none}
+use Rattle.changes.specs.Changes.{Entry, entry, numbers, flat, across, bit, absent, found, lone, shared, part, of_part, if_absent, other_dtype, other_type, other_bytes}
 use Rattle.differing.specs.Rows.{part_at}
 use Rattle.parts.specs.declared.Seen.{Seen}
 use Rattle.parts.specs.declared.Lone.{Lone}
@@ -63,59 +58,6 @@ module _ (n : ℕ) where
       go false q h = h
       go true q h = eqb-true seen 0 q ∙ h
 
--- the first of two numbers that isn't 0
-module _ (a b : ℕ) where
-  pub neither : a ≡ 0 → b ≡ cond (eqb a 0) b a
-  neither e = rw (eq-eqb a 0 e) refl
-
-  pub the-first : (a ≡ 0 → ⊥) → a ≡ cond (eqb a 0) b a
-  the-first n = rw (ne_eqb a 0 n) refl
-
--- ---- one component
-
-what-is : (c e : DescribedComponent) {d : Differences} → d ≡ differing.told c e → d.dtype + d.kind + d.bytes ≡ part_what c e
-what-is c e h = rw h refl
-
-module _ {c : DescribedComponent} {i j k at : ℕ} {xs : List ℕ} where
-  -- two of one name, and what `d` says of them
-  module _ {e : DescribedComponent} {index : ℕ} {d : Differences} (h : d ≡ differing.told c e) where
-    pub part-differs : (d.dtype + d.kind + d.bytes ≡ 0 → ⊥) → {ys : List ℕ} {past : ℕ}
-        → Wrote (numbers (entry 4 i j k index (d.dtype + d.kind + d.bytes) d.position d.count)) at xs ys past
-        → PartSeen c (some (record { index = index; it = e })) i j k at xs ys (record { at = past; names = 0; dtypes = d.dtype; kinds = d.kind; bytes = d.bytes })
-    part-differs z w =
-        let n : eqb (part_what c e) 0 ≡ false = ne_eqb _ 0 (λ q. z (what-is c e h ∙ q)) in
-        record { wrote = rw n (rw h at w); names = refl; dtypes = rw h refl; kinds = rw h refl; bytes = rw h refl }
-
-    pub part_same : d.dtype + d.kind + d.bytes ≡ 0 → length xs * 8 < 2 ^ 63 → {past : ℕ} → past ≡ capped at
-        → PartSeen c (some (record { index = index; it = e })) i j k at xs xs (record { at = past; names = 0; dtypes = 0; kinds = 0; bytes = 0 })
-    part_same z room q =
-        let n : eqb (part_what c e) 0 ≡ true = eq-eqb _ 0 (sym (what-is c e h) ∙ z) in
-        let u : d.dtype ≡ 0 = omega arith in
-        let v : d.kind ≡ 0 = omega arith in
-        let w : d.bytes ≡ 0 = omega arith in
-        record {
-          wrote = rw n (nothing _ (omega (arith, room)) q);
-          names = refl;
-          dtypes = sym u ∙ ap (λ (r : Differences). r.dtype) h;
-          kinds = sym v ∙ ap (λ (r : Differences). r.kind) h;
-          bytes = sym w ∙ ap (λ (r : Differences). r.bytes) h;
-        }
-
-  -- `c` beside the components of the other model
-  module _ (ds : List DescribedComponent) where
-    pub part-absent : part c.name ds ≡ none → {ys : List ℕ} {past : ℕ} → Wrote (numbers (entry 5 i j k 0 0 0 0)) at xs ys past
-        → PartSeen c (part c.name ds) i j k at xs ys (record { at = past; names = 4; dtypes = 0; kinds = 0; bytes = 0 })
-    part-absent l w = rw l (record { wrote = w; names = refl; dtypes = refl; kinds = refl; bytes = refl })
-
-    pub part-there : {f : Found DescribedComponent} → part c.name ds ≡ some f → {ys : List ℕ} {o : Seen} → PartSeen c (some f) i j k at xs ys o → PartSeen c (part c.name ds) i j k at xs ys o
-    part-there l w = rw l w
-
-    pub lone-absent : part c.name ds ≡ none → {ys : List ℕ} {past : ℕ} → Wrote (numbers (entry 6 i j 0 k 0 0 0)) at xs ys past → LoneSeen c ds i j k at xs ys (record { at = past; names = 4 })
-    lone-absent l w = record { wrote = rw l w; names = rw l refl }
-
-    pub lone-there : {f : Found DescribedComponent} → part c.name ds ≡ some f → length xs * 8 < 2 ^ 63 → {past : ℕ} → past ≡ capped at → LoneSeen c ds i j k at xs xs (record { at = past; names = 0 })
-    lone-there l room q = record { wrote = rw l (nothing _ (omega (arith, room)) q); names = rw l refl }
-
 -- ---- a loop over the m components of a table from p on, beside the components ds of the other model: k of them done
 
 -- what is written, `f x c` of the component c whose number is x; and whether names differ
@@ -156,9 +98,6 @@ module _ {f : ℕ → DescribedComponent → List Entry} {file table : List ℕ}
         owes-none 4 names (lone (parts_at file table p m) ds)
         (subst (λ (z : List DescribedComponent). Owes 4 names (lone z ds) (lone (parts_at file table p m) ds)) (parts-end file table p m k end) w.name)
 
-    pub turned-length : length ys ≡ length xs
-    turned-length = same_length (turned_none refl)
-
 -- whether the components that both have differ in what `other` compares
 abbrev Differ : ℕ → ℕ → (DescribedComponent → DescribedComponent → Bool) → List ℕ → List ℕ → ℕ → ℕ → List DescribedComponent → ℕ → Type 0
 Differ n seen other file table p m ds k = Owes n seen (shared other (still file table p m k) ds) (shared other (parts_at file table p m) ds)
@@ -188,12 +127,6 @@ pub record Firsts (file table : List ℕ) (p m : ℕ) (ds : List DescribedCompon
   pub dtype : Differ 8 dtypes other_dtype file table p m ds k
   pub kind : Differ 16 kinds other_type file table p m ds k
   pub byte : Differ 32 bytes other_bytes file table p m ds k
-
-module _ (file table : List ℕ) (p m : ℕ) (ds : List DescribedComponent) (i j at : ℕ) (xs : List ℕ) where
-  pub first-begins : length xs * 8 < 2 ^ 63 → Firsts file table p m ds i j at xs 0 at 0 0 0 0 xs
-  first-begins room =
-      let b = parts-begin file table p m in
-      record { turned = turned-all (first_of i j ds) file table p m ds at xs room; dtype = rw b refl; kind = rw b refl; byte = rw b refl }
 
 module _ {file table : List ℕ} {p m : ℕ} {ds : List DescribedComponent} {i j at : ℕ} {xs : List ℕ} {k past n d t b : ℕ} {ys : List ℕ}
     (w : Firsts file table p m ds i j at xs k past n d t b ys) where
@@ -225,10 +158,6 @@ second_of i j cs x d = if_absent (entry 6 i j 0 x 0 0 0) (part d.name cs)
 pub record Seconds (file table : List ℕ) (p m : ℕ) (cs : List DescribedComponent) (i j at : ℕ) (xs : List ℕ) (l past names : ℕ) (ys : List ℕ) : Type 0 where
   pub turned : Turned (second_of i j cs) file table p m cs at xs l past names ys
 
-module _ (file table : List ℕ) (p m : ℕ) (cs : List DescribedComponent) (i j at : ℕ) (xs : List ℕ) where
-  pub second-begins : length xs * 8 < 2 ^ 63 → Seconds file table p m cs i j at xs 0 at 0 xs
-  second-begins room = record { turned = turned-all (second_of i j cs) file table p m cs at xs room }
-
 module _ {file table : List ℕ} {p m : ℕ} {cs : List DescribedComponent} {i j at : ℕ} {xs : List ℕ} {l past n : ℕ} {ys : List ℕ} (w : Seconds file table p m cs i j at xs l past n ys) where
   pub one-more-second : l < m → {n' : ℕ} {zs : List ℕ} {s : Lone} → LoneSeen (part_at file table (p + component_width * l)) cs i j l past ys zs s → n' ≡ cond (eqb n 0) s.names n
       → Seconds file table p m cs i j at xs (l + 1) s.at n' zs
@@ -236,19 +165,3 @@ module _ {file table : List ℕ} {p m : ℕ} {cs : List DescribedComponent} {i j
 
   pub all-seconds : m ≤ l → {q : ℕ} → q ≡ capped past → LonesSeen (parts_at file table p m) cs i j at xs ys (record { at = q; names = n })
   all-seconds end e = record { wrote = turned_none w.turned end e; names = turned-names w.turned end }
-
--- ---- sums that fit
-
-pub bit-small : (n : ℕ) (t : Bool) → bit n t ≤ n
-bit-small n true = omega arith
-bit-small n false = omega arith
-
-what-small : (c e : DescribedComponent) {d : Differences} → d ≡ differing.told c e → d.dtype + d.kind + d.bytes ≤ 56
-what-small c e h = rw h (omega (arith, bit-small 8 (other_dtype c e), bit-small 16 (other_type c e), bit-small 32 (other_bytes c e)))
-
-module _ (c e : DescribedComponent) {d : Differences} (h : d ≡ differing.told c e) where
-  pub two-fit : Fits w64 (d.dtype + d.kind)
-  two-fit = record { fits = omega (arith, what-small c e h) }
-
-  pub three-fit : Fits w64 (d.dtype + d.kind + d.bytes)
-  three-fit = record { fits = omega (arith, what-small c e h) }
