@@ -38,7 +38,7 @@ fn type_name<'a>(part: Row<'a, COMPONENT>) -> Option<&'a [u8]>
 
 // One type is there and the other isn't, or both are and differ.
 fn other_type(first: Row<'_, COMPONENT>, second: Row<'_, COMPONENT>) -> bool
-    ensures { result ≡ other_type (part_at first.entry.file.now first.entry.table.now first.entry.at) (part_at second.entry.file.now second.entry.table.now second.entry.at) }
+    ensures { let a = first.entry in let b = second.entry in result ≡ other_type (part_at a.file.now a.table.now a.at) (part_at b.file.now b.table.now b.at) }
 {
     match (type_name(first), type_name(second)) {
         (None, None) => false,
@@ -47,6 +47,7 @@ fn other_type(first: Row<'_, COMPONENT>, second: Row<'_, COMPONENT>) -> bool
     }
 }
 
+// n where they differ: a sum of these is the entry's number (document 02), and `n * u64::from(differ)` is no plainer.
 fn flag(n: u64, differ: bool) -> u64
     ensures { result ≡ bit n differ }
 {
@@ -110,7 +111,7 @@ impl<'a> Object<'a> {
 
 // 1 where the shapes of two objects differ, 2 where the formats do.
 pub fn of_objects(first: Object<'_>, second: Object<'_>) -> u64
-    ensures { (result ≡ own_what (shape_at first.entry.table.now first.entry.at) (format_at first.entry.file.now first.entry.table.now first.entry.at) (shape_at second.entry.table.now second.entry.at) (format_at second.entry.file.now second.entry.table.now second.entry.at)) × (result ≤ 3) }
+    ensures { let a = first.entry in let b = second.entry in (result ≡ own_what (shape_at a.table.now a.at) (format_at a.file.now a.table.now a.at) (shape_at b.table.now b.at) (format_at b.file.now b.table.now b.at)) × (result ≤ 3) }
 {
     let shapes = first.shape() != second.shape();
     let formats = !text::same(first.format(), second.format());

@@ -11,6 +11,7 @@ pub fn past(at: usize, n: usize) -> usize
     put::capped_place(at.saturating_add(n))
 }
 
+// As `put::byte` does for a u8: `Wrote` is of lists of numbers, so one function over any T couldn't state it.
 fn number(list: &mut [u64], at: usize, x: u64) -> usize
     ensures { Wrote (x ∷ []) at list.old list.new result }
 {

@@ -24,8 +24,9 @@ pub struct Object<'a> {
 }
 
 impl<'a> Object<'a> {
+    // Its components' rows.
     fn components(self) -> Names<'a, COMPONENT>
-        ensures { (result.file ≡ self.entry.file) × (result.table ≡ self.entry.table) × (result.first ≡ self.entry.parts) × (result.count ≡ count_at self.entry.table.now self.entry.at) }
+        ensures { let a = self.entry in (result.file ≡ a.file) × (result.table ≡ a.table) × (result.first ≡ a.parts) × (result.count ≡ count_at a.table.now a.at) }
     {
         Names {
             file: self.file,
@@ -35,6 +36,7 @@ impl<'a> Object<'a> {
         }
     }
 
+    // Its own row.
     fn itself(self) -> differing::Object<'a>
         ensures { (result.file ≡ self.entry.file) × (result.table ≡ self.entry.table) × (result.at ≡ self.entry.at) }
     {
@@ -55,7 +57,7 @@ fn firsts(
     at: usize,
 ) -> Seen
     requires { second.count ≤ component_limit }
-    ensures { PartsSeen (parts_at first.entry.file.now first.entry.table.now first.entry.first first.entry.count) (parts_at second.entry.file.now second.entry.table.now second.entry.first second.entry.count) pair.i pair.j at list.old list.new result }
+    ensures { let a = first.entry in let b = second.entry in PartsSeen (parts_at a.file.now a.table.now a.first a.count) (parts_at b.file.now b.table.now b.first b.count) pair.i pair.j at list.old list.new result }
 {
     let mut numbers = [0u16; 16];
     let sorted = second.sort(&mut numbers);
@@ -71,7 +73,7 @@ fn seconds(
     at: usize,
 ) -> Lone
     requires { first.count ≤ component_limit }
-    ensures { LonesSeen (parts_at second.entry.file.now second.entry.table.now second.entry.first second.entry.count) (parts_at first.entry.file.now first.entry.table.now first.entry.first first.entry.count) pair.i pair.j at list.old list.new result }
+    ensures { let a = first.entry in let b = second.entry in LonesSeen (parts_at b.file.now b.table.now b.first b.count) (parts_at a.file.now a.table.now a.first a.count) pair.i pair.j at list.old list.new result }
 {
     let mut numbers = [0u16; 16];
     let sorted = first.sort(&mut numbers);
@@ -87,7 +89,7 @@ fn of_components(
     at: usize,
 ) -> Seen
     requires { (first.count ≤ component_limit) × (second.count ≤ component_limit) }
-    ensures { BothSeen (parts_at first.entry.file.now first.entry.table.now first.entry.first first.entry.count) (parts_at second.entry.file.now second.entry.table.now second.entry.first second.entry.count) pair.i pair.j at list.old list.new result }
+    ensures { let a = first.entry in let b = second.entry in BothSeen (parts_at a.file.now a.table.now a.first a.count) (parts_at b.file.now b.table.now b.first b.count) pair.i pair.j at list.old list.new result }
 {
     let f = firsts(first, second, pair, list, at);
     let s = seconds(second, first, pair, list, f.at);
@@ -106,7 +108,7 @@ pub fn of_pair(
     list: &mut [u64],
     at: usize,
 ) -> usize
-    ensures { Wrote (flat (in_both pair.i pair.j (object_at first.entry.file.now first.entry.table.now first.entry.at first.entry.parts) (object_at second.entry.file.now second.entry.table.now second.entry.at second.entry.parts))) at list.old list.new result }
+    ensures { let a = first.entry in let b = second.entry in Wrote (flat (in_both pair.i pair.j (object_at a.file.now a.table.now a.at a.parts) (object_at b.file.now b.table.now b.at b.parts))) at list.old list.new result }
 {
     let own = differing::of_objects(first.itself(), second.itself());
     let past = entries::past(at, 8);

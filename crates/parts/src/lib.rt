@@ -28,6 +28,7 @@ pub struct Lone {
     pub names: u64,
 }
 
+// The first that isn't 0: two of one kind are the same number or 0, and their sum must not count it twice (document 02 fixes the numbers).
 pub fn either(a: u64, b: u64) -> u64
     ensures { result ≡ cond (eqb a 0) b a }
 {
@@ -71,7 +72,7 @@ pub struct Pair {
 
 // The number of the component among the other object's that has this one's name.
 fn beside(part: Row<'_, COMPONENT>, others: &SortedNames<'_, '_, COMPONENT>) -> Option<usize>
-    ensures { Beside (part_at part.entry.file.now part.entry.table.now part.entry.at) others.now.names.file.now others.now.names.table.now others.now.names.first others.now.names.count result }
+    ensures { let a = part.entry in Beside (part_at a.file.now a.table.now a.at) others.now.names.file.now others.now.names.table.now others.now.names.first others.now.names.count result }
 {
     others.find(part.name())
 }
@@ -86,7 +87,7 @@ fn of_shared(
     list: &mut [u64],
     at: usize,
 ) -> Seen
-    ensures { PartSeen (part_at first.entry.file.now first.entry.table.now first.entry.at) (some (record { index = l; it = part_at second.entry.file.now second.entry.table.now second.entry.at })) pair.i pair.j k at list.old list.new result }
+    ensures { let a = first.entry in let b = second.entry in PartSeen (part_at a.file.now a.table.now a.at) (some (record { index = l; it = part_at b.file.now b.table.now b.at })) pair.i pair.j k at list.old list.new result }
 {
     let d = differing::of_parts(first, second);
     let what = d.dtype + d.kind + d.bytes;
@@ -112,7 +113,7 @@ fn of_part(
     list: &mut [u64],
     at: usize,
 ) -> Seen
-    ensures { let c = part_at first.entry.file.now first.entry.table.now first.entry.at in PartSeen c (part c.name (parts_at second.now.names.file.now second.now.names.table.now second.now.names.first second.now.names.count)) pair.i pair.j k at list.old list.new result }
+    ensures { let a = first.entry in let b = second.now.names in let c = part_at a.file.now a.table.now a.at in PartSeen c (part c.name (parts_at b.file.now b.table.now b.first b.count)) pair.i pair.j k at list.old list.new result }
 {
     match beside(first, second) {
         None => {
@@ -134,7 +135,7 @@ pub fn of_first(
     list: &mut [u64],
     at: usize,
 ) -> Seen
-    ensures { PartsSeen (parts_at first.entry.file.now first.entry.table.now first.entry.first first.entry.count) (parts_at second.now.names.file.now second.now.names.table.now second.now.names.first second.now.names.count) pair.i pair.j at list.old list.new result }
+    ensures { let a = first.entry in let b = second.now.names in PartsSeen (parts_at a.file.now a.table.now a.first a.count) (parts_at b.file.now b.table.now b.first b.count) pair.i pair.j at list.old list.new result }
 {
     let mut seen = Seen::none(at);
     for k in 0..first.count {
@@ -156,7 +157,7 @@ fn of_lone(
     list: &mut [u64],
     at: usize,
 ) -> Lone
-    ensures { LoneSeen (part_at part.entry.file.now part.entry.table.now part.entry.at) (parts_at first.now.names.file.now first.now.names.table.now first.now.names.first first.now.names.count) pair.i pair.j l at list.old list.new result }
+    ensures { let a = first.now.names in LoneSeen (part_at part.entry.file.now part.entry.table.now part.entry.at) (parts_at a.file.now a.table.now a.first a.count) pair.i pair.j l at list.old list.new result }
 {
     match beside(part, first) {
         None => Lone {
@@ -178,7 +179,7 @@ pub fn of_second(
     list: &mut [u64],
     at: usize,
 ) -> Lone
-    ensures { LonesSeen (parts_at second.entry.file.now second.entry.table.now second.entry.first second.entry.count) (parts_at first.now.names.file.now first.now.names.table.now first.now.names.first first.now.names.count) pair.i pair.j at list.old list.new result }
+    ensures { let b = second.entry in let a = first.now.names in LonesSeen (parts_at b.file.now b.table.now b.first b.count) (parts_at a.file.now a.table.now a.first a.count) pair.i pair.j at list.old list.new result }
 {
     let mut past = at;
     let mut names: u64 = 0;
