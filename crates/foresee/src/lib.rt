@@ -29,6 +29,7 @@ fn each(rows: &[u64], n: usize, rest: &[u64], components: usize, buffer: &[u8]) 
     ensures { is.each_object 0 (is.objects_of buffer.now rows.now n rest.now components) ≡ is.foretold result }
 {
     let mut from = 0;
+    // Only the proof reads it: the clause counts the components that are left.
     let mut due = components;
     for i in 0..n {
         let at = columns::OBJECT * i;

@@ -16,19 +16,13 @@ pub fn capped(n: u64) -> u64
 pub fn head(n: u64) -> u64
     ensures { result ≡ is.head_size n }
 {
-    if n < 24 {
-        return 1;
+    match n {
+        0..=23 => 1,
+        24..=255 => 2,
+        256..=65_535 => 3,
+        65_536..=4_294_967_295 => 5,
+        _ => 9,
     }
-    if n < 256 {
-        return 2;
-    }
-    if n < 65_536 {
-        return 3;
-    }
-    if n < 4_294_967_296 {
-        return 5;
-    }
-    9
 }
 
 pub fn text(n: u64) -> u64

@@ -1,18 +1,24 @@
--- `sizes::piece::head` meets its contract: a law for each branch.
-use Rattle.sizes.proofs.Heads as law
+-- `sizes::piece::head` meets its contract.
+use borrow.Author.Rules.{rules}
+use Rattle.sizes.specs.Size.{head_size}
 use Rattle.sizes.proofs.piece.head.Goals as goal
 
-pub returns-then-n-lt24 : goal.returns-then-n-lt24
-returns-then-n-lt24 c = search law.head-one
+pub returns-in-0-to-23 : goal.returns-in-0-to-23
+unfolding head_size
+returns-in-0-to-23 c = search rules
 
-pub returns-then-n-lt256 : goal.returns-then-n-lt256
-returns-then-n-lt256 c = search law.head-two
+pub returns-in-24-to-255 : goal.returns-in-24-to-255
+unfolding head_size
+returns-in-24-to-255 c = search rules
 
-pub returns-then-n-lt65536 : goal.returns-then-n-lt65536
-returns-then-n-lt65536 c = search law.head_three
+pub returns-in-256-to-65535 : goal.returns-in-256-to-65535
+unfolding head_size
+returns-in-256-to-65535 c = search rules
 
-pub returns-then-n-lt4294967296 : goal.returns-then-n-lt4294967296
-returns-then-n-lt4294967296 c = search law.head-five
+pub returns-in-65536-to-4294967295 : goal.returns-in-65536-to-4294967295
+unfolding head_size
+returns-in-65536-to-4294967295 c = search rules
 
-pub returns : goal.returns
-returns c = search law.head-nine
+pub returns-in_default : goal.returns-in_default
+unfolding head_size
+returns-in_default c = search rules
