@@ -29,8 +29,6 @@ pub enum Verdict {
 pub fn checked(one: u64, first: &[u8], two: u64, second: &[u8]) -> Verdict
     ensures { CheckedIs one first.now two second.now result }
 {
-    lent::held(first);
-    lent::held(second);
     let mut names = [0u64; 2048];
     match weigh::file(one, first, 8, 0, 0, &mut names) {
         Weighed::No(n, o, c) => Verdict::No(n, 1, o, c),

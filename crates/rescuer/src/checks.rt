@@ -37,7 +37,6 @@ fn measured(layout: u64, s: &[u8], start: u64, end: usize) -> Sieve
 pub fn checked(layout: u64, file: &[u8]) -> Verdict
     ensures { CheckedIs layout file.now result }
 {
-    lent::held(file);
     match opening::file(layout, file) {
         Found::No(n, o, c) => Verdict::No(n, o, c),
         Found::Yes(start, end, first, place, size) => {

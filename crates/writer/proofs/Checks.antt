@@ -3,7 +3,6 @@ use Prim.Native.Nat.{ℕ, suc, ◌+◌, ◌-◌, ◌*◌, ◌≤◌, ◌<◌, �
 use native.Mathlib.Omega.{arith}
 use mathlib.Core.List.{List, [], ◌∷◌, ◌++◌}
 use mathlib.Core.Bool.{Bool, true, false, not}
-use mathlib.Core.Logic.{⊎_elim}
 use mathlib.Core.Path.{◌≡◌, refl, sym, ap, ◌∙◌, subst}
 use lib.ListN.{length, take, drop, get_or, length-drop, length-map}
 use lib.Dec.{leb}
@@ -11,7 +10,6 @@ use mir.Syntax.{w64}
 use mir.Val.{Fits as FitsIn}
 use borrow.Author.Tests.{not-true, not-false, le-leb, lt-leb}
 use borrow.Author.Rules.{part_to_end}
-use Rattle.endian.proofs.Which.{lt-or}
 use Rattle.meaning.specs.Refusal.{BIG, ROOM, PLAN}
 use Rattle.meaning.specs.Check.{Check, pass, refuse, ◌>>◌, ◌unless◌}
 use Rattle.meaning.specs.Limit.{manifest_limit, end_limit}
@@ -51,12 +49,9 @@ use Rattle.writer.specs.Sized.{of_rows, lengths_of, offsets_of, file_at, Fit, Me
 
 -- ---- numbers below 2^64
 
-module _ (rows : List ℕ) (i : ℕ) (before : (j : ℕ) → j < i → get_or rows j 0 < 256 ^ 8) where
-  pub one_more : get_or rows i 0 < 256 ^ 8 → (j : ℕ) → j < i + 1 → get_or rows j 0 < 256 ^ 8
-  one_more h j k = ⊎_elim (before j) (λ g. let e : j ≡ i = omega (arith, g, k) in rw e h) (lt-or j i)
-
-  pub all_there : length rows ≤ i → Numbers rows
-  all_there h j k = before j (omega (arith, h, k))
+-- by what is known of a slice's items
+pub all_there : (rows : List ℕ) → ((j : ℕ) → FitsIn w64 (get_or rows j 0)) → Numbers rows
+all_there rows k j l = omega (arith, (k j).fits)
 
 -- what the slices are
 pub lent : {rows buffer : List ℕ} → Numbers rows → length rows * 8 < 2 ^ 63 → length buffer * 1 < 2 ^ 63 → Lent rows buffer

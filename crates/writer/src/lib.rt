@@ -33,23 +33,6 @@ fn refused(number: u64, object: u64, component: u64) -> Written
     }
 }
 
-// A number of 64 bits is below 2^64: said of each, since a slice's own facts are its length's alone.
-fn below(n: u64) -> bool
-    ensures { n < 256 ^ 8 }
-{
-    true
-}
-
-fn all_below(rows: &[u64])
-    ensures { is.Numbers rows.now }
-{
-    let mut i = 0;
-    while i < rows.len() {
-        below(rows[i]);
-        i += 1;
-    }
-}
-
 // A refusal's number and row; or where the last blob ends, and how long the manifest is.
 #[derive(Clone, Copy)]
 enum Sized {
@@ -70,7 +53,6 @@ fn measured(
         (written rows.now objects components (record { place = place; size = size }) buffer.now) result }
     ensures lent { Lent rows.now buffer.now }
 {
-    all_below(rows);
     if !sound(rows, objects, components, place, size, buffer) {
         return Sized::No(numbers::ROW, 0);
     }
@@ -100,7 +82,6 @@ fn measured_by(
         (written_by rows.now objects components (record { place = place; size = size }) buffer.now plan.now ceiling) result }
     ensures lent { Lent rows.now buffer.now }
 {
-    all_below(rows);
     if !sound(rows, objects, components, place, size, buffer) {
         return Sized::No(numbers::ROW, 0);
     }

@@ -5,31 +5,31 @@ use Rattle.writer.proofs.Checks as checks
 use Rattle.writer.proofs.measured_by.Goals as goal
 
 pub returns-then-not-sound : goal.returns-then-not-sound
-returns-then-not-sound c = record { sizes = search checks.row_by; lent = search checks.lent }
+returns-then-not-sound c = let below = checks.all_there _ c.type_inv.rows in record { sizes = search checks.row_by; lent = search checks.lent }
 
 pub overflow_mul-first : goal.overflow_mul-first
-overflow_mul-first c = search checks.objects-fit
+overflow_mul-first c = let below = checks.all_there _ c.type_inv.rows in search checks.objects-fit
 
 pub offset_bounds-rows-first : goal.offset_bounds-rows-first
-offset_bounds-rows-first c = search checks.objects-bytes-fit
+offset_bounds-rows-first c = let below = checks.all_there _ c.type_inv.rows in search checks.objects-bytes-fit
 
 pub slice_bounds-verdict-count : goal.slice_bounds-verdict-count
-slice_bounds-verdict-count c = search checks.objects-lie
+slice_bounds-verdict-count c = let below = checks.all_there _ c.type_inv.rows in search checks.objects-lie
 
 pub slice_bounds-verdict-start : goal.slice_bounds-verdict-start
-slice_bounds-verdict-start c = search checks.objects-lie
+slice_bounds-verdict-start c = let below = checks.all_there _ c.type_inv.rows in search checks.objects-lie
 
 pub verdict-requires : goal.verdict-requires
-verdict-requires c = search checks.rows-lent
+verdict-requires c = let below = checks.all_there _ c.type_inv.rows in search checks.rows-lent
 
 pub manifest-manifest-requires : goal.manifest-manifest-requires
-manifest-manifest-requires c = let room = c.type_inv in checks.can-be-measured _ _ _ _ _ _ _ _ c.sound.ensures (ap not c.if-not-sound.false) c.in-Yes.is c.verdict.ensures (search)
+manifest-manifest-requires c = let below = checks.all_there _ c.type_inv.rows in let room = c.type_inv in checks.can-be-measured _ _ _ _ _ _ _ _ c.sound.ensures (ap not c.if-not-sound.false) c.in-Yes.is c.verdict.ensures (search)
 
 pub returns-then-manifest-gt-MANIFEST_MOST : goal.returns-then-manifest-gt-MANIFEST_MOST
-returns-then-manifest-gt-MANIFEST_MOST c = let sound = c.sound.ensures in let fine = ap not c.if-not-sound.false in let judges = c.verdict.ensures in let below = c.all_below.ensures in let room = c.type_inv in record { sizes = search checks.big-by; lent = search checks.lent }
+returns-then-manifest-gt-MANIFEST_MOST c = let sound = c.sound.ensures in let fine = ap not c.if-not-sound.false in let judges = c.verdict.ensures in let below = checks.all_there _ c.type_inv.rows in let room = c.type_inv in record { sizes = search checks.big-by; lent = search checks.lent }
 
 pub returns-in-No : goal.returns-in-No
-returns-in-No c = let below = c.all_below.ensures in let room = c.type_inv in record { sizes = search checks.refused-by; lent = search checks.lent }
+returns-in-No c = let below = checks.all_there _ c.type_inv.rows in let room = c.type_inv in record { sizes = search checks.refused-by; lent = search checks.lent }
 
 pub returns-else-manifest-gt-MANIFEST_MOST : goal.returns-else-manifest-gt-MANIFEST_MOST
-returns-else-manifest-gt-MANIFEST_MOST c = let sound = c.sound.ensures in let fine = ap not c.if-not-sound.false in let judges = c.verdict.ensures in let below = c.all_below.ensures in let room = c.type_inv in record { sizes = (search checks.fit-by, search checks.settled-by); lent = search checks.lent }
+returns-else-manifest-gt-MANIFEST_MOST c = let sound = c.sound.ensures in let fine = ap not c.if-not-sound.false in let judges = c.verdict.ensures in let below = checks.all_there _ c.type_inv.rows in let room = c.type_inv in record { sizes = (search checks.fit-by, search checks.settled-by); lent = search checks.lent }
