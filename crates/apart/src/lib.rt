@@ -69,6 +69,7 @@ fn differing(x: &[u8], y: &[u8], n: usize, from: usize) -> u64
 {
     let mut count: u64 = 0;
     let mut i = from;
+    // The index moves by a block or by a byte, so a `for` is no plainer.
     while i < n {
         if n - i < BLOCK {
             count += differ(x[i], y[i]) as u64;

