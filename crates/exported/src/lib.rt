@@ -20,9 +20,8 @@ ghost use Rattle.put.specs.Wrote.{Wrote};
 ghost use Rattle.decimal.specs.Text as decimals;
 ghost use Rattle.exported.specs.Structs.{ruling, place};
 
-use std::cmp::Ordering;
-
 use reader::Verdict;
+use std::cmp::Ordering;
 
 #[unsafe(no_mangle)]
 pub extern "C" fn leaf_skip(s: &[u8], left: u64) -> usize
