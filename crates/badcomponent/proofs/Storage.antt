@@ -13,10 +13,6 @@ use Rattle.meaning.specs.Layouts.{Layout}
 use Rattle.meaning.specs.Judge.{or_else, a_dtype, a_type}
 use Rattle.walk.specs.Reading.{Ends}
 use Rattle.fields.specs.Slots.{Holds}
-use Rattle.component.specs.declared.value.Coded.{Coded}
-use Rattle.component.specs.declared.value.Coded.TheVariants.{No as NoCode, Yes as Code}
-use Rattle.component.specs.declared.value.Spot.{Spot as Typed}
-use Rattle.component.specs.declared.value.Spot.TheVariants.{No as NoSpot, Yes as At}
 use Rattle.component.specs.Value.{left_word, code_of, DtypeAt}
 use Rattle.component.specs.Value as value
 use Rattle.component.proofs.Pieces.{refused-so, passed-so}
@@ -29,6 +25,9 @@ use Rattle.spot.specs.declared.Spot.{Spot}
 use Rattle.badfields.proofs.Values.{one-dtype, one_type, held-left, present-left, value-stops, value_passes, option-stops, option-passes}
 use Rattle.badfields.proofs.Maps.{missing-here, missing-not}
 use Rattle.badcomponent.specs.Steps.{either_of, value_steps, ExtentIs, ValuesAre}
+use Rattle.std.specs.Prelude.{Ok, Err, Result}
+use Rattle.numbers.specs.declared.refusal.Refusal.{Refusal}
+use Rattle.numbers.specs.Numbered.{number_of}
 
 pub none-there : (left whole : ℕ) → left ≡ 0 → whole ≡ either_of left whole
 unfolding either_of
@@ -75,29 +74,29 @@ module _ (L : Layout) (above : Option ℕ) (t : Node Ends) (whole : ℕ) (is : w
           value_passes (λ u. one-dtype u L) (agree-dtype L) _ x k h ∙ rw h (missing-not t whole is _ (some k) k refl ∙ ap (λ (i : ℕ). first (g i)) z)
       go (refuse m i j) h f = absurd (let y = rw h at f in let z : ◌≡◌ {A = ℕ} 0 1 = cc in omega arith)
 
-module _ (L : Layout) (above : Option ℕ) (s : List ℕ) (start : ℕ) (p : List ℕ) (whole : ℕ) (r : Spot) (r₁ : Coded) (h₁ : DtypeAt L above s (get_or p 0 0) r₁) where
-  dtype-is : (q : Coded) → r₁ ≡ q → DtypeAt L above s (get_or p 0 0) q
+module _ (L : Layout) (above : Option ℕ) (s : List ℕ) (start : ℕ) (p : List ℕ) (whole : ℕ) (r : Spot) (r₁ : Result ℕ Refusal) (h₁ : DtypeAt L above s (get_or p 0 0) r₁) where
+  dtype-is : (q : Result ℕ Refusal) → r₁ ≡ q → DtypeAt L above s (get_or p 0 0) q
   dtype-is q e = rw e at h₁
 
-  pub no-dtype : (n : ℕ) → r₁ ≡ NoCode n → (left : ℕ) → left ≡ either_of (get_or p 0 0) whole → r ≡ spot n left → ValuesAre L above s start p whole r
+  pub no-dtype : (n : Refusal) → r₁ ≡ Err n → (left : ℕ) → left ≡ either_of (get_or p 0 0) whole → r ≡ spot (number_of n) left → ValuesAre L above s start p whole r
   unfolding value_steps
   no-dtype n e left k x d f found t is =
-      x ∙ ap (spot n) k ∙ no_code L above t whole is _ d s (get_or p 0 0) f.dtype found.dtype n (dtype-is (NoCode n) e d f.dtype found.dtype)
+      x ∙ ap (spot (number_of n)) k ∙ no_code L above t whole is _ d s (get_or p 0 0) f.dtype found.dtype (number_of n) (dtype-is (Err n) e d f.dtype found.dtype)
 
-  module _ (code : ℕ) (e₁ : r₁ ≡ Code code) (r₂ : Typed) (h₂ : value.Typed s (get_or p 1 0) code r₂) where
-    type-is : (q : Typed) → r₂ ≡ q → value.Typed s (get_or p 1 0) code q
+  module _ (code : ℕ) (e₁ : r₁ ≡ Ok code) (r₂ : Result ℕ Refusal) (h₂ : value.Typed s (get_or p 1 0) code r₂) where
+    type-is : (q : Result ℕ Refusal) → r₂ ≡ q → value.Typed s (get_or p 1 0) code q
     type-is q e = rw e at h₂
 
-    pub no-type : (n : ℕ) → r₂ ≡ NoSpot n → r ≡ spot n (get_or p 1 0) → ValuesAre L above s start p whole r
+    pub no-type : (n : Refusal) → r₂ ≡ Err n → r ≡ spot (number_of n) (get_or p 1 0) → ValuesAre L above s start p whole r
     unfolding value_steps
     no-type n e x d f found t is =
-        x ∙ option-stops (λ u. one_type u code) (agree-type code) _ (get_or p 1 0) (present f.type) (present-left _ f.type (held-left (suc d) s _ f.type found.type)) n 0 0
-        (refused-so left_word (optional (a_type code) (present f.type)) n (type-is (NoSpot n) e d f.type found.type))
-        ∙ ap shown (sym (some-code L above t whole is _ f.dtype code (dtype-is (Code code) e₁ d f.dtype found.dtype)))
+        x ∙ option-stops (λ u. one_type u code) (agree-type code) _ (get_or p 1 0) (present f.type) (present-left _ f.type (held-left (suc d) s _ f.type found.type)) (number_of n) 0 0
+        (refused-so left_word (optional (a_type code) (present f.type)) (number_of n) (type-is (Err n) e d f.type found.type))
+        ∙ ap shown (sym (some-code L above t whole is _ f.dtype code (dtype-is (Ok code) e₁ d f.dtype found.dtype)))
 
-    pub then-extent : (g : ℕ) → r₂ ≡ At g → ExtentIs s start p r → ValuesAre L above s start p whole r
+    pub then-extent : (g : ℕ) → r₂ ≡ Ok g → ExtentIs s start p r → ValuesAre L above s start p whole r
     unfolding value_steps
     then-extent g e h d f found t is =
         h d f found
-        ∙ ap shown (sym (some-code L above t whole is _ f.dtype code (dtype-is (Code code) e₁ d f.dtype found.dtype)
-        ∙ option-passes (λ u. one_type u code) (agree-type code) _ (present f.type) _ (passed-so left_word (optional (a_type code) (present f.type)) g (type-is (At g) e d f.type found.type)).is))
+        ∙ ap shown (sym (some-code L above t whole is _ f.dtype code (dtype-is (Ok code) e₁ d f.dtype found.dtype)
+        ∙ option-passes (λ u. one_type u code) (agree-type code) _ (present f.type) _ (passed-so left_word (optional (a_type code) (present f.type)) g (type-is (Ok g) e d f.type found.type)).is))

@@ -17,7 +17,6 @@ use Rattle.meaning.proofs.Tests.{not-both, both_left, both_right}
 use Rattle.walk.specs.Reading.{Ends, Reads}
 use Rattle.walk.specs.Places.{MapIs}
 use Rattle.walk.specs.declared.Opening.{Opening}
-use Rattle.walk.specs.declared.Opening.TheVariants.{NotOpen, Opened}
 use Rattle.walk.proofs.Passed.{Here}
 use Rattle.walk.proofs.Opens as opens
 use Rattle.fields.specs.Slots.{Holds}
@@ -40,6 +39,7 @@ use Rattle.badfields.proofs.Opened.{Met, whole_is}
 use Rattle.badfields.proofs.Maps.{table_is, no-map, map-entries, missing-here, missing-later, missing-not, missing-in-here, missing-in-later, missing-in-not}
 use Rattle.badcomponent.specs.Steps.{lacks, either_of, blob_steps, extra_steps, extent_steps, value_steps, ValuesAre, ComponentIs, LengthIs}
 use Rattle.badcomponent.proofs.Storage.{none-there, one-there}
+use Rattle.std.specs.Prelude.{Some, None, Option as Optional}
 
 -- ---------------------------------------------------------------- is a needed field missing?
 
@@ -187,35 +187,35 @@ module _ (layout : ℕ) (above : Option ℕ) (start : ℕ) (s p : List ℕ) (t :
 
 -- ---------------------------------------------------------------- whatever is read at c
 
-module _ (layout : ℕ) (c : List ℕ) (x : Opening) (h : MapIs (Here c 0) x) where
-  module _ (e : x ≡ NotOpen) where
+module _ (layout : ℕ) (c : List ℕ) (x : Optional Opening) (h : MapIs (Here c 0) x) where
+  module _ (e : x ≡ None) where
     pub not-map : (above : Option ℕ) (start : ℕ) (r : Spot) → r ≡ spot 8 (length c) → ComponentIs (layout_of layout) above c start r
     unfolding component_steps
-    not-map above start r k t q y n = k ∙ ap (spot 8) (whole_is 27 c t q y) ∙ no-map (layout_of layout).component t (opens.opening c x h NotOpen e 27 t q y) _
+    not-map above start r k t q y n = k ∙ ap (spot 8) (whole_is 27 c t q y) ∙ no-map (layout_of layout).component t (opens.opening c x h None e 27 t q y) _
 
     pub no_length : LengthIs (layout_of layout) c (length c)
     unfolding length_note length_in
-    no_length t q y n = rw (opens.opening c x h NotOpen e 27 t q y) (whole_is 27 c t q y)
+    no_length t q y n = rw (opens.opening c x h None e 27 t q y) (whole_is 27 c t q y)
 
-  module _ (mode count size : ℕ) (e : x ≡ Opened mode count size) (p : List ℕ) (k : Spot) (f : FirstIs (slots_at layout 2) 27 mode count (Here c size) p k) where
-    met : (t : Node Ends) (q : List ℕ) → Reads 28 c t q → Met (layout_of layout).component 7 27 (drop size c) p k t
-    met = opened.met (slots_at layout 2) (layout_of layout).component (slots-of layout) 7 (layout_of layout).component_places 27 c x h mode count size e p k f
+  module _ (op : Opening) (e : x ≡ Some op) (p : List ℕ) (k : Spot) (f : FirstIs (slots_at layout 2) 27 op.mode op.count (Here c op.size) p k) where
+    met : (t : Node Ends) (q : List ℕ) → Reads 28 c t q → Met (layout_of layout).component 7 27 (drop op.size c) p k t
+    met = opened.met (slots_at layout 2) (layout_of layout).component (slots-of layout) 7 (layout_of layout).component_places 27 c x h op e p k f
 
     module _ (above : Option ℕ) (start : ℕ) where
       pub stops : (k.number ≡ 0 → ⊥) → ComponentIs (layout_of layout) above c start k
-      stops z t q y n = entries-stop layout above start (drop size c) p t n (length c) (whole_is 27 c t q y) k (met t q y) z
+      stops z t q y n = entries-stop layout above start (drop op.size c) p t n (length c) (whole_is 27 c t q y) k (met t q y) z
 
       module _ (z : k.number ≡ 0) (b : Bool) (so : b ≡ lacks layout p) where
         pub lacks-one : b ≡ true → (r : Spot) → r ≡ spot 12 (length c) → ComponentIs (layout_of layout) above c start r
         lacks-one w r v t q y n =
-            v ∙ lacking layout above start (drop size c) p t n (length c) (whole_is 27 c t q y) k (met t q y) z
+            v ∙ lacking layout above start (drop op.size c) p t n (length c) (whole_is 27 c t q y) k (met t q y) z
             (sym so ∙ w)
 
-        pub has_all : b ≡ false → (r : Spot) → ValuesAre (layout_of layout) above (Here c size) start p (length c) r → ComponentIs (layout_of layout) above c start r
+        pub has_all : b ≡ false → (r : Spot) → ValuesAre (layout_of layout) above (Here c op.size) start p (length c) r → ComponentIs (layout_of layout) above c start r
         has_all w r v t q y n =
-            complete layout above start (drop size c) p t n (length c) (whole_is 27 c t q y) k (met t q y) z
-            (sym so ∙ w) r (subst (λ u. ValuesAre (layout_of layout) above u start p (length c) r) (part_to_end c size) v)
+            complete layout above start (drop op.size c) p t n (length c) (whole_is 27 c t q y) k (met t q y) z
+            (sym so ∙ w) r (subst (λ u. ValuesAre (layout_of layout) above u start p (length c) r) (part_to_end c op.size) v)
 
     pub length-is : (r : ℕ) → r ≡ either_of (get_or p 3 0) (length c) → LengthIs (layout_of layout) c r
     length-is r v t q y n =
-        v ∙ length-there layout none 0 (drop size c) p t n (length c) (whole_is 27 c t q y) k (met t q y)
+        v ∙ length-there layout none 0 (drop op.size c) p t n (length c) (whole_is 27 c t q y) k (met t q y)

@@ -8,9 +8,9 @@ ghost use Rattle.component.specs.Value.{given};
 ghost use Rattle.badcomponent.specs.Steps as is;
 
 use component::place::{digested, dtype_at, encoded, number_at, typed, unpacked};
-use component::value::{Coded, Fine, Spot as Typed};
-use spot::{Spot, at};
-use walk::{Numeral, Opening};
+use numbers::Refusal;
+use spot::{Spot, at, none};
+use walk::Opening;
 
 // A component's map, for `keys::entries`.
 const COMPONENT: u64 = 2;
@@ -19,11 +19,10 @@ const COMPONENT: u64 = 2;
 fn blob(start: u64, o: u64, l: u64, left: usize) -> Spot
     ensures { is.BlobIs start o l left result }
 {
-    let n = lengths::place(start, o, l);
-    if n == 0 {
-        return at(0, 0);
+    match lengths::place(start, o, l) {
+        Ok(()) => none(),
+        Err(refusal) => at(refusal, left),
     }
-    at(n, left)
 }
 
 // Uncompressed length, encoding, digest; then where the bytes lie.
@@ -32,12 +31,12 @@ fn extras(s: &[u8], start: u64, p: &[usize], o: u64, l: u64) -> Spot
     ensures { is.ExtrasAre s.now start p.now o l result }
 {
     match unpacked(s, p[4]) {
-        Fine::No(n) => at(n, p[4]),
-        Fine::Yes => match encoded(s, p[5]) {
-            Fine::No(n) => at(n, p[5]),
-            Fine::Yes => match digested(s, p[6]) {
-                Typed::No(n) => at(n, p[6]),
-                Typed::Yes(_) => blob(start, o, l, p[2]),
+        Err(refusal) => at(refusal, p[4]),
+        Ok(()) => match encoded(s, p[5]) {
+            Err(refusal) => at(refusal, p[5]),
+            Ok(()) => match digested(s, p[6]) {
+                Err(refusal) => at(refusal, p[6]),
+                Ok(_) => blob(start, o, l, p[2]),
             },
         },
     }
@@ -49,10 +48,10 @@ fn extent(s: &[u8], start: u64, p: &[usize]) -> Spot
     ensures { is.ExtentIs s.now start p.now result }
 {
     match number_at(s, p[2]) {
-        Numeral::NoNumber => at(8, p[2]),
-        Numeral::Number(o) => match number_at(s, p[3]) {
-            Numeral::NoNumber => at(8, p[3]),
-            Numeral::Number(l) => extras(s, start, p, o, l),
+        None => at(Refusal::Kind, p[2]),
+        Some(o) => match number_at(s, p[3]) {
+            None => at(Refusal::Kind, p[3]),
+            Some(l) => extras(s, start, p, o, l),
         },
     }
 }
@@ -73,10 +72,10 @@ fn values(layout: u64, above: u64, s: &[u8], start: u64, p: &[usize], whole: usi
     ensures { is.ValuesAre (layout_of layout) (given above) s.now start p.now whole result }
 {
     match dtype_at(layout, s, p[0], above) {
-        Coded::No(n) => at(n, either(p[0], whole)),
-        Coded::Yes(code) => match typed(s, p[1], code) {
-            Typed::No(n) => at(n, p[1]),
-            Typed::Yes(_) => extent(s, start, p),
+        Err(refusal) => at(refusal, either(p[0], whole)),
+        Ok(code) => match typed(s, p[1], code) {
+            Err(refusal) => at(refusal, p[1]),
+            Ok(_) => extent(s, start, p),
         },
     }
 }
@@ -104,8 +103,8 @@ pub fn component(layout: u64, above: u64, c: &[u8], start: u64) -> Spot
 {
     let mut p = [0usize; 10];
     match walk::map(&c[0..]) {
-        Opening::NotOpen => at(8, c.len()),
-        Opening::Opened(mode, count, size) => {
+        None => at(Refusal::Kind, c.len()),
+        Some(Opening { mode, count, size }) => {
             let k = badfields::first(
                 layout,
                 COMPONENT,
@@ -119,7 +118,7 @@ pub fn component(layout: u64, above: u64, c: &[u8], start: u64) -> Spot
                 return k;
             }
             if lacks(layout, &p) {
-                return at(12, c.len());
+                return at(Refusal::Missing, c.len());
             }
             values(layout, above, &c[size..], start, &p, c.len())
         }
@@ -132,8 +131,8 @@ pub fn length_at(layout: u64, c: &[u8]) -> usize
 {
     let mut p = [0usize; 10];
     match walk::map(&c[0..]) {
-        Opening::NotOpen => c.len(),
-        Opening::Opened(mode, count, size) => {
+        None => c.len(),
+        Some(Opening { mode, count, size }) => {
             badfields::first(
                 layout,
                 COMPONENT,

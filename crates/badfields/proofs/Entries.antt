@@ -1,16 +1,15 @@
 -- Keys and repeats, from the places of the leftmost of each.
-use Prim.Native.Nat.{ℕ, ◌+◌, ◌<◌}
-use mathlib.Core.List.{List, [], ◌∷◌, ◌++◌}
-use mathlib.Core.Bool.{Bool, true, false, cond}
+use Prim.Native.Nat.{ℕ, ◌<◌}
+use mathlib.Core.List.{List, [], ◌∷◌}
 use mathlib.Core.Option.{Option, none, some}
 use mathlib.Core.Path.{◌≡◌, refl, ap, sym, ◌∙◌, subst}
 use native.Mathlib.Omega.{arith}
-use lib.ListN.{length, replicate}
+use lib.ListN.{length}
 use borrow.Author.Rules.{part_to_end}
-use Rattle.meaning.specs.Tree.{Pair, note_of}
+use Rattle.meaning.specs.Tree.{Pair}
 use Rattle.meaning.specs.Layouts.{Slots, somes}
 use Rattle.meaning.specs.Field.{key_of}
-use Rattle.walk.specs.Reading.{Ends, Chain, Due}
+use Rattle.walk.specs.Reading.{Ends, Due}
 use Rattle.walk.proofs.Passed.{Here}
 use Rattle.explained.specs.Step.{Step, first}
 use Rattle.explained.specs.Order.{key_steps, repeat_steps, more}

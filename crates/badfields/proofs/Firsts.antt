@@ -9,7 +9,7 @@ use Rattle.walk.specs.Reading.{Ends}
 use Rattle.explained.specs.Step as steps
 use Rattle.explained.specs.Step.{Step, first, every, each_of}
 use Rattle.explained.proofs.Why.{or_else, first-++}
-use Rattle.spot.specs.Shown.{spot, shown}
+use Rattle.spot.specs.Shown.{shown}
 use Rattle.spot.specs.declared.Spot.{Spot}
 
 -- something holds of every check of a list

@@ -1,13 +1,13 @@
 -- A map with known fields: its kind, its entries, and fields that are missing.
 use Prim.Native.Nat.{ℕ}
-use mathlib.Core.List.{List, [], ◌∷◌, ◌++◌}
-use mathlib.Core.Bool.{Bool, true, false}
+use mathlib.Core.List.{List, ◌++◌}
+use mathlib.Core.Bool.{true}
 use mathlib.Core.Option.{Option, none, some}
 use mathlib.Core.Path.{◌≡◌, refl, ap, sym, ◌∙◌}
 use native.Mathlib.Omega.{arith}
 use lib.ListN.{length}
 use Rattle.meaning.specs.Tree.{Node, Pair, note_of}
-use Rattle.meaning.specs.Check.{Check, pass, refuse, fault}
+use Rattle.meaning.specs.Check.{pass, fault}
 use Rattle.meaning.specs.Kind.{kind, mapping, a_mapping, as_mapping}
 use Rattle.meaning.specs.Field.{is_some}
 use Rattle.meaning.specs.Layouts.{Slots}

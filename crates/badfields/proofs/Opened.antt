@@ -10,7 +10,6 @@ use Rattle.meaning.specs.Layouts.{Slots}
 use Rattle.walk.specs.Reading.{Ends, Reads, Chain, foldl}
 use Rattle.walk.specs.Places.{MapIs}
 use Rattle.walk.specs.declared.Opening.{Opening}
-use Rattle.walk.specs.declared.Opening.TheVariants.{Opened}
 use Rattle.walk.proofs.ReadSays.{note-of}
 use Rattle.walk.proofs.Passed.{Here}
 use Rattle.walk.proofs.Opens as opens
@@ -19,6 +18,7 @@ use Rattle.explained.specs.Step.{first}
 use Rattle.spot.specs.Shown.{shown}
 use Rattle.spot.specs.declared.Spot.{Spot}
 use Rattle.badfields.specs.Fields.{entry_steps, FirstIs}
+use Rattle.std.specs.Prelude.{Some, Option}
 
 -- so many places, as the code makes them
 pub zeros : (ns ms : Slots) → ns ≡ ms → (n : ℕ) → length ms ≡ n → replicate {A = ℕ} (n + 3) 0 ≡ replicate (length ns + 3) 0
@@ -37,12 +37,12 @@ pub record Met (ms : Slots) (n d : ℕ) (s p : List ℕ) (k : Spot) (t : Node En
   pub first-is : k ≡ shown (first (entry_steps ms pairs))
 
 -- ns is the list as the code asks for it, and ms as the layout has it
-module _ (ns ms : Slots) (same : ns ≡ ms) (n : ℕ) (many : length ms ≡ n) (d : ℕ) (s : List ℕ) (x : Opening) (h : MapIs (Here s 0) x)
-    (mode count size : ℕ) (is : x ≡ Opened mode count size) (p : List ℕ) (k : Spot) (asked : FirstIs ns d mode count (Here s size) p k) where
-  pub met : (t : Node Ends) (q : List ℕ) → Reads (suc d) s t q → Met ms n d (drop size s) p k t
+module _ (ns ms : Slots) (same : ns ≡ ms) (n : ℕ) (many : length ms ≡ n) (d : ℕ) (s : List ℕ) (x : Option Opening) (h : MapIs (Here s 0) x)
+    (op : Opening) (is : x ≡ Some op) (p : List ℕ) (k : Spot) (asked : FirstIs ns d op.mode op.count (Here s op.size) p k) where
+  pub met : (t : Node Ends) (q : List ℕ) → Reads (suc d) s t q → Met ms n d (drop op.size s) p k t
   met t q y =
-      let m = (opens.opened s x h mode count size is).trees d t q y in
-      let f : FirstIs ms d mode count (drop size s) p k = subst (λ u. FirstIs u d mode count (drop size s) p k) same (subst (λ u. FirstIs ns d mode count u p k) (part_to_end s size) asked) in
+      let m = (opens.opened s x h op is).trees d t q y in
+      let f : FirstIs ms d op.mode op.count (drop op.size s) p k = subst (λ u. FirstIs u d op.mode op.count (drop op.size s) p k) same (subst (λ u. FirstIs ns d op.mode op.count u p k) (part_to_end s op.size) asked) in
       let w = f m.pairs m.last m.due in
       record {
         pairs = m.pairs;

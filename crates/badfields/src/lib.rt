@@ -6,7 +6,8 @@ ghost use Rattle.keys.specs.Odd.{slots_at};
 ghost use Rattle.badfields.specs.Fields as is;
 ghost use Rattle.walk.specs.Places.{Modes};
 
-use spot::{Spot, at};
+use numbers::Refusal;
+use spot::{Spot, at, none};
 
 // Entries that begin s, counted as `walk::map` says, of a map at this level (keys::entries), whose keys and values have `left` levels left. The places of the
 // known fields are left in p.
@@ -24,10 +25,10 @@ pub fn first(
 {
     let odd = keys::entries(layout, level, left, &s[0..], mode, count, p);
     if odd.key != 0 {
-        return at(9, odd.key);
+        return at(Refusal::Key, odd.key);
     }
     if odd.again != 0 {
-        return at(11, odd.again);
+        return at(Refusal::Twice, odd.again);
     }
-    at(0, 0)
+    none()
 }

@@ -23,7 +23,6 @@ use Rattle.walk.specs.Places.{MapIs, Modes, EntryIs as TurnIs}
 use Rattle.walk.specs.declared.Entry.{Entry}
 use Rattle.walk.specs.declared.Entry.TheVariants.{End, Value}
 use Rattle.walk.specs.declared.Opening.{Opening}
-use Rattle.walk.specs.declared.Opening.TheVariants.{NotOpen, Opened}
 use Rattle.walk.proofs.ReadSays.{note-of}
 use Rattle.walk.proofs.Passed as walked
 use Rattle.walk.proofs.Passed.{Here, Passed}
@@ -47,6 +46,7 @@ use Rattle.badnames.specs.Keys.{ByNumber, Tells, utf8_steps, legible, NotedIf, K
 use Rattle.badnames.proofs.Firsts.{shown-here, broken-first, step_of, found_first}
 use Rattle.badnames.proofs.NameChecks.{keys-first, utf8-first, count-first, none-twice, no_copy, a_copy}
 use Rattle.badnames.proofs.Untested.{none-known}
+use Rattle.std.specs.Prelude.{Some, None, Option}
 
 abbrev pub keys_of : Tally → ℕ → ℕ → Keys
 keys_of t k x = record { tally = t; key = k; text = x }
@@ -210,16 +210,16 @@ module _ (s : List ℕ) (from levels n : ℕ) (keys : Keys) (left size : List �
 
 -- ---------------------------------------------------------------- the whole
 
-module _ (s : List ℕ) (x : Opening) (h : MapIs (Here s 0) x) (levels limit n : ℕ) {r : Spot} where
-  pub no-map : x ≡ NotOpen → r ≡ spot KIND (length s) → NamesAt levels s limit n r
+module _ (s : List ℕ) (x : Option Opening) (h : MapIs (Here s 0) x) (levels limit n : ℕ) {r : Spot} where
+  pub no-map : x ≡ None → r ≡ spot KIND (length s) → NamesAt levels s limit n r
   unfolding name_steps mapping_steps shown
   no-map e is t q reads by =
-      is ∙ sym ((rw (opens.opening s x h NotOpen e levels t q reads) refl) ∙ ap (λ (e : Ends). spot KIND (length e.start)) (note-of (suc levels) s t q reads))
+      is ∙ sym ((rw (opens.opening s x h None e levels t q reads) refl) ∙ ap (λ (e : Ends). spot KIND (length e.start)) (note-of (suc levels) s t q reads))
 
-  pub of_map : (mode count from : ℕ) → x ≡ Opened mode count from → {tested : Bool} → tested ≡ eqb n TEXT → (keys : Keys) (left size : List ℕ) → length left ≡ limit
-      → Walked tested levels mode count (Here s from) left size keys → Judged s from levels n keys left size r → NamesAt levels s limit n r
-  of_map mode count from is {tested} asked keys left size room walked judged t q reads =
-      let m = (opens.opened s x h mode count from is).trees levels t q reads in
-      let w : Kept (eqb n TEXT) (drop from s) left size keys m.pairs =
-      subst (λ b. Kept b (drop from s) left size keys m.pairs) asked (subst (λ u. Walked tested levels mode count u left size keys) (part_to_end s from) walked m.pairs m.last m.due) in
+  pub of_map : (op : Opening) → x ≡ Some op → {tested : Bool} → tested ≡ eqb n TEXT → (keys : Keys) (left size : List ℕ) → length left ≡ limit
+      → Walked tested levels op.mode op.count (Here s op.size) left size keys → Judged s op.size levels n keys left size r → NamesAt levels s limit n r
+  of_map op is {tested} asked keys left size room walked judged t q reads =
+      let m = (opens.opened s x h op is).trees levels t q reads in
+      let w : Kept (eqb n TEXT) (drop op.size s) left size keys m.pairs =
+      subst (λ b. Kept b (drop op.size s) left size keys m.pairs) asked (subst (λ u. Walked tested levels op.mode op.count u left size keys) (part_to_end s op.size) walked m.pairs m.last m.due) in
       subst (λ i. Tells n (first (name_steps i t)) r) room (judged m.pairs w t q reads m.kind-is)

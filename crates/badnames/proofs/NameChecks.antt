@@ -4,13 +4,13 @@ use native.Mathlib.Omega.{arith}
 use mathlib.Core.List.{List, [], ◌∷◌, ◌++◌, map}
 use mathlib.Core.Bool.{Bool, true, false, cond, not}
 use mathlib.Core.Option.{Option, none, some}
-use mathlib.Core.Path.{◌≡◌, refl, ap, ap₂, sym, ◌∙◌, subst}
+use mathlib.Core.Path.{◌≡◌, refl, ap, ap₂, sym, ◌∙◌}
 use lib.ListN.{length, take, length-map}
 use lib.Dec.{eqb, leb}
 use Rattle.meaning.specs.Tree.{Node, uint, nint, bytes, text, chunked_bytes, chunked_text, array, dict, tag, simple, float, Pair, note_of}
-use Rattle.meaning.specs.Check.{Check, pass, refuse, ◌>>=◌, ◌unless◌, fault, each}
+use Rattle.meaning.specs.Check.{pass, ◌unless◌, each}
 use Rattle.meaning.specs.Text.{all, utf8, distinct, one_of}
-use Rattle.meaning.specs.Refusal.{KIND, KEY, TEXT, COUNT, TWICE}
+use Rattle.meaning.specs.Refusal.{KEY, TEXT, COUNT, TWICE}
 use Rattle.meaning.specs.Model.{Word, Named}
 use Rattle.meaning.specs.Kind.{Kind, number, words, list, mapping, null, another, kind, a_mapping, as_mapping}
 use Rattle.meaning.specs.Field.{is_some, key_kind, key_of, name_kind, name_of}
@@ -21,7 +21,6 @@ use Rattle.naming.proofs.NamesJudged.{letters-of}
 use Rattle.explained.specs.Step
 use Rattle.explained.specs.Step.{Step, ◌at◌unless◌, first, every, given}
 use Rattle.explained.specs.Order.{mapping_steps, key_steps, same_name_steps, name_steps}
-use Rattle.explained.proofs.Agree.{Agree}
 use Rattle.explained.proofs.Repeat.{agree-same-names}
 use Rattle.explained.proofs.Why.{or_else, first-++, first_passes}
 use Rattle.names.specs.Names.{listed, Leading}

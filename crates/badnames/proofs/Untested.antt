@@ -9,7 +9,6 @@ use Rattle.meaning.specs.Tree.{Pair}
 use Rattle.meaning.specs.Text.{utf8}
 use Rattle.walk.specs.Reading.{Ends, Reads}
 use Rattle.walk.specs.declared.Letters.{Letters}
-use Rattle.walk.specs.declared.Letters.TheVariants.{NoText, Text}
 use Rattle.walk.specs.Places.{TextIs, Inside}
 use Rattle.walk.specs.Put.{put}
 use Rattle.walk.proofs.Passed.{Here}
@@ -18,6 +17,7 @@ use Rattle.naming.specs.NotedNames.{tally, Tallied, Noted}
 use Rattle.naming.specs.declared.Tally.{Tally}
 use Rattle.naming.proofs.NameNoted.{noted-odd, noted-good, noted-bad, inside}
 use Rattle.badnames.specs.Keys.{with_letters, Known, NotedIf}
+use Rattle.std.specs.Prelude.{Some, None, Option}
 
 module _ {m : List ℕ} {done : List (Pair Ends)} {t : Tally} {left size : List ℕ} where
   letters-tested : Tallied m done t left size → Tallied m done (with_letters t done) left size
@@ -40,18 +40,18 @@ none-known false h = record { tallied = h; badly = refl }
 as-put : (s : List ℕ) (t : Tally) (left size : List ℕ) {t' : Tally} {left₁ left₂ size₁ size₂ : List ℕ} → left₂ ≡ left₁ → size₂ ≡ size₁ → NotedIf false s t left size t' left₁ size₁ → NotedIf false s t left size t' left₂ size₂
 as-put s t left size b c h = rw (b, c) h
 
-pub letters-begin : (s : List ℕ) (v : Letters) (a n : ℕ) → Inside (Here s 0) v → v ≡ Text a n → a ≤ length s
+pub letters-begin : (s : List ℕ) (v : Option Letters) (a n : ℕ) → Inside (Here s 0) v → v ≡ Some (record { at = a; size = n }) → a ≤ length s
 letters-begin s v a n h e = let l = inside s v a n h e in omega arith
 
 -- s is lent whole to `walk::text`, which answered v
-module _ (s : List ℕ) (t : Tally) (left size : List ℕ) (v : Letters) (h : TextIs (Here s 0) v) where
-  pub unread-odd : v ≡ NoText → {left' size' : List ℕ} → left' ≡ put left t.count 0 → size' ≡ put size t.count 0 → NotedIf false s t left size (tally (t.count + 1) true t.bad) left' size'
+module _ (s : List ℕ) (t : Tally) (left size : List ℕ) (v : Option Letters) (h : TextIs (Here s 0) v) where
+  pub unread-odd : v ≡ None → {left' size' : List ℕ} → left' ≡ put left t.count 0 → size' ≡ put size t.count 0 → NotedIf false s t left size (tally (t.count + 1) true t.bad) left' size'
   unread-odd e b c = as-put s t left size b c (
     length-put left t.count 0,
     λ m at within is done d p r x y. record { tallied = letters-tested ((noted-odd s (with_letters t done) left size v h e).1 m at within is done d p r x y.tallied); badly = y.badly },
   )
 
-  module _ (lie : Inside (Here s 0) v) (a n : ℕ) (e : v ≡ Text a n) where
+  module _ (lie : Inside (Here s 0) v) (a n : ℕ) (e : v ≡ Some (record { at = a; size = n })) where
     fits : a + n ≤ length s
     fits = inside s v a n lie e
 

@@ -7,8 +7,13 @@ ghost use Rattle.badnames.specs.Keys as is;
 ghost use Rattle.walk.specs.Places.{Modes};
 
 use naming::Tally;
-use spot::{Spot, at};
+use numbers::Refusal;
+use spot::{Spot, at, none};
 use walk::{Entry, Letters, Opening};
+
+const TEXT: u64 = Refusal::Text as u64;
+
+const TWICE: u64 = Refusal::Twice as u64;
 
 // The tally of a map's keys; the bytes left at the first that isn't whole text, and at the first that isn't UTF-8, where the tally says that there is one.
 #[derive(Clone, Copy)]
@@ -34,7 +39,7 @@ fn unread(s: &[u8], t: Tally, left: &mut [usize], size: &mut [usize]) -> Tally
     ensures { is.NotedIf false s.now t left.old size.old result left.new size.new }
 {
     match walk::text(&s[0..]) {
-        Letters::NoText => {
+        None => {
             naming::put(left, t.count, 0);
             naming::put(size, t.count, 0);
             Tally {
@@ -43,7 +48,7 @@ fn unread(s: &[u8], t: Tally, left: &mut [usize], size: &mut [usize]) -> Tally
                 bad: t.bad,
             }
         }
-        Letters::Text(at, n) => {
+        Some(Letters { at, size: n }) => {
             naming::put(left, t.count, s.len() - at);
             naming::put(size, t.count, n);
             Tally {
@@ -132,10 +137,10 @@ fn repeated(
 {
     let k = names::leading(&s[from..], left, size, n, ix);
     if k == n {
-        return at(0, 0);
+        return none();
     }
     let e = entry::entry(s, levels, k);
-    at(11, e.key)
+    at(Refusal::Twice, e.key)
 }
 
 // Keys, UTF-8, count, repeats, of the map that begins s and has its entries `from` bytes on.
@@ -153,23 +158,24 @@ fn judged(
     ensures { is.Judged s.now from levels n keys left.now size.now result }
 {
     if keys.tally.odd {
-        return at(9, keys.key);
+        return at(Refusal::Key, keys.key);
     }
     if keys.tally.bad {
-        return at(10, keys.text);
+        return at(Refusal::Text, keys.text);
     }
     let count = keys.tally.count;
     if left.len() < count {
-        return at(15, s.len());
+        return at(Refusal::Count, s.len());
     }
-    if n != numbers::TWICE {
-        return at(0, 0);
+    if n != TWICE {
+        return none();
     }
     repeated(s, from, levels, count, left, size, ix)
 }
 
 // The map that begins s, whose keys and values have `levels` levels left. It may have as many names as left, size and ix have room for.
 // If a check breaks, n is its number.
+// By its number: a caller may give any, and document 02's notes name this function.
 pub fn named(
     s: &[u8],
     levels: u64,
@@ -181,10 +187,16 @@ pub fn named(
     requires { (length size.old ≡ length left.old) × (length left.old ≤ length ix.old) × (length left.old ≤ 65536) }
     ensures { is.NamesAt levels s.now (length left.old) n result }
 {
-    let tested = n == numbers::TEXT;
+    let tested = n == TEXT;
     match walk::map(&s[0..]) {
-        Opening::NotOpen => at(8, s.len()),
-        Opening::Opened(mode, count, from) => {
+        None => at(Refusal::Kind, s.len()),
+        Some(
+            Opening {
+                mode,
+                count,
+                size: from,
+            },
+        ) => {
             let keys = entries(&s[from..], levels, mode, count, tested, left, size);
             judged(s, from, levels, n, keys, left, size, ix)
         }

@@ -17,16 +17,15 @@ use Rattle.walk.specs.Reading.{Ends}
 use Rattle.component.specs.Value as value
 use Rattle.object.specs.Verdict.{Fields, Standing}
 use Rattle.explained.specs.Step.{Step, first}
-use Rattle.spot.specs.Shown.{spot}
 use Rattle.spot.specs.declared.Spot.{Spot}
 use Rattle.badvalues.specs.Steps as values
 use Rattle.badvalues.specs.Steps.{Alone, Known}
 use Rattle.badvalues.specs.declared.Valued.{Valued}
-use Rattle.badvalues.specs.declared.Valued.TheVariants.{Odd, Sound}
 use Rattle.badparts.specs.declared.Owned.{Owned}
 use Rattle.badparts.specs.Parts.{owned, part_steps, Fits, WithinIs}
 use Rattle.badobject.specs.Owner.{owned_of, rest_steps, ValuesAre}
 use Rattle.badobject.proofs.Missing.{alone-owned}
+use Rattle.std.specs.Prelude.{Ok, Err, Result}
 
 -- a code that is given is below 13
 given-low : (code a : ℕ) → value.given code ≡ some a → code < 13
@@ -58,17 +57,17 @@ fits-so layout s p f code st e = record {
     none_so none h e = let z : none ≡ value.given code = cc in sym z
     none_so (some d) h e = absurd (let z : ◌≡◌ {A = ℕ} 0 1 = cc in omega arith)
 
-module _ (layout : ℕ) (s : List ℕ) (start : ℕ) (p : List ℕ) (n c : ℕ) (v : Valued) (h : values.ValuesAre layout s p v) (r : Owned) where
+module _ (layout : ℕ) (s : List ℕ) (start : ℕ) (p : List ℕ) (n c : ℕ) (v : Result Valued Spot) (h : values.ValuesAre layout s p v) (r : Owned) where
   abbrev next : Fields → Option ℕ → List ℕ → Word Ends → List (Step Ends)
   next f d l m = part_steps (layout_of layout) start f.shape f.components d l m
 
-  pub odd : (k left : ℕ) → v ≡ Odd k left → (z : Spot) → z ≡ spot k left → r ≡ owned z 0 → ValuesAre layout s start p n c r
+  pub odd : (z : Spot) → v ≡ Err z → r ≡ owned z 0 → ValuesAre layout s start p n c r
   unfolding owned_of
-  odd k left e z i j f st x b nn cc' =
-      let a : Alone k left (first (rest_steps layout start f)) = subst (λ u. values.Answered (layout_of layout) f (next f) u) e (h f st (next f)) in
-      j ∙ ap (λ (u : Spot). owned u 0) i ∙ alone-owned k left (first (rest_steps layout start f)) a ∙ ap owned_of b
+  odd z e j f st x b nn cc' =
+      let a : Alone z.number z.left (first (rest_steps layout start f)) = subst (λ u. values.Answered (layout_of layout) f (next f) u) e (h f st (next f)) in
+      j ∙ alone-owned z.number z.left (first (rest_steps layout start f)) a ∙ ap owned_of b
 
-  pub sound : (code format : ℕ) → v ≡ Sound code format → WithinIs layout format code s start (get_or p 1 0) (get_or p 4 0) n c r → ValuesAre layout s start p n c r
+  pub sound : (code format : ℕ) → v ≡ Ok (record { code = code; format = format }) → WithinIs layout format code s start (get_or p 1 0) (get_or p 4 0) n c r → ValuesAre layout s start p n c r
   sound code format e w f st x b i j =
       let k : Known (layout_of layout) f code format (next f) = subst (λ u. values.Answered (layout_of layout) f (next f) u) e (h f st (next f)) in
       w f.shape f.components k.word k.shape st.shape.left_is st.components k.format-is (fits-so layout s p f code st k.code_is) x (sym k.goes_on ∙ b) i j

@@ -18,7 +18,6 @@ use Rattle.meaning.proofs.Tests.{not-both, both_left, both_right}
 use Rattle.walk.specs.Reading.{Ends, Reads}
 use Rattle.walk.specs.Places.{MapIs}
 use Rattle.walk.specs.declared.Opening.{Opening}
-use Rattle.walk.specs.declared.Opening.TheVariants.{NotOpen, Opened}
 use Rattle.walk.proofs.Passed.{Here}
 use Rattle.walk.proofs.Opens as opens
 use Rattle.fields.specs.Slots.{Holds}
@@ -49,6 +48,7 @@ use Rattle.badparts.specs.Parts.{owned, owned_by, rule_steps, part_steps}
 use Rattle.badobject.specs.Owner.{lacks, owned_of, rest_steps, ValuesAre, ObjectIs}
 use Rattle.badobject.proofs.Missing as gone
 use Rattle.badobject.proofs.Missing.{step_at, step-alone, alone-owned, entries-plain}
+use Rattle.std.specs.Prelude.{Some, None, Option as Optional}
 
 -- ---------------------------------------------------------------- is a needed field missing?
 
@@ -197,33 +197,33 @@ module _ (layout : ℕ) (start : ℕ) (s p : List ℕ) (t : Node Ends) (w : Word
 
 -- ---------------------------------------------------------------- whatever is read at s
 
-module _ (layout : ℕ) (s : List ℕ) (start n c : ℕ) (v : Opening) (h : MapIs (Here s 0) v) where
+module _ (layout : ℕ) (s : List ℕ) (start n c : ℕ) (v : Optional Opening) (h : MapIs (Here s 0) v) where
   -- told without a component
   alone : (k left : ℕ) (f : Option (Step Ends)) → Alone k left f → (z : Spot) → z ≡ spot k left → (r : Owned) → r ≡ owned z 0 → r ≡ owned_of f
   alone k left f a z i r j = j ∙ ap (λ (u : Spot). owned u 0) i ∙ alone-owned k left f a
 
-  pub not-map : v ≡ NotOpen → (z : Spot) → z ≡ spot 8 (length s) → (r : Owned) → r ≡ owned z 0 → ObjectIs layout s start n c r
+  pub not-map : v ≡ None → (z : Spot) → z ≡ spot 8 (length s) → (r : Owned) → r ≡ owned z 0 → ObjectIs layout s start n c r
   unfolding object_steps
   not-map e z i r j t q y w o x =
-      alone 8 (length s) _ (step-alone 8 (length s) t (whole_is 29 s t q y) _ (gone.no-map (layout_of layout).object t (opens.opening s v h NotOpen e 29 t q y) _)) z i r j
+      alone 8 (length s) _ (step-alone 8 (length s) t (whole_is 29 s t q y) _ (gone.no-map (layout_of layout).object t (opens.opening s v h None e 29 t q y) _)) z i r j
 
-  module _ (mode count size : ℕ) (e : v ≡ Opened mode count size) (p : List ℕ) (k : Spot) (f : FirstIs (slots_at layout 1) 29 mode count (Here s size) p k) where
-    met : (t : Node Ends) (q : List ℕ) → Reads 30 s t q → Met (layout_of layout).object 5 29 (drop size s) p k t
-    met = opened.met (slots_at layout 1) (layout_of layout).object (slots-of layout) 5 (layout_of layout).object_places 29 s v h mode count size e p k f
+  module _ (op : Opening) (e : v ≡ Some op) (p : List ℕ) (k : Spot) (f : FirstIs (slots_at layout 1) 29 op.mode op.count (Here s op.size) p k) where
+    met : (t : Node Ends) (q : List ℕ) → Reads 30 s t q → Met (layout_of layout).object 5 29 (drop op.size s) p k t
+    met = opened.met (slots_at layout 1) (layout_of layout).object (slots-of layout) 5 (layout_of layout).object_places 29 s v h op e p k f
 
     pub stops : (k.number ≡ 0 → ⊥) → (r : Owned) → r ≡ owned k 0 → ObjectIs layout s start n c r
     stops z r j t q y w o x =
-        alone k.number k.left _ (entries-stop layout start (drop size s) p t w k (met t q y) z) k refl r j
+        alone k.number k.left _ (entries-stop layout start (drop op.size s) p t w k (met t q y) z) k refl r j
 
     module _ (z : k.number ≡ 0) (b : Bool) (so : b ≡ lacks layout p) where
       pub lacks-one : b ≡ true → (u : Spot) → u ≡ spot 12 (length s) → (r : Owned) → r ≡ owned u 0 → ObjectIs layout s start n c r
       lacks-one g u i r j t q y w o x =
-          alone 12 (length s) _ (step-alone 12 (length s) t (whole_is 29 s t q y) _ (lacking layout start (drop size s) p t w k (met t q y) z (sym so ∙ g))) u i r j
+          alone 12 (length s) _ (step-alone 12 (length s) t (whole_is 29 s t q y) _ (lacking layout start (drop op.size s) p t w k (met t q y) z (sym so ∙ g))) u i r j
 
-      pub has_all : b ≡ false → (r : Owned) → ValuesAre layout (Here s size) start p n c r → ObjectIs layout s start n c r
+      pub has_all : b ≡ false → (r : Owned) → ValuesAre layout (Here s op.size) start p n c r → ObjectIs layout s start n c r
       unfolding owned_of
       has_all g r a t q y w o x =
           let d : Refused (object_steps (layout_of layout) start (record { name = w; value = t })) n o c = refused _ (judge.object (layout_of layout) start (record { name = w; value = t })) (agree-object (layout_of layout) start (record { name = w; value = t })) n o c x in
-          complete layout start (drop size s) p t w k (met t q y) z (sym so ∙ g) n c r
-          (subst (λ u. ValuesAre layout u start p n c r) (part_to_end s size) a) d.this d.shown d.number d.component
+          complete layout start (drop op.size s) p t w k (met t q y) z (sym so ∙ g) n c r
+          (subst (λ u. ValuesAre layout u start p n c r) (part_to_end s op.size) a) d.this d.shown d.number d.component
           ∙ ap owned_of (sym d.shown)

@@ -7,6 +7,7 @@ ghost use Rattle.badobject.specs.Owner as is;
 
 use badparts::{Owned, told};
 use badvalues::Valued;
+use numbers::Refusal;
 use walk::Opening;
 
 // An object's map, for `keys::entries`.
@@ -38,21 +39,22 @@ fn values(layout: u64, s: &[u8], start: u64, p: &[usize], n: u64, c: usize) -> O
     ensures { is.ValuesAre layout s.now start p.now n c result }
 {
     match badvalues::values(layout, s, p) {
-        Valued::Odd(k, left) => told(spot::at(k, left), 0),
-        Valued::Sound(code, format) => badparts::within(
+        Err(odd) => told(odd, 0),
+        Ok(Valued { code, format }) => badparts::within(
             layout, format, code, s, start, p[1], p[4], n, c,
         ),
     }
 }
 
 // The object that begins s, of a file whose manifest begins at `start`, refused with number n for component c.
+// By its number: a caller may give any, and document 02's notes name this function.
 pub fn object(layout: u64, s: &[u8], start: u64, n: u64, c: usize) -> Owned
     ensures { is.ObjectIs layout s.now start n c result }
 {
     let mut p = [0usize; 8];
     match walk::map(&s[0..]) {
-        Opening::NotOpen => told(spot::at(8, s.len()), 0),
-        Opening::Opened(mode, count, size) => {
+        None => told(spot::at(Refusal::Kind, s.len()), 0),
+        Some(Opening { mode, count, size }) => {
             let k = badfields::first(
                 layout,
                 OBJECT,
@@ -66,7 +68,7 @@ pub fn object(layout: u64, s: &[u8], start: u64, n: u64, c: usize) -> Owned
                 return told(k, 0);
             }
             if lacks(layout, &p) {
-                return told(spot::at(12, s.len()), 0);
+                return told(spot::at(Refusal::Missing, s.len()), 0);
             }
             values(layout, &s[size..], start, &p, n, c)
         }

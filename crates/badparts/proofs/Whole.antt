@@ -26,8 +26,6 @@ use Rattle.fields.specs.Slots.{Stands}
 use Rattle.component.specs.Value as value
 use Rattle.table.specs.Given.{offered}
 use Rattle.components.specs.Firsts.{FoundIs, ComponentsAre}
-use Rattle.components.specs.declared.Found.{Found}
-use Rattle.components.specs.declared.Found.TheVariants.{No, Yes}
 use Rattle.formats.specs.Parts.{part_rows}
 use Rattle.explained.specs.Step as steps
 use Rattle.explained.specs.Step.{Step, first, given, each_of}
@@ -48,6 +46,8 @@ use Rattle.badparts.specs.Parts.{owned, owned_by, rule_steps, part_steps, Inside
 use Rattle.badparts.proofs.Early.{each-low, names-plain}
 use Rattle.badparts.proofs.Alike.{given-alike}
 use Rattle.badparts.proofs.Blames.{blamed, picked, got}
+use Rattle.std.specs.Prelude.{Ok, Err, Result}
+use Rattle.numbers.specs.declared.fault.ObjectFault.{ObjectFault}
 
 -- ---------------------------------------------------------------- components that pass
 
@@ -66,7 +66,7 @@ listed L start above t cs e = go (names component_limit t) refl e
 
 -- ---------------------------------------------------------------- whose fault ROLE is
 
-module _ (layout format code : ℕ) (s : List ℕ) (start : ℕ) (found : Found) (rows : List ℕ) (h : ComponentsAre (offered layout format code) s start found rows) where
+module _ (layout format code : ℕ) (s : List ℕ) (start : ℕ) (found : Result ℕ ObjectFault) (rows : List ℕ) (h : ComponentsAre (offered layout format code) s start found rows) where
   found-is : (t : Node Ends) (f : Word Ends) (cs : List (Component Ends)) → Passing layout format code s start t f cs → FoundIs (pass cs) found rows
   found-is t f cs p =
       subst (λ k. FoundIs k found rows) p.pass-so
@@ -75,13 +75,13 @@ module _ (layout format code : ℕ) (s : List ℕ) (start : ℕ) (found : Found)
   same-list : {cs ds : List (Component Ends)} → ◌≡◌ {A = Check (List (Component Ends))} (pass cs) (pass ds) → ds ≡ cs
   same-list {cs} {ds} e = let z : cs ≡ ds = cc in sym z
 
-  pub none_found : (n c : ℕ) → found ≡ No n c → (b : Bool) → BlameIs layout format code s start b
-  none_found n c e b t f cs p = absurd (go (subst (λ k. FoundIs (pass cs) k rows) e (found-is t f cs p)))
+  pub none_found : (k : ObjectFault) → found ≡ Err k → (b : Bool) → BlameIs layout format code s start b
+  none_found n e b t f cs p = absurd (go (subst (λ k. FoundIs (pass cs) k rows) e (found-is t f cs p)))
     where
-      go : FoundIs (pass cs) (No n c) rows → ⊥
+      go : FoundIs (pass cs) (Err n) rows → ⊥
       go k = let y = k.1 in let z : ◌≡◌ {A = ℕ} 0 1 = cc in omega arith
 
-  module _ (m : ℕ) (e : found ≡ Yes m) where
+  module _ (m : ℕ) (e : found ≡ Ok m) where
     pub too_many : 16 < m → (b : Bool) → BlameIs layout format code s start b
     too_many l b t f cs p = let k = subst (λ k. FoundIs (pass cs) k rows) e (found-is t f cs p) in let y = k.3 in absurd (omega (arith, y, l))
 
@@ -133,22 +133,12 @@ module _ (layout format code : ℕ) (s : List ℕ) (start c : ℕ) (r : Owned) w
       let w = (rule-is t f cs p shape dims n x y).rank (y.number ∙ is) in
       k ∙ ap (λ (u : Spot). owned u 0) (e ∙ ap (spot 21) left) ∙ owns 21 x (y.number ∙ is) (note_of shape) w.0 none w.1
 
-  -- a number from 21 to 23 that is neither 21 nor 22
-  three : (n : ℕ) → 21 ≤ n → n ≤ 23 → (n ≡ 21 → ⊥) → (n ≡ 22 → ⊥) → n ≡ 23
-  three n a b c d = go (ltb n 22) refl (ltb n 23) refl
-    where
-      go : (x : Bool) → ltb n 22 ≡ x → (y : Bool) → ltb n 23 ≡ y → n ≡ 23
-      go true e y f = let k = ltb-true n 22 e in absurd (c (omega (arith, k, a)))
-      go false e true f = let k = ltb-false n 22 e in let l = ltb-true n 23 f in absurd (d (omega (arith, k, l)))
-      go false e false f = let l = ltb-false n 23 f in omega (arith, l, b)
-
   -- its length
-  pub length-shows : (n : ℕ) → (n ≡ 21 → ⊥) → (n ≡ 22 → ⊥) → LengthIs layout s c r → (a : ℕ) → RuledIs layout format code s start a n c r
+  pub length-shows : (n : ℕ) → n ≡ 23 → LengthIs layout s c r → (a : ℕ) → RuledIs layout format code s start a n c r
   unfolding owned_by
-  length-shows n no21 no22 h a t f cs p shape left dims x l y =
+  length-shows n is-length h a t f cs p shape left dims x l y =
       let i = rule-is t f cs p shape dims n x y in
-      let m = i.most in let q = y.number in
-      let is : x.number ≡ 23 = q ∙ three n l (let z : n ≤ 23 = omega (arith, m, q) in z) no21 no22 in
+      let is : x.number ≡ 23 = y.number ∙ is-length in
       let w = i.length is in
       let o = owner t f cs p shape dims n x y w.2 in
       let place : x.place ≡ length_note (layout_of layout) o.0 = w.0 ∙ ap (λ (j : ℕ). get_or (map (length_note (layout_of layout)) (ns t f cs p)) j (note_of t)) y.component ∙ got (length_note (layout_of layout)) (note_of t) (ns t f cs p) c o.0 o.1 in
@@ -192,6 +182,15 @@ module _ (layout format code : ℕ) (s : List ℕ) (start c : ℕ) (r : Owned) w
       h t f cs p shape dims x (record { breaks = y.breaks; number = y.number ∙ is; component = y.component })
 
 -- ---------------------------------------------------------------- names, components, rules
+
+-- a number from 21 to 23 that is neither 21 nor 22
+three : (n : ℕ) → 21 ≤ n → n ≤ 23 → (n ≡ 21 → ⊥) → (n ≡ 22 → ⊥) → n ≡ 23
+three n a b c d = go (ltb n 22) refl (ltb n 23) refl
+  where
+    go : (x : Bool) → ltb n 22 ≡ x → (y : Bool) → ltb n 23 ≡ y → n ≡ 23
+    go true e y f = let k = ltb-true n 22 e in absurd (c (omega (arith, k, a)))
+    go false e true f = let k = ltb-false n 22 e in let l = ltb-true n 23 f in absurd (d (omega (arith, k, l)))
+    go false e false f = let l = ltb-false n 23 f in omega (arith, l, b)
 
 -- a check of a component
 inner-owned : (y x : Step Ends) (j : ℕ) (it : Named Ends) → x ≡ steps.in_component j (some it.name) y → owned (shown (some y)) (length it.name.note.start) ≡ owned_by x
@@ -269,24 +268,24 @@ module _ (layout format code : ℕ) (s : List ℕ) (start a b n c : ℕ) (from :
 
     -- a rule: its number is high
     rule-late : (shape t : Node Ends) (f : Word Ends) (dims : List ℕ) (x : Step Ends) → first (rules_of shape t dims f) ≡ some x
-        → (cs : List (Component Ends)) × (components_of (layout_of layout) start (above f) t ≡ pass cs) × (first (rule_steps (layout_of layout) shape t dims f cs) ≡ some x) × (21 ≤ x.number)
+        → (cs : List (Component Ends)) × (components_of (layout_of layout) start (above f) t ≡ pass cs) × (first (rule_steps (layout_of layout) shape t dims f cs) ≡ some x) × (21 ≤ x.number) × (x.number ≤ 23)
     unfolding rule_steps
     rule-late shape t f dims x e = go (components_of (layout_of layout) start (above f) t) refl e
       where
         go : (k : Check (List (Component Ends))) → components_of (layout_of layout) start (above f) t ≡ k → first (steps.◌>>=◌ (given k) (rule_steps (layout_of layout) shape t dims f)) ≡ some x
-            → (cs : List (Component Ends)) × (components_of (layout_of layout) start (above f) t ≡ pass cs) × (first (rule_steps (layout_of layout) shape t dims f cs) ≡ some x) × (21 ≤ x.number)
+            → (cs : List (Component Ends)) × (components_of (layout_of layout) start (above f) t ≡ pass cs) × (first (rule_steps (layout_of layout) shape t dims f cs) ≡ some x) × (21 ≤ x.number) × (x.number ≤ 23)
         go (refuse p q r) h e = absurd (let w : ◌≡◌ {A = ℕ} 0 1 = cc in omega arith)
-        go (pass cs) h e = (cs, h, e, (each_first (rules.format-ruled (layout_of layout) (note_of shape) (note_of t) dims (all_of (names component_limit t)) (map part cs) f.letters) x e).late)
+        go (pass cs) h e = let y = each_first (rules.format-ruled (layout_of layout) (note_of shape) (note_of t) dims (all_of (names component_limit t)) (map part cs) f.letters) x e in (cs, h, e, y.late, y.most)
 
-    pub in-component : n < 21 → (r : Owned) → InsideIs layout code (Here s from) start c r → WithinIs layout format code s start a b n c r
+    pub in-component : (n ≡ 21 → ⊥) → (n ≡ 22 → ⊥) → (n ≡ 23 → ⊥) → (r : Owned) → InsideIs layout code (Here s from) start c r → WithinIs layout format code s start a b n c r
     unfolding or_else
-    in-component l r h shape t f dims left st fm fits x e i j = go (first (parts_of f (named t is).0)) refl (sym (past-names shape t f dims is) ∙ e)
+    in-component no21 no22 no23 r h shape t f dims left st fm fits x e i j = go (first (parts_of f (named t is).0)) refl (sym (past-names shape t f dims is) ∙ e)
       where
         is : z ≡ shown (first (name_steps component_limit t))
         is = names-are shape t f dims x e i st
 
         go : (o : Option (Step Ends)) → first (parts_of f (named t is).0) ≡ o → or_else o (first (rules_of shape t dims f)) ≡ some x → r ≡ owned_by x
-        go none k e = let y = (rule-late shape t f dims x e).3 in absurd (omega (arith, y, i, l))
+        go none k e = let y = rule-late shape t f dims x e in let u = y.3 in let w = y.4 in absurd (no23 (three n (omega (arith, u, i)) (omega (arith, w, i)) no21 no22))
         go (some y) k e =
             let v : y ≡ x = cc in
             let w = blamed (λ m. component_steps (layout_of layout) start (above f m.name.letters) m) 0 (named t is).0 x (k ∙ ap some v) in
@@ -294,7 +293,7 @@ module _ (layout format code : ℕ) (s : List ℕ) (start a b n c : ℕ) (from :
             ∙ ap (λ u. owned (shown u) (length w.it.name.note.start)) (ap first (sym (given-alike layout code fits start f.letters w.it)) ∙ w.breaks)
             ∙ inner-owned w.inner x x.component w.it w.is
 
-    pub by-rule : 21 ≤ n → (r : Owned) → RuledIs layout format code (Here s from) start a n c r → WithinIs layout format code s start a b n c r
+    by-rule : 21 ≤ n → (r : Owned) → RuledIs layout format code (Here s from) start a n c r → WithinIs layout format code s start a b n c r
     unfolding or_else
     by-rule l r h shape t f dims left st fm fits x e i j = go (first (parts_of f (named t is).0)) refl (sym (past-names shape t f dims is) ∙ e)
       where
@@ -309,3 +308,12 @@ module _ (layout format code : ℕ) (s : List ℕ) (start a b n c : ℕ) (from :
         go none k e =
             let y = rule-late shape t f dims x e in
             h t f y.0 (record { rest = st.rest; reads = there t st; format-is = fm; fits = fits; pass-so = y.1 }) shape left dims x l (record { breaks = y.2; number = i; component = j })
+
+    pub by-rank : n ≡ 21 → (y : Spot) → y ≡ spot 21 a → (r : Owned) → r ≡ owned y 0 → WithinIs layout format code s start a b n c r
+    by-rank is y e r k = by-rule (omega (arith, is)) r (rank-shows layout format code (Here s from) start c r a y e k n is)
+
+    pub by-role : n ≡ 22 → (r : Owned) → RoleIs layout format code (Here s from) start c r → WithinIs layout format code s start a b n c r
+    by-role is r h = by-rule (omega (arith, is)) r (role-ruled layout format code (Here s from) start c r n is h a)
+
+    pub by-length : n ≡ 23 → (r : Owned) → LengthIs layout (Here s from) c r → WithinIs layout format code s start a b n c r
+    by-length is r h = by-rule (omega (arith, is)) r (length-shows layout format code (Here s from) start c r n is h a)

@@ -6,10 +6,16 @@ ghost use Rattle.std.specs.Prelude.{◌≡◌};
 ghost use Rattle.badnames.specs.Keys.{NamesAt};
 ghost use Rattle.badparts.specs.Parts as is;
 
-use components::Found;
 use fields::place_of;
+use numbers::Refusal;
 use spot::Spot;
 use table::Place;
+
+const RANK: u64 = Refusal::Rank as u64;
+
+const ROLE: u64 = Refusal::Role as u64;
+
+const LENGTH: u64 = Refusal::Length as u64;
 
 // A spot, and the bytes left at the name of the component that it belongs to, 0 for none.
 #[derive(Clone, Copy)]
@@ -48,7 +54,7 @@ fn at_value(s: &[u8], c: usize) -> Owned
     ensures { is.ValueIs s.now c result }
 {
     let e = entry::entry(s, numbers::IN_COMPONENTS, c);
-    told(spot::at(22, e.value), e.key)
+    told(spot::at(Refusal::Role, e.value), e.key)
 }
 
 // LENGTH, at that of component c of the map that begins s.
@@ -58,7 +64,7 @@ fn at_length(layout: u64, s: &[u8], c: usize) -> Owned
     let e = entry::entry(s, numbers::IN_COMPONENTS, c);
     let v = place_of(s.len(), e.value);
     told(
-        spot::at(23, badcomponent::length_at(layout, &s[v..])),
+        spot::at(Refusal::Length, badcomponent::length_at(layout, &s[v..])),
         e.key,
     )
 }
@@ -78,8 +84,8 @@ fn to_blame(layout: u64, format: u64, code: u64, s: &[u8], start: u64) -> bool
     let w = components::components(layout, format, code, s, start, to, &mut rows, &mut none);
     let found = w.found;
     match found {
-        Found::No(_, _) => false,
-        Found::Yes(m) => {
+        Err(_) => false,
+        Ok(m) => {
             if 16 < m {
                 return false;
             }
@@ -96,32 +102,11 @@ fn role(layout: u64, format: u64, code: u64, s: &[u8], start: u64, c: usize) -> 
     if to_blame(layout, format, code, s, start) {
         return at_value(s, c);
     }
-    told(spot::at(22, s.len()), 0)
-}
-
-// The rule with number n, of component c; the shape has `a` bytes left.
-fn ruled(
-    layout: u64,
-    format: u64,
-    code: u64,
-    s: &[u8],
-    start: u64,
-    a: usize,
-    n: u64,
-    c: usize,
-) -> Owned
-    ensures { is.RuledIs layout format code s.now start a n c result }
-{
-    if n == numbers::RANK {
-        return told(spot::at(21, a), 0);
-    }
-    if n == numbers::ROLE {
-        return role(layout, format, code, s, start, c);
-    }
-    at_length(layout, s, c)
+    told(spot::at(Refusal::Role, s.len()), 0)
 }
 
 // Of an object that is refused with number n for component c, its values up to its attributes sound: its shape has `a` bytes of s left, its components b.
+// By its number: a caller may give any, and document 02's notes name this function.
 pub fn within(
     layout: u64,
     format: u64,
@@ -140,8 +125,14 @@ pub fn within(
     if z.number != 0 {
         return told(z, 0);
     }
-    if n < 21 {
-        return inside(layout, code, &s[from..], start, c);
+    if n == RANK {
+        return told(spot::at(Refusal::Rank, a), 0);
     }
-    ruled(layout, format, code, &s[from..], start, a, n, c)
+    if n == ROLE {
+        return role(layout, format, code, &s[from..], start, c);
+    }
+    if n == LENGTH {
+        return at_length(layout, &s[from..], c);
+    }
+    inside(layout, code, &s[from..], start, c)
 }

@@ -1,13 +1,12 @@
 -- The order of a manifest's checks is the opening's, then the objects' own: if a check of the opening breaks, it is the manifest's; if none does, the objects' names pass and the first that breaks
 -- is an object's.
 use Prim.Native.Nat.{ℕ}
-use mathlib.Core.List.{List, [], ◌∷◌, ◌++◌, append_assoc}
-use mathlib.Core.Bool.{Bool, true, false, cond}
+use mathlib.Core.List.{List, ◌++◌, append_assoc}
 use mathlib.Core.Option.{Option, none, some}
-use mathlib.Core.Path.{◌≡◌, refl, ap, sym, ◌∙◌, subst}
+use mathlib.Core.Path.{◌≡◌, refl, ap, sym, ◌∙◌}
 use native.Mathlib.Omega.{arith}
 use Rattle.meaning.specs.Tree.{Node, Pair}
-use Rattle.meaning.specs.Check.{Check, pass, refuse, fault}
+use Rattle.meaning.specs.Check.{Check, pass, refuse}
 use Rattle.meaning.specs.Limit.{object_limit}
 use Rattle.meaning.specs.Model.{Named}
 use Rattle.meaning.specs.Kind.{Kind, number, words, list, mapping, null, another, kind, a_mapping, as_mapping}

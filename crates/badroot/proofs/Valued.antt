@@ -19,7 +19,6 @@ use Rattle.meaning.specs.Judge.{attributes_of, a_version}
 use Rattle.walk.specs.Reading.{Ends, Reads}
 use Rattle.walk.specs.Places.{TextIs}
 use Rattle.walk.specs.declared.Letters.{Letters}
-use Rattle.walk.specs.declared.Letters.TheVariants.{NoText, Text}
 use Rattle.walk.proofs.Passed.{Here}
 use Rattle.walk.proofs.ReadSays.{note-of}
 use Rattle.fields.specs.Attributes.{AttributesAt}
@@ -36,20 +35,21 @@ use Rattle.badnames.specs.Keys.{Tells, NamesAt}
 use Rattle.spot.specs.Shown.{spot, shown}
 use Rattle.spot.specs.declared.Spot.{Spot}
 use Rattle.badroot.specs.Opening.{later_steps, value_steps, VersionIs, Stood, LaterIs, ValuesIs}
+use Rattle.std.specs.Prelude.{Some, None, Option as Optional}
 
 -- ---------------------------------------------------------------- the version
 
 -- s is lent whole to `walk::text`, which answered l
-module _ (s : List ℕ) (l : Letters) (h : TextIs (Here s 0) l) where
+module _ (s : List ℕ) (l : Optional Letters) (h : TextIs (Here s 0) l) where
   shown_by : (d : ℕ) (t : Node Ends) (q : List ℕ) → Reads (suc d) s t q → (m : Check (Unit {0})) → a_version t ≡ m → spot_of (length s) m ≡ shown (first (version_steps t))
   shown_by d t q r m e =
       sym (value-shown one-version agree-version (length s) t (sym (ap (λ (x : Ends). length x.start) (note-of (suc d) s t q r))) ∙ ap (spot_of (length s)) e)
 
-  pub no_text : {r : Spot} → l ≡ NoText → r ≡ spot KIND (length s) → VersionIs s r
+  pub no_text : {r : Spot} → l ≡ None → r ≡ spot KIND (length s) → VersionIs s r
   unfolding a_version
   no_text e is d t q reads = is ∙ shown_by d t q reads (fault KIND) (rw (no_word s l h e d t q reads) refl)
 
-  module _ (from n : ℕ) (e : l ≡ Text from n) {b : Bool} (shaped : b ≡ version_shape (letters s l h from n e)) where
+  module _ (from n : ℕ) (e : l ≡ Some (record { at = from; size = n })) {b : Bool} (shaped : b ≡ version_shape (letters s l h from n e)) where
     pub no-version : {r : Spot} → b ≡ false → r ≡ spot VERSION (length s) → VersionIs s r
     unfolding a_version
     no-version y is d t q reads = is ∙ shown_by d t q reads (fault VERSION) (rw (word s l h from n e d t q reads) (rw (← shaped, y) refl))

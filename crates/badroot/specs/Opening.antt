@@ -1,6 +1,6 @@
 -- Document 01's order up to and with the objects' names, with the places that request 08 asks for; and what is answered about a root.
-use Rattle.std.specs.Prelude.{ℕ, suc, ◌<◌, List, [], ◌++◌, map, ◌≡◌, length, get_or}
-use Rattle.std.proofs.Math.Option.{Option, none, some}
+use Rattle.std.specs.Prelude.{ℕ, ◌<◌, List, map, ◌≡◌, length, get_or}
+use Rattle.std.proofs.Math.Option.{some}
 use Rattle.meaning.specs.Tree.{Node, Pair, note_of}
 use Rattle.meaning.specs.Check.{pass}
 use Rattle.meaning.specs.Limit.{object_limit}

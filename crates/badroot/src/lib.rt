@@ -9,7 +9,8 @@ ghost use Rattle.badnames.specs.Keys.{NamesAt};
 ghost use Rattle.badroot.specs.Opening as is;
 
 use fields::place_of;
-use spot::{Spot, at};
+use numbers::Refusal;
+use spot::{Spot, at, none};
 use walk::{Letters, Opening};
 
 // The first check that breaks, and the place of the objects.
@@ -24,16 +25,16 @@ fn version(s: &[u8]) -> Spot
     ensures { is.VersionIs s.now result }
 {
     match walk::text(&s[0..]) {
-        Letters::NoText => at(8, s.len()),
-        Letters::Text(from, n) => {
+        None => at(Refusal::Kind, s.len()),
+        Some(Letters { at: from, size: n }) => {
             let e = from + n;
             if versions::version_shape(&s[from..e]) {
                 if versions::major_one(&s[from..e]) {
-                    return at(0, 0);
+                    return none();
                 }
-                return at(14, s.len());
+                return at(Refusal::Major, s.len());
             }
-            at(13, s.len())
+            at(Refusal::Version, s.len())
         }
     }
 }
@@ -54,10 +55,10 @@ fn later(s: &[u8], p: &[usize], whole: usize, n: u64) -> Spot
     ensures { is.LaterIs s.now p.now whole n result }
 {
     if !fields::attributes(s, p[1]) {
-        return at(8, p[1]);
+        return at(Refusal::Kind, p[1]);
     }
     if p[2] == 0 {
-        return at(12, whole);
+        return at(Refusal::Missing, whole);
     }
     let o = place_of(s.len(), p[2]);
     names(&s[o..], n)
@@ -69,7 +70,7 @@ fn values(s: &[u8], p: &[usize], whole: usize, n: u64) -> Spot
     ensures { is.ValuesIs s.now p.now whole n result }
 {
     if p[0] == 0 {
-        return at(12, whole);
+        return at(Refusal::Missing, whole);
     }
     let v = place_of(s.len(), p[0]);
     let r = version(&s[v..]);
@@ -80,16 +81,17 @@ fn values(s: &[u8], p: &[usize], whole: usize, n: u64) -> Spot
 }
 
 // The root that begins s.
+// By its number: a caller may give any, and document 02's notes name this function.
 pub fn root(layout: u64, s: &[u8], n: u64) -> Rooted
     ensures { is.RootIs (layout_of layout) s.now n result.spot × is.ObjectsAt (layout_of layout) s.now result.objects }
 {
     let mut p = [0usize; 6];
     match walk::map(&s[0..]) {
-        Opening::NotOpen => Rooted {
-            spot: at(8, s.len()),
+        None => Rooted {
+            spot: at(Refusal::Kind, s.len()),
             objects: 0,
         },
-        Opening::Opened(mode, count, size) => {
+        Some(Opening { mode, count, size }) => {
             let k = badfields::first(layout, 0, numbers::IN_ROOT, &s[size..], mode, count, &mut p);
             let objects = p[2];
             if k.number != 0 {
@@ -112,8 +114,8 @@ pub fn objects(layout: u64, s: &[u8]) -> usize
 {
     let mut p = [0usize; 6];
     match walk::map(&s[0..]) {
-        Opening::NotOpen => 0,
-        Opening::Opened(mode, count, size) => {
+        None => 0,
+        Some(Opening { mode, count, size }) => {
             badfields::first(layout, 0, numbers::IN_ROOT, &s[size..], mode, count, &mut p);
             p[2]
         }

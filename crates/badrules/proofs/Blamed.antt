@@ -1,8 +1,8 @@
 -- ROLE: the index role's component, where one is to blame, else the components' map.
-use Prim.Native.Nat.{ℕ, ◌+◌, ◌*◌, ◌<◌}
-use mathlib.Core.List.{List, [], ◌∷◌, ◌++◌, map}
+use Prim.Native.Nat.{ℕ, ◌<◌}
+use mathlib.Core.List.{List, [], ◌++◌, map}
 use mathlib.Core.Bool.{Bool, true, false, cond, not}
-use mathlib.Core.Option.{Option, none, some}
+use mathlib.Core.Option.{none, some}
 use mathlib.Core.Path.{◌≡◌, refl, ap, sym, ◌∙◌, subst}
 use native.Mathlib.Omega.{arith}
 use lib.ListN.{length, get_or}
@@ -11,9 +11,9 @@ use borrow.Author.Tests.{eqb-true}
 use Rattle.meaning.specs.Tree.{note_of}
 use Rattle.meaning.specs.Text.{ascii, same}
 use Rattle.meaning.specs.Check.{Check, pass, refuse}
-use Rattle.meaning.specs.Model.{Word, Named}
+use Rattle.meaning.specs.Model.{Named}
 use Rattle.meaning.specs.Layouts.{Layout}
-use Rattle.meaning.specs.Format.{Part, Role, role, unit, plain, whole}
+use Rattle.meaning.specs.Format.{Part, Role, role, plain, whole}
 use Rattle.types.specs.Known.{position, format_names, role_names}
 use Rattle.types.proofs.Tell.{place-tells}
 use Rattle.formats.specs.Parts.{role_name}

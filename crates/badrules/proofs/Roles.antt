@@ -8,29 +8,29 @@ use borrow.Author.Tests.{eq-eqb, ne_eqb}
 use Rattle.meaning.specs.Format.{Part, plain}
 use Rattle.formats.specs.Parts.{flag, part_rows, role_name, RoleIs}
 use Rattle.formats.specs.declared.Filled.{Filled}
-use Rattle.formats.specs.declared.Filled.TheVariants.{Absent, At}
 use Rattle.badrules.specs.Blame.{not_plain, there, odd, of_csr, blames}
+use Rattle.std.specs.Prelude.{Some, None, Option}
 
-module _ (parts n : List ℕ) (r : Filled) (h : (cs : List Part) → parts ≡ part_rows cs → RoleIs n cs r) where
-  is : (q : Filled) → r ≡ q → (cs : List Part) → parts ≡ part_rows cs → RoleIs n cs q
+module _ (parts n : List ℕ) (r : Option Filled) (h : (cs : List Part) → parts ≡ part_rows cs → RoleIs n cs r) where
+  is : (q : Option Filled) → r ≡ q → (cs : List Part) → parts ≡ part_rows cs → RoleIs n cs q
   is q e cs k = rw e at h cs k
 
-  pub not_there : r ≡ Absent → (cs : List Part) → parts ≡ part_rows cs → false ≡ there n cs
+  pub not_there : r ≡ None → (cs : List Part) → parts ≡ part_rows cs → false ≡ there n cs
   unfolding there
-  not_there e cs k = rw (is Absent e cs k) refl
+  not_there e cs k = rw (is None e cs k) refl
 
-  pub not-odd : r ≡ Absent → (cs : List Part) → parts ≡ part_rows cs → false ≡ odd n cs
+  pub not-odd : r ≡ None → (cs : List Part) → parts ≡ part_rows cs → false ≡ odd n cs
   unfolding odd
-  not-odd e cs k = rw (is Absent e cs k) refl
+  not-odd e cs k = rw (is None e cs k) refl
 
-  module _ (i u p s : ℕ) (e : r ≡ At i u p s) where
+  module _ (f : Filled) (e : r ≡ Some f) where
     pub is-there : (cs : List Part) → parts ≡ part_rows cs → true ≡ there n cs
     unfolding there
-    is-there cs k = rw (is (At i u p s) e cs k).1 refl
+    is-there cs k = rw (is (Some f) e cs k).1 refl
 
-    pub is_odd : (cs : List Part) → parts ≡ part_rows cs → not (eqb p 1) ≡ odd n cs
+    pub is_odd : (cs : List Part) → parts ≡ part_rows cs → not (eqb f.plain 1) ≡ odd n cs
     unfolding odd
-    is_odd cs k = let x = is (At i u p s) e cs k in ap (λ (q : ℕ). not (eqb q 1)) x.3 ∙ go (plain x.0) ∙ sym (ap not_plain x.1)
+    is_odd cs k = let x = is (Some f) e cs k in ap (λ (q : ℕ). not (eqb q 1)) x.3 ∙ go (plain x.0) ∙ sym (ap not_plain x.1)
       where
         go : (b : Bool) → not (eqb (flag b) 1) ≡ not b
         go true = refl

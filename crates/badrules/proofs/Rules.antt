@@ -1,23 +1,19 @@
 -- What every check of a format's rules shows: RANK the shape, LENGTH the length of the role's component.
-use Prim.Native.Nat.{ℕ, suc, ◌+◌, ◌*◌, ◌≤◌, ◌<◌}
-use mathlib.Core.List.{List, [], ◌∷◌, ◌++◌, map}
+use Prim.Native.Nat.{ℕ, suc, ◌+◌, ◌≤◌, ◌<◌}
+use mathlib.Core.List.{List, [], ◌∷◌, map}
 use mathlib.Core.Bool.{Bool, true, false, cond}
 use mathlib.Core.Option.{Option, none, some}
-use mathlib.Core.Path.{◌≡◌, refl, ap, sym, ◌∙◌}
+use mathlib.Core.Path.{◌≡◌, refl, ap}
 use native.Mathlib.Omega.{arith}
 use lib.ListN.{length, get_or}
-use lib.Dec.{eqb}
-use Rattle.meaning.specs.Tree.{note_of}
 use Rattle.meaning.specs.Text.{ascii, same}
 use Rattle.meaning.specs.Check.{Check, pass, refuse}
-use Rattle.meaning.specs.Types.{product}
 use Rattle.meaning.specs.Model.{Word, Named}
 use Rattle.meaning.specs.Layouts.{Layout}
-use Rattle.meaning.specs.Format.{Part, Role, role, unit, plain, whole}
+use Rattle.meaning.specs.Format.{Part, Role, role, whole}
 use Rattle.explained.specs.Step as steps
-use Rattle.explained.specs.Step.{Step, first, given, passes}
+use Rattle.explained.specs.Step.{Step, given}
 use Rattle.explained.specs.Order.{length_note, of_role, role_steps, plain_steps, length_steps, dense_steps, csr_steps, coo_steps, group_steps, format_steps}
-use Rattle.explained.specs.Lengths.{elements_fit, whole_fits, indices_fit}
 use Rattle.badfields.proofs.Firsts.{Each, no_more, and_so, each-++, each-found}
 
 -- a role is filled by one of the components

@@ -14,8 +14,8 @@ fn there(parts: &[u64], code: u64) -> bool
     ensures { (cs : List Part) → parts.now ≡ part_rows cs → result ≡ is.there (role_name code) cs }
 {
     match role_of(parts, code) {
-        Filled::Absent => false,
-        Filled::At(_, _, _, _) => true,
+        None => false,
+        Some(_) => true,
     }
 }
 
@@ -25,8 +25,8 @@ fn odd(parts: &[u64], code: u64) -> bool
     ensures { (cs : List Part) → parts.now ≡ part_rows cs → result ≡ is.odd (role_name code) cs }
 {
     match role_of(parts, code) {
-        Filled::Absent => false,
-        Filled::At(_, _, plain, _) => plain != 1,
+        None => false,
+        Some(Filled { plain, .. }) => plain != 1,
     }
 }
 

@@ -3,9 +3,8 @@ use Prim.Native.Nat.{ℕ, suc, ◌+◌, ◌-◌, ◌≤◌, ◌<◌}
 use native.Mathlib.Omega.{arith}
 use mathlib.Core.List.{List, [], ◌∷◌, ◌++◌}
 use mathlib.Core.Bool.{Bool, true, false}
-use mathlib.Core.Option.{Option, none, some}
 use mathlib.Core.Path.{◌≡◌, refl, ap, sym, ◌∙◌, subst}
-use lib.ListN.{length, take, drop, length-drop}
+use lib.ListN.{length, drop, length-drop}
 use lib.Seq.{drop-drop}
 use lib.Dec.{leb}
 use borrow.Author.Tests.{le-leb, lt-leb}
@@ -18,14 +17,11 @@ use Rattle.meaning.specs.Kind as kinds
 use Rattle.meaning.specs.Kind.{a_number, a_list}
 use Rattle.meaning.specs.Read.{item, no_note}
 use Rattle.meaning.proofs.ReadPrefix.{item-exact, item-hungry}
-use Rattle.cbor.specs.Ending.{FAULT, code, item_end, took}
+use Rattle.cbor.specs.Ending.{FAULT, code, item_end}
 use Rattle.cbor.proofs.Loops as loops
 use Rattle.walk.specs.Reading.{Ends, Reads, DueNodes}
 use Rattle.walk.specs.Places.{ListIs, NumberIs, numeral, MoreIs, is_any}
 use Rattle.walk.specs.declared.Opening.{Opening}
-use Rattle.walk.specs.declared.Opening.TheVariants.{NotOpen, Opened}
-use Rattle.walk.specs.declared.Numeral.{Numeral}
-use Rattle.walk.specs.declared.Numeral.TheVariants.{NoNumber, Number}
 use Rattle.walk.proofs.Lists.{none_read, past-node}
 use Rattle.walk.proofs.Passed.{Here}
 use Rattle.walk.proofs.ReadSays.{note-of}
@@ -37,6 +33,7 @@ use Rattle.explained.proofs.Why.{or_else, first-++}
 use Rattle.spot.specs.Shown.{spot, shown}
 use Rattle.spot.specs.declared.Spot.{Spot}
 use Rattle.badshape.specs.Steps.{ShapeIs}
+use Rattle.std.specs.Prelude.{Some, None, Option as Optional}
 
 -- ---------------------------------------------------------------- the checks that are left after `rank` numbers
 
@@ -103,22 +100,22 @@ pub record Passing (mode count : ℕ) (s : List ℕ) (at rank : ℕ) : Type 0 wh
 whole_is : (d : ℕ) (s : List ℕ) (t : Node Ends) (r : List ℕ) → Reads d s t r → length s ≡ length (note_of t).start
 whole_is d s t r e = sym (ap (λ (x : Ends). length x.start) (note-of d s t r e))
 
-module _ (s : List ℕ) {v : Opening} (h : ListIs (Here s 0) v) where
-  pub no-list : v ≡ NotOpen → {z : Spot} → z ≡ spot 8 (length s) → ShapeIs s z
+module _ (s : List ℕ) {v : Optional Opening} (h : ListIs (Here s 0) v) where
+  pub no-list : v ≡ None → {z : Spot} → z ≡ spot 8 (length s) → ShapeIs s z
   unfolding shape_steps shown
-  no-list e y t r x = let k : ListIs s NotOpen = rw (part_to_end s 0, e) at h in y ∙ (rw (k 28 t r x, whole_is 29 s t r x) refl)
+  no-list e y t r x = let k : ListIs s None = rw (part_to_end s 0, e) at h in y ∙ (rw (k 28 t r x, whole_is 29 s t r x) refl)
 
-  pub begins : {mode count size : ℕ} → length s < FAULT → v ≡ Opened mode count size → Passing mode count s size 0
+  pub begins : {op : Opening} → length s < FAULT → v ≡ Some op → Passing op.mode op.count s op.size 0
   unfolding kinds.a_list kinds.as_list
-  begins {mode} {count} {size} short e =
-      let k : ListIs s (Opened mode count size) = rw (part_to_end s 0, e) at h in
+  begins {op} short e =
+      let k : ListIs s (Some op) = rw (part_to_end s 0, e) at h in
       record {
         within = k.within;
         few = omega arith;
         short = short;
         trees = λ t r x.
             let l = k.trees 28 t r x in
-            let z : count - 0 ≡ count = omega arith in
+            let z : op.count - 0 ≡ op.count = omega arith in
             record { items = l.items; rest = record { last = l.last; due-are = rw z l.due; first-is = all_left t l.items (rw l.kind-is refl) } };
       }
 
@@ -155,7 +152,7 @@ module _ {mode count : ℕ} {s : List ℕ} {at rank : ℕ} (p : Passing mode cou
       dimensions-are l y t r e = at-the-end t r e (y ∙ not-too-many t rank (length s) (whole_is 29 s t r e) l)
 
     module _ (on : more ≡ true) where
-      at-the-next : (v : Numeral) → NumberIs (Here s at) v → (P : Node Ends → Type 0)
+      at-the-next : (v : Optional ℕ) → NumberIs (Here s at) v → (P : Node Ends → Type 0)
           → ((t : Node Ends) (x : Node Ends) (xs : List (Node Ends)) (q : List ℕ) → Reads 28 (drop at s) x q → a_number x ≡ numeral v → Now t (x ∷ xs) → P t)
           → (t : Node Ends) (r : List ℕ) → Reads 29 s t r → P t
       at-the-next v is-v P f t r e = go (p.trees t r e).items (any-due t r e ∙ on) (p.trees t r e).rest
@@ -166,12 +163,12 @@ module _ {mode count : ℕ} {s : List ℕ} {at rank : ℕ} (p : Passing mode cou
               let c = y.due-are.chain in
               f t x xs c.0 c.1 (number_read 28 (drop at s) v (subst (λ u. NumberIs u v) (part_to_end s at) is-v) x c.0 c.1) y
 
-      module _ {v : Numeral} (is-v : NumberIs (Here s at) v) where
-        pub no_number : v ≡ NoNumber → {z : Spot} → z ≡ spot 8 (length s - at) → ShapeIs s z
+      module _ {v : Optional ℕ} (is-v : NumberIs (Here s at) v) where
+        pub no_number : v ≡ None → {z : Spot} → z ≡ spot 8 (length s - at) → ShapeIs s z
         no_number e {z} i = at-the-next v is-v (λ t. z ≡ shown (first (shape_steps t))) λ t x xs q w u y.
             i ∙ ap (spot 8) (sym (length-drop at s) ∙ whole_is 28 (drop at s) x q w) ∙ not-a-number t rank x xs (u ∙ ap numeral e) ∙ ap shown (sym y.first-is)
 
-        module _ {n : ℕ} (is-n : v ≡ Number n) {k : ℕ} (is-k : k ≡ code (item_end 28 (Here s at))) where
+        module _ {n : ℕ} (is-n : v ≡ Some n) {k : ℕ} (is-k : k ≡ code (item_end 28 (Here s at))) where
           -- no element of a tree is refused
           pub no_end : length s - at < k → {z : Spot} → ShapeIs s z
           no_end l {z} =

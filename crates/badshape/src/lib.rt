@@ -5,31 +5,32 @@
 ghost use Rattle.std.specs.Prelude.{◌≡◌};
 ghost use Rattle.badshape.specs.Steps.{ShapeIs};
 
+use numbers::Refusal;
 use spot::Spot;
-use walk::{Numeral, Opening};
+use walk::Opening;
 
 // The shape that begins s.
 pub fn shape(s: &[u8]) -> Spot
     ensures { ShapeIs s.now result }
 {
-    let Opening::Opened(mode, count, size) = walk::list(&s[0..]) else {
-        return spot::at(8, s.len());
+    let Some(Opening { mode, count, size }) = walk::list(&s[0..]) else {
+        return spot::at(Refusal::Kind, s.len());
     };
     let mut at = size;
     let mut rank = 0;
     while walk::more(&s[at..], mode, count, rank) {
-        let Numeral::Number(_) = walk::number(&s[at..]) else {
-            return spot::at(8, s.len() - at);
+        let Some(_) = walk::number(&s[at..]) else {
+            return spot::at(Refusal::Kind, s.len() - at);
         };
         let k = cbor::skip(&s[at..], numbers::IN_SHAPE);
         if s.len() - at < k {
-            return spot::at(8, s.len() - at);
+            return spot::at(Refusal::Kind, s.len() - at);
         }
         at += k;
         rank += 1;
     }
     if 8 < rank {
-        return spot::at(15, s.len());
+        return spot::at(Refusal::Count, s.len());
     }
-    spot::at(0, 0)
+    spot::none()
 }

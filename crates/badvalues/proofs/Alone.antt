@@ -1,6 +1,6 @@
 -- Checks of no component: the first that breaks, from its spot or from a value's check.
 use Prim.Native.Nat.{ℕ, ◌<◌}
-use mathlib.Core.List.{List, [], ◌∷◌, ◌++◌}
+use mathlib.Core.List.{List, ◌++◌}
 use mathlib.Core.Bool.{false}
 use mathlib.Core.Option.{Option, none, some}
 use mathlib.Core.Path.{◌≡◌, refl, ap, sym, ◌∙◌}
@@ -16,7 +16,7 @@ use Rattle.explained.specs.Step.{Step, first, refusal, given}
 use Rattle.explained.specs.Order.{shape_steps}
 use Rattle.explained.proofs.Agree.{Agree, verdict}
 use Rattle.explained.proofs.Jump.{OnePlace, broken, one_place, first-here}
-use Rattle.spot.specs.Shown.{spot, shown}
+use Rattle.spot.specs.Shown.{shown}
 use Rattle.spot.specs.declared.Spot.{Spot}
 use Rattle.badfields.proofs.Firsts.{Each, no_more, and_so, each_first, each-++, each-found, each-every, broken-first}
 use Rattle.badfields.proofs.Values.{LeftOf}

@@ -19,34 +19,34 @@ use Rattle.fields.specs.Attributes.{AttributesAt}
 use Rattle.component.specs.Value as value
 use Rattle.component.proofs.Pieces.{refused-so, passed-so}
 use Rattle.object.specs.Place.{format_code, FormatAt, TensorAt}
-use Rattle.object.specs.declared.place.Coded.{Coded}
-use Rattle.object.specs.declared.place.Coded.TheVariants.{No as NoCode, Yes as Code}
 use Rattle.object.specs.Verdict.{Fields, Standing}
 use Rattle.explained.specs.Step as steps
 use Rattle.explained.specs.Step.{Step, first, given}
 use Rattle.explained.specs.Order.{mapping_steps, shape_steps}
 use Rattle.explained.proofs.Parts.{agree-text, agree-attributes, agree-dtype, agree-shape_of}
-use Rattle.spot.specs.Shown.{shown}
+use Rattle.spot.specs.Shown.{spot, shown}
 use Rattle.spot.specs.declared.Spot.{Spot}
 use Rattle.badfields.proofs.Firsts.{none_first, shown-none}
 use Rattle.badfields.proofs.Values.{one-text, one_table, one-dtype, held-left, value_passes, option-passes}
 use Rattle.badshape.specs.Steps.{ShapeIs}
 use Rattle.badvalues.specs.Steps.{described_steps, value_steps, Known, Described, DescribedIs, Answered, ValuesAre}
 use Rattle.badvalues.specs.declared.Valued.{Valued}
-use Rattle.badvalues.specs.declared.Valued.TheVariants.{Odd, Sound}
 use Rattle.badvalues.proofs.Alone.{numbered, spot-alone, passes-so, value-alone, option-alone, shape-plain}
+use Rattle.std.specs.Prelude.{Ok, Err, Result}
+use Rattle.numbers.specs.declared.refusal.Refusal.{Refusal}
+use Rattle.numbers.specs.Numbered.{number_of}
 
 -- ---------------------------------------------------------------- format and attributes
 
-module _ (s : List ℕ) (a b code : ℕ) (r₁ : Coded) (h₁ : FormatAt s a r₁) where
-  format-is : (q : Coded) → r₁ ≡ q → FormatAt s a q
+module _ (s : List ℕ) (a b code : ℕ) (r₁ : Result ℕ Refusal) (h₁ : FormatAt s a r₁) where
+  format-is : (q : Result ℕ Refusal) → r₁ ≡ q → FormatAt s a q
   format-is q e = rw e at h₁
 
-  pub no-format : (n : ℕ) → r₁ ≡ NoCode n → DescribedIs s a b code (Odd n a)
+  pub no-format : (n : Refusal) → r₁ ≡ Err n → (z : Spot) → z ≡ spot (number_of n) (a) → DescribedIs s a b code (Err z)
   unfolding described_steps
-  no-format n e x y hx hy next = value-alone one-text agree-text _ a x hx.left_is n 0 0 (refused-so format_code (a_text x) n (format-is (NoCode n) e 28 x hx))
+  no-format n e z is x y hx hy next = rw is (value-alone one-text agree-text _ a x hx.left_is (number_of n) 0 0 (refused-so format_code (a_text x) (number_of n) (format-is (Err n) e 28 x hx)))
 
-  module _ (m : ℕ) (e₁ : r₁ ≡ Code m) (ok : Bool) (h₂ : AttributesAt s b ok) where
+  module _ (m : ℕ) (e₁ : r₁ ≡ Ok m) (ok : Bool) (h₂ : AttributesAt s b ok) where
     attributes-are : AttributesAt s b ok
     attributes-are = h₂
 
@@ -54,17 +54,17 @@ module _ (s : List ℕ) (a b code : ℕ) (r₁ : Coded) (h₁ : FormatAt s a r�
         → (w : Word Ends) × (a_text x ≡ pass w) × (m ≡ format_code w) × (first (described_steps x y next) ≡ first (steps.◌>>=◌ y mapping_steps ++ next w))
     unfolding described_steps
     past-format x y hx next =
-        let k = passed-so format_code (a_text x) m (format-is (Code m) e₁ 28 x hx) in
+        let k = passed-so format_code (a_text x) m (format-is (Ok m) e₁ 28 x hx) in
         (k.value, k.is, sym k.shown, value_passes one-text agree-text _ x k.value k.is ∙ ap (λ c. first (steps.◌>>=◌ (given c) (λ f. steps.◌>>=◌ y mapping_steps ++ next f))) k.is)
 
-    pub no-attributes : ok ≡ false → DescribedIs s a b code (Odd 8 b)
-    no-attributes e x y hx hy next =
+    pub no-attributes : ok ≡ false → (z : Spot) → z ≡ spot 8 b → DescribedIs s a b code (Err z)
+    no-attributes e u is x y hx hy next =
         let w = past-format x y hx next in
         let k : optional attributes_of y ≡ fault 8 = attributes-are 28 y hy ∙ ap (λ (i : Bool). cond i (pass y) (fault 8)) e in
         let z = option-alone one_table agree-attributes (next w.0) b y (held-left 29 s b y hy) 8 0 0 k in
-        record { this = z.this; is = w.3 ∙ z.is; number = z.number; place = z.place; owner = z.owner }
+        rw is (record { this = z.this; is = w.3 ∙ z.is; number = z.number; place = z.place; owner = z.owner })
 
-    pub all-described : ok ≡ true → DescribedIs s a b code (Sound code m)
+    pub all-described : ok ≡ true → DescribedIs s a b code (Ok (record { code = code; format = m }))
     all-described e x y hx hy next =
         let w = past-format x y hx next in
         let k : optional attributes_of y ≡ pass y = attributes-are 28 y hy ∙ ap (λ (i : Bool). cond i (pass y) (fault 8)) e in
@@ -72,16 +72,16 @@ module _ (s : List ℕ) (a b code : ℕ) (r₁ : Coded) (h₁ : FormatAt s a r�
 
 -- ---------------------------------------------------------------- dtype and shape
 
-module _ (layout : ℕ) (s p : List ℕ) (r₁ : Coded) (h₁ : TensorAt (layout_of layout) s (get_or p 0 0) r₁) where
-  tensor-is : (q : Coded) → r₁ ≡ q → TensorAt (layout_of layout) s (get_or p 0 0) q
+module _ (layout : ℕ) (s p : List ℕ) (r₁ : Result ℕ Refusal) (h₁ : TensorAt (layout_of layout) s (get_or p 0 0) r₁) where
+  tensor-is : (q : Result ℕ Refusal) → r₁ ≡ q → TensorAt (layout_of layout) s (get_or p 0 0) q
   tensor-is q e = rw e at h₁
 
-  pub no-dtype : (n : ℕ) → r₁ ≡ NoCode n → ValuesAre layout s p (Odd n (get_or p 0 0))
+  pub no-dtype : (n : Refusal) → r₁ ≡ Err n → (z : Spot) → z ≡ spot (number_of n) (get_or p 0 0) → ValuesAre layout s p (Err z)
   unfolding value_steps
-  no-dtype n e f st next =
-      option-alone (λ t. one-dtype t (layout_of layout)) (agree-dtype (layout_of layout)) _ (get_or p 0 0) f.dtype (held-left 29 s _ f.dtype st.dtype) n 0 0 (tensor-is (NoCode n) e 28 f.dtype st.dtype)
+  no-dtype n e z is f st next =
+      rw is (option-alone (λ t. one-dtype t (layout_of layout)) (agree-dtype (layout_of layout)) _ (get_or p 0 0) f.dtype (held-left 29 s _ f.dtype st.dtype) (number_of n) 0 0 (tensor-is (Err n) e 28 f.dtype st.dtype))
 
-  module _ (code : ℕ) (e₁ : r₁ ≡ Code code) (from : ℕ) (is-from : from ≡ length s - get_or p 1 0) (z : Spot) (h₂ : ShapeIs (Here s from) z) where
+  module _ (code : ℕ) (e₁ : r₁ ≡ Ok code) (from : ℕ) (is-from : from ≡ length s - get_or p 1 0) (z : Spot) (h₂ : ShapeIs (Here s from) z) where
     shape-shown : (f : Fields) → Standing layout s p f → z ≡ shown (first (shape_steps f.shape))
     shape-shown f st =
         let x = st.shape in
@@ -96,12 +96,12 @@ module _ (layout : ℕ) (s p : List ℕ) (r₁ : Coded) (h₁ : TensorAt (layout
     past-dtype f st next d e =
         option-passes (λ t. one-dtype t (layout_of layout)) (agree-dtype (layout_of layout)) _ f.dtype d e ∙ ap (λ c. first (steps.◌>>=◌ (given c) (shape_then f next))) e
 
-    pub odd_shape : (z.number ≡ 0 → ⊥) → ValuesAre layout s p (Odd z.number z.left)
+    pub odd_shape : (z.number ≡ 0 → ⊥) → ValuesAre layout s p (Err z)
     odd_shape n f st next =
         let y = spot-alone (shape_steps f.shape) (shape-plain f.shape) z (shape-shown f st) n (steps.◌>>=◌ (given (shape_of f.shape)) (λ s. described_steps f.format f.attributes (next _ s))) in
-        record { this = y.this; is = past-dtype f st next _ (tensor-is (Code code) e₁ 28 f.dtype st.dtype) ∙ y.is; number = y.number; place = y.place; owner = y.owner }
+        record { this = y.this; is = past-dtype f st next _ (tensor-is (Ok code) e₁ 28 f.dtype st.dtype) ∙ y.is; number = y.number; place = y.place; owner = y.owner }
 
-    module _ (n : z.number ≡ 0) (r : Valued) (h₃ : DescribedIs s (get_or p 2 0) (get_or p 3 0) code r) where
+    module _ (n : z.number ≡ 0) (r : Result Valued Spot) (h₃ : DescribedIs s (get_or p 2 0) (get_or p 3 0) code r) where
       described-is : DescribedIs s (get_or p 2 0) (get_or p 3 0) code r
       described-is = h₃
 
@@ -112,7 +112,7 @@ module _ (layout : ℕ) (s p : List ℕ) (r₁ : Coded) (h₁ : TensorAt (layout
       past-shape : (f : Fields) (st : Standing layout s p f) (next : Option ℕ → List ℕ → Word Ends → List (Step Ends))
           → first (value_steps (layout_of layout) f next) ≡ first (described_steps f.format f.attributes (next (value.given code) (dims f st).0))
       past-shape f st next =
-          past-dtype f st next (value.given code) (tensor-is (Code code) e₁ 28 f.dtype st.dtype)
+          past-dtype f st next (value.given code) (tensor-is (Ok code) e₁ 28 f.dtype st.dtype)
           ∙ none_first (shape_steps f.shape) _ (shown-none (shape_steps f.shape) z (shape-shown f st) (numbered (shape-plain f.shape)) n)
           ∙ ap (λ c. first (steps.◌>>=◌ (given c) (λ l. described_steps f.format f.attributes (next (value.given code) l)))) (dims f st).1
 
@@ -122,10 +122,10 @@ module _ (layout : ℕ) (s p : List ℕ) (r₁ : Coded) (h₁ : TensorAt (layout
           here : Option (Step Ends)
           here = first (described_steps f.format f.attributes (next (value.given code) (dims f st).0))
 
-          go : (r : Valued) → Described code f.format (next (value.given code) (dims f st).0) here r → Answered (layout_of layout) f next r
-          go (Odd m left) y = record { this = y.this; is = past-shape f st next ∙ y.is; number = y.number; place = y.place; owner = y.owner }
-          go (Sound c m) y = let w = y.1 in subst (λ i. Known (layout_of layout) f i m next) (sym y.0) (record {
-            code_is = tensor-is (Code code) e₁ 28 f.dtype st.dtype;
+          go : (r : Result Valued Spot) → Described code f.format (next (value.given code) (dims f st).0) here r → Answered (layout_of layout) f next r
+          go (Err f1) y = record { this = y.this; is = past-shape f st next ∙ y.is; number = y.number; place = y.place; owner = y.owner }
+          go (Ok v) y = let w = y.1 in subst (λ i. Known (layout_of layout) f i v.format next) (sym y.0) (record {
+            code_is = tensor-is (Ok code) e₁ 28 f.dtype st.dtype;
             shape = (dims f st).0;
             shape_is = (dims f st).1;
             word = w.0;

@@ -1,5 +1,5 @@
 -- The checks of an object's values up to its attributes, with those that follow, and what is answered of them.
-use Rattle.std.specs.Prelude.{ℕ, List, ◌≡◌, length}
+use Rattle.std.specs.Prelude.{ℕ, List, ◌≡◌, length, Ok, Err, Result}
 use Rattle.std.proofs.Math.Option.{Option, none, some}
 use Rattle.meaning.specs.Tree.{Node}
 use Rattle.meaning.specs.Check.{pass, optional}
@@ -14,8 +14,8 @@ use Rattle.object.specs.Place.{format_code}
 use Rattle.object.specs.Verdict.{Fields, Standing}
 use Rattle.explained.specs.Step.{Step, first, ◌>>=◌, ◌>>◌, given}
 use Rattle.explained.specs.Order.{mapping_steps, text_steps, dtype_steps, shape_steps}
+use Rattle.spot.specs.declared.Spot.{Spot}
 use Rattle.badvalues.specs.declared.Valued.{Valued}
-use Rattle.badvalues.specs.declared.Valued.TheVariants.{Odd, Sound}
 
 -- format and attributes
 unfoldable pub described_steps : Node Ends → Option (Node Ends) → (Word Ends → List (Step Ends)) → List (Step Ends)
@@ -53,17 +53,17 @@ pub record Known (L : Layout) (f : Fields) (code format : ℕ) (next : Option �
 
 -- ---------------------------------------------------------------- what is answered
 
-abbrev pub Described : ℕ → Node Ends → (Word Ends → List (Step Ends)) → Option (Step Ends) → Valued → Type 0
-Described code format next f (Odd n left) = Alone n left f
-Described code format next f (Sound c m) = (c ≡ code) × ((w : Word Ends) × (a_text format ≡ pass w) × (m ≡ format_code w) × (f ≡ first (next w)))
+abbrev pub Described : ℕ → Node Ends → (Word Ends → List (Step Ends)) → Option (Step Ends) → Result Valued Spot → Type 0
+Described code format next f (Err f1) = Alone f1.number f1.left f
+Described code format next f (Ok v) = (v.code ≡ code) × ((w : Word Ends) × (a_text format ≡ pass w) × (v.format ≡ format_code w) × (f ≡ first (next w)))
 
-abbrev pub DescribedIs : List ℕ → ℕ → ℕ → ℕ → Valued → Type 0
+abbrev pub DescribedIs : List ℕ → ℕ → ℕ → ℕ → Result Valued Spot → Type 0
 DescribedIs s a b code r =
     (x : Node Ends) (y : Option (Node Ends)) → Stands 29 s a x → Holds 29 s b y → (next : Word Ends → List (Step Ends)) → Described code x next (first (described_steps x y next)) r
 
-abbrev pub Answered : Layout → Fields → (Option ℕ → List ℕ → Word Ends → List (Step Ends)) → Valued → Type 0
-Answered L f next (Odd n left) = Alone n left (first (value_steps L f next))
-Answered L f next (Sound c m) = Known L f c m next
+abbrev pub Answered : Layout → Fields → (Option ℕ → List ℕ → Word Ends → List (Step Ends)) → Result Valued Spot → Type 0
+Answered L f next (Err f1) = Alone f1.number f1.left (first (value_steps L f next))
+Answered L f next (Ok v) = Known L f v.code v.format next
 
-abbrev pub ValuesAre : ℕ → List ℕ → List ℕ → Valued → Type 0
+abbrev pub ValuesAre : ℕ → List ℕ → List ℕ → Result Valued Spot → Type 0
 ValuesAre layout s p r = (f : Fields) → Standing layout s p f → (next : Option ℕ → List ℕ → Word Ends → List (Step Ends)) → Answered (layout_of layout) f next r

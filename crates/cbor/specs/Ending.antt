@@ -1,6 +1,8 @@
 -- What passing over bytes answers, in terms of the meaning's own reading: how many bytes it took, or the refusal; and both as one number.
 use Rattle.std.specs.Prelude.{ℕ, zero, suc, ◌+◌, ◌-◌, ◌%◌, ◌≤◌, ◌<◌, List, [], ◌∷◌, Bool, true, false, cond, ◌&&◌, ◌≡◌, length, get_or, drop, eqb, leb, ltb}
 use Rattle.meaning.specs.Read.{Outcome, got, refused, ◌>>=◌, Argument, known, indefinite, argument, info_of, times, to_break, pair, item, no_note}
+use Rattle.numbers.specs.declared.refusal.Refusal.{Refusal}
+use Rattle.numbers.specs.declared.refusal.Refusal.TheVariants as refusals
 use Rattle.cbor.specs.declared.Argued.{Argued}
 use Rattle.cbor.specs.declared.Holding.{Holding}
 
@@ -15,6 +17,10 @@ FAULT = 9_223_372_036_854_775_808
 abbrev pub code : Ending → ℕ
 code (took n) = n
 code (fault n) = FAULT + n
+
+-- why an item is refused whose code this is
+unfoldable pub refusal_of : ℕ → Refusal
+refusal_of r = cond (eqb r (FAULT + 7)) refusals.Deep refusals.Cbor
 
 -- how a reading of s ended
 abbrev pub ending : {A : Type 0} → List ℕ → Outcome A → Ending

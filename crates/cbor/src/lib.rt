@@ -7,10 +7,21 @@ ghost use Rattle.meaning.specs.Read as read;
 ghost use Rattle.cbor.specs.Ending as spec;
 
 use endian::{be2, be4, wide};
+use numbers::Refusal;
 
 pub const MALFORMED: usize = 0x8000_0000_0000_0006;
 
 pub const DEEP: usize = 0x8000_0000_0000_0007;
+
+// Why an item is refused, by an answer that is above the length of its slice.
+pub fn refusal(answer: usize) -> Refusal
+    ensures { result ≡ spec.refusal_of answer }
+{
+    if answer == DEEP {
+        return Refusal::Deep;
+    }
+    Refusal::Cbor
+}
 
 // Of an indefinite length: more than any slice holds.
 const ENDLESS: u64 = 0xffff_ffff_ffff_ffff;

@@ -8,6 +8,7 @@ ghost use Rattle.comparing.specs.Comparison as is;
 
 use account::clear;
 use models::Objects;
+use numbers::Refusal;
 
 // The verdict, the file that is refused, or 0; and how many entries the list has. All but the first four are 0 on refusal, unless the list is too short.
 #[repr(C)]
@@ -45,7 +46,7 @@ fn refusal(layout: u64, first: &[u8], other: u64, second: &[u8]) -> Changes
         };
     }
     Changes {
-        number: numbers::ROOM,
+        number: Refusal::Room as u64,
         file: 0,
         object: 0,
         component: 0,
@@ -63,7 +64,7 @@ fn compared(first: Objects<'_>, second: Objects<'_>, list: &mut [u64]) -> Change
     let entries = k as u64 / 8;
     if list.len() < k {
         return Changes {
-            number: numbers::ROOM,
+            number: Refusal::Room as u64,
             file: 0,
             object: 0,
             component: 0,

@@ -11,7 +11,6 @@ use Rattle.types.specs.Known.{field_at}
 use Rattle.types.proofs.Codes.{field-most}
 use Rattle.walk.specs.Places.{EntryIs, Modes, TextIs}
 use Rattle.walk.specs.declared.Letters.{Letters}
-use Rattle.walk.specs.declared.Letters.TheVariants.{NoText, Text}
 use Rattle.walk.specs.declared.Entry.{Entry}
 use Rattle.walk.specs.declared.Entry.TheVariants.{End, Value}
 use Rattle.walk.proofs.Passed as passed
@@ -21,17 +20,18 @@ use Rattle.component.specs.Verdict.{Placed}
 use Rattle.fields.proofs.MarkedSlots.{marks-step, marked-length}
 use Rattle.fields.proofs.Texts as texts
 use Rattle.fields.proofs.Texts.{Here, letters}
+use Rattle.std.specs.Prelude.{Some, None, Option}
 
 -- the slot of the key that begins s, lent whole to `walk::text`, which answered l
 module _ (layout : ℕ) where
   pub slot-few : (k : ℕ) (u : List ℕ) → k ≡ field_at (layout_of layout).component u → k ≤ 8
   slot-few k u is = omega (arith, field-most (layout_of layout).component u, (layout_of layout).component_places)
 
-  module _ (s : List ℕ) (l : Letters) (h : TextIs (Here s 0) l) where
-    pub slot-odd : l ≡ NoText → SlotIs (layout_of layout).component s 8
+  module _ (s : List ℕ) (l : Option Letters) (h : TextIs (Here s 0) l) where
+    pub slot-odd : l ≡ None → SlotIs (layout_of layout).component s 8
     slot-odd e = texts.slot-odd s l h e (layout_of layout).component 7 (layout_of layout).component_places
 
-    pub slot-known : (at n : ℕ) (e : l ≡ Text at n) (k : ℕ) → k ≡ field_at (layout_of layout).component (letters s l h at n e) → SlotIs (layout_of layout).component s k
+    pub slot-known : (at n : ℕ) (e : l ≡ Some (record { at = at; size = n })) (k : ℕ) → k ≡ field_at (layout_of layout).component (letters s l h at n e) → SlotIs (layout_of layout).component s k
     slot-known at n e k is = (texts.slot-known s l h at n e (layout_of layout).component 7 (layout_of layout).component_places k is).1
 
 -- up to `at`, with n items due and the slots p, from the slots z

@@ -27,41 +27,42 @@ use Rattle.fields.specs.Slots.{marks, Holds}
 use Rattle.fields.proofs.Stands.{hold-none, Item, hold-some, keys-are-text, none-twice, field-stands}
 use Rattle.fields.proofs.Texts.{Here}
 use Rattle.component.specs.declared.Judged.{Judged}
-use Rattle.component.specs.declared.Judged.TheVariants.{No}
-use Rattle.component.specs.declared.value.Fine.{Fine}
-use Rattle.component.specs.declared.value.Fine.TheVariants.{No as Bad, Yes as Good}
 use Rattle.component.specs.Value.{code_of}
 use Rattle.component.specs.Verdict.{lacks_dtype, known, Kept, storage, Reach, extent, extras, judged, Fields, Found, sound, SoundIs, VerdictIs}
+use Rattle.std.specs.Prelude.{Ok, Err, Result}
+use Rattle.numbers.specs.declared.refusal.Refusal.{Refusal}
+use Rattle.numbers.specs.declared.refusal.Refusal.TheVariants as refusals
+use Rattle.numbers.specs.Answered.{answered}
 
 -- ---------------------------------------------------------------- what the slots say, a branch each
 
 module _ (layout : ℕ) (p : List ℕ) where
-  pub odd-key : (get_or p 8 0 ≡ 0 → ⊥) → Bad 9 ≡ known layout p
+  pub odd-key : (get_or p 8 0 ≡ 0 → ⊥) → Err refusals.Key ≡ known layout p
   unfolding known
   odd-key e = rw (ne_eqb _ _ e)
 
   module _ (a : get_or p 8 0 ≡ 0) where
-    pub repeated : (get_or p 9 0 ≡ 0 → ⊥) → Bad 11 ≡ known layout p
+    pub repeated : (get_or p 9 0 ≡ 0 → ⊥) → Err refusals.Twice ≡ known layout p
     unfolding known
     repeated e = rw (eq-eqb _ _ a, ne_eqb _ _ e)
 
     module _ (b : get_or p 9 0 ≡ 0) where
       module _ (lacks : Bool) (so : lacks ≡ lacks_dtype layout (get_or p 0 0)) where
-        pub no-dtype : lacks ≡ true → Bad 12 ≡ known layout p
+        pub no-dtype : lacks ≡ true → Err refusals.Missing ≡ known layout p
         unfolding known
         no-dtype e = rw (eq-eqb _ _ a, eq-eqb _ _ b, ← so, e)
 
         module _ (c : lacks ≡ false) where
-          pub no-offset : get_or p 2 0 ≡ 0 → Bad 12 ≡ known layout p
+          pub no-offset : get_or p 2 0 ≡ 0 → Err refusals.Missing ≡ known layout p
           unfolding known
           no-offset e = rw (eq-eqb _ _ a, eq-eqb _ _ b, ← so, c, eq-eqb _ _ e)
 
           module _ (d : get_or p 2 0 ≡ 0 → ⊥) where
-            pub no_length : get_or p 3 0 ≡ 0 → Bad 12 ≡ known layout p
+            pub no_length : get_or p 3 0 ≡ 0 → Err refusals.Missing ≡ known layout p
             unfolding known
             no_length e = rw (eq-eqb _ _ a, eq-eqb _ _ b, ← so, c, ne_eqb _ _ d, eq-eqb _ _ e)
 
-            pub all_known : (get_or p 3 0 ≡ 0 → ⊥) → Good ≡ known layout p
+            pub all_known : (get_or p 3 0 ≡ 0 → ⊥) → (Ok tt) ≡ known layout p
             unfolding known
             all_known e = rw (eq-eqb _ _ a, eq-eqb _ _ b, ← so, c, ne_eqb _ _ d, ne_eqb _ _ e)
 
@@ -149,27 +150,27 @@ module _ (L : Layout) (above : Option ℕ) (start : ℕ) (t : Node Ends) (ps : L
   abbrev at : ℕ → Option (Node Ends)
   at i = field.field (slot i L.component) ps
 
-  judged-odd : all (λ q. field.is_some (field.key_of q)) ps ≡ false → No 9 ≡ judged the
+  judged-odd : all (λ q. field.is_some (field.key_of q)) ps ≡ false → answered (Err refusals.Key) ≡ judged the
   unfolding judge.component field.component_fields field.fields a_mapping as_mapping
   judged-odd e = rw kt (rw e refl)
 
   module _ (a : all (λ q. field.is_some (field.key_of q)) ps ≡ true) where
-    judged-twice : all (λ m. leb (field.count m ps) 1) (somes L.component) ≡ false → No 11 ≡ judged the
+    judged-twice : all (λ m. leb (field.count m ps) 1) (somes L.component) ≡ false → answered (Err refusals.Twice) ≡ judged the
     unfolding judge.component field.component_fields field.fields a_mapping as_mapping
     judged-twice e = rw kt (rw (a, e) refl)
 
     module _ (b : all (λ m. leb (field.count m ps) 1) (somes L.component) ≡ true) where
-      judged-no-dtype : required_in (slot dtype_at L.component) (at 0) ≡ refuse 12 0 0 → No 12 ≡ judged the
+      judged-no-dtype : required_in (slot dtype_at L.component) (at 0) ≡ refuse 12 0 0 → answered (Err refusals.Missing) ≡ judged the
       unfolding judge.component field.component_fields field.fields a_mapping as_mapping
       judged-no-dtype e = rw kt (rw (a, b) (rw e refl))
 
       module _ (g₁ : required_in (slot dtype_at L.component) (at 0) ≡ pass (at 0)) where
-        judged-no-offset : at 2 ≡ none → No 12 ≡ judged the
+        judged-no-offset : at 2 ≡ none → answered (Err refusals.Missing) ≡ judged the
         unfolding judge.component field.component_fields field.fields a_mapping as_mapping
         judged-no-offset e = rw kt (rw (a, b) (rw (g₁, e) refl))
 
         module _ (offset : Node Ends) (g₂ : at 2 ≡ some offset) where
-          judged-no-length : at 3 ≡ none → No 12 ≡ judged the
+          judged-no-length : at 3 ≡ none → answered (Err refusals.Missing) ≡ judged the
           unfolding judge.component field.component_fields field.fields a_mapping as_mapping
           judged-no-length e = rw kt (rw (a, b) (rw (g₁, g₂, e) refl))
 
@@ -230,9 +231,9 @@ module _ (layout : ℕ) (above : Option ℕ) (s : List ℕ) (start : ℕ) (p : L
       pub found : Found d s p fields
       pub judged-so : verdict ≡ sound (layout_of layout) above start n (note_of t) fields
 
-    abbrev Told : Fine → Type 0
-    Told (Bad m) = No m ≡ judged verdict
-    Told Good = Ready
+    abbrev Told : Result (Unit {0}) Refusal → Type 0
+    Told (Err m) = answered (Err m) ≡ judged verdict
+    Told (Ok tt) = Ready
 
     told : Told (known layout p)
     unfolding known
@@ -240,7 +241,7 @@ module _ (layout : ℕ) (above : Option ℕ) (s : List ℕ) (start : ℕ) (p : L
       where
         go : (x₁ : Bool) → eqb (get_or p 8 0) 0 ≡ x₁ → (x₂ : Bool) → eqb (get_or p 9 0) 0 ≡ x₂ → (x₃ : Bool) → lacks_dtype layout (get_or p 0 0) ≡ x₃
             → (x₄ : Bool) → eqb (get_or p 2 0) 0 ≡ x₄ → (x₅ : Bool) → eqb (get_or p 3 0) 0 ≡ x₅
-            → Told (cond x₁ (cond x₂ (cond x₃ (Bad 12) (cond x₄ (Bad 12) (cond x₅ (Bad 12) Good))) (Bad 11)) (Bad 9))
+            → Told (cond x₁ (cond x₂ (cond x₃ (Err refusals.Missing) (cond x₄ (Err refusals.Missing) (cond x₅ (Err refusals.Missing) (Ok tt)))) (Err refusals.Twice)) (Err refusals.Key))
         go false a x₂ b x₃ c x₄ e x₅ f = judged-odd (layout_of layout) above start t ps kt n (sym keys ∙ a)
         go true a false b x₃ c x₄ e x₅ f = judged-twice (layout_of layout) above start t ps kt n (sym keys ∙ a) (sym twice ∙ b)
         go true a true b true c x₄ e x₅ f = judged-no-dtype (layout_of layout) above start t ps kt n (sym keys ∙ a) (sym twice ∙ b) (dtype-missing c)
@@ -264,14 +265,14 @@ module _ (layout : ℕ) (above : Option ℕ) (s : List ℕ) (start : ℕ) (p : L
               judged-so = judged-sound (layout_of layout) above start t ps kt n (sym keys ∙ a) (sym twice ∙ b) (dtype-asked c) y.item y.is z.item z.is;
             }
 
-  module _ (f : Fine) (is : f ≡ known layout (Here p 0)) where
+  module _ (f : Result (Unit {0}) Refusal) (is : f ≡ known layout (Here p 0)) where
     slots-say : f ≡ known layout p
     slots-say = is ∙ ap (known layout) (part_to_end p 0)
 
-    pub refused : (m : ℕ) → f ≡ Bad m → VerdictIs (layout_of layout) above s start p (No m)
-    refused m e d ps q chain is t kt n = subst (Told d ps q chain is t kt n) (sym slots-say ∙ e) (told d ps q chain is t kt n)
+    pub refused : (m : Refusal) → f ≡ Err m → (r : Result Judged Refusal) → r ≡ Err m → VerdictIs (layout_of layout) above s start p r
+    refused m e r is-r d ps q chain is t kt n = rw is-r (subst (Told d ps q chain is t kt n) (sym slots-say ∙ e) (told d ps q chain is t kt n))
 
-    pub as-sound : f ≡ Good → (r : Judged) → SoundIs (layout_of layout) above (Here s 0) start (Here p 0) r → VerdictIs (layout_of layout) above s start p r
+    pub as-sound : f ≡ (Ok tt) → (r : Result Judged Refusal) → SoundIs (layout_of layout) above (Here s 0) start (Here p 0) r → VerdictIs (layout_of layout) above s start p r
     as-sound e r h d ps q chain is t kt n =
         let x : Ready d ps q chain is t kt n = subst (Told d ps q chain is t kt n) (sym slots-say ∙ e) (told d ps q chain is t kt n) in
         let y : SoundIs (layout_of layout) above s start p r = subst (λ u. SoundIs (layout_of layout) above s start u r) (part_to_end p 0) (subst (λ u. SoundIs (layout_of layout) above u start (Here p 0) r) (part_to_end s 0) h) in

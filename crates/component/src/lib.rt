@@ -14,21 +14,25 @@ ghost use Rattle.component.specs.Value.{given};
 ghost use Rattle.component.specs.Verdict.{ComponentIs};
 
 use judge::verdict;
+use numbers::Refusal;
 use pass::entries;
 use walk::Opening;
 
-// A refusal number; or the dtype's code, the place of the type, offset, length and the place of the digest.
+// The dtype's code, the place of the type, offset, length and the place of the digest.
 #[derive(Clone, Copy)]
-pub enum Judged {
-    No(u64),
-    Yes(u64, usize, u64, u64, usize),
+pub struct Judged {
+    pub code: u64,
+    pub kind: usize,
+    pub offset: u64,
+    pub length: u64,
+    pub digest: usize,
 }
 
 // Where a value ends, as `cbor::skip` answers it, and what it says if it is well-formed.
 #[derive(Clone, Copy)]
 pub struct Whole {
     pub end: usize,
-    pub verdict: Judged,
+    pub verdict: Result<Judged, Refusal>,
 }
 
 // The component that begins c, at depth 5, of a file whose manifest begins at `start`. `above` is the code that its object gives it, 13 or more for none.
@@ -37,11 +41,11 @@ pub fn component(layout: u64, above: u64, c: &[u8], start: u64) -> Whole
 {
     let mut p = [0usize; 10];
     match walk::map(&c[0..]) {
-        Opening::NotOpen => Whole {
+        None => Whole {
             end: cbor::skip(&c[0..], numbers::IN_COMPONENTS),
-            verdict: Judged::No(numbers::KIND),
+            verdict: Err(Refusal::Kind),
         },
-        Opening::Opened(mode, count, size) => {
+        Some(Opening { mode, count, size }) => {
             let e = entries(layout, &c[size..], mode, count, &mut p);
             let v = verdict(layout, above, &c[size..], start, &p);
             if c.len() - size < e {

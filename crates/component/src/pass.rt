@@ -6,19 +6,18 @@ ghost use Rattle.fields.specs.Slots.{SlotIs};
 ghost use Rattle.component.specs.Verdict.{Placed};
 ghost use Rattle.walk.specs.Places.{Modes};
 
-use walk::{Entry, Letters};
+use walk::Entry;
 
 // The slot of the key that begins s.
 fn slot(layout: u64, s: &[u8]) -> usize
     ensures { (result ≤ 8) × SlotIs (layout_of layout).component s.now result }
 {
-    match walk::text(&s[0..]) {
-        Letters::NoText => 8,
-        Letters::Text(at, n) => {
-            let e = at + n;
-            types::component_key(layout, &s[at..e])
-        }
-    }
+    let Some(letters) = walk::text(&s[0..]) else {
+        return 8;
+    };
+    let at = letters.at;
+    let e = at + letters.size;
+    types::component_key(layout, &s[at..e])
 }
 
 // Entries that begin s, counted as `walk::map` says: where they end. The places of the known fields are left in p.

@@ -18,13 +18,14 @@ use Rattle.meaning.proofs.Checks.{each-length}
 use Rattle.formats.specs.Parts.{part_row, part_rows}
 use Rattle.formats.proofs.Rows.{rows_more}
 use Rattle.naming.specs.NotedNames.{named_anyway, told}
-use Rattle.naming.specs.declared.Named.TheVariants.{No as NoNames, Yes as Names}
 use Rattle.naming.proofs.NameNoted.{map_snoc}
 use Rattle.naming.proofs.Entries as named-entries
-use Rattle.components.specs.declared.First.TheVariants.{Fine, Fault}
-use Rattle.components.specs.declared.Found.TheVariants.{No, Yes}
 use Rattle.table.specs.Given.{entry}
 use Rattle.components.specs.Firsts.{entries, FirstIs, FoundIs}
+use Rattle.std.specs.Prelude.{Ok, Err}
+use Rattle.numbers.specs.Numbered.{number_of}
+use Rattle.numbers.specs.declared.refusal.Refusal.{Refusal}
+use Rattle.numbers.specs.declared.fault.ObjectFault.{ObjectFault}
 
 rows-of-one : (d : formats.Part) → part_rows (d ∷ []) ≡ part_row d
 unfolding part_rows
@@ -35,15 +36,15 @@ module _ (L : Layout) (above : List ℕ → Option ℕ) (start : ℕ) (done : Li
   unfolding entries
   one_more = named-entries.one_more (entry L above start) done p
 
-  pub fault-stays : (n c : ℕ) (rows rows' : List ℕ) → FirstIs L above start done (Fault n c) rows → FirstIs L above start (done ++ p ∷ []) (Fault n c) rows'
-  fault-stays n c rows rows' (o, h) = (o, one_more ∙ (rw h refl))
+  pub fault-stays : (f : ObjectFault) (rows rows' : List ℕ) → FirstIs L above start done (Err f) rows → FirstIs L above start (done ++ p ∷ []) (Err f) rows'
+  fault-stays f rows rows' (o, h) = (o, one_more ∙ (rw h refl))
 
-  pub first-fault : (n o c : ℕ) (rows rows' : List ℕ) → FirstIs L above start done Fine rows → component L start (above (named_anyway p).name.letters) (named_anyway p) ≡ refuse n o c → FirstIs L above start (done ++ p ∷ []) (Fault n (length done)) rows'
+  pub first-fault : (n : Refusal) (o c : ℕ) (rows rows' : List ℕ) → FirstIs L above start done (Ok tt) rows → component L start (above (named_anyway p).name.letters) (named_anyway p) ≡ refuse (number_of n) o c → FirstIs L above start (done ++ p ∷ []) (Err (record { refusal = n; component = length done })) rows'
   unfolding entry
   first-fault n o c rows rows' (cs, h, r) e = (o, one_more ∙ (rw (h, e) refl))
 
-  pub still-fine : (c : Component Ends) (rows rows' : List ℕ) → FirstIs L above start done Fine rows → component L start (above (named_anyway p).name.letters) (named_anyway p) ≡ pass c
-      → (length done < component_limit → take (4 * suc (length done)) rows' ≡ take (4 * length done) rows ++ part_row (part c)) → FirstIs L above start (done ++ p ∷ []) Fine rows'
+  pub still-fine : (c : Component Ends) (rows rows' : List ℕ) → FirstIs L above start done (Ok tt) rows → component L start (above (named_anyway p).name.letters) (named_anyway p) ≡ pass c
+      → (length done < component_limit → take (4 * suc (length done)) rows' ≡ take (4 * length done) rows ++ part_row (part c)) → FirstIs L above start (done ++ p ∷ []) (Ok tt) rows'
   unfolding entry entries
   still-fine c rows rows' (cs, h, r) e put =
       let l : length cs ≡ length done = each-length (λ j p. entry L above start j (named_anyway p)) 0 done cs h in
@@ -58,18 +59,18 @@ module _ (L : Layout) (above : List ℕ → Option ℕ) (start : ℕ) (done : Li
 
 -- the whole map: its names, and then its entries
 module _ (L : Layout) (above : List ℕ → Option ℕ) (start : ℕ) (done : List (Pair Ends)) (x : Node Ends) where
-  pub names-fault : (n : ℕ) (rows : List ℕ) → names component_limit x ≡ told done (NoNames n) → FoundIs (components_of L start above x) (No n 0) rows
+  pub names-fault : (n : Refusal) (rows : List ℕ) → names component_limit x ≡ told done (Err n) → FoundIs (components_of L start above x) (Err (record { refusal = n; component = 0 })) rows
   unfolding components_of
   names-fault n rows h = (0, rw h refl)
 
-  named : names component_limit x ≡ told done Names → components_of L start above x ≡ entries L above start done
+  named : names component_limit x ≡ told done (Ok tt) → components_of L start above x ≡ entries L above start done
   unfolding components_of entries entry
   named h = named-entries.names-pass (λ j c. in_component j (component L start (above c.name.letters) c)) done component_limit x h
 
-  pub entry-fault : (n c : ℕ) (rows : List ℕ) → names component_limit x ≡ told done Names → FirstIs L above start done (Fault n c) rows → FoundIs (components_of L start above x) (No n c) rows
-  entry-fault n c rows h (o, e) = (o, named h ∙ e)
+  pub entry-fault : (f : ObjectFault) (rows : List ℕ) → names component_limit x ≡ told done (Ok tt) → FirstIs L above start done (Err f) rows → FoundIs (components_of L start above x) (Err f) rows
+  entry-fault f rows h (o, e) = (o, named h ∙ e)
 
-  pub all-fine : (m : ℕ) (rows : List ℕ) → names component_limit x ≡ told done Names → FirstIs L above start done Fine rows → m ≡ length done → m ≤ component_limit → FoundIs (components_of L start above x) (Yes m) rows
+  pub all-fine : (m : ℕ) (rows : List ℕ) → names component_limit x ≡ told done (Ok tt) → FirstIs L above start done (Ok tt) rows → m ≡ length done → m ≤ component_limit → FoundIs (components_of L start above x) (Ok m) rows
   unfolding entries
   all-fine m rows h (cs, e, r) is few =
       let l : length cs ≡ length done = each-length (λ j p. entry L above start j (named_anyway p)) 0 done cs e in

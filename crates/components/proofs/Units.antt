@@ -16,18 +16,18 @@ use Rattle.formats.proofs.Rows.{unit-bare, unit-typed}
 use Rattle.walk.specs.Reading.{Ends}
 use Rattle.walk.specs.Places.{TextIs}
 use Rattle.walk.specs.declared.Letters.{Letters}
-use Rattle.walk.specs.declared.Letters.TheVariants.{NoText, Text}
 use Rattle.component.specs.Value.{left_word}
 use Rattle.fields.proofs.Places as places
 use Rattle.fields.proofs.Texts.{Here, no_word, word, letters}
 use Rattle.table.specs.WordAt.{bare, lettered}
 use Rattle.components.specs.Typed.{TypeUnit, UnitIs}
+use Rattle.std.specs.Prelude.{Some, None, Option}
 
-module _ (s : List ℕ) (l : Letters) (h : TextIs (Here s 0) l) (code : ℕ) where
-  pub unit-kind : l ≡ NoText → TypeUnit s code 0
+module _ (s : List ℕ) (l : Option Letters) (h : TextIs (Here s 0) l) (code : ℕ) where
+  pub unit-kind : l ≡ None → TypeUnit s code 0
   unit-kind e d t q r w x = absurd (let z : pass w ≡ fault KIND = sym x ∙ no_word s l h e d t q r in let y : ◌≡◌ {A = ℕ} 0 1 = cc in omega arith)
 
-  pub unit-word : (at n : ℕ) (e : l ≡ Text at n) (u : ℕ) → u ≡ unit_number (ratio_of (listed logicals (letters s l h at n e))) (width_of code) → TypeUnit s code u
+  pub unit-word : (at n : ℕ) (e : l ≡ Some (record { at = at; size = n })) (u : ℕ) → u ≡ unit_number (ratio_of (listed logicals (letters s l h at n e))) (width_of code) → TypeUnit s code u
   unit-word at n e u is d t q r w x = is ∙ ap (λ (v : Word Ends). unit_number (ratio_of (listed logicals v.letters)) (width_of code)) (pass_same (sym (word s l h at n e d t q r) ∙ x))
 
 module _ (c : List ℕ) (code left u : ℕ) where

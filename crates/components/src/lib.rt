@@ -11,7 +11,8 @@ ghost use Rattle.table.specs.Rows.{AllRowed, RowsPut};
 ghost use Rattle.components.specs.Firsts.{Keeps, Walked, Concluded, ComponentsAre};
 
 use component::Judged;
-use naming::{Named, Tally};
+use naming::Tally;
+use numbers::{ObjectFault, Refusal};
 use row::{plain, unit};
 use table::Place;
 use table::lay::next_row;
@@ -19,33 +20,19 @@ use table::row::put_row;
 use table::stored::{role, stored};
 use walk::{Entry, Opening};
 
-// The first fault among the entries so far: its number and the component.
-#[derive(Clone, Copy)]
-pub enum First {
-    Fine,
-    Fault(u64, usize),
-}
-
-// The first fault, its number and component; or how many components there are.
-#[derive(Clone, Copy)]
-pub enum Found {
-    No(u64, usize),
-    Yes(usize),
-}
-
-// Where the entries end, the tally of their names, and the first fault.
+// Where the entries end, the tally of their names, and the first fault among them.
 #[derive(Clone, Copy)]
 struct Run {
     end: usize,
     names: Tally,
-    first: First,
+    first: Result<(), ObjectFault>,
 }
 
-// Where a value ends, as `cbor::skip` answers it, and what it says if it is well-formed.
+// Where a value ends, as `cbor::skip` answers it, and if it is well-formed how many components there are, or the first fault.
 #[derive(Clone, Copy)]
 pub struct Whole {
     pub end: usize,
-    pub found: Found,
+    pub found: Result<usize, ObjectFault>,
 }
 
 // The first fault after one more component, number j, whose key begins s and whose value begins c. Its row is put where it has none.
@@ -54,26 +41,28 @@ fn keep(
     format: u64,
     s: &[u8],
     c: &[u8],
-    v: Judged,
+    v: Result<Judged, Refusal>,
     j: usize,
-    first: First,
+    first: Result<(), ObjectFault>,
     rows: &mut [u64],
-) -> First
+) -> Result<(), ObjectFault>
     requires { length rows.old ≡ 64 }
     ensures { (length rows.new ≡ 64) × ((code : ℕ) → Keeps (offered layout format code) s.now c.now v j first rows.old result rows.new) }
 {
-    match first {
-        First::Fault(n, k) => First::Fault(n, k),
-        First::Fine => match v {
-            Judged::No(n) => First::Fault(n, j),
-            Judged::Yes(code, left, _, size, _) => {
-                let r = role(&s[0..]);
-                let kept = stored(layout, format, r, code);
-                let u = unit(&c[0..], kept, left);
-                row::put_row(rows, j, r, u, plain(kept, left), size);
-                First::Fine
-            }
-        },
+    first?;
+    match v {
+        Err(refusal) => Err(ObjectFault {
+            refusal: refusal,
+            component: j,
+        }),
+        Ok(judged) => {
+            let left = judged.kind;
+            let r = role(&s[0..]);
+            let kept = stored(layout, format, r, judged.code);
+            let u = unit(&c[0..], kept, left);
+            row::put_row(rows, j, r, u, plain(kept, left), judged.length);
+            Ok(())
+        }
     }
 }
 
@@ -102,7 +91,7 @@ fn entries(
         odd: false,
         bad: false,
     };
-    let mut first = First::Fine;
+    let mut first = Ok(());
     let mut next = to.from;
     loop {
         match walk::past_key(&s[at..], mode, due, numbers::IN_COMPONENTS) {
@@ -164,19 +153,21 @@ fn entries(
 }
 
 // What the names and the first fault come to.
-fn verdict(m: &[u8], names: Tally, first: First, left: &[usize], size: &[usize]) -> Found
+fn verdict(
+    m: &[u8],
+    names: Tally,
+    first: Result<(), ObjectFault>,
+    left: &[usize],
+    size: &[usize],
+) -> Result<usize, ObjectFault>
     requires { length left.now ≡ 16 }
     ensures { Concluded m.now names first left.now size.now result }
 {
     let mut ix = [0u16; 16];
     let count = names.count;
-    match naming::judge(&m[0..], names, &left[0..], &size[0..], &mut ix) {
-        Named::No(n) => Found::No(n, 0),
-        Named::Yes => match first {
-            First::Fault(n, c) => Found::No(n, c),
-            First::Fine => Found::Yes(count),
-        },
-    }
+    naming::judge(&m[0..], names, &left[0..], &size[0..], &mut ix)?;
+    first?;
+    Ok(count)
 }
 
 // The components that begin c, at depth 4, of a file whose manifest begins at `start`. Their rows are put into t, and into rows four numbers for each. `format` (types::format_code) and `code`, 13 or
@@ -197,11 +188,17 @@ pub fn components(
     let mut left = [0usize; 16];
     let mut size = [0usize; 16];
     match walk::map(&c[0..]) {
-        Opening::NotOpen => Whole {
+        None => Whole {
             end: cbor::skip(&c[0..], numbers::IN_OBJECT),
-            found: Found::No(numbers::KIND, 0),
+            found: Err(ObjectFault::from(Refusal::Kind)),
         },
-        Opening::Opened(mode, count, from) => {
+        Some(
+            Opening {
+                mode,
+                count,
+                size: from,
+            },
+        ) => {
             let w = entries(
                 layout,
                 format,

@@ -5,19 +5,16 @@ ghost use Rattle.components.specs.Typed as is;
 ghost use Rattle.components.specs.Row.{put_row};
 
 use fields::place_of;
-use walk::Letters;
-
 // Bytes of one element of the logical type that begins s, as types::unit_of has them.
 fn type_unit(s: &[u8], code: u64) -> u64
     ensures { is.TypeUnit s.now code result }
 {
-    match walk::text(&s[0..]) {
-        Letters::NoText => 0,
-        Letters::Text(at, n) => {
-            let e = at + n;
-            types::unit_of(&s[at..e], code)
-        }
-    }
+    let Some(letters) = walk::text(&s[0..]) else {
+        return 0;
+    };
+    let at = letters.at;
+    let e = at + letters.size;
+    types::unit_of(&s[at..e], code)
 }
 
 // Bytes of one element of a component in c, whose type has `left` bytes left.

@@ -15,13 +15,13 @@ use Rattle.walk.specs.Places.{MapIs, Modes, EntryIs as TurnIs}
 use Rattle.walk.specs.declared.Entry.{Entry}
 use Rattle.walk.specs.declared.Entry.TheVariants.{End, Value}
 use Rattle.walk.specs.declared.Opening.{Opening}
-use Rattle.walk.specs.declared.Opening.TheVariants.{NotOpen, Opened}
 use Rattle.walk.proofs.Passed.{Here, Passed, Folds}
 use Rattle.walk.proofs.ReadSays.{note-of}
 use Rattle.walk.proofs.Opens as opens
 use Rattle.walk.proofs.Passed as walked
 use Rattle.entry.specs.Nth.{places, chosen, nth, left_both, Held, in_table, EntryIs}
 use Rattle.entry.specs.declared.Places.{Places}
+use Rattle.std.specs.Prelude.{Some, None, Option}
 
 pub record State : Type 0 where
   pub count : ℕ
@@ -88,16 +88,16 @@ module _ {left mode count index at due n : ℕ} {s : List ℕ} {held : Places} (
 
 -- ---------------------------------------------------------------- the whole
 
-module _ (s : List ℕ) (x : Opening) (h : MapIs (Here s 0) x) (left index : ℕ) where
-  pub no-entry : x ≡ NotOpen → {r : Places} → r ≡ places 0 0 → EntryIs left s index r
+module _ (s : List ℕ) (x : Option Opening) (h : MapIs (Here s 0) x) (left index : ℕ) where
+  pub no-entry : x ≡ None → {r : Places} → r ≡ places 0 0 → EntryIs left s index r
   unfolding in_table
-  no-entry e is t q r = is ∙ (rw (opens.opening s x h NotOpen e left t q r) refl)
+  no-entry e is t q r = is ∙ (rw (opens.opening s x h None e left t q r) refl)
 
-  pub of_map : (mode count size : ℕ) → x ≡ Opened mode count size → (r : Places) → Held left mode count (Here s size) index r → EntryIs left s index r
+  pub of_map : (op : Opening) → x ≡ Some op → (r : Places) → Held left op.mode op.count (Here s op.size) index r → EntryIs left s index r
   unfolding in_table a_mapping as_mapping
-  of_map mode count size is r held t q reads =
-      let m = (opens.opened s x h mode count size is).trees left t q reads in
-      let k = subst (λ u. Held left mode count u index r) (part_to_end s size) held in
+  of_map op is r held t q reads =
+      let m = (opens.opened s x h op is).trees left t q reads in
+      let k = subst (λ u. Held left op.mode op.count u index r) (part_to_end s op.size) held in
       rw m.kind-is (k m.pairs m.last m.due)
 
 module _ (index n key value : ℕ) (h : Places) where

@@ -7,7 +7,7 @@ ghost use Rattle.walk.specs.Places.{Modes};
 
 use walk::{Entry, Opening};
 
-// Bytes left at the key and at the value; 0 and 0 for none.
+// Bytes left at the key and at the value; 0 and 0 for none: no Option, since all who ask go on with a place that `fields::place_of` takes, where 0 is none.
 #[derive(Clone, Copy)]
 pub struct Places {
     pub key: usize,
@@ -65,7 +65,7 @@ pub fn entry(s: &[u8], left: u64, index: usize) -> Places
     ensures { is.EntryIs left s.now index result }
 {
     match walk::map(&s[0..]) {
-        Opening::NotOpen => places_of(0, 0),
-        Opening::Opened(mode, count, size) => entries(&s[size..], left, mode, count, index),
+        None => places_of(0, 0),
+        Some(Opening { mode, count, size }) => entries(&s[size..], left, mode, count, index),
     }
 }

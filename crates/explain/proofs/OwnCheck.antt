@@ -2,15 +2,16 @@
 use Prim.Native.Nat.{ℕ, ◌+◌, ◌-◌, ◌*◌, ◌^◌, ◌≤◌, ◌<◌}
 use native.Mathlib.Omega.{arith}
 use mathlib.Core.List.{List}
-use mathlib.Core.Bool.{Bool, true}
-use mathlib.Core.Path.{◌≡◌, sym, ap, ◌∙◌}
+use mathlib.Core.Bool.{Bool, true, not}
+use mathlib.Core.Logic.{◌⊎◌, inl, inr}
+use mathlib.Core.Option.{some}
+use mathlib.Core.Path.{◌≡◌, sym, ap, ◌∙◌, subst}
 use lib.ListN.{length}
-use lib.Dec.{ltb}
-use borrow.Author.Tests.{lt-ltb, ltb-true}
+use lib.Dec.{eqb, ltb}
+use borrow.Author.Tests.{ne_eqb, lt-ltb, ltb-true}
 use Rattle.meaning.specs.Check.{pass}
-use Rattle.meaning.specs.Refusal.{CBOR, DEEP, ROOM}
+use Rattle.meaning.specs.Refusal.{DEEP, ROOM}
 use Rattle.meaning.specs.Columns.{object_width, component_width}
-use Rattle.meaning.specs.Rows.{optional_span}
 use Rattle.meaning.specs.Layouts.{Layout, layout_of}
 use Rattle.fields.proofs.Texts.{Here}
 use Rattle.frame.proofs.Frames.{size_back_lem}
@@ -18,8 +19,8 @@ use Rattle.panel.specs.declared.Listed.{Listed}
 use Rattle.panel.specs.ListedText.{told, text_after}
 use Rattle.reader.specs.Verdict as reader
 use Rattle.reader.specs.declared.Told.{Told}
-use Rattle.reader.specs.declared.Told.TheVariants.{Yes}
-use Rattle.explained.specs.Explain.{explanation}
+use Rattle.explained.specs.Explain as explain
+use Rattle.explained.specs.Explain.{explanation, alone, span}
 use Rattle.explained.specs.Sentence.{said, sentence}
 use Rattle.explained.proofs.Promise.{sided}
 use Rattle.entry.specs.declared.Places.{Places}
@@ -35,10 +36,21 @@ use Rattle.explaining.specs.Judged as is
 use Rattle.explaining.specs.Judged.{OwnedIs}
 use Rattle.explaining.proofs.Answers as answers
 use Rattle.explaining.proofs.Sentence as saying
+use Rattle.std.specs.Prelude.{Ok}
+use Rattle.numbers.specs.declared.fault.FileFault.{FileFault}
+use Rattle.std.specs.Prelude.{Result}
+use Rattle.numbers.specs.Numbered.{number_of}
+use Rattle.numbers.specs.declared.refusal.Refusal.{Refusal}
+use Rattle.numbers.specs.declared.refusal.Refusal.TheVariants as refusals
 
 -- does the check belong to an object or a component?
-pub an-object : (o c : ℕ) → (o ≡ 0 → ⊥) → true ≡ ltb 0 (o + c)
-an-object o c h = sym (lt-ltb 0 (o + c) (omega arith))
+pub an-object : (o c : ℕ) → (o ≡ 0 → ⊥) → not (eqb o 0) ≡ ltb 0 (o + c)
+an-object o c h = ap not (ne_eqb o 0 h) ∙ sym (lt-ltb 0 (o + c) (omega arith))
+
+-- the reading refuses with one of two
+pub low : (r : Refusal) → (r ≡ refusals.Cbor) ⊎ (r ≡ refusals.Deep) → number_of r ≤ DEEP
+low r (inl e) = rw e (omega arith)
+low r (inr e) = rw e (omega arith)
 
 pub no-object : (o c : ℕ) → o ≡ 0 → ltb 0 c ≡ ltb 0 (o + c)
 no-object o c h = let z : c ≡ o + c = omega arith in ap (ltb 0) z
@@ -59,33 +71,19 @@ module _ (layout : ℕ) (m : List ℕ) (start end n o c : ℕ) (r : Explanation)
       → is.JudgedIs (layout_of layout) m start end n o c r
   beyond-the-root e f objects stand inside = answers.beyond-the-root (layout_of layout) m start end n o c r (ltb-true 0 (o + c) (sym e ∙ f)) objects stand inside
 
-  pub malformed : n ≡ CBOR → Unread m end n r → is.RefusedIs (layout_of layout) m start end n o c r
-  malformed e unread = answers.by-its-bytes (layout_of layout) m start end n o c r (size_back_lem layout) (omega arith) unread
-
-  pub too-deep : n ≡ DEEP → Unread m end n r → is.RefusedIs (layout_of layout) m start end n o c r
-  too-deep e unread = answers.by-its-bytes (layout_of layout) m start end n o c r (size_back_lem layout) (omega arith) unread
+  pub by-its-bytes : {k : ℕ} → k ≡ n → n ≤ DEEP → Unread m end k r → is.RefusedIs (layout_of layout) m start end n o c r
+  by-its-bytes e low unread = answers.by-its-bytes (layout_of layout) m start end n o c r (size_back_lem layout) low (subst (λ k. Unread m end k r) e unread)
 
 -- a manifest that is accepted has so few
-pub counted : (L : Layout) (m : List ℕ) (start : ℕ) {x : Told} → ((end : ℕ) → reader.ManifestIs L end start m x) → {objects components left at : ℕ} → x ≡ Yes objects components left at
-    → (objects ≤ 1024) × (components ≤ 16384)
-counted L m start {x} asked {objects} {components} {left} {at} e = answers.counted L m start 0 0 x asked objects components left at e
+pub counted : (L : Layout) (m : List ℕ) (start : ℕ) {x : Result Told FileFault} → ((end : ℕ) → reader.ManifestIs L end start m x) → {v : Told} → x ≡ Ok v → (v.objects ≤ 1024) × (v.components ≤ 16384)
+counted L m start {x} asked {v} e = answers.counted L m start 0 0 x asked v e
 
 -- the table is too small
 pub too-little : (objects components room : ℕ) → room < object_width * objects + component_width * components
-    → is.explanation (record {
-      number = ROOM;
-      object = 0;
-      component = 0;
-      objectname = 0;
-      objectsize = 0;
-      componentname = 0;
-      componentsize = 0;
-      place = 0;
-      length = 0;
-      room = object_width * objects + component_width * components;
-    }) ≡ is.sound objects components room
-unfolding explanation optional_span
-too-little objects components room l = answers.too-little objects components room l
+    → {n needed : ℕ} → n ≡ ROOM → needed ≡ object_width * objects + component_width * components
+    → {x : explain.Explanation} → x ≡ explanation (some (alone n (span 0 0))) needed → x ≡ is.sound objects components room
+too-little objects components room l {n} {needed} n-is needed-is h =
+    h ∙ ap (λ (n : ℕ). explanation (some (alone n (span 0 0))) needed) n-is ∙ ap (explanation (some (alone ROOM (span 0 0)))) needed-is ∙ answers.too-little objects components room l
 
 -- what is said is the sentence
 module _ (layout : ℕ) (file : List ℕ) (room : ℕ) (e : Explanation) (explained : is.ExplainedIs layout file room e) where

@@ -2,77 +2,108 @@
 #![tactic(auto)]
 
 ghost use Rattle.std.specs.Prelude.{◌≡◌, ◌+◌, ◌≤◌, ◌<◌, length, ltb};
+ghost use Rattle.std.proofs.Math.Option.{some};
 ghost use Rattle.meaning.specs.Check.{pass};
 ghost use Rattle.meaning.specs.Layouts.{layout_of};
 ghost use Rattle.panel.specs.ListedText.{told, text_after};
+ghost use Rattle.numbers.specs.Numbered.{number_of};
+ghost use Rattle.explained.specs.Explain.{explanation, alone, span};
 ghost use Rattle.explained.specs.Sentence.{sentence};
 ghost use Rattle.explaining.specs.Judged as is;
 
 use fields::place_of;
-use frame::Framed;
+use numbers::{FileFault, Refusal};
 use panel::Listed;
 use pointed::pointed;
-use reader::Told;
 use sentence::Explanation;
-use unread::alone;
 
-// An object of the manifest m, the one with the index o, that is refused with the number n for its component c. The objects stand where `objects` bytes are left.
+// The object of the manifest m that is refused with this fault. The objects stand where `objects` bytes are left.
 fn inside(
     layout: u64,
     m: &[u8],
     start: u64,
     end: usize,
-    n: u64,
-    o: u64,
-    c: u64,
+    fault: FileFault,
     objects: usize,
 ) -> Explanation
-    ensures { is.InsideIs (layout_of layout) m.now start end n o c objects result }
+    ensures { is.InsideIs (layout_of layout) m.now start end (number_of fault.refusal) fault.object fault.component objects result }
 {
     let from = place_of(m.len(), objects);
-    let e = entry::entry(&m[from..], numbers::IN_OBJECTS, o as usize);
+    let e = entry::entry(&m[from..], numbers::IN_OBJECTS, fault.object);
     let v = place_of(m.len(), e.value);
-    let w = badobject::object(layout, &m[v..], start, n, c as usize);
-    pointed(m, end, n, o, c, e.key, w.key, w.spot.left)
+    let n = u64::from(fault.refusal);
+    let w = badobject::object(layout, &m[v..], start, n, fault.component);
+    pointed(
+        m,
+        end,
+        n,
+        fault.object as u64,
+        fault.component as u64,
+        e.key,
+        w.key,
+        w.spot.left,
+    )
 }
 
 // Another object than the first, or another component: such a refusal is none of the root's.
-fn beyond(o: u64, c: u64) -> bool
-    ensures { result ≡ ltb 0 (o + c) }
+fn beyond(fault: FileFault) -> bool
+    ensures { result ≡ ltb 0 (fault.object + fault.component) }
 {
-    if o != 0 {
-        return true;
-    }
-    0 < c
+    fault.object != 0 || 0 < fault.component
 }
 
-// The manifest m, which begins at `start` and ends at `end`: what it says is refused with the number n, for the object o and the component c.
-fn judged(layout: u64, m: &[u8], start: u64, end: usize, n: u64, o: u64, c: u64) -> Explanation
-    ensures { is.JudgedIs (layout_of layout) m.now start end n o c result }
+// The manifest m, which begins at `start` and ends at `end`: what it says is refused with this fault.
+fn judged(layout: u64, m: &[u8], start: u64, end: usize, fault: FileFault) -> Explanation
+    ensures { is.JudgedIs (layout_of layout) m.now start end (number_of fault.refusal) fault.object fault.component result }
 {
-    if beyond(o, c) {
+    if beyond(fault) {
         let objects = badroot::objects(layout, m);
-        return inside(layout, m, start, end, n, o, c, objects);
+        return inside(layout, m, start, end, fault, objects);
     }
+    let n = u64::from(fault.refusal);
     let r = badroot::root(layout, m, n);
     let spot = r.spot;
     if spot.number == 0 {
-        return inside(layout, m, start, end, n, o, c, r.objects);
+        return inside(layout, m, start, end, fault, r.objects);
     }
-    pointed(m, end, n, o, c, 0, 0, spot.left)
+    pointed(
+        m,
+        end,
+        n,
+        fault.object as u64,
+        fault.component as u64,
+        0,
+        0,
+        spot.left,
+    )
 }
 
-// A manifest that is refused: as it is read, or for what it says. The number tells which: the reading refuses with CBOR or DEEP only, the judgement with neither.
-fn refused(layout: u64, m: &[u8], start: u64, end: usize, n: u64, o: u64, c: u64) -> Explanation
-    ensures { is.RefusedIs (layout_of layout) m.now start end n o c result }
+// A manifest that is refused: as it is read, or for what it says. The refusal tells which: the reading refuses with CBOR or DEEP only, the judgement with neither.
+fn refused(layout: u64, m: &[u8], start: u64, end: usize, fault: FileFault) -> Explanation
+    ensures { is.RefusedIs (layout_of layout) m.now start end (number_of fault.refusal) fault.object fault.component result }
 {
-    if n == numbers::CBOR {
-        return unread::unread(n, m, end);
+    match fault.refusal {
+        Refusal::Cbor | Refusal::Deep => unread::unread(u64::from(fault.refusal), m, end),
+        _ => judged(layout, m, start, end, fault),
     }
-    if n == numbers::DEEP {
-        return unread::unread(n, m, end);
+}
+
+// Of a file whose tree is sound: nothing is at fault in it. A number and the room that is needed, or 0 and 0.
+fn told(number: u64, room: u64) -> Explanation
+    ensures { is.explanation result ≡ explanation (some (alone number (span 0 0))) room }
+{
+    Explanation {
+        number: number,
+        object: 0,
+        component: 0,
+        objectname: 0,
+        objectsize: 0,
+        componentname: 0,
+        componentsize: 0,
+        place: 0,
+        length: 0,
+        room: room,
     }
-    judged(layout, m, start, end, n, o, c)
 }
 
 // A file that is sound, with so many objects and components, to a table of `room` numbers.
@@ -82,20 +113,9 @@ fn sound(objects: usize, components: usize, room: u64) -> Explanation
 {
     let needed = (columns::OBJECT * objects + columns::COMPONENT * components) as u64;
     if room < needed {
-        return Explanation {
-            number: numbers::ROOM,
-            object: 0,
-            component: 0,
-            objectname: 0,
-            objectsize: 0,
-            componentname: 0,
-            componentsize: 0,
-            place: 0,
-            length: 0,
-            room: needed,
-        };
+        return told(u64::from(Refusal::Room), needed);
     }
-    alone(0, 0, 0)
+    told(0, 0)
 }
 
 // The manifest m, which begins at `start` and ends at `end`.
@@ -103,8 +123,8 @@ fn manifest(layout: u64, m: &[u8], start: u64, end: usize, room: u64) -> Explana
     ensures { is.ManifestIs (layout_of layout) m.now start end room result }
 {
     match reader::manifest(layout, m, start) {
-        Told::No(n, o, c) => refused(layout, m, start, end, n, o, c),
-        Told::Yes(objects, components, _, _) => sound(objects, components, room),
+        Err(fault) => refused(layout, m, start, end, fault),
+        Ok(told) => sound(told.objects, told.components, room),
     }
 }
 
@@ -113,10 +133,16 @@ pub fn explain(layout: u64, file: &[u8], room: u64) -> Explanation
     ensures { is.ExplainedIs layout file.now room result }
 {
     match frame::frame(layout, file) {
-        Framed::No(n) => unread::framed(layout, n, file),
-        Framed::At(start, size) => {
-            let end = start + size;
-            manifest(layout, &file[start..end], start as u64, end, room)
+        Err(refusal) => unread::framed(layout, u64::from(refusal), file),
+        Ok(framed) => {
+            let end = framed.start + framed.size;
+            manifest(
+                layout,
+                &file[framed.start..end],
+                framed.start as u64,
+                end,
+                room,
+            )
         }
     }
 }

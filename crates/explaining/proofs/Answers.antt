@@ -15,11 +15,9 @@ use Rattle.meaning.specs.Rows.{optional_span}
 use Rattle.fields.proofs.Texts.{Here}
 use Rattle.frame.specs.FrameAnswer as framing
 use Rattle.frame.specs.declared.Framed.{Framed}
-use Rattle.frame.specs.declared.Framed.TheVariants.{No as NoFrame, At}
 use Rattle.table.specs.Spans.{span_of}
 use Rattle.reader.specs.Verdict as reader
 use Rattle.reader.specs.declared.Told.{Told}
-use Rattle.reader.specs.declared.Told.TheVariants.{No, Yes}
 use Rattle.explained.specs.Fields.{Sided}
 use Rattle.explained.specs.Notes.{map_step}
 use Rattle.explained.specs.Explain as explain
@@ -37,6 +35,10 @@ use Rattle.explaining.proofs.Within as within
 use Rattle.explaining.proofs.Words as words
 use Rattle.explaining.proofs.FromReading as reading
 use Rattle.explaining.proofs.FromReading.{Cause, stops, fills}
+use Rattle.std.specs.Prelude.{Ok, Err, Result}
+use Rattle.numbers.specs.declared.refusal.Refusal.{Refusal}
+use Rattle.numbers.specs.declared.fault.FileFault.{FileFault}
+use Rattle.numbers.specs.Numbered.{number_of}
 
 module _ (L : Layout) (m : List ℕ) (start end n o c : ℕ) (r : Explanation) where
   pub of-object : Sided L → (objects from : ℕ) → from ≡ length m - objects → (e : Places) → EntryIs 30 (Here m from) o e → (v : ℕ) → v ≡ length m - e.value
@@ -79,19 +81,19 @@ module _ (L : Layout) (m : List ℕ) (start end n o c : ℕ) (r : Explanation) w
         go (stops q e) = absurd (let z = reading.stop-number L m start end n o c file f q e framing in omega (arith, z.0, z.1, nc, nd))
         go (fills t h w) = judged t [] h w ∙ sym (reading.explained-tree L m start end n o c file f t h w room)
 
-module _ (L : Layout) (m : List ℕ) (start end room : ℕ) (x : Told) (asked : (end : ℕ) → reader.ManifestIs L end start m x) where
-  pub no-manifest : (r : Explanation) (n o c : ℕ) → x ≡ No n o c → is.RefusedIs L m start end n o c r → is.ManifestIs L m start end room r
-  no-manifest r n o c e refused file f = refused (subst (reader.ManifestIs L end start m) e (asked end)) file f room
+module _ (L : Layout) (m : List ℕ) (start end room : ℕ) (x : Result Told FileFault) (asked : (end : ℕ) → reader.ManifestIs L end start m x) where
+  pub no-manifest : (r : Explanation) (n : FileFault) → x ≡ Err n → is.RefusedIs L m start end (number_of n.refusal) n.object n.component r → is.ManifestIs L m start end room r
+  no-manifest r n e refused file f = refused (subst (reader.ManifestIs L end start m) e (asked end)) file f room
 
-  module _ (objects components left at : ℕ) (e : x ≡ Yes objects components left at) where
-    accepted : reader.Accepted L end start m objects components left at
+  module _ (v : Told) (e : x ≡ Ok v) where
+    accepted : reader.Accepted L end start m v.objects v.components v.attributes v.place
     accepted = subst (reader.ManifestIs L end start m) e (asked end)
 
-    pub counted : (objects ≤ 1024) × (components ≤ 16384)
-    counted = (reading.few-objects L m start end objects components left at accepted, reading.few-components L m start end objects components left at accepted)
+    pub counted : (v.objects ≤ 1024) × (v.components ≤ 16384)
+    counted = (reading.few-objects L m start end v.objects v.components v.attributes v.place accepted, reading.few-components L m start end v.objects v.components v.attributes v.place accepted)
 
-    pub a-manifest : (r : Explanation) → is.explanation r ≡ is.sound objects components room → is.ManifestIs L m start end room r
-    a-manifest r h file f = h ∙ reading.explained-sound L m start end objects components left at accepted file f room
+    pub a-manifest : (r : Explanation) → is.explanation r ≡ is.sound v.objects v.components room → is.ManifestIs L m start end room r
+    a-manifest r h file f = h ∙ reading.explained-sound L m start end v.objects v.components v.attributes v.place accepted file f room
 
 module _ (objects components room : ℕ) where
   abbrev needed : ℕ
@@ -105,11 +107,11 @@ module _ (objects components room : ℕ) where
   unfolding is.sound explain.explanation optional_span
   enough l x h = h ∙ (rw (le-leb needed room l) refl)
 
-module _ (layout : ℕ) (file : List ℕ) (room : ℕ) (x : Framed) (asked : frame (layout_of layout) file ≡ framing.told x) (r : Explanation) where
-  pub no-frame : (n : ℕ) → x ≡ NoFrame n → Unframed layout file n r → is.ExplainedIs layout file room r
+module _ (layout : ℕ) (file : List ℕ) (room : ℕ) (x : Result Framed Refusal) (asked : frame (layout_of layout) file ≡ framing.told x) (r : Explanation) where
+  pub no-frame : (n : Refusal) → x ≡ Err n → Unframed layout file (number_of n) r → is.ExplainedIs layout file room r
   no-frame n e h = h (asked ∙ ap framing.told e) room
 
-  pub a-frame : (start size : ℕ) → x ≡ At start size → is.ManifestIs (layout_of layout) (take (start + size - start) (drop start file)) start (start + size) room r → is.ExplainedIs layout file room r
-  a-frame start size e h =
-      let z : start + size - start ≡ size = omega arith in
-      h file (record { size = size; frames = asked ∙ ap framing.told e; ends = refl; is = ap (λ (i : ℕ). take i (drop start file)) z })
+  pub a-frame : (v : Framed) → x ≡ Ok v → is.ManifestIs (layout_of layout) (take (v.start + v.size - v.start) (drop v.start file)) v.start (v.start + v.size) room r → is.ExplainedIs layout file room r
+  a-frame v e h =
+      let z : v.start + v.size - v.start ≡ v.size = omega arith in
+      h file (record { size = v.size; frames = asked ∙ ap framing.told e; ends = refl; is = ap (λ (i : ℕ). take i (drop v.start file)) z })

@@ -1,8 +1,13 @@
--- What a check says, in the structs that C takes.
+-- What a check says, in the number and the structs that C takes.
+use Rattle.std.specs.Prelude.{ℕ}
 use Rattle.meaning.specs.Check.{Check, pass, refuse}
 use Rattle.meaning.specs.Frame.{Frame}
 use Rattle.exported.specs.declared.Ruling.{Ruling}
 use Rattle.exported.specs.declared.Place.{Place}
+
+abbrev pub number : Check (Unit {0}) → ℕ
+number (pass tt) = 0
+number (refuse n o c) = n
 
 abbrev pub ruling : Check (Unit {0}) → Ruling
 ruling (pass tt) = record { number = 0; component = 0 }

@@ -13,12 +13,12 @@ ghost use Rattle.meaning.specs.Layouts as layouts;
 ghost use Rattle.meaning.specs.Types as types;
 ghost use Rattle.meaning.specs.Format as format;
 ghost use Rattle.types.specs.Known as known;
-ghost use Rattle.lengths.specs.Place.{place_rule, number};
+ghost use Rattle.lengths.specs.Place.{place_rule};
 ghost use Rattle.formats.specs.Parts.{part_rows};
 ghost use Rattle.reader.specs.Verdict.{verdict};
 ghost use Rattle.put.specs.Wrote.{Wrote};
 ghost use Rattle.decimal.specs.Text as decimals;
-ghost use Rattle.exported.specs.Structs.{ruling, place};
+ghost use Rattle.exported.specs.Structs.{number, ruling, place};
 
 use reader::Verdict;
 use std::cmp::Ordering;
@@ -87,13 +87,7 @@ pub extern "C" fn leaf_no_twice(
 ) -> bool
     ensures { n ≤ length ix.old → n ≤ 65536 → result ≡ texts.distinct (listed (name m.now left.now size.now) 0 n) }
 {
-    if ix.len() < n {
-        return false;
-    }
-    if 65536 < n {
-        return false;
-    }
-    names::no_twice(m, left, size, n, ix)
+    n <= ix.len() && n <= 65536 && names::no_twice(m, left, size, n, ix)
 }
 
 #[unsafe(no_mangle)]
@@ -212,7 +206,10 @@ pub extern "C" fn leaf_coordinate_length(n: u64, rank: u64, count: u64) -> bool
 pub extern "C" fn leaf_place(start: u64, offset: u64, length: u64) -> u64
     ensures { result ≡ number (place_rule start offset length) }
 {
-    lengths::place(start, offset, length)
+    match lengths::place(start, offset, length) {
+        Ok(()) => 0,
+        Err(refusal) => u64::from(refusal),
+    }
 }
 
 // A refusal's number and its component; 0 and 0 for none.
@@ -228,13 +225,13 @@ pub extern "C" fn leaf_judge(code: u64, shape: &[u64], parts: &[u64]) -> Ruling
     ensures { (f : List ℕ) (cs : List format.Part) → code ≡ known.position known.format_names f → parts.now ≡ part_rows cs → result ≡ ruling (format.format_rules f shape.now cs) }
 {
     match formats::judge(code, shape, parts) {
-        formats::Ruled::Right => Ruling {
+        Ok(()) => Ruling {
             number: 0,
             component: 0,
         },
-        formats::Ruled::Wrong(number, component) => Ruling {
-            number: number,
-            component: component,
+        Err(fault) => Ruling {
+            number: u64::from(fault.refusal),
+            component: fault.component,
         },
     }
 }
@@ -253,15 +250,15 @@ pub extern "C" fn leaf_frame(layout: u64, file: &[u8]) -> Place
     ensures { result ≡ place (frames.frame (layouts.layout_of layout) file.now) }
 {
     match frame::frame(layout, file) {
-        frame::Framed::No(number) => Place {
-            number: number,
+        Err(refusal) => Place {
+            number: u64::from(refusal),
             start: 0,
             size: 0,
         },
-        frame::Framed::At(start, size) => Place {
+        Ok(framed) => Place {
             number: 0,
-            start: start,
-            size: size,
+            start: framed.start,
+            size: framed.size,
         },
     }
 }

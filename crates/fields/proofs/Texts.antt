@@ -15,20 +15,20 @@ use Rattle.types.specs.Known.{field_at}
 use Rattle.types.proofs.Codes.{field-most}
 use Rattle.walk.specs.Reading.{ends}
 use Rattle.walk.specs.Places.{Whatever, text_at, TextIs, Inside}
+use Rattle.std.specs.Prelude.{Some, None, Option}
 pub use Rattle.walk.proofs.Passed.{Here}
 use Rattle.walk.specs.declared.Letters.{Letters}
-use Rattle.walk.specs.declared.Letters.TheVariants.{NoText, Text}
 use Rattle.fields.specs.Slots.{slot_of, SlotIs}
 
-module _ (s : List ℕ) (l : Letters) where
-  pub letters-in : Inside (Here s 0) l → (at n : ℕ) → l ≡ Text at n → at + n ≤ length s
+module _ (s : List ℕ) (l : Option Letters) where
+  pub letters-in : Inside (Here s 0) l → (at n : ℕ) → l ≡ Some (record { at = at; size = n }) → at + n ≤ length s
   letters-in h at n e = rw (part_to_end s 0) at (rw e at h)
 
   module _ (h : TextIs (Here s 0) l) where
     whole : TextIs s l
     whole = subst (λ u. TextIs u l) (part_to_end s 0) h
 
-    module _ (e : l ≡ NoText) where
+    module _ (e : l ≡ None) where
       pub no_word : Whatever s λ d t r. kinds.a_word t ≡ fault KIND
       no_word d t r q = whole d t r q ∙ ap (text_at s r) e
 
@@ -36,7 +36,7 @@ module _ (s : List ℕ) (l : Letters) where
       unfolding slot_of kinds.a_word
       slot-odd slots m places d t r q = rw (key-of-none (kind t) (no_word d t r q), ← places) refl
 
-    module _ (at n : ℕ) (e : l ≡ Text at n) where
+    module _ (at n : ℕ) (e : l ≡ Some (record { at = at; size = n })) where
       -- its letters, as they are lent
       abbrev pub letters : List ℕ
       letters = take (at + n - at) (drop at s)

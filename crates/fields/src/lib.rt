@@ -6,8 +6,6 @@ ghost use Rattle.std.specs.Prelude.{◌≡◌, ◌+◌, ◌-◌, ◌≤◌, leng
 ghost use Rattle.fields.specs.Slots.{marked};
 ghost use Rattle.fields.specs.Attributes.{AttributesAt};
 
-use walk::Opening;
-
 // Notes at slot k that a value has `left` bytes left. The first value of a known field stays.
 pub fn mark(p: &mut [usize], known: usize, k: usize, left: usize)
     requires { (known + 3 ≤ length p.old) × (k ≤ known + 1) }
@@ -40,8 +38,5 @@ pub fn attributes(s: &[u8], left: usize) -> bool
         return true;
     }
     let at = place_of(s.len(), left);
-    match walk::map(&s[at..]) {
-        Opening::NotOpen => false,
-        Opening::Opened(_, _, _) => true,
-    }
+    walk::map(&s[at..]).is_some()
 }

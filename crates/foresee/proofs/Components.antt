@@ -10,13 +10,14 @@ use Rattle.meaning.specs.Check.{Check, pass, refuse, ◌>>=◌, ◌>>◌, in_com
 use Rattle.meaning.specs.Asked.{each_row, asked_component}
 use Rattle.meaning.specs.Described.{DescribedComponent, described_component}
 use Rattle.readback.specs.Judged.{judged_component}
-use Rattle.formats.specs.declared.Ruled.TheVariants.{Right as Fits, Wrong as Breaks}
-use Rattle.formats.specs.Parts as rules
 use Rattle.rows.specs.Placed.{components_at}
 use Rattle.rows.proofs.EachRow.{no_row, next-row-at}
-use Rattle.foresee.specs.declared.texts.Held.{Held}
-use Rattle.foresee.specs.declared.texts.Held.TheVariants.{Right, Wrong}
-use Rattle.foresee.specs.Foretold.{told, each_component}
+use Rattle.foresee.specs.Foretold.{each_component}
+use Rattle.std.specs.Prelude.{Ok, Err, Result}
+use Rattle.numbers.specs.declared.refusal.Refusal.{Refusal}
+use Rattle.numbers.specs.Answered as answers
+use Rattle.numbers.specs.Answered.{answered}
+use Rattle.numbers.specs.Numbered.{number_of}
 
 -- a check of each, with what passes forgotten
 module _ {A : Type 0} (f : ℕ → A → Check (Unit {0})) (i : ℕ) (a : A) (l : List A) where
@@ -52,7 +53,7 @@ module _ {buffer rows : List ℕ} {n : ℕ} where
   }
 
   module _ {at j : ℕ} (w : Judging buffer rows n at j) where
-    pub components-end : n ≤ j → of_all buffer rows n ≡ rules.told Fits
+    pub components-end : n ≤ j → of_all buffer rows n ≡ answers.in_object (Ok tt)
     unfolding each_component
     components-end h = w.so_far ∙ rw (no_row asked_component component_width (n - j) (drop at rows) (omega (arith, h))) refl
 
@@ -66,18 +67,18 @@ module _ {buffer rows : List ℕ} {n : ℕ} where
     one j c = in_component j (judged_component c)
 
     -- `component` said r of it, and was lent its row to the end of all rows
-    module _ (more : j < n) (r : Held) (judged : judged_component (described_component buffer (asked_component (take (length rows - at) (drop at rows)))) ≡ told r) where
-      this-judged : judged_component this ≡ told r
+    module _ (more : j < n) (r : Result (Unit {0}) Refusal) (judged : judged_component (described_component buffer (asked_component (take (length rows - at) (drop at rows)))) ≡ answered r) where
+      this-judged : judged_component this ≡ answered r
       this-judged = sym (ap (λ (s : List ℕ). judged_component (described_component buffer (asked_component s))) (part_to_end rows at)) ∙ judged
 
       first-and-others : components_at (n - j) at rows ≡ asked_component (drop at rows) ∷ components_at (n - j - 1) (at + component_width) rows
       first-and-others = next-row-at asked_component component_width (n - j) at rows (omega (arith, more))
 
-      pub component-faulty : {k : ℕ} → r ≡ Wrong k → of_all buffer rows n ≡ rules.told (Breaks k j)
+      pub component-faulty : {k : Refusal} → r ≡ Err k → of_all buffer rows n ≡ answers.in_object (Err (record { refusal = k; component = j }))
       unfolding each_component
-      component-faulty {k} e = w.so_far ∙ rw first-and-others (stops one j this others k 0 j (ap (in_component j) (this-judged ∙ ap told e)))
+      component-faulty {k} e = w.so_far ∙ rw first-and-others (stops one j this others (number_of k) 0 j (ap (in_component j) (this-judged ∙ ap answered e)))
 
-      pub component-passes : r ≡ Right → Judging buffer rows n (at + component_width) (j + 1)
+      pub component-passes : r ≡ (Ok tt) → Judging buffer rows n (at + component_width) (j + 1)
       unfolding each_component
       component-passes e = record {
         lie = (let l = w.lie in omega (arith, more, l));
@@ -85,7 +86,7 @@ module _ {buffer rows : List ℕ} {n : ℕ} where
             let y : suc j ≡ j + 1 = omega arith in
             let z : n - j - 1 ≡ n - (j + 1) = omega (arith, more) in
             w.so_far
-            ∙ rw first-and-others (goes_on one j this others (ap (in_component j) (this-judged ∙ ap told e)))
+            ∙ rw first-and-others (goes_on one j this others (ap (in_component j) (this-judged ∙ ap answered e)))
             ∙ ap (λ (k : ℕ). from buffer rows k (n - j - 1) (at + component_width)) y
             ∙ ap (λ (k : ℕ). from buffer rows (j + 1) k (at + component_width)) z;
       }

@@ -25,9 +25,10 @@ use Rattle.walk.proofs.Puts.{length-put}
 use Rattle.naming.proofs.NameNoted.{all_snoc, one_more}
 use Rattle.rows.proofs.EachRow.{next-row-at, some-rows, split_rows}
 use Rattle.readback.specs.Judged.{judged_names}
-use Rattle.foresee.specs.declared.texts.Held.TheVariants.{Right, Wrong}
-use Rattle.foresee.specs.Foretold.{told}
 use Rattle.foresee.specs.Names.{names_of, Noted, NotedOr}
+use Rattle.std.specs.Prelude.{Ok, Err}
+use Rattle.numbers.specs.declared.refusal.Refusal.TheVariants as refusals
+use Rattle.numbers.specs.Answered.{answered}
 
 -- what is left at a place gives the place back, as far as bytes go
 left_at : (buffer : List ℕ) (place k : ℕ) → take k (drop (length buffer - (length buffer - place)) buffer) ≡ take k (drop place buffer)
@@ -133,7 +134,7 @@ module _ {buffer rows : List ℕ} {width n : ℕ} where
 
 module _ (limit : ℕ) (ns : List (List ℕ)) where
   -- of which `note` said r
-  pub odd-names : {buffer left size : List ℕ} {r : Bool} → NotedOr buffer ns left size r → not r ≡ true → judged_names limit ns ≡ told (Wrong 10)
+  pub odd-names : {buffer left size : List ℕ} {r : Bool} → NotedOr buffer ns left size r → not r ≡ true → judged_names limit ns ≡ answered (Err refusals.Text)
   unfolding judged_names
   odd-names {r = r} noted e = rw (noted.odd (not-true r e)) refl
 
@@ -147,16 +148,16 @@ module _ (limit : ℕ) (ns : List (List ℕ)) where
       by true true l h = leb-true (length ns) limit l
 
   module _ (text : all utf8 ns ≡ true) where
-    many-names : limit < length ns → judged_names limit ns ≡ told (Wrong 15)
+    many-names : limit < length ns → judged_names limit ns ≡ answered (Err refusals.Count)
     unfolding judged_names
     many-names h = rw (text, lt-leb (length ns) limit h) refl
 
     module _ (few : length ns ≤ limit) where
-      names-once : distinct ns ≡ true → judged_names limit ns ≡ told Right
+      names-once : distinct ns ≡ true → judged_names limit ns ≡ answered (Ok tt)
       unfolding judged_names
       names-once e = rw (text, le-leb (length ns) limit few, e) refl
 
-      name-twice : distinct ns ≡ false → judged_names limit ns ≡ told (Wrong 11)
+      name-twice : distinct ns ≡ false → judged_names limit ns ≡ answered (Err refusals.Twice)
       unfolding judged_names
       name-twice e = rw (text, le-leb (length ns) limit few, e) refl
 
@@ -172,7 +173,7 @@ module _ {buffer left size : List ℕ} (rows : List ℕ) (width n room : ℕ) {r
   unfolding names_of
   as_many = each-row-length (name_in buffer) width n rows
 
-  pub too_many : length left < n → judged_names room names ≡ told (Wrong 15)
+  pub too_many : length left < n → judged_names room names ≡ answered (Err refusals.Count)
   too_many l = many-names room names these-noted.texts (omega (arith, l, as_many, roomy))
 
   -- and `no_twice` said once
@@ -182,10 +183,10 @@ module _ {buffer left size : List ℕ} (rows : List ℕ) (width n room : ℕ) {r
         let z : min n (length left) ≡ n = omega (arith, few) in
         sym (by ∙ ap distinct (rw (as_many, z) at these-noted.listed-are ∙ take_all (length left) names (omega (arith, few, as_many))))
 
-    pub all_once : once ≡ true → judged_names room names ≡ told Right
+    pub all_once : once ≡ true → judged_names room names ≡ answered (Ok tt)
     all_once e = names-once room names these-noted.texts (omega (arith, few, as_many, roomy)) (these ∙ e)
 
-    pub one-twice : once ≡ false → judged_names room names ≡ told (Wrong 11)
+    pub one-twice : once ≡ false → judged_names room names ≡ answered (Err refusals.Twice)
     one-twice e = name-twice room names these-noted.texts (omega (arith, few, as_many, roomy)) (these ∙ e)
 
 -- ---- whose names they are

@@ -19,9 +19,6 @@ use Rattle.meaning.specs.Asked.{AskedComponent, each_row, asked_object, asked_co
 use Rattle.meaning.specs.Described.{DescribedComponent, DescribedObject, described_component, described_object, described_objects, described}
 use Rattle.meaning.specs.Sound.{object_sound, rows_sound}
 use Rattle.meaning.proofs.Lengths.{each-row-length}
-use Rattle.formats.specs.declared.Ruled.{Ruled}
-use Rattle.formats.specs.declared.Ruled.TheVariants.{Right as Fits, Wrong as Breaks}
-use Rattle.formats.specs.Parts as rules
 use Rattle.readback.specs.Judged.{judged_names, judged_component, part_of, judged_object, judged_objects, deep_option, any_too_deep, too_deep, judged}
 use Rattle.rows.specs.Placed.{objects_at, components_at}
 use Rattle.rows.specs.Turns.{counted}
@@ -29,14 +26,19 @@ use Rattle.rows.proofs.EachRow.{first_so, others-so}
 use Rattle.rows.proofs.Describes.{described-none, described-next, counted_next, rows-counted}
 use Rattle.rows.proofs.SoundRow.{object-rank-small}
 use Rattle.rows.proofs.Whole.{sound-lies, sound-objects}
-use Rattle.foresee.specs.declared.texts.Held.{Held}
-use Rattle.foresee.specs.declared.texts.Held.TheVariants.{Right, Wrong}
-use Rattle.foresee.specs.declared.Foreseen.{Foreseen}
-use Rattle.foresee.specs.declared.Foreseen.TheVariants.{Fine, Fault}
-use Rattle.foresee.specs.Foretold.{told, foretold, each_component, each_object, objects_of, Counted}
+use Rattle.foresee.specs.Foretold.{each_component, each_object, objects_of, Counted}
 use Rattle.foresee.specs.Names.{names_of}
 use Rattle.foresee.proofs.NamesNoted.{few-names, component-names, object-names}
 use Rattle.foresee.proofs.Components.{goes_on, stops}
+use Rattle.std.specs.Prelude.{Ok, Err, Result}
+use Rattle.numbers.specs.declared.refusal.Refusal.{Refusal}
+use Rattle.numbers.specs.declared.fault.ObjectFault.{ObjectFault}
+use Rattle.numbers.specs.declared.fault.FileFault.{FileFault}
+use Rattle.numbers.specs.declared.refusal.Refusal.TheVariants as refusals
+use Rattle.numbers.specs.Answered as answers
+use Rattle.numbers.specs.Answered.{answered}
+use Rattle.numbers.specs.Answered.{in_file}
+use Rattle.numbers.specs.Numbered.{number_of}
 
 -- ---- one object, with n components
 
@@ -48,17 +50,17 @@ module _ (buffer row rows : List ℕ) (n : ℕ) {s : List ℕ} (part : s ≡ tak
   abbrev parts : List DescribedComponent
   parts = map (described_component buffer) (each_row asked_component component_width n rows)
 
-  pub odd-format : not u ≡ true → verdict ≡ rules.told (Breaks 10 0)
+  pub odd-format : not u ≡ true → (k : ObjectFault) → k ≡ record { refusal = refusals.Text; component = 0 } → verdict ≡ answers.in_object (Err k)
   unfolding judged_object described_object asked_object
-  odd-format e = rw (← part, ← text, not-true u e) refl
+  odd-format e k is-k = rw is-k (rw (← part, ← text, not-true u e) refl)
 
   -- `names` said r of its components' names, `components` q of each
-  module _ (fine : not u ≡ false) (r : Held) (named : judged_names 16 (names_of buffer component_width n rows) ≡ told r) where
-    pub odd-names : {k : ℕ} → r ≡ Wrong k → verdict ≡ rules.told (Breaks k 0)
+  module _ (fine : not u ≡ false) (r : Result (Unit {0}) Refusal) (named : judged_names 16 (names_of buffer component_width n rows) ≡ answered r) where
+    pub odd-names : (k : Refusal) → r ≡ Err k → (q : Result (Unit {0}) ObjectFault) → q ≡ Err (record { refusal = k; component = 0 }) → verdict ≡ answers.in_object q
     unfolding judged_object described_object asked_object
-    odd-names e = rw (← part, ← text, not-false u fine, component-names buffer n rows, named, e) refl
+    odd-names k e q is-q = rw is-q (rw (← part, ← text, not-false u fine, component-names buffer n rows, named, e) refl)
 
-    module _ (well : r ≡ Right) (q : Ruled) (judged : each_component 0 parts ≡ rules.told q) where
+    module _ (well : r ≡ (Ok tt)) (q : Result (Unit {0}) ObjectFault) (judged : each_component 0 parts ≡ answers.in_object q) where
       last-parts : verdict ≡ (each_component 0 parts >> format_rules s (asked_object row).shape (map part_of parts))
       unfolding judged_object described_object asked_object each_component
       last-parts =
@@ -69,17 +71,17 @@ module _ (buffer row rows : List ℕ) (n : ℕ) {s : List ℕ} (part : s ≡ tak
           by (pass us) d = refl
           by (refuse n o k) d = refl
 
-      pub odd-component : {k j : ℕ} → q ≡ Breaks k j → verdict ≡ rules.told (Breaks k j)
-      odd-component e = last-parts ∙ (rw (judged, e) refl)
+      pub odd-component : (f : ObjectFault) → q ≡ Err f → (z : Result (Unit {0}) ObjectFault) → z ≡ Err f → verdict ≡ answers.in_object z
+      odd-component f e z is-z = rw is-z (last-parts ∙ (rw (judged, e) refl))
 
-      pub by-format : q ≡ Fits → (z : Ruled) → format_rules s (asked_object row).shape (map part_of parts) ≡ rules.told z → verdict ≡ rules.told z
+      pub by-format : q ≡ (Ok tt) → (z : Result (Unit {0}) ObjectFault) → format_rules s (asked_object row).shape (map part_of parts) ≡ answers.in_object z → verdict ≡ answers.in_object z
       by-format e z ruled = last-parts ∙ (rw (judged, e) ruled)
 
-pub few-components : (buffer rows : List ℕ) (n : ℕ) {r : Held} → judged_names 16 (names_of buffer component_width n rows) ≡ told r → r ≡ Right → n ≤ 16
+pub few-components : (buffer rows : List ℕ) (n : ℕ) {r : Result (Unit {0}) Refusal} → judged_names 16 (names_of buffer component_width n rows) ≡ answered r → r ≡ (Ok tt) → n ≤ 16
 unfolding names_of
 few-components buffer rows n named well =
     omega
-    (arith, few-names 16 (names_of buffer component_width n rows) (named ∙ ap told well), each-row-length (λ (row : List ℕ). take (get_or row 1 0) (drop (get_or row 0 0) buffer)) component_width n rows)
+    (arith, few-names 16 (names_of buffer component_width n rows) (named ∙ ap answered well), each-row-length (λ (row : List ℕ). take (get_or row 1 0) (drop (get_or row 0 0) buffer)) component_width n rows)
 
 -- ---- one object after the other
 
@@ -107,7 +109,7 @@ module _ {buffer rows : List ℕ} {n : ℕ} {rest : List ℕ} {components : ℕ}
       }
 
   module _ {at from due i : ℕ} (w : Judging buffer rows n rest components at from due i) where
-    pub objects-end : n ≤ i → of_all buffer rows n rest components ≡ foretold Fine
+    pub objects-end : n ≤ i → of_all buffer rows n rest components ≡ in_file (Ok tt)
     unfolding each_object objects_of
     objects-end h = w.so_far ∙ rw (described-none buffer rows rest (n - i) due at from (omega (arith, h))) refl
 
@@ -165,12 +167,12 @@ module _ {buffer rows : List ℕ} {n : ℕ} {rest : List ℕ} {components : ℕ}
       unfolding objects_of
       first-and-others = described-next buffer rows rest (n - i) due at from some_left count-due
 
-      module _ (r : Ruled) (judges : judged_object lent ≡ rules.told r) where
-        pub object-faulty : {k c : ℕ} → r ≡ Breaks k c → of_all buffer rows n rest components ≡ foretold (Fault k i c)
+      module _ (r : Result (Unit {0}) ObjectFault) (judges : judged_object lent ≡ answers.in_object r) where
+        pub object-faulty : (f : ObjectFault) → r ≡ Err f → of_all buffer rows n rest components ≡ in_file (Err (record { refusal = f.refusal; object = i; component = f.component }))
         unfolding each_object
-        object-faulty {k} {c} e = w.so_far ∙ rw first-and-others (stops one i this others k i c (ap (in_object i) (ap judged_object as_lent ∙ judges ∙ ap rules.told e)))
+        object-faulty f e = w.so_far ∙ rw first-and-others (stops one i this others (number_of f.refusal) i f.component (ap (in_object i) (ap judged_object as_lent ∙ judges ∙ ap answers.in_object e)))
 
-        pub object-passes : r ≡ Fits → Judging buffer rows n rest components (at + object_width) (from + component_width * count) (due - count) (i + 1)
+        pub object-passes : r ≡ (Ok tt) → Judging buffer rows n rest components (at + object_width) (from + component_width * count) (due - count) (i + 1)
         unfolding each_object
         object-passes e =
             let y : suc i ≡ i + 1 = omega arith in
@@ -181,20 +183,20 @@ module _ {buffer rows : List ℕ} {n : ℕ} {rest : List ℕ} {components : ℕ}
               adds-up = rw z (let h = w.adds-up in omega (arith, h, counted_next rows (n - i) at some_left));
               sound = rw z (others-so (object_sound buffer) asked_object object_width (n - i) at rows some_left w.sound);
               so_far =
-                  rw (z, ← y) (w.so_far ∙ rw first-and-others (goes_on one i this others (ap (in_object i) (ap judged_object as_lent ∙ judges ∙ ap rules.told e))));
+                  rw (z, ← y) (w.so_far ∙ rw first-and-others (goes_on one i this others (ap (in_object i) (ap judged_object as_lent ∙ judges ∙ ap answers.in_object e))));
             }
 
 -- ---- names, then objects
 
-module _ (buffer rows : List ℕ) (n : ℕ) (rest : List ℕ) (components : ℕ) (r : Held) (named : judged_names 1024 (names_of buffer object_width n rows) ≡ told r) where
+module _ (buffer rows : List ℕ) (n : ℕ) (rest : List ℕ) (components : ℕ) (r : Result (Unit {0}) Refusal) (named : judged_names 1024 (names_of buffer object_width n rows) ≡ answered r) where
   abbrev objects : List DescribedObject
   objects = objects_of buffer rows n rest components
 
-  pub odd-objects : {k : ℕ} → r ≡ Wrong k → judged_objects objects ≡ foretold (Fault k 0 0)
+  pub odd-objects : (k : Refusal) → r ≡ Err k → (q : Result (Unit {0}) FileFault) → q ≡ Err (record { refusal = k; object = 0; component = 0 }) → judged_objects objects ≡ in_file q
   unfolding judged_objects objects_of
-  odd-objects e = rw (object-names buffer n rows (each_row asked_component component_width components rest), named, e) refl
+  odd-objects k e q is-q = rw is-q (rw (object-names buffer n rows (each_row asked_component component_width components rest), named, e) refl)
 
-  pub by-objects : r ≡ Right → (f : Foreseen) → each_object 0 objects ≡ foretold f → judged_objects objects ≡ foretold f
+  pub by-objects : r ≡ (Ok tt) → (f : Result (Unit {0}) FileFault) → each_object 0 objects ≡ in_file f → judged_objects objects ≡ in_file f
   unfolding judged_objects objects_of each_object
   by-objects e f each = rw (object-names buffer n rows (each_row asked_component component_width components rest), named, e) each
 
@@ -209,20 +211,20 @@ module _ (buffer rows : List ℕ) (objects components place size : ℕ) where
 
   -- `deep` said d of the root's attributes, `any_deep` a of the objects', whatever their components
   module _ {d : Bool} (root : d ≡ deep_option 31 (present_at buffer range)) where
-    pub root-deep : d ≡ true → foreseen ≡ foretold (Fault 7 0 0)
+    pub root-deep : d ≡ true → (k : FileFault) → k ≡ record { refusal = refusals.Deep; object = 0; component = 0 } → foreseen ≡ in_file (Err k)
     unfolding judged too_deep described asked
-    root-deep e = rw (← root, e) refl
+    root-deep e k is-k = rw is-k (rw (← root, e) refl)
 
     module _ (fine : d ≡ false) {a : Bool} (any : (cs : List AskedComponent) → a ≡ any_too_deep (described_objects buffer (each_row asked_object object_width objects rows) cs)) where
       deep-there : a ≡ any_too_deep (described_objects buffer (each_row asked_object object_width objects rows) (components_at components (object_width * objects) rows))
       deep-there = any (components_at components (object_width * objects) rows)
 
-      pub object-deep : a ≡ true → foreseen ≡ foretold (Fault 7 0 0)
+      pub object-deep : a ≡ true → (k : FileFault) → k ≡ record { refusal = refusals.Deep; object = 0; component = 0 } → foreseen ≡ in_file (Err k)
       unfolding judged too_deep described asked
-      object-deep e = rw (← root, fine, ← deep-there, e) refl
+      object-deep e k is-k = rw is-k (rw (← root, fine, ← deep-there, e) refl)
 
       -- `judge` was lent the components' rows to the end of all rows
-      pub none-too-deep : a ≡ false → (f : Foreseen) → judged_objects (objects_of buffer rows objects (take (length rows - object_width * objects) (drop (object_width * objects) rows)) components) ≡ foretold f → foreseen ≡ foretold f
+      pub none-too-deep : a ≡ false → (f : Result (Unit {0}) FileFault) → judged_objects (objects_of buffer rows objects (take (length rows - object_width * objects) (drop (object_width * objects) rows)) components) ≡ in_file f → foreseen ≡ in_file f
       unfolding judged too_deep described asked objects_of
       none-too-deep e f is = rw (← root, fine, ← deep-there, e) (rw part_to_end at is)
 

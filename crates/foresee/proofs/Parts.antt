@@ -15,8 +15,7 @@ use Rattle.meaning.specs.Read.{Span}
 use Rattle.meaning.specs.Asked.{each_row, asked_object, asked_component, present_at}
 use Rattle.meaning.specs.Described.{described_component}
 use Rattle.types.specs.Known.{position, role_names, format_names, unit_number}
-use Rattle.formats.specs.Parts.{flag, unit_code, part_row, part_rows, told}
-use Rattle.formats.specs.declared.Ruled.{Ruled}
+use Rattle.formats.specs.Parts.{flag, unit_code, part_row, part_rows}
 use Rattle.components.specs.Row.{put_row}
 use Rattle.components.proofs.Rows.{row-length, row-after}
 use Rattle.naming.proofs.NameNoted.{map_snoc}
@@ -24,6 +23,9 @@ use Rattle.readback.specs.Judged.{part_of}
 use Rattle.rows.proofs.EachRow.{some-rows}
 use Rattle.foresee.specs.Parts.{put_part}
 use Rattle.foresee.proofs.TextLaws.{nothing-there, something-there}
+use Rattle.std.specs.Prelude.{Result}
+use Rattle.numbers.specs.declared.fault.ObjectFault.{ObjectFault}
+use Rattle.numbers.specs.Answered.{in_object}
 
 module _ (buffer : List ℕ) (place size : ℕ) where
   abbrev range : Span
@@ -124,9 +126,9 @@ pub used-parts : (n : ℕ) (parts : List ℕ) → length parts ≡ 64 → n ≤ 
 used-parts n parts room few = sym (length-take-le (4 * n) parts (omega (arith, room, few)))
 
 -- judged by the code of a format, by the row's shape as it is lent, and by the parts that were put
-pub ruled-so : (buffer row rows format : List ℕ) (n : ℕ) {code : ℕ} → code ≡ position format_names format → (parts : List ℕ) → take (4 * n) parts ≡ part_rows (parts_of buffer n rows) → (r : Ruled)
-    → ((f : List ℕ) (cs : List Part) → code ≡ position format_names f → take (4 * n) parts ≡ part_rows cs → format_rules f (take (shape_column + get_or row rank_column 0 - shape_column) (drop shape_column row)) cs ≡ told r)
-    → format_rules format (asked_object row).shape (parts_of buffer n rows) ≡ told r
+pub ruled-so : (buffer row rows format : List ℕ) (n : ℕ) {code : ℕ} → code ≡ position format_names format → (parts : List ℕ) → take (4 * n) parts ≡ part_rows (parts_of buffer n rows) → (r : Result (Unit {0}) ObjectFault)
+    → ((f : List ℕ) (cs : List Part) → code ≡ position format_names f → take (4 * n) parts ≡ part_rows cs → format_rules f (take (shape_column + get_or row rank_column 0 - shape_column) (drop shape_column row)) cs ≡ in_object r)
+    → format_rules format (asked_object row).shape (parts_of buffer n rows) ≡ in_object r
 unfolding asked_object
 ruled-so buffer row rows format n coded parts put r judged =
     let z : get_or row rank_column 0 ≡ shape_column + get_or row rank_column 0 - shape_column = omega arith in

@@ -1,25 +1,13 @@
--- The code's answers as checks, and checks of each component or object in turn with what they pass forgotten.
+-- Checks of each component or object in turn with what they pass forgotten.
 use Rattle.std.specs.Prelude.{ℕ, ◌*◌, ◌≤◌, List, true, ◌≡◌, length}
 use Rattle.meaning.specs.Columns.{object_width, component_width}
 use Rattle.meaning.specs.Text.{all}
-use Rattle.meaning.specs.Check.{Check, pass, refuse, ◌>>◌, fault, in_object, in_component, each}
+use Rattle.meaning.specs.Check.{Check, pass, ◌>>◌, in_object, in_component, each}
 use Rattle.meaning.specs.Asked.{each_row, asked_object, asked_component}
 use Rattle.meaning.specs.Described.{DescribedComponent, DescribedObject, described_objects}
 use Rattle.meaning.specs.Sound.{object_sound}
 use Rattle.rows.specs.Turns.{counted}
 use Rattle.readback.specs.Judged.{judged_component, judged_object}
-use Rattle.foresee.specs.declared.texts.Held.{Held}
-use Rattle.foresee.specs.declared.texts.Held.TheVariants.{Right, Wrong}
-use Rattle.foresee.specs.declared.Foreseen.{Foreseen}
-use Rattle.foresee.specs.declared.Foreseen.TheVariants.{Fine, Fault}
-
-abbrev pub told : Held → Check (Unit {0})
-told Right = pass tt
-told (Wrong n) = fault n
-
-abbrev pub foretold : Foreseen → Check (Unit {0})
-foretold Fine = pass tt
-foretold (Fault n o c) = refuse n o c
 
 -- from index j on
 unfoldable pub each_component : ℕ → List DescribedComponent → Check (Unit {0})

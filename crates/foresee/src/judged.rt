@@ -6,6 +6,7 @@ ghost use Rattle.types.specs.Known.{unit_number};
 ghost use Rattle.meaning.specs.Format.{format_rules};
 ghost use Rattle.meaning.specs.Asked.{each_row, asked_object, asked_component, present_at};
 ghost use Rattle.meaning.specs.Described.{described_component, described_object};
+ghost use Rattle.numbers.specs.Answered as answers;
 ghost use Rattle.formats.specs.Parts as rules;
 ghost use Rattle.formats.specs.Parts.{part_rows};
 ghost use Rattle.readback.specs.Judged.{judged_object, part_of};
@@ -13,28 +14,30 @@ ghost use Rattle.foresee.specs.Foretold.{each_component};
 ghost use Rattle.foresee.specs.Parts.{put_part};
 
 use crate::named::names;
-use crate::texts::{Held, component};
+use crate::texts::component;
 use columns::{
     COUNT, DTYPE, FORMAT, FORMAT_LENGTH, LENGTH, NAME, NAME_LENGTH, OFFSET, RANK, SHAPE, TYPE,
     TYPE_LENGTH,
 };
 use components::row::put_row;
-use formats::Ruled;
+use numbers::{ObjectFault, Refusal};
 use rows::absent;
 use view::part;
 
 // The first component at fault, of n whose rows these numbers begin with.
-fn components(rows: &[u64], n: usize, buffer: &[u8]) -> Ruled
+fn components(rows: &[u64], n: usize, buffer: &[u8]) -> Result<(), ObjectFault>
     requires { component_width * n ≤ length rows.now }
-    ensures { each_component 0 (map (described_component buffer.now) (each_row asked_component component_width n rows.now)) ≡ rules.told result }
+    ensures { each_component 0 (map (described_component buffer.now) (each_row asked_component component_width n rows.now)) ≡ answers.in_object result }
 {
     for j in 0..n {
-        match component(&rows[columns::COMPONENT * j..], buffer) {
-            Held::Wrong(c) => return Ruled::Wrong(c, j),
-            Held::Right => {}
+        if let Err(refusal) = component(&rows[columns::COMPONENT * j..], buffer) {
+            return Err(ObjectFault {
+                refusal: refusal,
+                component: j,
+            });
         }
     }
-    Ruled::Right
+    Ok(())
 }
 
 // Bytes of one element: of a logical type, or none, over the storage with this code.
@@ -83,9 +86,15 @@ fn put_parts(rows: &[u64], n: usize, buffer: &[u8], out: &mut [u64])
 }
 
 // The rules of the format of the object whose row these numbers begin with, over its n components.
-fn ruled(row: &[u64], format: &[u8], rows: &[u64], n: usize, buffer: &[u8]) -> Ruled
+fn ruled(
+    row: &[u64],
+    format: &[u8],
+    rows: &[u64],
+    n: usize,
+    buffer: &[u8],
+) -> Result<(), ObjectFault>
     requires { (object_width ≤ length row.now) × (get_or row.now rank_column 0 ≤ 8) × (component_width * n ≤ length rows.now) × (n ≤ 16) }
-    ensures { format_rules format.now (asked_object row.now).shape (map part_of (map (described_component buffer.now) (each_row asked_component component_width n rows.now))) ≡ rules.told result }
+    ensures { format_rules format.now (asked_object row.now).shape (map part_of (map (described_component buffer.now) (each_row asked_component component_width n rows.now))) ≡ answers.in_object result }
 {
     let mut parts = [0u64; 64];
     put_parts(rows, n, buffer, &mut parts);
@@ -96,19 +105,19 @@ fn ruled(row: &[u64], format: &[u8], rows: &[u64], n: usize, buffer: &[u8]) -> R
 }
 
 // An object whose row these numbers begin with, and whose components' rows begin `rows`.
-pub fn object(row: &[u64], rows: &[u64], buffer: &[u8]) -> Ruled
+pub fn object(row: &[u64], rows: &[u64], buffer: &[u8]) -> Result<(), ObjectFault>
     requires { (object_width ≤ length row.now) × (get_or row.now rank_column 0 ≤ 8) × (component_width * get_or row.now count_column 0 ≤ length rows.now) }
-    ensures { judged_object (described_object buffer.now (asked_object row.now) (each_row asked_component component_width (get_or row.now count_column 0) rows.now)) ≡ rules.told result }
+    ensures { judged_object (described_object buffer.now (asked_object row.now) (each_row asked_component component_width (get_or row.now count_column 0) rows.now)) ≡ answers.in_object result }
 {
     let format = part(buffer, row[FORMAT], row[FORMAT_LENGTH]);
     if !utf8::utf8(format) {
-        return Ruled::Wrong(numbers::TEXT, 0);
+        return Err(ObjectFault::from(Refusal::Text));
     }
     let n = row[COUNT] as usize;
     let mut left = [0usize; 16];
     let mut size = [0usize; 16];
     let mut ix = [0u16; 16];
-    match names(
+    names(
         rows,
         columns::COMPONENT,
         n,
@@ -116,11 +125,7 @@ pub fn object(row: &[u64], rows: &[u64], buffer: &[u8]) -> Ruled
         &mut left,
         &mut size,
         &mut ix,
-    ) {
-        Held::Wrong(c) => Ruled::Wrong(c, 0),
-        Held::Right => match components(rows, n, buffer) {
-            Ruled::Wrong(c, j) => Ruled::Wrong(c, j),
-            Ruled::Right => ruled(row, format, rows, n, buffer),
-        },
-    }
+    )?;
+    components(rows, n, buffer)?;
+    ruled(row, format, rows, n, buffer)
 }

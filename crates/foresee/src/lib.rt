@@ -11,48 +11,56 @@ ghost use Rattle.meaning.specs.Asked.{asked};
 ghost use Rattle.meaning.specs.Described.{described};
 ghost use Rattle.meaning.specs.Sound.{rows_sound};
 ghost use Rattle.readback.specs.Judged.{judged, judged_objects};
+ghost use Rattle.numbers.specs.Answered.{in_file};
 ghost use Rattle.foresee.specs.Foretold as is;
 
-use formats::Ruled;
-use texts::Held;
-
-// No refusal, or its number, object and component.
-#[derive(Clone, Copy)]
-pub enum Foreseen {
-    Fine,
-    Fault(u64, usize, usize),
-}
+use numbers::{FileFault, Refusal};
 
 // Each of n objects in turn; their components' rows begin `rest`.
-fn each(rows: &[u64], n: usize, rest: &[u64], components: usize, buffer: &[u8]) -> Foreseen
+fn each(
+    rows: &[u64],
+    n: usize,
+    rest: &[u64],
+    components: usize,
+    buffer: &[u8],
+) -> Result<(), FileFault>
     requires { is.Counted buffer.now rows.now n rest.now components }
-    ensures { is.each_object 0 (is.objects_of buffer.now rows.now n rest.now components) ≡ is.foretold result }
+    ensures { is.each_object 0 (is.objects_of buffer.now rows.now n rest.now components) ≡ in_file result }
 {
     let mut from = 0;
     // Only the proof reads it: the clause counts the components that are left.
     let mut due = components;
     for i in 0..n {
         let at = columns::OBJECT * i;
-        match judged::object(&rows[at..], &rest[from..], buffer) {
-            Ruled::Wrong(c, j) => return Foreseen::Fault(c, i, j),
-            Ruled::Right => {}
+        if let Err(fault) = judged::object(&rows[at..], &rest[from..], buffer) {
+            return Err(FileFault {
+                refusal: fault.refusal,
+                object: i,
+                component: fault.component,
+            });
         }
         let count = rows[at + columns::COUNT] as usize;
         from += columns::COMPONENT * count;
         due -= count;
     }
-    Foreseen::Fine
+    Ok(())
 }
 
 // Their names, then each of them.
-fn judge(rows: &[u64], n: usize, rest: &[u64], components: usize, buffer: &[u8]) -> Foreseen
+fn judge(
+    rows: &[u64],
+    n: usize,
+    rest: &[u64],
+    components: usize,
+    buffer: &[u8],
+) -> Result<(), FileFault>
     requires { is.Counted buffer.now rows.now n rest.now components }
-    ensures { judged_objects (is.objects_of buffer.now rows.now n rest.now components) ≡ is.foretold result }
+    ensures { judged_objects (is.objects_of buffer.now rows.now n rest.now components) ≡ in_file result }
 {
     let mut left = [0usize; 1024];
     let mut size = [0usize; 1024];
     let mut ix = [0u16; 1024];
-    match named::names(
+    named::names(
         rows,
         columns::OBJECT,
         n,
@@ -60,10 +68,8 @@ fn judge(rows: &[u64], n: usize, rest: &[u64], components: usize, buffer: &[u8])
         &mut left,
         &mut size,
         &mut ix,
-    ) {
-        Held::Wrong(c) => Foreseen::Fault(c, 0, 0),
-        Held::Right => each(rows, n, rest, components, buffer),
-    }
+    )?;
+    each(rows, n, rest, components, buffer)
 }
 
 // The reader's verdict on the file of these rows, if they are sound.
@@ -74,13 +80,13 @@ pub fn verdict(
     place: u64,
     size: u64,
     buffer: &[u8],
-) -> Foreseen
+) -> Result<(), FileFault>
     requires { rows_sound buffer.now rows.now objects components (record { place = place; size = size }) ≡ true }
-    ensures { judged (described buffer.now (asked rows.now objects components (record { place = place; size = size }))) ≡ is.foretold result }
+    ensures { judged (described buffer.now (asked rows.now objects components (record { place = place; size = size }))) ≡ in_file result }
 {
     let n = objects as usize;
     if depth::deep(buffer, place, size, numbers::IN_ROOT) || depth::any_deep(rows, n, buffer) {
-        return Foreseen::Fault(numbers::DEEP, 0, 0);
+        return Err(FileFault::from(Refusal::Deep));
     }
     let from = columns::OBJECT * n;
     judge(rows, n, &rows[from..], components as usize, buffer)

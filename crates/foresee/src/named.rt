@@ -1,10 +1,10 @@
 // What the reader asks of names that stand in rows: UTF-8, count, repeats.
 ghost use Rattle.std.specs.Prelude.{◌≡◌, ◌*◌, ◌≤◌, length};
 ghost use Rattle.readback.specs.Judged.{judged_names};
-ghost use Rattle.foresee.specs.Foretold.{told};
+ghost use Rattle.numbers.specs.Answered.{answered};
 ghost use Rattle.foresee.specs.Names.{names_of, NotedOr};
 
-use crate::texts::Held;
+use numbers::Refusal;
 use view::part;
 
 // Notes the names of n rows of a width in left and size, as far as there is room, and as far as they are UTF-8.
@@ -41,18 +41,18 @@ pub fn names(
     left: &mut [usize],
     size: &mut [usize],
     ix: &mut [u16],
-) -> Held
+) -> Result<(), Refusal>
     requires { (2 ≤ width) × (width * n ≤ length rows.now) × (length size.old ≡ length left.old) × (length left.old ≤ length ix.old) × (length left.old ≤ 65536) }
-    ensures { judged_names (length left.old) (names_of buffer.now width n rows.now) ≡ told result }
+    ensures { judged_names (length left.old) (names_of buffer.now width n rows.now) ≡ answered result }
 {
     if !note(rows, width, n, buffer, left, size) {
-        return Held::Wrong(numbers::TEXT);
+        return Err(Refusal::Text);
     }
     if left.len() < n {
-        return Held::Wrong(numbers::COUNT);
+        return Err(Refusal::Count);
     }
     if names::no_twice(buffer, left, size, n, ix) {
-        return Held::Right;
+        return Ok(());
     }
-    Held::Wrong(numbers::TWICE)
+    Err(Refusal::Twice)
 }

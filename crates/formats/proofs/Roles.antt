@@ -16,8 +16,8 @@ use Rattle.meaning.specs.Text.{same}
 use Rattle.meaning.specs.Format.{Part, plain, role}
 use Rattle.types.specs.Known.{position, role_names}
 use Rattle.formats.specs.Parts.{flag, unit_code, part_row, part_rows, role_name, RoleIs}
-use Rattle.formats.specs.declared.Filled.TheVariants.{Absent, At}
 use Rattle.types.proofs.Tell.{place-tells}
+use Rattle.std.specs.Prelude.{Some, None}
 
 -- i components are passed up to `at`, none of them with the role n
 pub record Seeking (n parts : List ℕ) (at i : ℕ) : Type 0 where
@@ -65,7 +65,7 @@ module _ (j : ℕ) (low : j < 8) {parts : List ℕ} {at i : ℕ} (so : Seeking (
     abbrev row : (ds : List Part) → drop at parts ≡ part_rows ds → Row parts at ds
     row ds e = row_at parts at ds e (omega (arith, so.inside))
 
-    pub role-here : get_or parts at 0 ≡ j → (cs : List Part) → parts ≡ part_rows cs → RoleIs (role_name j) cs (At i (get_or parts (at + 1) 0) (get_or parts (at + 2) 0) (get_or parts (at + 3) 0))
+    pub role-here : get_or parts at 0 ≡ j → (cs : List Part) → parts ≡ part_rows cs → RoleIs (role_name j) cs (Some (record { index = i; unit = get_or parts (at + 1) 0; plain = get_or parts (at + 2) 0; length = get_or parts (at + 3) 0 }))
     unfolding role
     role-here e cs is =
         let l = so.rest cs is in let r = row l.0 l.1 in
@@ -82,7 +82,7 @@ module _ (j : ℕ) (low : j < 8) {parts : List ℕ} {at i : ℕ} (so : Seeking (
     pub role-later : (get_or parts at 0 ≡ j → ⊥) → Seeking (role_name j) parts (at + 4) (i + 1)
     role-later n = record { inside = omega (arith, so.inside); counted = omega (arith, so.counted); rest = later n }
 
-  pub role-none : length parts - at < 4 → (cs : List Part) → parts ≡ part_rows cs → RoleIs (role_name j) cs Absent
+  pub role-none : length parts - at < 4 → (cs : List Part) → parts ≡ part_rows cs → RoleIs (role_name j) cs None
   unfolding part_rows part_row role
   role-none h cs is = let l = so.rest cs is in go l.0 l.1 l.2
     where

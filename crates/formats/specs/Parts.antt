@@ -1,16 +1,14 @@
 -- An object's components as rows of four numbers, and what the code's answers say of the rules in meaning's Format.
-use Rattle.std.specs.Prelude.{ℕ, ◌+◌, ◌-◌, ◌*◌, ◌/◌, ◌%◌, List, [], ◌∷◌, ◌++◌, Bool, true, false, cond, ◌≡◌, get_or, eqb, leb}
-use Rattle.meaning.specs.Check.{Check, pass, refuse, ◌>>◌, ◌unless◌, fault, in_component}
+use Rattle.std.specs.Prelude.{ℕ, ◌+◌, ◌-◌, ◌*◌, ◌/◌, ◌%◌, List, [], ◌∷◌, ◌++◌, Bool, true, false, cond, ◌≡◌, get_or, eqb, leb, Some, None, Ok, Err, Result, Option}
+use Rattle.meaning.specs.Check.{Check, pass, ◌>>◌, ◌unless◌, fault, in_component}
 use Rattle.meaning.specs.Refusal.{ROLE, LENGTH}
 use Rattle.meaning.specs.Types.{type_ratio, width_of, product}
 use Rattle.meaning.specs.Format.{Part, Role, plain, role, index_role, dense, sparse_csr, sparse_coo, quantized_group}
 use Rattle.types.specs.Known.{position, role_names, unit_number}
-use Rattle.formats.specs.declared.Ruled.{Ruled}
-use Rattle.formats.specs.declared.Ruled.TheVariants.{Right, Wrong}
+use Rattle.numbers.specs.Answered.{in_object}
 use Rattle.formats.specs.declared.Filled.{Filled}
-use Rattle.formats.specs.declared.Filled.TheVariants.{Absent, At}
 use Rattle.formats.specs.declared.Indexed.{Indexed}
-use Rattle.formats.specs.declared.Indexed.TheVariants.{Odd, Plain}
+use Rattle.numbers.specs.declared.fault.ObjectFault.{ObjectFault}
 
 abbrev pub flag : Bool → ℕ
 flag true = 1
@@ -40,19 +38,14 @@ rules_of c shape cs =
     (cond (eqb c 3) (quantized_group shape cs)
     (pass tt))))
 
--- an answer as a check
-abbrev pub told : Ruled → Check (Unit {0})
-told Right = pass tt
-told (Wrong n c) = refuse n 0 c
-
 -- the role n among these components: the index and the numbers of the one that fills it
-abbrev pub RoleIs : List ℕ → List Part → Filled → Type 0
-RoleIs n cs Absent = role n 0 cs ≡ fault ROLE
-RoleIs n cs (At i u p s) = (c : Part) × (role n 0 cs ≡ pass (record { index = i; part = c })) × (u ≡ unit_code c) × (p ≡ flag (plain c)) × (s ≡ c.size)
+abbrev pub RoleIs : List ℕ → List Part → Option Filled → Type 0
+RoleIs n cs None = role n 0 cs ≡ fault ROLE
+RoleIs n cs (Some v) = (c : Part) × (role n 0 cs ≡ pass (record { index = v.index; part = c })) × (v.unit ≡ unit_code c) × (v.plain ≡ flag (plain c)) × (v.length ≡ c.size)
 
-abbrev pub IndexIs : List ℕ → List Part → Indexed → Type 0
-IndexIs n cs (Odd j) = index_role n cs ≡ refuse ROLE 0 j
-IndexIs n cs (Plain i s) = (c : Part) × (index_role n cs ≡ pass (record { index = i; part = c })) × (s ≡ c.size)
+abbrev pub IndexIs : List ℕ → List Part → Result Indexed ObjectFault → Type 0
+IndexIs n cs (Err f) = index_role n cs ≡ in_object (Err f)
+IndexIs n cs (Ok v) = (c : Part) × (index_role n cs ≡ pass (record { index = v.index; part = c })) × (v.length ≡ c.size)
 
 abbrev pub RoleThere : List ℕ → List Part → Bool → Type 0
 RoleThere n cs false = role n 0 cs ≡ fault ROLE

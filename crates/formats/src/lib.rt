@@ -5,31 +5,29 @@
 ghost use Rattle.std.specs.Prelude.{◌≡◌, List, ℕ, ◌<◌, ◌*◌};
 ghost use Rattle.types.specs.Known.{position, format_names};
 ghost use Rattle.meaning.specs.Format as format;
-ghost use Rattle.formats.specs.Parts.{part_rows, role_name, RoleIs, IndexIs, RoleThere, told, dense_fits, values_fit, index_fits, csr_lengths, coo_lengths};
+ghost use Rattle.numbers.specs.Answered.{in_object};
+ghost use Rattle.formats.specs.Parts.{part_rows, role_name, RoleIs, IndexIs, RoleThere, dense_fits, values_fit, index_fits, csr_lengths, coo_lengths};
 
-// Whether the rules hold, or the number of the first that doesn't and the component's index.
-#[derive(Clone, Copy)]
-pub enum Ruled {
-    Right,
-    Wrong(u64, usize),
-}
+use numbers::{ObjectFault, Refusal};
 
 // The component that fills a role: its index, bytes of one element, 1 for plain u64, and length.
 #[derive(Clone, Copy)]
-pub enum Filled {
-    Absent,
-    At(usize, u64, u64, u64),
+pub struct Filled {
+    pub index: usize,
+    pub unit: u64,
+    pub plain: u64,
+    pub length: u64,
 }
 
-// An index role: the component to blame, or the index and the length.
+// The component that fills an index role: its index and length.
 #[derive(Clone, Copy)]
-enum Indexed {
-    Odd(usize),
-    Plain(usize, u64),
+struct Indexed {
+    index: usize,
+    length: u64,
 }
 
 // The first component with this role: its index and its other numbers.
-pub fn role_of(parts: &[u64], code: u64) -> Filled
+pub fn role_of(parts: &[u64], code: u64) -> Option<Filled>
     requires { code < 8 }
     ensures { (cs : List format.Part) → parts.now ≡ part_rows cs → RoleIs (role_name code) cs result }
 {
@@ -37,28 +35,40 @@ pub fn role_of(parts: &[u64], code: u64) -> Filled
     let mut at: usize = 0;
     while 4 <= parts.len() - at {
         if parts[at] == code {
-            return Filled::At(i, parts[at + 1], parts[at + 2], parts[at + 3]);
+            return Some(Filled {
+                index: i,
+                unit: parts[at + 1],
+                plain: parts[at + 2],
+                length: parts[at + 3],
+            });
         }
         i += 1;
         at += 4;
     }
-    Filled::Absent
+    None
 }
 
-// The same of an index role: its index and length, or the component to blame.
-fn index_role(parts: &[u64], code: u64) -> Indexed
+// The same of an index role, which is to blame where it isn't plain u64.
+fn index_role(parts: &[u64], code: u64) -> Result<Indexed, ObjectFault>
     requires { code < 8 }
     ensures { (cs : List format.Part) → parts.now ≡ part_rows cs → IndexIs (role_name code) cs result }
 {
-    match role_of(&parts[0..], code) {
-        Filled::Absent => Indexed::Odd(0),
-        Filled::At(i, _, plain, size) => {
-            if plain == 1 {
-                return Indexed::Plain(i, size);
-            }
-            Indexed::Odd(i)
-        }
+    let Some(found) = role_of(&parts[0..], code) else {
+        return Err(ObjectFault {
+            refusal: Refusal::Role,
+            component: 0,
+        });
+    };
+    if found.plain != 1 {
+        return Err(ObjectFault {
+            refusal: Refusal::Role,
+            component: found.index,
+        });
     }
+    Ok(Indexed {
+        index: found.index,
+        length: found.length,
+    })
 }
 
 // Data of this shape may have this length.
@@ -102,90 +112,106 @@ fn coords_fit(unit: u64, size: u64, rank: u64, coords: u64) -> bool
 }
 
 // dense: the role data, and its length.
-fn dense(shape: &[u64], parts: &[u64]) -> Ruled
-    ensures { (cs : List format.Part) → parts.now ≡ part_rows cs → format.dense shape.now cs ≡ told result }
+fn dense(shape: &[u64], parts: &[u64]) -> Result<(), ObjectFault>
+    ensures { (cs : List format.Part) → parts.now ≡ part_rows cs → format.dense shape.now cs ≡ in_object result }
 {
-    match role_of(&parts[0..], 0) {
-        Filled::Absent => Ruled::Wrong(numbers::ROLE, 0),
-        Filled::At(i, unit, _, size) => {
-            if dense_fits(&shape[0..], unit, size) {
-                return Ruled::Right;
-            }
-            Ruled::Wrong(numbers::LENGTH, i)
-        }
+    let Some(data) = role_of(&parts[0..], 0) else {
+        return Err(ObjectFault {
+            refusal: Refusal::Role,
+            component: 0,
+        });
+    };
+    if !dense_fits(&shape[0..], data.unit, data.length) {
+        return Err(ObjectFault {
+            refusal: Refusal::Length,
+            component: data.index,
+        });
     }
+    Ok(())
 }
 
-// Values of component v, indices of x, row pointers of y: LENGTH.
+// Values, indices and row pointers of so many rows: LENGTH.
 fn csr_lengths(
     rows: u64,
-    v: usize,
-    unit: u64,
-    size: u64,
-    x: usize,
-    indices: u64,
-    y: usize,
-    pointers: u64,
-) -> Ruled
-    ensures { csr_lengths rows v unit size x indices y pointers ≡ told result }
+    values: Filled,
+    indices: Indexed,
+    pointers: Indexed,
+) -> Result<(), ObjectFault>
+    ensures { csr_lengths rows values.index values.unit values.length indices.index indices.length pointers.index pointers.length ≡ in_object result }
 {
-    if !values_fit(unit, size) {
-        return Ruled::Wrong(numbers::LENGTH, v);
+    if !values_fit(values.unit, values.length) {
+        return Err(ObjectFault {
+            refusal: Refusal::Length,
+            component: values.index,
+        });
     }
-    if !indices_fit(unit, size, indices) {
-        return Ruled::Wrong(numbers::LENGTH, x);
+    if !indices_fit(values.unit, values.length, indices.length) {
+        return Err(ObjectFault {
+            refusal: Refusal::Length,
+            component: indices.index,
+        });
     }
-    if !lengths::pointer_length(pointers, rows) {
-        return Ruled::Wrong(numbers::LENGTH, y);
+    if !lengths::pointer_length(pointers.length, rows) {
+        return Err(ObjectFault {
+            refusal: Refusal::Length,
+            component: pointers.index,
+        });
     }
-    Ruled::Right
+    Ok(())
 }
 
 // sparse_csr: the rank, the roles values, indices and indptr, and their lengths.
-fn sparse_csr(shape: &[u64], parts: &[u64]) -> Ruled
-    ensures { (cs : List format.Part) → parts.now ≡ part_rows cs → format.sparse_csr shape.now cs ≡ told result }
+fn sparse_csr(shape: &[u64], parts: &[u64]) -> Result<(), ObjectFault>
+    ensures { (cs : List format.Part) → parts.now ≡ part_rows cs → format.sparse_csr shape.now cs ≡ in_object result }
 {
     if shape.len() != 2 {
-        return Ruled::Wrong(numbers::RANK, 0);
+        return Err(ObjectFault {
+            refusal: Refusal::Rank,
+            component: 0,
+        });
     }
-    match role_of(&parts[0..], 1) {
-        Filled::Absent => Ruled::Wrong(numbers::ROLE, 0),
-        Filled::At(v, unit, _, size) => match index_role(&parts[0..], 2) {
-            Indexed::Odd(j) => Ruled::Wrong(numbers::ROLE, j),
-            Indexed::Plain(x, indices) => match index_role(&parts[0..], 3) {
-                Indexed::Odd(j) => Ruled::Wrong(numbers::ROLE, j),
-                Indexed::Plain(y, pointers) => csr_lengths(
-                    shape[0], v, unit, size, x, indices, y, pointers,
-                ),
-            },
-        },
-    }
+    let Some(values) = role_of(&parts[0..], 1) else {
+        return Err(ObjectFault {
+            refusal: Refusal::Role,
+            component: 0,
+        });
+    };
+    let indices = index_role(&parts[0..], 2)?;
+    let pointers = index_role(&parts[0..], 3)?;
+    csr_lengths(shape[0], values, indices, pointers)
 }
 
-// Values of component v, coordinates of x: LENGTH.
-fn coo_lengths(rank: u64, v: usize, unit: u64, size: u64, x: usize, coords: u64) -> Ruled
-    ensures { coo_lengths rank v unit size x coords ≡ told result }
+// Values, and their coordinates of this rank: LENGTH.
+fn coo_lengths(rank: u64, values: Filled, coords: Indexed) -> Result<(), ObjectFault>
+    ensures { coo_lengths rank values.index values.unit values.length coords.index coords.length ≡ in_object result }
 {
-    if !values_fit(unit, size) {
-        return Ruled::Wrong(numbers::LENGTH, v);
+    if !values_fit(values.unit, values.length) {
+        return Err(ObjectFault {
+            refusal: Refusal::Length,
+            component: values.index,
+        });
     }
-    if !coords_fit(unit, size, rank, coords) {
-        return Ruled::Wrong(numbers::LENGTH, x);
+    if !coords_fit(values.unit, values.length, rank, coords.length) {
+        return Err(ObjectFault {
+            refusal: Refusal::Length,
+            component: coords.index,
+        });
     }
-    Ruled::Right
+    Ok(())
 }
 
 // sparse_coo: the roles values and coords, and their lengths.
-fn sparse_coo(shape: &[u64], parts: &[u64]) -> Ruled
-    ensures { (cs : List format.Part) → parts.now ≡ part_rows cs → format.sparse_coo shape.now cs ≡ told result }
+fn sparse_coo(shape: &[u64], parts: &[u64]) -> Result<(), ObjectFault>
+    ensures { (cs : List format.Part) → parts.now ≡ part_rows cs → format.sparse_coo shape.now cs ≡ in_object result }
 {
-    match role_of(&parts[0..], 1) {
-        Filled::Absent => Ruled::Wrong(numbers::ROLE, 0),
-        Filled::At(v, unit, _, size) => match index_role(&parts[0..], 4) {
-            Indexed::Odd(j) => Ruled::Wrong(numbers::ROLE, j),
-            Indexed::Plain(x, coords) => coo_lengths(shape.len() as u64, v, unit, size, x, coords),
-        },
-    }
+    let Some(values) = role_of(&parts[0..], 1) else {
+        return Err(ObjectFault {
+            refusal: Refusal::Role,
+            component: 0,
+        });
+    };
+    let coords = index_role(&parts[0..], 4)?;
+    coo_lengths(shape.len() as u64, values, coords)
 }
 
 // The role with this code is filled.
@@ -193,43 +219,43 @@ fn has_role(parts: &[u64], code: u64) -> bool
     requires { code < 8 }
     ensures { (cs : List format.Part) → parts.now ≡ part_rows cs → RoleThere (role_name code) cs result }
 {
-    match role_of(&parts[0..], code) {
-        Filled::Absent => false,
-        Filled::At(_, _, _, _) => true,
-    }
+    role_of(&parts[0..], code).is_some()
 }
 
 // quantized_group: its three roles, in any shape.
-fn quantized_group(parts: &[u64]) -> Ruled
-    ensures { (shape : List ℕ) (cs : List format.Part) → parts.now ≡ part_rows cs → format.quantized_group shape cs ≡ told result }
+fn quantized_group(parts: &[u64]) -> Result<(), ObjectFault>
+    ensures { (shape : List ℕ) (cs : List format.Part) → parts.now ≡ part_rows cs → format.quantized_group shape cs ≡ in_object result }
 {
     if !has_role(&parts[0..], 5) {
-        return Ruled::Wrong(numbers::ROLE, 0);
+        return Err(ObjectFault {
+            refusal: Refusal::Role,
+            component: 0,
+        });
     }
     if !has_role(&parts[0..], 6) {
-        return Ruled::Wrong(numbers::ROLE, 0);
+        return Err(ObjectFault {
+            refusal: Refusal::Role,
+            component: 0,
+        });
     }
     if !has_role(&parts[0..], 7) {
-        return Ruled::Wrong(numbers::ROLE, 0);
+        return Err(ObjectFault {
+            refusal: Refusal::Role,
+            component: 0,
+        });
     }
-    Ruled::Right
+    Ok(())
 }
 
-// The first rule that an object of this format (types::format_code), shape and components breaks: its number and component.
-pub fn judge(code: u64, shape: &[u64], parts: &[u64]) -> Ruled
-    ensures { (f : List ℕ) (cs : List format.Part) → code ≡ position format_names f → parts.now ≡ part_rows cs → format.format_rules f shape.now cs ≡ told result }
+// The first rule that an object of this format (types::format_code), shape and components breaks.
+pub fn judge(code: u64, shape: &[u64], parts: &[u64]) -> Result<(), ObjectFault>
+    ensures { (f : List ℕ) (cs : List format.Part) → code ≡ position format_names f → parts.now ≡ part_rows cs → format.format_rules f shape.now cs ≡ in_object result }
 {
-    if code == 0 {
-        return dense(&shape[0..], &parts[0..]);
+    match code {
+        0 => dense(&shape[0..], &parts[0..]),
+        1 => sparse_csr(&shape[0..], &parts[0..]),
+        2 => sparse_coo(&shape[0..], &parts[0..]),
+        3 => quantized_group(&parts[0..]),
+        _ => Ok(()),
     }
-    if code == 1 {
-        return sparse_csr(&shape[0..], &parts[0..]);
-    }
-    if code == 2 {
-        return sparse_coo(&shape[0..], &parts[0..]);
-    }
-    if code == 3 {
-        return quantized_group(&parts[0..]);
-    }
-    Ruled::Right
 }

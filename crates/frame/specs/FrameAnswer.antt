@@ -2,8 +2,10 @@
 use Rattle.meaning.specs.Check.{Check, pass, fault}
 use Rattle.meaning.specs.Frame.{Frame}
 use Rattle.frame.specs.declared.Framed.{Framed}
-use Rattle.frame.specs.declared.Framed.TheVariants.{No, At}
+use Rattle.std.specs.Prelude.{Ok, Err, Result}
+use Rattle.numbers.specs.Numbered.{number_of}
+use Rattle.numbers.specs.declared.refusal.Refusal.{Refusal}
 
-abbrev pub told : Framed → Check Frame
-told (No n) = fault n
-told (At start size) = pass (record { start = start; size = size })
+abbrev pub told : Result Framed Refusal → Check Frame
+told (Err r) = fault (number_of r)
+told (Ok v) = pass (record { start = v.start; size = v.size })

@@ -7,11 +7,13 @@ ghost use Rattle.meaning.specs.Layouts.{layout_of};
 ghost use Rattle.meaning.specs.Frame as meant;
 ghost use Rattle.frame.specs.FrameAnswer as spec;
 
-// The manifest's start and size, or the refusal.
+use numbers::Refusal;
+
+// The manifest's start and size.
 #[derive(Clone, Copy)]
-pub enum Framed {
-    No(u64),
-    At(usize, usize),
+pub struct Framed {
+    pub start: usize,
+    pub size: usize,
 }
 
 // How far before the end the size begins; eight bytes more is the least length of a file.
@@ -37,30 +39,33 @@ fn footed(layout: u64, file: &[u8]) -> bool
 }
 
 // The frame of a file.
-pub fn frame(layout: u64, file: &[u8]) -> Framed
+pub fn frame(layout: u64, file: &[u8]) -> Result<Framed, Refusal>
     ensures { meant.frame (layout_of layout) file.now ≡ spec.told result }
 {
     let n = file.len();
     let back = size_back(layout);
     if n < back + 8 {
-        return Framed::No(numbers::SHORT);
+        return Err(Refusal::Short);
     }
     if !text::is_magic(&file[0..8]) {
-        return Framed::No(numbers::HEADER);
+        return Err(Refusal::Header);
     }
     if !footed(layout, &file[0..]) {
-        return Framed::No(numbers::FOOTER);
+        return Err(Refusal::Footer);
     }
     let at = n - back;
     let size = text::little(&file[at..at + 8]);
     if numbers::MANIFEST_MOST < size {
-        return Framed::No(numbers::BIG);
+        return Err(Refusal::Big);
     }
     if size == 0 {
-        return Framed::No(numbers::FIT);
+        return Err(Refusal::Fit);
     }
     if ((at - 8) as u64) < size {
-        return Framed::No(numbers::FIT);
+        return Err(Refusal::Fit);
     }
-    Framed::At(at - size as usize, size as usize)
+    Ok(Framed {
+        start: at - size as usize,
+        size: size as usize,
+    })
 }

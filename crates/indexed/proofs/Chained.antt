@@ -1,9 +1,9 @@
 -- The pairs of a map that was read, one after the other; and where the pair of an index stands.
-use Prim.Native.Nat.{ℕ, zero, suc, ◌+◌, ◌-◌, ◌≤◌}
+use Prim.Native.Nat.{ℕ, zero, suc, ◌+◌, ◌≤◌}
 use native.Mathlib.Omega.{arith}
 use mathlib.Core.List.{List, [], ◌∷◌}
 use mathlib.Core.Bool.{Bool, true, false, cond}
-use mathlib.Core.Option.{Option, none, some}
+use mathlib.Core.Option.{some}
 use mathlib.Core.Path.{◌≡◌, refl, sym, ap, ◌∙◌, subst}
 use lib.ListN.{length, drop, length-drop}
 use lib.Seq.{drop-drop}
@@ -13,7 +13,7 @@ use Rattle.meaning.specs.Check.{Check, pass, fault}
 use Rattle.meaning.specs.Refusal.{KIND}
 use Rattle.meaning.specs.Kind as kinds
 use Rattle.meaning.specs.Kind.{Kind, kind, a_mapping, as_mapping}
-use Rattle.meaning.specs.Read.{Argument, known, indefinite, Major, unsigned, negative, byte_string, text_string, array_of, map_of, tagged, special, major_of, times, to_break, pair, item}
+use Rattle.meaning.specs.Read.{Argument, known, indefinite, Major, unsigned, negative, byte_string, text_string, array_of, map_of, tagged, special, major_of, pair, item}
 use Rattle.walk.specs.Reading.{Ends, ends, Reads, Chain}
 use Rattle.walk.proofs.Chains.{ate, counted, until-broken, pairs-chained}
 use Rattle.walk.proofs.ReadSays.{Says, KindSays, kind-says, Stood, sized, loose, stood, nothing_read}

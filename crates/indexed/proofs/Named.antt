@@ -3,7 +3,7 @@ use Prim.Native.Nat.{ℕ, zero, suc, ◌+◌}
 use native.Mathlib.Omega.{arith}
 use mathlib.Core.List.{List, [], ◌∷◌, map}
 use mathlib.Core.Bool.{Bool, true, false}
-use mathlib.Core.Option.{Option, none, some}
+use mathlib.Core.Option.{some}
 use mathlib.Core.Path.{◌≡◌, refl, sym, ap, ◌∙◌, subst}
 use lib.ListN.{length}
 use lib.Dec.{leb}
@@ -18,9 +18,9 @@ use Rattle.walk.specs.Reading.{Ends, Reads}
 use Rattle.fields.specs.Slots.{Stands}
 use Rattle.explained.specs.Breaks.{At, first as top, later}
 use Rattle.entry.specs.declared.Places.{Places}
-use Rattle.entry.specs.Nth.{places, nth, left_both, in_table, EntryIs}
+use Rattle.entry.specs.Nth.{nth, left_both, in_table, EntryIs}
 use Rattle.indexed.specs.Entry.{EntryAt}
-use Rattle.indexed.proofs.Chained.{chained, PairAt, nth-stands}
+use Rattle.indexed.proofs.Chained.{chained, nth-stands}
 
 impossible : {A : Type 0} {a : A} {n o c : ℕ} → ◌≡◌ {A = Check A} (refuse n o c) (pass a) → ⊥
 impossible e = let z : ◌≡◌ {A = ℕ} 0 1 = cc in omega arith

@@ -4,10 +4,10 @@ use native.Mathlib.Omega.{arith}
 use mathlib.Core.List.{List, [], ◌∷◌, ◌++◌}
 use mathlib.Core.Bool.{Bool, true, false, cond, not, ◌&&◌}
 use mathlib.Core.Option.{Option, none, some}
-use mathlib.Core.Path.{◌≡◌, refl, ap, ap₂, sym, ◌∙◌, subst}
-use lib.ListN.{length, get_or, replicate}
+use mathlib.Core.Path.{◌≡◌, refl, ap, ap₂, sym, ◌∙◌}
+use lib.ListN.{length, get_or}
 use lib.Dec.{eqb, ltb}
-use borrow.Author.Tests.{eq-eqb, ne_eqb, lt-ltb, le-ltb, ltb-true, ltb-false, eqb-true, eqb-false}
+use borrow.Author.Tests.{eq-eqb, ne_eqb, lt-ltb, le-ltb, ltb-true, ltb-false}
 use Rattle.meaning.specs.Tree.{Node, Pair, note_of}
 use Rattle.meaning.specs.Text.{same, one_of}
 use Rattle.meaning.specs.Layouts.{Slots, somes}
@@ -19,7 +19,7 @@ use Rattle.walk.specs.Reading.{Ends, foldl, left_at}
 use Rattle.fields.specs.Slots.{slot_of, marks}
 use Rattle.fields.proofs.Marks.{AllSome, field_is}
 use Rattle.walk.proofs.Passed.{foldl-snoc}
-use Rattle.explained.specs.Step.{Step, first}
+use Rattle.explained.specs.Step.{first}
 use Rattle.explained.specs.Order.{fresh, more, key_steps, repeat_steps}
 use Rattle.explained.proofs.Repeat.{keys_after, keys-snoc}
 use Rattle.keys.specs.Odd.{first_or, after_key, after_copy, left_first}

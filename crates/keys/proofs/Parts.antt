@@ -20,7 +20,6 @@ use Rattle.walk.specs.Places.{Modes, TextIs, EntryIs as TurnIs}
 use Rattle.walk.specs.declared.Entry.{Entry}
 use Rattle.walk.specs.declared.Entry.TheVariants.{End, Value}
 use Rattle.walk.specs.declared.Letters.{Letters}
-use Rattle.walk.specs.declared.Letters.TheVariants.{NoText, Text}
 use Rattle.walk.proofs.Found.{no-levels}
 use Rattle.fields.specs.Slots.{slot_of, marked, marks, SlotIs}
 use Rattle.fields.proofs.Marks.{AllSome}
@@ -30,6 +29,7 @@ use Rattle.fields.proofs.Stands.{some_left}
 use Rattle.explained.proofs.Repeat.{keys_after}
 use Rattle.keys.specs.Odd.{slots_at, odd, first_or, after_key, after_copy, Noted}
 use Rattle.keys.proofs.Leftmost.{State, step, KeysSome, slots-are, key-is, copy_is}
+use Rattle.std.specs.Prelude.{Some, None, Option}
 
 module _ (seen left : ℕ) where
   pub none_seen : seen ≡ 0 → left ≡ first_or seen left
@@ -100,15 +100,15 @@ module _ (layout level : ℕ) (k : List ℕ) {r : ℕ} where
 
 -- ---------------------------------------------------------------- the slot of a key that is lent whole to `walk::text`, which answered v
 
-module _ (layout level : ℕ) (s : List ℕ) (v : Letters) (h : TextIs (Here s 0) v) where
-  module _ (e : v ≡ NoText) (m : ℕ) (many : HowMany level m) where
+module _ (layout level : ℕ) (s : List ℕ) (v : Option Letters) (h : TextIs (Here s 0) v) where
+  module _ (e : v ≡ None) (m : ℕ) (many : HowMany level m) where
     pub odd-within : m + 1 ≤ length (slots_at layout level) + 1
     odd-within = let k = many layout in omega arith
 
     pub slot-odd : SlotIs (slots_at layout level) s (m + 1)
     slot-odd = let z : suc m ≡ m + 1 = omega arith in subst (SlotIs (slots_at layout level) s) z (texts.slot-odd s v h e (slots_at layout level) m (many layout))
 
-  module _ (at n : ℕ) (e : v ≡ Text at n) {k : ℕ} (is : k ≡ field_at (slots_at layout level) (take (at + n - at) (drop at s))) where
+  module _ (at n : ℕ) (e : v ≡ Some (record { at = at; size = n })) {k : ℕ} (is : k ≡ field_at (slots_at layout level) (take (at + n - at) (drop at s))) where
     found : (k ≤ suc (length (slots_at layout level))) × SlotIs (slots_at layout level) s k
     found = texts.slot-known s v h at n e (slots_at layout level) (length (slots_at layout level)) refl k is
 

@@ -1,5 +1,5 @@
 -- The leftmost key of a map that isn't whole text, and the leftmost second copy of a known field: how many bytes are left there, 0 for none.
-use Rattle.std.specs.Prelude.{ℕ, suc, ◌+◌, List, [], cond, ◌≡◌, length, replicate, eqb, ltb}
+use Rattle.std.specs.Prelude.{ℕ, ◌+◌, List, [], cond, ◌≡◌, length, replicate, eqb, ltb}
 use Rattle.std.proofs.Math.Option.{Option, none, some}
 use Rattle.meaning.specs.Tree.{Pair}
 use Rattle.meaning.specs.Layouts.{Slots, somes, layout_of}

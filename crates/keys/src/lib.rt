@@ -10,7 +10,7 @@ ghost use Rattle.walk.specs.Places.{Modes};
 
 use walk::{Entry, Letters};
 
-// Bytes left at the leftmost key that isn't whole text, and at the leftmost second copy; 0 for none.
+// Bytes left at the leftmost key that isn't whole text, and at the leftmost second copy; 0 for none, as in the slots that `fields` fills, so that no Option is plainer.
 #[derive(Clone, Copy)]
 pub struct Odd {
     pub key: usize,
@@ -81,8 +81,8 @@ fn slot(layout: u64, level: u64, s: &[u8]) -> usize
     ensures { (result ≤ length (is.slots_at layout level) + 1) × SlotIs (is.slots_at layout level) s.now result }
 {
     match walk::text(&s[0..]) {
-        Letters::NoText => known(level) + 1,
-        Letters::Text(at, n) => {
+        None => known(level) + 1,
+        Some(Letters { at, size: n }) => {
             let e = at + n;
             named(layout, level, &s[at..e])
         }

@@ -1,6 +1,6 @@
 -- The last two checks of a component (meaning's Judge.component): where its bytes lie in a file whose manifest begins at `start`.
 use Rattle.std.specs.Prelude.{ℕ, ◌+◌, ◌%◌, ◌&&◌, eqb, leb}
-use Rattle.meaning.specs.Check.{Check, pass, refuse, ◌>>◌, ◌unless◌}
+use Rattle.meaning.specs.Check.{Check, ◌>>◌, ◌unless◌}
 use Rattle.meaning.specs.Refusal.{ALIGN, BOUNDS}
 use Rattle.meaning.specs.Limit.{alignment}
 
@@ -8,8 +8,3 @@ unfoldable pub place_rule : ℕ → ℕ → ℕ → Check (Unit {0})
 place_rule start o l = do
   ALIGN unless eqb (o % alignment) 0
   BOUNDS unless (leb alignment o && leb (o + l) start)
-
--- the number of a refusal, 0 for none
-abbrev pub number : {A : Type 0} → Check A → ℕ
-number (pass a) = 0
-number (refuse n o c) = n

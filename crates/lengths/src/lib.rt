@@ -3,7 +3,10 @@
 
 ghost use Rattle.std.specs.Prelude.{◌≡◌, ◌+◌, ◌*◌, ◌/◌, ◌%◌, ltb, eqb};
 ghost use Rattle.meaning.specs.Types.{product};
-ghost use Rattle.lengths.specs.Place.{place_rule, number};
+ghost use Rattle.numbers.specs.Answered.{answered};
+ghost use Rattle.lengths.specs.Place.{place_rule};
+
+use numbers::Refusal;
 
 const MOST: u64 = 0xffff_ffff_ffff_ffff;
 
@@ -89,21 +92,21 @@ pub fn coordinate_length(n: u64, rank: u64, count: u64) -> bool
     is_product(n / 8, rank, count)
 }
 
-// The refusal of a component's place, 0 for none: ALIGN, then BOUNDS.
-pub fn place(start: u64, offset: u64, length: u64) -> u64
-    ensures { result ≡ number (place_rule start offset length) }
+// A component's place: ALIGN, then BOUNDS.
+pub fn place(start: u64, offset: u64, length: u64) -> Result<(), Refusal>
+    ensures { place_rule start offset length ≡ answered result }
 {
     if offset % 64 != 0 {
-        return numbers::ALIGN;
+        return Err(Refusal::Align);
     }
     if offset < 64 {
-        return numbers::BOUNDS;
+        return Err(Refusal::Bounds);
     }
     if MOST - offset < length {
-        return numbers::BOUNDS;
+        return Err(Refusal::Bounds);
     }
     if start < offset + length {
-        return numbers::BOUNDS;
+        return Err(Refusal::Bounds);
     }
-    0
+    Ok(())
 }

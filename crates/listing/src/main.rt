@@ -18,40 +18,20 @@ const TOO_LONG: i32 = 36;
 
 const NO_TEXT: i32 = 84;
 
-// How many bytes of a file were read, up to its end or to what was lent; or why a read failed, however many came before it.
-#[derive(Clone, Copy)]
-pub enum Input {
-    Failed(Error),
-    Read(usize),
-}
-
-// One read.
-fn once(file: &mut File, part: &mut [u8]) -> Input
-    ensures { Within result part.new }
-{
-    match file.read(part) {
-        Err(error) => Input::Failed(error),
-        Ok(count) => Input::Read(count),
-    }
-}
-
-// Reads until nothing comes, the space is full or a read fails.
-fn fill(file: &mut File, space: &mut [u8]) -> Input
+// Reads until nothing comes, the space is full or a read fails: how many bytes of the file were read; or why a read failed, however many came before it.
+fn fill(file: &mut File, space: &mut [u8]) -> Result<usize, Error>
     ensures { Within result space.new }
 {
     let mut at = 0;
+    // The index moves by what a read took, so a `for` is no plainer.
     while at < space.len() {
-        match once(file, &mut space[at..]) {
-            Input::Failed(error) => return Input::Failed(error),
-            Input::Read(k) => {
-                if k == 0 {
-                    return Input::Read(at);
-                }
-                at += k;
-            }
+        let k = file.read(&mut space[at..])?;
+        if k == 0 {
+            return Ok(at);
         }
+        at += k;
     }
-    Input::Read(at)
+    Ok(at)
 }
 
 // The words of an error without its number.
@@ -132,11 +112,11 @@ fn list(rt: &HostRuntime, path: &[u8], several: bool) -> bool
         Ok(mut file) => {
             let mut space = [0u8; 65537];
             match fill(&mut file, &mut space) {
-                Input::Failed(error) => {
+                Err(error) => {
                     complain(rt, &path[0..], error);
                     true
                 }
-                Input::Read(n) => show(rt, &space[..n], &path[0..], several),
+                Ok(n) => show(rt, &space[..n], &path[0..], several),
             }
         }
     }

@@ -12,7 +12,6 @@ use borrow.Author.Tests.{not-true, not-false}
 use mir.Val.{Fits}
 use mir.Syntax.{w64}
 use Rattle.meaning.specs.Limit.{manifest_limit, end_limit, object_limit}
-use Rattle.meaning.specs.Refusal.{COUNT, BIG, TWICE}
 use Rattle.meaning.specs.Check.{Check, refuse}
 use Rattle.meaning.specs.Text.{distinct}
 use Rattle.meaning.specs.Read.{Span}
@@ -31,18 +30,24 @@ use Rattle.frame.proofs.Frames.{size_back_lem}
 use Rattle.sizes.specs.Size.{capped, head_size, optional_copy}
 use Rattle.sizes.proofs.Heads.{head_small}
 use Rattle.sizes.proofs.Lengths.{field_size, copied-field}
-use Rattle.merging.specs.Merge.{or_else, merged, about, merge}
+use Rattle.merging.specs.Merge.{or_else, merged, refused, about, merge}
 use Rattle.unshared.specs.Unshared.{none_of}
 use Rattle.window.specs.Sums.{name_pairs}
 use Rattle.window.proofs.Snoc.{names-length}
 use Rattle.merger.specs.Weighed.{Sums, Weighs, WeighedIs, Cases}
 use Rattle.merger.specs.declared.weigh.Weighed.{Weighed}
-use Rattle.merger.specs.declared.weigh.Weighed.TheVariants.{No, Yes}
 use Rattle.merger.proofs.SumsOfFile as of-file
 use Rattle.merger.proofs.AnswerFromSums as answer
 use Rattle.merger.proofs.NamesOfBoth as names
-use Rattle.merger.specs.declared.checks.Verdict.TheVariants as verdict
-use Rattle.merger.specs.Checked.{span, attributes_size, Ready, CheckedIs}
+use Rattle.merger.specs.Checked.{span, attributes_size, of_file, of_merged, Ready, CheckedIs}
+use Rattle.merger.specs.declared.checks.Verdict.{Verdict}
+use Rattle.merger.specs.declared.checks.MergeFault.{MergeFault}
+use Rattle.numbers.specs.Numbered.{number_of}
+use Rattle.numbers.specs.declared.refusal.Refusal.{Refusal}
+use Rattle.std.specs.Prelude.{Ok, Err}
+use Rattle.numbers.specs.declared.refusal.Refusal.TheVariants as refusals
+use Rattle.numbers.specs.declared.fault.FileFault.{FileFault}
+use Rattle.std.specs.Prelude.{Result}
 
 -- ---- the kept attributes
 
@@ -57,17 +62,14 @@ kept A B S Q i j = go (eqb S.place 0 && eqb S.size 0) refl
 
 -- ---- which case it was
 
-refused-so : {c : Check Reading} {p n from : ℕ} {before after : List ℕ} {w : Weighed} → WeighedIs c p n from before w after → (k o j : ℕ) → w ≡ No k o j → c ≡ refuse k o j
-refused-so {c} {p} {n} {from} {before} {after} h k o j e = subst (λ v. Cases c p n from before v after) e h.case
+refused-so : {c : Check Reading} {p n from : ℕ} {before after : List ℕ} {w : Result Weighed FileFault} → WeighedIs c p n from before w after → (f : FileFault) → w ≡ Err f → c ≡ refuse (number_of f.refusal) f.object f.component
+refused-so {c} {p} {n} {from} {before} {after} h f e = subst (λ v. Cases c p n from before v after) e h.case
 
-weighs-so : {c : Check Reading} {p n from : ℕ} {before after : List ℕ} {w : Weighed} → WeighedIs c p n from before w after → (x y u v q k : ℕ) → w ≡ Yes x y u v q k → Weighs c p n from before x y u v q k after
-weighs-so {c} {p} {n} {from} {before} {after} h x y u v q k e = subst (λ v. Cases c p n from before v after) e h.case
+weighs-so : {c : Check Reading} {p n from : ℕ} {before after : List ℕ} {w : Result Weighed FileFault} → WeighedIs c p n from before w after → (v : Weighed) → w ≡ Ok v → Weighs c p n from before v.objects v.components v.place v.size v.end v.total after
+weighs-so {c} {p} {n} {from} {before} {after} h v e = subst (λ v. Cases c p n from before v after) e h.case
 
-pub end-small : {c : Check Reading} {p n from : ℕ} {before after : List ℕ} {w : Weighed} {x y u v q k : ℕ} → WeighedIs c p n from before w after → w ≡ Yes x y u v q k → q ≤ suc end_limit
-end-small {x = x} {y} {u} {v} {q} {k} h e = (weighs-so h x y u v q k e).small.0
-
-pub total-small : {c : Check Reading} {p n from : ℕ} {before after : List ℕ} {w : Weighed} {x y u v q k : ℕ} → WeighedIs c p n from before w after → w ≡ Yes x y u v q k → k ≤ suc manifest_limit
-total-small {x = x} {y} {u} {v} {q} {k} h e = (weighs-so h x y u v q k e).small.1
+pub total-small : {c : Check Reading} {p n from : ℕ} {before after : List ℕ} {w : Result Weighed FileFault} {v : Weighed} → WeighedIs c p n from before w after → w ≡ Ok v → v.total ≤ suc manifest_limit
+total-small {v = v} h e = (weighs-so h v e).small.1
 
 module _ (l : ℕ) (first : List ℕ) (l' : ℕ) (second : List ℕ) where
   abbrev L : Layout
@@ -76,15 +78,36 @@ module _ (l : ℕ) (first : List ℕ) (l' : ℕ) (second : List ℕ) where
   abbrev M : Layout
   M = layout_of l'
 
-  pub first-refused : {names₀ names₁ : List ℕ} {r₁ : Weighed} {k o j : ℕ} → WeighedIs (reading L first) 8 0 0 names₀ r₁ names₁ → r₁ ≡ No k o j → CheckedIs l first l' second (verdict.No k 1 o j)
+  pub first-refused : {names₀ names₁ : List ℕ} {r₁ : Result Weighed FileFault} {f : FileFault} → WeighedIs (reading L first) 8 0 0 names₀ r₁ names₁ → r₁ ≡ Err f → (k : MergeFault) → k ≡ of_file 1 f → CheckedIs l first l' second (Err k)
   unfolding merge about
-  first-refused {k = k} {o} {j} weighed e = record { case = λ lent room. rw (refused-so weighed k o j e) refl }
+  first-refused {f = f} weighed e k is = record { case = λ lent room. rw is (rw (refused-so weighed f e) refl) }
+
+  -- a refusal of the merged file
+  of-merged : (r : Refusal) (k : MergeFault) → k ≡ of_merged r → ((lent room : ℕ) → merge L first M second lent room ≡ refused 0 (number_of r) 0 0) → CheckedIs l first l' second (Err k)
+  of-merged r k is h = record { case = λ lent room. rw is (h lent room) }
 
   -- the first file is read
-  module _ {names₀ names₁ : List ℕ} {r₁ : Weighed} {n c place size turn before : ℕ} (weighed : WeighedIs (reading L first) 8 0 0 names₀ r₁ names₁) (is_read : r₁ ≡ Yes n c place size turn before)
-      (held : Held first) (held' : Held second) where
+  module _ {names₀ names₁ : List ℕ} {r₁ : Result Weighed FileFault} {one : Weighed} (weighed : WeighedIs (reading L first) 8 0 0 names₀ r₁ names₁) (is_read : r₁ ≡ Ok one) (held : Held first) (held' : Held second) where
+    abbrev n : ℕ
+    n = one.objects
+
+    abbrev c : ℕ
+    c = one.components
+
+    abbrev place : ℕ
+    place = one.place
+
+    abbrev size : ℕ
+    size = one.size
+
+    abbrev turn : ℕ
+    turn = one.end
+
+    abbrev before : ℕ
+    before = one.total
+
     w : Weighs (reading L first) 8 0 0 names₀ n c place size turn before names₁
-    w = weighs-so weighed n c place size turn before is_read
+    w = weighs-so weighed one is_read
 
     few-first : n ≤ 1024
     few-first = let e = w.objects-are in omega (arith, e, of-file.few L (size_back_lem l) first held w.read w.is)
@@ -92,15 +115,32 @@ module _ (l : ℕ) (first : List ℕ) (l' : ℕ) (second : List ℕ) where
     pub twice-fits : Fits w64 (2 * n)
     twice-fits = let f = few-first in record { fits = omega arith }
 
-    pub second-refused : {names₂ : List ℕ} {r₂ : Weighed} {k o j : ℕ} → WeighedIs (reading M second) turn before (2 * n) names₁ r₂ names₂ → r₂ ≡ No k o j → CheckedIs l first l' second (verdict.No k 2 o j)
+    pub second-refused : {names₂ : List ℕ} {r₂ : Result Weighed FileFault} {f : FileFault} → WeighedIs (reading M second) turn before (2 * n) names₁ r₂ names₂ → r₂ ≡ Err f → (k : MergeFault) → k ≡ of_file 2 f → CheckedIs l first l' second (Err k)
     unfolding merge about
-    second-refused {k = k} {o} {j} weighed' e = record { case = λ lent room. rw (w.is, refused-so weighed' k o j e) refl }
+    second-refused {f = f} weighed' e k is = record { case = λ lent room. rw is (rw (w.is, refused-so weighed' f e) refl) }
 
     -- and the second
-    module _ {names₂ : List ℕ} {r₂ : Weighed} {k d other rest end total : ℕ} (weighed' : WeighedIs (reading M second) turn before (2 * n) names₁ r₂ names₂)
-        (is-read' : r₂ ≡ Yes k d other rest end total) where
+    module _ {names₂ : List ℕ} {r₂ : Result Weighed FileFault} {two : Weighed} (weighed' : WeighedIs (reading M second) turn before (2 * n) names₁ r₂ names₂) (is-read' : r₂ ≡ Ok two) where
+      abbrev k : ℕ
+      k = two.objects
+
+      abbrev d : ℕ
+      d = two.components
+
+      abbrev other : ℕ
+      other = two.place
+
+      abbrev rest : ℕ
+      rest = two.size
+
+      abbrev end : ℕ
+      end = two.end
+
+      abbrev total : ℕ
+      total = two.total
+
       v : Weighs (reading M second) turn before (2 * n) names₁ k d other rest end total names₂
-      v = weighs-so weighed' k d other rest end total is-read'
+      v = weighs-so weighed' two is-read'
 
       few-second : k ≤ 1024
       few-second = let e = v.objects-are in omega (arith, e, of-file.few M (size_back_lem l') second held' v.read v.is)
@@ -114,8 +154,8 @@ module _ (l : ℕ) (first : List ℕ) (l' : ℕ) (second : List ℕ) where
       abbrev sums' : Sums v.read.model turn before (2 * n) names₁ end total names₂
       sums' = v.sums (of-file.in_window M (size_back_lem l') second held' v.read v.is)
 
-      pub too_far : end_limit < end → CheckedIs l first l' second (verdict.No COUNT 0 0 0)
-      too_far h = record { case = answer.too_far L (size_back_lem l) first M (size_back_lem l') second held held' w.read v.read w.is v.is sums.sum sums'.sum h }
+      pub too_far : end_limit < end → (f : MergeFault) → f ≡ of_merged refusals.Count → CheckedIs l first l' second (Err f)
+      too_far h f is = of-merged refusals.Count f is (answer.too_far L (size_back_lem l) first M (size_back_lem l') second held held' w.read v.read w.is v.is sums.sum sums'.sum h)
 
       module _ (near : end ≤ end_limit) {t h m : ℕ} (t-is : t ≡ capped (attributes_size place size other rest)) (h-is : h ≡ head_size (n + k)) (m-is : m ≡ capped (23 + t + h + total)) where
         abbrev a : Described
@@ -141,17 +181,15 @@ module _ (l : ℕ) (first : List ℕ) (l' : ℕ) (second : List ℕ) where
             m-is ∙ ap (λ (x : ℕ). capped (23 + t + x + total)) heads-same
             ∙ answer.manifest-is L (size_back_lem l) first M (size_back_lem l') second held held' w.read v.read w.is v.is sums.sum sums'.sum near t (t-is ∙ ap capped (sym kept-size))
 
-        pub too-big : manifest_limit < m → CheckedIs l first l' second (verdict.No BIG 0 0 0)
-        too-big h = record { case = answer.too-big L (size_back_lem l) first M (size_back_lem l') second held held' w.read v.read w.is v.is sums.sum sums'.sum near m m-means h }
+        pub too-big : manifest_limit < m → (f : MergeFault) → f ≡ of_merged refusals.Big → CheckedIs l first l' second (Err f)
+        too-big h f is = of-merged refusals.Big f is (answer.too-big L (size_back_lem l) first M (size_back_lem l') second held held' w.read v.read w.is v.is sums.sum sums'.sum near m m-means h)
 
         module _ (fits : m ≤ manifest_limit) where
-          pub too_many : 1024 < n + k → CheckedIs l first l' second (verdict.No COUNT 0 0 0)
-          too_many h =
-              let e = w.objects-are in
-              let f = v.objects-are in
-              record {
-                case = answer.too_many L (size_back_lem l) first M (size_back_lem l') second held held' w.read v.read w.is v.is sums.sum sums'.sum near m m-means fits (omega (arith, h, e, f));
-              }
+          pub too_many : 1024 < n + k → (f : MergeFault) → f ≡ of_merged refusals.Count → CheckedIs l first l' second (Err f)
+          too_many h f is =
+              let x = w.objects-are in
+              let y = v.objects-are in
+              of-merged refusals.Count f is (answer.too_many L (size_back_lem l) first M (size_back_lem l') second held held' w.read v.read w.is v.is sums.sum sums'.sum near m m-means fits (omega (arith, h, x, y)))
 
           module _ (few : n + k ≤ 1024) (long : length names₀ ≡ 2048) {r : Bool} (found : r ≡ none_of (listed (named first names₂ 0 2) 0 n) (listed (named second names₂ 0 2) n k)) where
             A : List ℕ
@@ -191,12 +229,13 @@ module _ (l : ℕ) (first : List ℕ) (l' : ℕ) (second : List ℕ) where
             few-both : length w.read.model.objects + length v.read.model.objects ≤ object_limit
             few-both = let e = w.objects-are in let f = v.objects-are in omega (arith, e, f, few)
 
-            pub shares : not r ≡ true → CheckedIs l first l' second (verdict.No TWICE 0 0 0)
-            shares q = record {
-              case = answer.shares L (size_back_lem l) first M (size_back_lem l') second held held' w.read v.read w.is v.is sums.sum sums'.sum near m m-means fits few-both (sym r-is ∙ not-true r q);
-            }
+            pub shares : not r ≡ true → (f : MergeFault) → f ≡ of_merged refusals.Twice → CheckedIs l first l' second (Err f)
+            shares q f is = of-merged refusals.Twice f is (answer.shares L (size_back_lem l) first M (size_back_lem l') second held held' w.read v.read w.is v.is sums.sum sums'.sum near m m-means fits few-both (sym r-is ∙ not-true r q))
 
-            all-ready : r ≡ true → Ready l first l' second n c place size turn k d other rest (end + m + 16)
+            abbrev verdict : Verdict
+            verdict = record { objects = n; components = c; place = place; size = size; turn = turn; others = k; parts = d; other = other; rest = rest; long = end + m + 16 }
+
+            all-ready : r ≡ true → Ready l first l' second verdict
             all-ready e = record {
               held = held;
               held' = held';
@@ -217,7 +256,7 @@ module _ (l : ℕ) (first : List ℕ) (l' : ℕ) (second : List ℕ) where
               left = answer.goes-well L (size_back_lem l) first M (size_back_lem l') second held held' w.read v.read w.is v.is sums.sum sums'.sum near m m-means fits few-both (sym r-is ∙ e);
             }
 
-            pub ready : not r ≡ false → CheckedIs l first l' second (verdict.Yes n c place size turn k d other rest (end + m + 16))
+            pub ready : not r ≡ false → CheckedIs l first l' second (Ok verdict)
             ready q = record { case = all-ready (not-false r q) }
 
 -- ---- the kept attributes' bytes
@@ -232,18 +271,8 @@ attributes-first p s o l absent h f = rw (sym absent ∙ h) f
 
 -- ---- no sum wraps
 
-pub attributes-fit : (a : ℕ) {t : ℕ} → t ≡ capped a → Fits w64 (23 + t)
-attributes-fit a e = record { fits = omega (arith, e) }
-
 pub head-fits : (a x : ℕ) {t h : ℕ} → t ≡ capped a → h ≡ head_size x → Fits w64 (23 + t + h)
 head-fits a x e f = record { fits = omega (arith, e, f, head_small x) }
 
-pub total-fits : (a x : ℕ) {t h : ℕ} {c : Check Reading} {p n from : ℕ} {before after : List ℕ} {w : Weighed} {y z u v q k : ℕ} → t ≡ capped a → h ≡ head_size x → WeighedIs c p n from before w after → w ≡ Yes y z u v q k
-    → Fits w64 (23 + t + h + k)
+pub total-fits : (a x : ℕ) {t h : ℕ} {c : Check Reading} {p n from : ℕ} {before after : List ℕ} {w : Result Weighed FileFault} {v : Weighed} → t ≡ capped a → h ≡ head_size x → WeighedIs c p n from before w after → w ≡ Ok v → Fits w64 (23 + t + h + v.total)
 total-fits a x e f weighed is = let s = total-small weighed is in record { fits = omega (arith, e, f, head_small x, s) }
-
-pub end_fits : {end m : ℕ} → end ≤ end_limit → m ≤ manifest_limit → Fits w64 (end + m)
-end_fits e f = record { fits = omega (arith, e, f) }
-
-pub long-fits : {end m : ℕ} → end ≤ end_limit → m ≤ manifest_limit → Fits w64 (end + m + 16)
-long-fits e f = record { fits = omega (arith, e, f) }

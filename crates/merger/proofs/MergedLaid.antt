@@ -1,14 +1,14 @@
 -- From what is known before ROOM to the merged file: both files' rows in the lent ones, the bytes that are laid by them, and the tests of room.
-use Prim.Native.Nat.{ℕ, ◌+◌, ◌*◌, ◌≤◌, ◌<◌}
+use Prim.Native.Nat.{ℕ, ◌+◌, ◌*◌, ◌≤◌}
 use native.Mathlib.Omega.{arith}
 use native.Mathlib.Nat.{zero-add}
 use mathlib.Core.List.{List, [], ◌∷◌, ◌++◌, map}
-use mathlib.Core.Bool.{Bool, true, false, cond, not, ◌&&◌}
+use mathlib.Core.Bool.{Bool, true, false, not, ◌&&◌}
 use mathlib.Core.Path.{◌≡◌, refl, sym, ap, ap₂, ◌∙◌, subst}
 use lib.ListN.{length, take, drop, length-append, length-drop, length-map, replicate}
 use lib.Seq.{take_at, drop_at}
 use lib.Dec.{eqb, leb}
-use borrow.Author.Tests.{le-leb, lt-leb, leb-true, not-true, not-false}
+use borrow.Author.Tests.{le-leb, leb-true, not-true, not-false}
 use borrow.Author.Rules.{part_to_end}
 use mir.Val.{Fits}
 use mir.Syntax.{w64}
@@ -44,18 +44,20 @@ use Rattle.window.specs.Summed.{InWindow}
 use Rattle.merger.proofs.SumsOfFile as of-file
 use Rattle.merger.specs.Checked.{span, Ready, Cases, CheckedIs}
 use Rattle.merger.specs.declared.checks.Verdict.{Verdict}
-use Rattle.merger.specs.declared.checks.Verdict.TheVariants.{No, Yes}
+use Rattle.merger.specs.declared.checks.MergeFault.{MergeFault}
+use Rattle.numbers.specs.Numbered.{number_of}
 use Rattle.merger.specs.declared.Merged.{Merged}
 use Rattle.merger.specs.MergedFile.{answer, answered, joined_of, Enough}
+use Rattle.std.specs.Prelude.{Ok, Err}
+use Rattle.std.specs.Prelude.{Result}
 
 -- ---- which case it was
 
-refused-so : {l : ℕ} {first : List ℕ} {l' : ℕ} {second : List ℕ} {w : Verdict} → CheckedIs l first l' second w → {x f o j : ℕ} → w ≡ No x f o j → (lent room : ℕ)
-    → merge (layout_of l) first (layout_of l') second lent room ≡ refused f x o j
+refused-so : {l : ℕ} {first : List ℕ} {l' : ℕ} {second : List ℕ} {w : Result Verdict MergeFault} → CheckedIs l first l' second w → {f : MergeFault} → w ≡ Err f → (lent room : ℕ)
+    → merge (layout_of l) first (layout_of l') second lent room ≡ refused f.file (number_of f.refusal) f.object f.component
 refused-so {l} {first} {l'} {second} h e = subst (λ v. Cases l first l' second v) e h.case
 
-pub ready-so : {l : ℕ} {first : List ℕ} {l' : ℕ} {second : List ℕ} {w : Verdict} → CheckedIs l first l' second w → {n c place size turn k d other rest long : ℕ} → w ≡ Yes n c place size turn k d other rest long
-    → Ready l first l' second n c place size turn k d other rest long
+pub ready-so : {l : ℕ} {first : List ℕ} {l' : ℕ} {second : List ℕ} {w : Result Verdict MergeFault} → CheckedIs l first l' second w → {v : Verdict} → w ≡ Ok v → Ready l first l' second v
 ready-so {l} {first} {l'} {second} h e = subst (λ v. Cases l first l' second v) e h.case
 
 -- ---- what a caller sees
@@ -87,32 +89,11 @@ cleared table t f e = f ∙ ap (λ (n : ℕ). replicate n 0) e
 
 -- ---- the tests of room
 
-pub enough-so : {n c k d long : ℕ} {rows out : List ℕ} {t : Bool} → t ≡ leb long (length out) && leb (object_width * (n + k) + component_width * (c + d)) (length rows) → not t ≡ false → Enough n c k d long rows out
-enough-so {n} {c} {k} {d} {long} {rows} {out} {t} e f =
-    let p : ℕ = object_width * (n + k) + component_width * (c + d) in
-    let h = both_true (leb long (length out)) (leb p (length rows)) (sym e ∙ not-false t f) in
-    record { numbers = leb-true p (length rows) h.1; bytes = leb-true long (length out) h.0 }
-
-pub too_long : {long out : ℕ} (b : Bool) → out < long → false ≡ leb long out && b
-too_long {long} {out} b h = rw (lt-leb long out h) refl
-
-pub long-enough : {long out : ℕ} {b r : Bool} → long ≤ out → r ≡ b → r ≡ leb long out && b
-long-enough {long} {out} h e = rw (le-leb long out h) e
-
--- ---- which file's attributes are laid: of A with the second's and B with the first's
-
-module _ {x t : Bool} (A B : List ℕ) (absent : t ≡ x) where
-  pub room-second : {out : List ℕ} → t ≡ true → Room (cond x A B) 0 out → Room A 0 out
-  room-second e h = rw (sym absent ∙ e) at h
-
-  pub room-first : {out : List ℕ} → t ≡ false → Room (cond x A B) 0 out → Room B 0 out
-  room-first e h = rw (sym absent ∙ e) at h
-
-  pub laid-second : {out after : List ℕ} {r : ℕ} → t ≡ true → Laid A 0 out after r → Laid (cond x A B) 0 out after r
-  laid-second e h = rw (sym absent ∙ e) h
-
-  pub laid-first : {out after : List ℕ} {r : ℕ} → t ≡ false → Laid B 0 out after r → Laid (cond x A B) 0 out after r
-  laid-first e h = rw (sym absent ∙ e) h
+pub enough-so : {v : Verdict} {rows out : List ℕ} {t : Bool} → t ≡ leb v.long (length out) && leb (object_width * (v.objects + v.others) + component_width * (v.components + v.parts)) (length rows) → not t ≡ false → Enough v rows out
+enough-so {v} {rows} {out} {t} e f =
+    let p : ℕ = object_width * (v.objects + v.others) + component_width * (v.components + v.parts) in
+    let h = both_true (leb v.long (length out)) (leb p (length rows)) (sym e ∙ not-false t f) in
+    record { numbers = leb-true p (length rows) h.1; bytes = leb-true v.long (length out) h.0 }
 
 -- ---- rows of an accepted file, with its counts and attributes by other names
 
@@ -141,7 +122,37 @@ unfolding component_count
 few-components [] h = omega arith
 few-components (o ∷ os) (h, hs) = let z = h.count in omega (arith, z, few-components os hs)
 
-module _ {l : ℕ} {first : List ℕ} {l' : ℕ} {second : List ℕ} {n c place size turn k d other rest long : ℕ} (y : Ready l first l' second n c place size turn k d other rest long) where
+module _ {l : ℕ} {first : List ℕ} {l' : ℕ} {second : List ℕ} {v : Verdict} (y : Ready l first l' second v) where
+  abbrev n : ℕ
+  n = v.objects
+
+  abbrev c : ℕ
+  c = v.components
+
+  abbrev place : ℕ
+  place = v.place
+
+  abbrev size : ℕ
+  size = v.size
+
+  abbrev turn : ℕ
+  turn = v.turn
+
+  abbrev k : ℕ
+  k = v.others
+
+  abbrev d : ℕ
+  d = v.parts
+
+  abbrev other : ℕ
+  other = v.other
+
+  abbrev rest : ℕ
+  rest = v.rest
+
+  abbrev long : ℕ
+  long = v.long
+
   abbrev m : Model Span
   m = y.read.model
 
@@ -182,10 +193,6 @@ module _ {l : ℕ} {first : List ℕ} {l' : ℕ} {second : List ℕ} {n c place 
         few-components m'.objects (of-file.in_window (layout_of l') (size_back_lem l') second y.held' y.read' y.is'),
       )
 
-  -- where the second's rows begin, in bytes
-  pub cut_fits : Fits w64 ((object_width * n + component_width * c) * 8)
-  cut_fits = let o = few-objects in let k = few-all in record { fits = omega arith }
-
   blobs-counted : length (blobs a) ≡ c
   blobs-counted =
       sym (length-map (blobs a) length) ∙ ap length (of-file.lengths-are (layout_of l) (size_back_lem l) first y.held y.read y.is) ∙ all-counted m.objects ∙ sym y.components
@@ -211,13 +218,13 @@ module _ {l : ℕ} {first : List ℕ} {l' : ℕ} {second : List ℕ} {n c place 
     pub goes-well : long ≤ room → object_width * (n + k) + component_width * (c + d) ≤ lent → merge (layout_of l) first (layout_of l') second lent room ≡ done (plain_file (merged a b))
     goes-well g h = y.left lent room ∙ rw (sym y.long-is, rows-room, le-leb long room g, le-leb (object_width * (n + k) + component_width * (c + d)) lent h) refl
 
-  well-told : (table out : List ℕ) → Enough n c k d long table out
+  well-told : (table out : List ℕ) → Enough v table out
       → answer 0 0 0 0 long ≡ answered (merge (layout_of l) first (layout_of l') second (length table) (length out))
   well-told table out h = done-told (goes-well (length table) (length out) h.bytes h.numbers) y.long-is
 
   -- ---- both files' rows
 
-  module _ {table out : List ℕ} (room : Enough n c k d long table out) where
+  module _ {table out : List ℕ} (room : Enough v table out) where
     needs-first : room_for m ≡ object_width * n + component_width * c
     unfolding room_for
     needs-first = ap₂ (λ (u v : ℕ). object_width * u + component_width * v) (sym y.objects) (sym y.components)
@@ -370,7 +377,7 @@ module _ {l : ℕ} {first : List ℕ} {l' : ℕ} {second : List ℕ} {n c place 
             ∙ ap₂ (λ (x z : Described). plain_file (merged x z)) says says'
 
         abbrev laid : List ℕ
-        laid = joined_of first (part 0 (back cut t u)) n c place size second (part cut (back cut t u)) k d other rest turn
+        laid = joined_of first (part 0 (back cut t u)) v second (part cut (back cut t u))
 
         joined_is : laid ≡ plain_file (merged a b)
         joined_is = by (eqb place 0 && eqb size 0) refl
@@ -395,28 +402,25 @@ module _ {l : ℕ} {first : List ℕ} {l' : ℕ} {second : List ℕ} {n c place 
 
 -- ---- each way out of the call
 
-module _ {l : ℕ} {first : List ℕ} {l' : ℕ} {second : List ℕ} {w : Verdict} (known : CheckedIs l first l' second w) where
-  module _ {x f o j : ℕ} (is-no : w ≡ No x f o j) (lent room : ℕ) where
-    pub refused-answer : {r : Merged} → r ≡ answer x f o j 0 → r ≡ answered (merge (layout_of l) first (layout_of l') second lent room)
-    refused-answer e = e ∙ refused-told (refused-so known is-no lent room)
+module _ {l : ℕ} {first : List ℕ} {l' : ℕ} {second : List ℕ} {w : Result Verdict MergeFault} (known : CheckedIs l first l' second w) where
+  module _ {f : MergeFault} (is-no : w ≡ Err f) (lent room : ℕ) where
+    pub refused-answer : (x : ℕ) → x ≡ number_of f.refusal → {r : Merged} → r ≡ answer x f.file f.object f.component 0 → r ≡ answered (merge (layout_of l) first (layout_of l') second lent room)
+    refused-answer x is e = e ∙ ap (λ (x : ℕ). answer x f.file f.object f.component 0) is ∙ refused-told (refused-so known is-no lent room)
 
     pub refused-output : {out : List ℕ} → out ≡ merge_output out (merge (layout_of l) first (layout_of l') second lent room)
     refused-output = refused-leaves (refused-so known is-no lent room)
 
-  module _ {n c place size turn k d other rest long : ℕ} (is-yes : w ≡ Yes n c place size turn k d other rest long) where
-    pub objects-fit : Fits w64 (n + k)
-    objects-fit = let h = few-objects (ready-so known is-yes) in record { fits = omega arith }
-
-    pub components-fit : Fits w64 (c + d)
+  module _ {v : Verdict} (is-yes : w ≡ Ok v) where
+    pub components-fit : Fits w64 (v.components + v.parts)
     components-fit = let h = few-all (ready-so known is-yes) in record { fits = omega arith }
 
-    module _ (lent room : ℕ) {t : Bool} (tested : t ≡ leb long room && leb (object_width * (n + k) + component_width * (c + d)) lent) (is-short : not t ≡ true) where
-      pub short-answer : {r : Merged} → r ≡ answer 24 0 0 0 long → r ≡ answered (merge (layout_of l) first (layout_of l') second lent room)
+    module _ (lent room : ℕ) {t : Bool} (tested : t ≡ leb v.long room && leb (object_width * (v.objects + v.others) + component_width * (v.components + v.parts)) lent) (is-short : not t ≡ true) where
+      pub short-answer : {r : Merged} → r ≡ answer 24 0 0 0 v.long → r ≡ answered (merge (layout_of l) first (layout_of l') second lent room)
       short-answer {r} e = e ∙ short-told (short-of (ready-so known is-yes) lent room tested (not-true t is-short))
 
       pub short-output : {out : List ℕ} → out ≡ merge_output out (merge (layout_of l) first (layout_of l') second lent room)
       short-output = short-leaves (short-of (ready-so known is-yes) lent room tested (not-true t is-short))
 
-    module _ (table out : List ℕ) {t : Bool} (tested : t ≡ leb long (length out) && leb (object_width * (n + k) + component_width * (c + d)) (length table)) (is-enough : not t ≡ false) where
-      pub merged-answer : {r : Merged} → r ≡ answer 0 0 0 0 long → r ≡ answered (merge (layout_of l) first (layout_of l') second (length table) (length out))
+    module _ (table out : List ℕ) {t : Bool} (tested : t ≡ leb v.long (length out) && leb (object_width * (v.objects + v.others) + component_width * (v.components + v.parts)) (length table)) (is-enough : not t ≡ false) where
+      pub merged-answer : {r : Merged} → r ≡ answer 0 0 0 0 v.long → r ≡ answered (merge (layout_of l) first (layout_of l') second (length table) (length out))
       merged-answer e = e ∙ well-told (ready-so known is-yes) table out (enough-so tested is-enough)

@@ -3,6 +3,7 @@ use Rattle.std.specs.Prelude.{ℕ, ◌+◌, ◌*◌, ◌≤◌, List, cond, ◌&
 use Rattle.meaning.specs.Columns.{object_width, component_width}
 use Rattle.joint.specs.Joint.{whole_of}
 use Rattle.merging.specs.Merge.{Merge, MergeAnswer, merge_answer}
+use Rattle.merger.specs.declared.checks.Verdict.{Verdict}
 use Rattle.merger.specs.declared.Merged.{Merged}
 
 abbrev pub answer : ℕ → ℕ → ℕ → ℕ → ℕ → Merged
@@ -15,11 +16,12 @@ abbrev pub answered : Merge → Merged
 answered m = told (merge_answer m)
 
 -- the file by both files' rows: the root's attributes are the first's if it has any, else the second's
-abbrev pub joined_of : List ℕ → List ℕ → ℕ → ℕ → ℕ → ℕ → List ℕ → List ℕ → ℕ → ℕ → ℕ → ℕ → ℕ → List ℕ
-joined_of first rows n c place size second others k d other rest turn =
-    cond (eqb place 0 && eqb size 0) (whole_of second other rest first rows n c second others k d turn) (whole_of first place size first rows n c second others k d turn)
+abbrev pub joined_of : List ℕ → List ℕ → Verdict → List ℕ → List ℕ → List ℕ
+joined_of first rows v second others =
+    cond (eqb v.place 0 && eqb v.size 0) (whole_of second v.other v.rest first rows v.objects v.components second others v.others v.parts v.turn)
+    (whole_of first v.place v.size first rows v.objects v.components second others v.others v.parts v.turn)
 
--- rows of n + k objects and c + d components, and an output of `long` bytes
-pub record Enough (n c k d long : ℕ) (rows out : List ℕ) : Type 0 where
-  pub numbers : object_width * (n + k) + component_width * (c + d) ≤ length rows
-  pub bytes : long ≤ length out
+-- rows of both files' objects and components, and an output for the merged file
+pub record Enough (v : Verdict) (rows out : List ℕ) : Type 0 where
+  pub numbers : object_width * (v.objects + v.others) + component_width * (v.components + v.parts) ≤ length rows
+  pub bytes : v.long ≤ length out

@@ -1,5 +1,5 @@
 -- A reading, and what is answered of it: the refusal, or counts, attributes and sums.
-use Rattle.std.specs.Prelude.{ℕ, suc, ◌+◌, ◌*◌, ◌≤◌, List, ◌≡◌, length}
+use Rattle.std.specs.Prelude.{ℕ, suc, ◌+◌, ◌*◌, ◌≤◌, List, ◌≡◌, length, Ok, Err, Result}
 use Rattle.std.proofs.lemmas.List.Edits.{sets}
 use Rattle.meaning.specs.Limit.{manifest_limit, end_limit}
 use Rattle.meaning.specs.Check.{Check, pass, refuse}
@@ -11,7 +11,8 @@ use Rattle.meaning.specs.Every.{Every}
 use Rattle.window.specs.Sums.{name_pairs}
 use Rattle.window.specs.Summed.{InWindow, Sum}
 use Rattle.merger.specs.declared.weigh.Weighed.{Weighed}
-use Rattle.merger.specs.declared.weigh.Weighed.TheVariants.{No, Yes}
+use Rattle.numbers.specs.declared.fault.FileFault.{FileFault}
+use Rattle.numbers.specs.Numbered.{number_of}
 
 -- the sums from a place p and n bytes on, and the names' places
 pub record Sums (m : Model Span) (p n from : ℕ) (before : List ℕ) (q k : ℕ) (after : List ℕ) : Type 0 where
@@ -27,9 +28,9 @@ pub record Weighs (c : Check Reading) (p n from : ℕ) (before : List ℕ) (obje
   pub sums : Every InWindow read.model.objects → Sums read.model p n from before q k after
   pub small : (q ≤ suc end_limit) × (k ≤ suc manifest_limit)
 
-abbrev pub Cases : Check Reading → ℕ → ℕ → ℕ → List ℕ → Weighed → List ℕ → Type 0
-Cases c p n from before (No number o k) after = c ≡ refuse number o k
-Cases c p n from before (Yes objects components place size q k) after = Weighs c p n from before objects components place size q k after
+abbrev pub Cases : Check Reading → ℕ → ℕ → ℕ → List ℕ → Result Weighed FileFault → List ℕ → Type 0
+Cases c p n from before (Err f) after = c ≡ refuse (number_of f.refusal) f.object f.component
+Cases c p n from before (Ok v) after = Weighs c p n from before v.objects v.components v.place v.size v.end v.total after
 
-pub record WeighedIs (c : Check Reading) (p n from : ℕ) (before : List ℕ) (w : Weighed) (after : List ℕ) : Type 0 where
+pub record WeighedIs (c : Check Reading) (p n from : ℕ) (before : List ℕ) (w : Result Weighed FileFault) (after : List ℕ) : Type 0 where
   pub case : Cases c p n from before w after

@@ -15,6 +15,7 @@ ghost use Rattle.merger.specs.Checked.{Ready};
 ghost use Rattle.merger.specs.MergedFile.{answer, answered, joined_of, Enough};
 
 use checks::Verdict;
+use numbers::Refusal;
 
 // A refusal's number, which file it is about (1 or 2, or 0 for the merged one), object and component; or 0, or ROOM, and the merged file's length.
 #[repr(C)]
@@ -44,30 +45,34 @@ fn join(
     out: &mut [u8],
     first: &[u8],
     rows: &[u64],
-    n: u64,
-    c: u64,
-    place: u64,
-    size: u64,
+    v: Verdict,
     second: &[u8],
     others: &[u64],
-    k: u64,
-    d: u64,
-    other: u64,
-    rest: u64,
-    turn: u64,
 ) -> usize
-    requires within { Within first.now place size × Within second.now other rest × (n ≤ 1024) × (k ≤ 1024) }
-    requires rows { Rows first.now rows.now n c 8 × Rows second.now others.now k d turn }
-    requires room { Room (joined_of first.now rows.now n c place size second.now others.now k d other rest turn) 0 out.old }
-    ensures { Laid (joined_of first.now rows.now n c place size second.now others.now k d other rest turn) 0 out.old out.new result }
+    requires within { Within first.now v.place v.size × Within second.now v.other v.rest × (v.objects ≤ 1024) × (v.others ≤ 1024) }
+    requires rows { Rows first.now rows.now v.objects v.components 8 × Rows second.now others.now v.others v.parts v.turn }
+    requires room { Room (joined_of first.now rows.now v second.now others.now) 0 out.old }
+    ensures { Laid (joined_of first.now rows.now v second.now others.now) 0 out.old out.new result }
 {
-    if rows::absent(place, size) {
-        return joint::both(
-            out, second, other, rest, first, rows, n, c, second, others, k, d, turn,
-        );
-    }
+    let (file, place, size) = if rows::absent(v.place, v.size) {
+        (second, v.other, v.rest)
+    } else {
+        (first, v.place, v.size)
+    };
     joint::both(
-        out, first, place, size, first, rows, n, c, second, others, k, d, turn,
+        out,
+        file,
+        place,
+        size,
+        first,
+        rows,
+        v.objects,
+        v.components,
+        second,
+        others,
+        v.others,
+        v.parts,
+        v.turn,
     )
 }
 
@@ -79,39 +84,15 @@ fn lay(
     second: &[u8],
     rows: &mut [u64],
     out: &mut [u8],
-    n: u64,
-    c: u64,
-    place: u64,
-    size: u64,
-    turn: u64,
-    k: u64,
-    d: u64,
-    other: u64,
-    rest: u64,
-    long: u64,
+    v: Verdict,
 )
-    requires { Ready one first.now two second.now n c place size turn k d other rest long × Enough n c k d long rows.old out.old }
+    requires { Ready one first.now two second.now v × Enough v rows.old out.old }
     ensures { (out.new ≡ is.merge_output out.old (is.merge (layout_of one) first.now (layout_of two) second.now (length rows.old) (length out.old))) × (length rows.new ≡ length rows.old) }
 {
-    let cut = columns::OBJECT * n as usize + columns::COMPONENT * c as usize;
+    let cut = columns::OBJECT * v.objects as usize + columns::COMPONENT * v.components as usize;
     reader::into::read_as(one, first, rows);
     reader::into::read_as(two, second, &mut rows[cut..]);
-    join(
-        out,
-        first,
-        &rows[0..],
-        n,
-        c,
-        place,
-        size,
-        second,
-        &rows[cut..],
-        k,
-        d,
-        other,
-        rest,
-        turn,
-    );
+    join(out, first, &rows[0..], v, second, &rows[cut..]);
 }
 
 // The merged file fits the output, and its rows, of so many objects and components, the lent ones.
@@ -138,21 +119,26 @@ pub fn merge(
     ensures cleared { rows.new ≡ is.merge_rows rows.old }
 {
     match checks::checked(one, first, two, second) {
-        Verdict::No(x, f, o, y) => {
+        Err(fault) => {
             account::clear(rows);
-            told(x, f, o, y, 0)
+            told(
+                u64::from(fault.refusal),
+                fault.file,
+                fault.object as u64,
+                fault.component as u64,
+                0,
+            )
         }
-        Verdict::Yes(n, c, place, size, turn, k, d, other, rest, long) => {
-            if !fits(rows.len(), out.len(), n + k, c + d, long) {
+        Ok(v) => {
+            let objects = v.objects + v.others;
+            let components = v.components + v.parts;
+            if !fits(rows.len(), out.len(), objects, components, v.long) {
                 account::clear(rows);
-                return told(numbers::ROOM, 0, 0, 0, long);
+                return told(Refusal::Room as u64, 0, 0, 0, v.long);
             }
-            lay(
-                one, first, two, second, rows, out, n, c, place, size, turn, k, d, other, rest,
-                long,
-            );
+            lay(one, first, two, second, rows, out, v);
             account::clear(rows);
-            told(0, 0, 0, 0, long)
+            told(0, 0, 0, 0, v.long)
         }
     }
 }

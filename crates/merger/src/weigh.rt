@@ -8,16 +8,20 @@ ghost use Rattle.cbor.specs.Ending.{FAULT};
 ghost use Rattle.merger.specs.Weighed.{WeighedIs};
 
 use fields::place_of;
-use frame::Framed;
-use reader::Told;
+use numbers::FileFault;
 use reader::into::attributes;
+use window::Sum;
 
-// A refusal with its object and component; or how many objects and components there are, place and length of the root's attributes, where the last blob ends (or 2^40 + 1), and how many
-// bytes the objects' entries take with those before (or the limit and 1).
+// How many objects and components there are, place and length of the root's attributes, where the last blob ends (or 2^40 + 1), and how many bytes the objects' entries take with those
+// before (or the limit and 1).
 #[derive(Clone, Copy)]
-pub enum Weighed {
-    No(u64, u64, u64),
-    Yes(u64, u64, u64, u64, u64, u64),
+pub struct Weighed {
+    pub objects: u64,
+    pub components: u64,
+    pub place: u64,
+    pub size: u64,
+    pub end: u64,
+    pub total: u64,
 }
 
 // The manifest m, which begins at `start`.
@@ -29,37 +33,28 @@ fn manifest(
     before: u64,
     from: usize,
     names: &mut [u64],
-) -> Weighed
+) -> Result<Weighed, FileFault>
     requires m_bound { start + length m.now < FAULT }
     requires first_bound { (first ≤ suc end_limit) × (before ≤ suc manifest_limit) }
     ensures { WeighedIs (manifest_reading (layout_of layout) (start + length m.now) start m.now) first before from names.old result names.new }
 {
-    match reader::manifest(layout, m, start as u64) {
-        Told::No(n, o, c) => Weighed::No(n, o, c),
-        Told::Yes(objects, components, left, at) => {
-            let end = start + m.len();
-            let place = place_of(m.len(), at);
-            let sum = window::measure(
-                layout,
-                &m[place..],
-                start as u64,
-                end,
-                first,
-                before,
-                from,
-                names,
-            );
-            let a = attributes(m, left, end);
-            Weighed::Yes(
-                objects as u64,
-                components as u64,
-                a.place,
-                a.size,
-                sum.place,
-                sum.total,
-            )
-        }
-    }
+    let told = reader::manifest(layout, m, start as u64)?;
+    let end = start + m.len();
+    let place = place_of(m.len(), told.place);
+    let have = Sum {
+        place: first,
+        total: before,
+    };
+    let sum = window::measure(layout, &m[place..], start as u64, end, have, from, names);
+    let kept = attributes(m, told.attributes, end);
+    Ok(Weighed {
+        objects: told.objects as u64,
+        components: told.components as u64,
+        place: kept.place,
+        size: kept.size,
+        end: sum.place,
+        total: sum.total,
+    })
 }
 
 // A file of this layout, lent whole: its blobs from the place `first` on, its entries after `before` bytes. Places and lengths of its objects' names are put from `from` on.
@@ -70,15 +65,19 @@ pub fn file(
     before: u64,
     from: usize,
     names: &mut [u64],
-) -> Weighed
+) -> Result<Weighed, FileFault>
     requires { (first ≤ suc end_limit) × (before ≤ suc manifest_limit) }
     ensures { WeighedIs (reading (layout_of layout) file.now) first before from names.old result names.new }
 {
-    match frame::frame(layout, file) {
-        Framed::No(n) => Weighed::No(n, 0, 0),
-        Framed::At(start, size) => {
-            let end = start + size;
-            manifest(layout, &file[start..end], start, first, before, from, names)
-        }
-    }
+    let framed = frame::frame(layout, file)?;
+    let end = framed.start + framed.size;
+    manifest(
+        layout,
+        &file[framed.start..end],
+        framed.start,
+        first,
+        before,
+        from,
+        names,
+    )
 }

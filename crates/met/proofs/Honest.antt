@@ -1,5 +1,5 @@
 -- Every item of a tree that was read in some bytes stands there: it begins at a tail of them, and is passed over to where it ends.
-use Prim.Native.Nat.{ℕ, zero, suc, ◌-◌, ◌≤◌}
+use Prim.Native.Nat.{ℕ, zero, suc, ◌≤◌}
 use native.Mathlib.Omega.{arith}
 use mathlib.Core.List.{List, [], ◌∷◌, ◌++◌, map, append_assoc}
 use mathlib.Core.Bool.{Bool, true, false, cond}
@@ -16,7 +16,7 @@ use Rattle.meaning.specs.Read.{Outcome, got, refused, Reader, after, ◌>>=◌, 
 use Rattle.meaning.specs.Read.{Argument, known, indefinite, argument, major_of, info_of, chunk, reserved, joined, close, pair, content, item, no_note}
 use Rattle.meaning.specs.Read.{Major, unsigned, negative, byte_string, text_string, array_of, map_of, tagged, special}
 use Rattle.meaning.proofs.ReadNatural.{map_out, item-follows, nodes-map, pairs-map}
-use Rattle.meaning.proofs.ReadPrefix.{still, Took, Exact, Alike, alike, never-got, never-beyond, byte-exact, argument-exact, run-exact, chunk-exact, chunk-hungry, to_break-exact}
+use Rattle.meaning.proofs.ReadPrefix.{still, Exact, alike, never-got, never-beyond, byte-exact, argument-exact, run-exact, chunk-exact, chunk-hungry, to_break-exact}
 use Rattle.walk.specs.Reading.{Ends, ends, Reads}
 use Rattle.explained.specs.Step.{Step, first}
 use Rattle.explained.specs.Notes.{map_step}

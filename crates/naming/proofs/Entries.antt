@@ -10,7 +10,7 @@ use Rattle.meaning.specs.Model.{Named}
 use Rattle.meaning.specs.Field.{names}
 use Rattle.walk.specs.Reading.{Ends}
 use Rattle.naming.specs.NotedNames.{named_anyway, told}
-use Rattle.naming.specs.declared.Named.TheVariants.{Yes}
+use Rattle.std.specs.Prelude.{Ok}
 
 module _ {A B : Type 0} (f : ℕ → A → Check B) where
   pub each_snoc : (i : ℕ) (l : List A) (a : A) → each f i (l ++ a ∷ []) ≡ (each f i l >>= λ bs. f (i + length l) a >>= λ b. pass (bs ++ b ∷ []))
@@ -41,5 +41,5 @@ module _ {B : Type 0} (f : ℕ → Named Ends → Check B) (done : List (Pair En
   one_more p = let z : 0 + length done ≡ length done = omega arith in each_snoc (λ i p. f i (named_anyway p)) 0 done p ∙ (rw z refl)
 
   -- whose names pass
-  pub names-pass : (limit : ℕ) (x : Node Ends) → names limit x ≡ told done Yes → (names limit x >>= each f 0) ≡ Entries
+  pub names-pass : (limit : ℕ) (x : Node Ends) → names limit x ≡ told done (Ok tt) → (names limit x >>= each f 0) ≡ Entries
   names-pass limit x h = rw h (each-of-map f named_anyway 0 done)

@@ -20,7 +20,6 @@ use Rattle.names.specs.Names.{name, listed}
 use Rattle.endian.proofs.Which.{lt-or}
 use Rattle.walk.specs.Reading.{Ends, ends, Reads}
 use Rattle.walk.specs.declared.Letters.{Letters}
-use Rattle.walk.specs.declared.Letters.TheVariants.{NoText, Text}
 use Rattle.walk.specs.Places.{TextIs, Inside}
 use Rattle.naming.specs.declared.Tally.{Tally}
 use borrow.Author.Rules.{part_to_end}
@@ -28,6 +27,7 @@ use Rattle.walk.specs.Put.{put}
 use Rattle.walk.proofs.Puts.{length-put}
 use Rattle.walk.proofs.Passed.{Here}
 use Rattle.naming.specs.NotedNames.{tally, letters_of, Tallied, Noted}
+use Rattle.std.specs.Prelude.{Some, None, Option}
 
 -- ---------------------------------------------------------------- lists with one more at the end
 
@@ -92,11 +92,11 @@ module _ (m : List ℕ) (left size : List ℕ) (same : length size ≡ length le
 -- ---------------------------------------------------------------- a key
 
 -- what the text that begins a key says of the pair's key
-pub no_key : (s : List ℕ) → TextIs s NoText → (d : ℕ) (p : Pair Ends) (r : List ℕ) → Reads (suc d) s p.key r → key_of p ≡ none
+pub no_key : (s : List ℕ) → TextIs s None → (d : ℕ) (p : Pair Ends) (r : List ℕ) → Reads (suc d) s p.key r → key_of p ≡ none
 unfolding key_of kinds.a_word
 no_key s h d p r e = key-of-none (kind p.key) (h d p.key r e)
 
-pub a_key : (s : List ℕ) (at n : ℕ) → TextIs s (Text at n) → (d : ℕ) (p : Pair Ends) (r : List ℕ) → Reads (suc d) s p.key r → key_of p ≡ some (take n (drop at s))
+pub a_key : (s : List ℕ) (at n : ℕ) → TextIs s (Some (record { at = at; size = n })) → (d : ℕ) (p : Pair Ends) (r : List ℕ) → Reads (suc d) s p.key r → key_of p ≡ some (take n (drop at s))
 unfolding key_of kinds.a_word
 a_key s at n h d p r e = key-of-word (kind p.key) (record { note = ends s r; letters = take n (drop at s) }) (h d p.key r e)
 
@@ -159,14 +159,14 @@ pub noted-as : (s : List ℕ) (t : Tally) (left size : List ℕ) {t₁ t₂ : Ta
     → Noted s t left size t₁ left₁ size₁ → Noted s t left size t₂ left₂ size₂
 noted-as s t left size a b c h = rw (a, b, c) h
 
-module _ (s : List ℕ) (t : Tally) (left size : List ℕ) (v : Letters) (h : TextIs (Here s 0) v) where
-  pub noted-odd : v ≡ NoText → Noted s t left size (tally (t.count + 1) true t.bad) (put left t.count 0) (put size t.count 0)
+module _ (s : List ℕ) (t : Tally) (left size : List ℕ) (v : Option Letters) (h : TextIs (Here s 0) v) where
+  pub noted-odd : v ≡ None → Noted s t left size (tally (t.count + 1) true t.bad) (put left t.count 0) (put size t.count 0)
   noted-odd e =
-      let k : TextIs s NoText = rw (part_to_end s 0, e) at h in
+      let k : TextIs s None = rw (part_to_end s 0, e) at h in
       (length-put left t.count 0, λ m at within is done d p r x y. note-odd m done t left size y p (no_key s k d p r x))
 
-  module _ (a n : ℕ) (e : v ≡ Text a n) (fits : a + n ≤ length s) where
-    k : TextIs s (Text a n)
+  module _ (a n : ℕ) (e : v ≡ Some (record { at = a; size = n })) (fits : a + n ≤ length s) where
+    k : TextIs s (Some (record { at = a; size = n }))
     k = rw (part_to_end s 0, e) at h
 
     key-is : (m : List ℕ) (at : ℕ) → s ≡ drop at m → (d : ℕ) (p : Pair Ends) (r : List ℕ) → Reads (suc d) s p.key r → key_of p ≡ some (take n (drop a (drop at m)))
@@ -199,14 +199,14 @@ pub put-nowhere : (l : List ℕ) (i x : ℕ) → length l ≤ i → l ≡ put l 
 put-nowhere l i x h = rw (le-ltb i (length l) h) refl
 
 -- a key's letters lie inside what it begins
-pub inside : (s : List ℕ) (v : Letters) (a n : ℕ) → Inside (Here s 0) v → v ≡ Text a n → a + n ≤ length s
+pub inside : (s : List ℕ) (v : Option Letters) (a n : ℕ) → Inside (Here s 0) v → v ≡ Some (record { at = a; size = n }) → a + n ≤ length s
 inside s v a n h e = let z : a + n ≤ length (Here s 0) = rw e at h in let y : length (Here s 0) ≡ length s = ap length (part_to_end s 0) in omega arith
 
-pub begins-inside : (s : List ℕ) (v : Letters) (a n : ℕ) → Inside (Here s 0) v → v ≡ Text a n → a ≤ length s
-begins-inside s v a n h e = omega (arith, inside s v a n h e)
+pub begins-inside : (s : List ℕ) (v : Option Letters) (l : Letters) → Inside (Here s 0) v → v ≡ Some l → l.at ≤ length s
+begins-inside s v l h e = omega (arith, inside s v l.at l.size h e)
 
 -- a key that is text, whether it is UTF-8 or not
-module _ (s : List ℕ) (t : Tally) (left size : List ℕ) (v : Letters) (within : Inside (Here s 0) v) (h : TextIs (Here s 0) v) (a n : ℕ) (e : v ≡ Text a n) (u : Bool)
+module _ (s : List ℕ) (t : Tally) (left size : List ℕ) (v : Option Letters) (within : Inside (Here s 0) v) (h : TextIs (Here s 0) v) (a n : ℕ) (e : v ≡ Some (record { at = a; size = n })) (u : Bool)
     (by : u ≡ utf8 (take (a + n - a) (drop a s))) (t' : Tally) (left' size' : List ℕ) (x : left' ≡ put left t.count (length s - a)) (y : size' ≡ put size t.count n) where
   pub text-noted : u ≡ true → t' ≡ tally (t.count + 1) t.odd t.bad → Noted s t left size t' left' size'
   text-noted g z = noted-as s t left size z x y (noted-good s t left size v h a n e (inside s v a n within e) (sym g ∙ by))

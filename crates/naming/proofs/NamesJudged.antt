@@ -24,9 +24,10 @@ use borrow.Author.Rules.{part_to_end}
 use Rattle.walk.specs.Reading.{Ends}
 use Rattle.walk.proofs.Passed.{Here}
 use Rattle.naming.specs.declared.Tally.{Tally}
-use Rattle.naming.specs.declared.Named.{Named as Answer}
-use Rattle.naming.specs.declared.Named.TheVariants.{No, Yes}
 use Rattle.naming.specs.NotedNames.{letters_or, letters_of, Tallied, word_or, named_anyway, told, Judged}
+use Rattle.std.specs.Prelude.{Ok, Err, Result}
+use Rattle.numbers.specs.declared.refusal.Refusal.{Refusal}
+use Rattle.numbers.specs.declared.refusal.Refusal.TheVariants as refusals
 
 name-kind : (e : Ends) (v : Node Ends) (k : Kind Ends) (b : Bool) → is_some (key_kind k) ≡ b → name_kind v k ≡ cond b (pass (record { name = word_or e k; value = v })) (fault KEY)
 unfolding name_kind key_kind is_some
@@ -90,18 +91,18 @@ once f (suc (suc n)) l = absurd (omega arith)
 -- ---------------------------------------------------------------- by the tally
 
 module _ (m : List ℕ) (t : Tally) (left size : List ℕ) (done : List (Pair Ends)) (h : Tallied m done t left size) (x : Node Ends) (is : kind x ≡ kinds.mapping done) where
-  pub judge-odd : t.odd ≡ true → names (length left) x ≡ told done (No 9)
+  pub judge-odd : t.odd ≡ true → names (length left) x ≡ told done (Err refusals.Key)
   judge-odd e = odd-names (length left) x done is (opposite h.oddly true e)
 
   module _ (fine : t.odd ≡ false) where
     all-text : names (length left) x ≡ (TEXT unless all (λ p. utf8 (letters_of p)) done >> (COUNT unless leb (length done) (length left) >> (TWICE unless distinct (map letters_of done) >> pass (map named_anyway done))))
     all-text = text-names (length left) x done is (opposite h.oddly false fine)
 
-    pub judge-bad : t.bad ≡ true → names (length left) x ≡ told done (No 10)
+    pub judge-bad : t.bad ≡ true → names (length left) x ≡ told done (Err refusals.Text)
     judge-bad e = let z : all (λ p. utf8 (letters_of p)) done ≡ false = opposite h.badly true e in rw (all-text, z) refl
 
     module _ (good : t.bad ≡ false) where
-      pub judge-many : length left < t.count → names (length left) x ≡ told done (No 15)
+      pub judge-many : length left < t.count → names (length left) x ≡ told done (Err refusals.Count)
       judge-many l = let c = h.counted in let z : all (λ p. utf8 (letters_of p)) done ≡ true = opposite h.badly false good in rw (all-text, z, lt-leb (length done) (length left) (omega arith)) refl
 
       module _ (few : t.count ≤ length left) (r : Bool) (by : r ≡ distinct (listed (name m left size) 0 t.count)) where
@@ -112,25 +113,25 @@ module _ (m : List ℕ) (t : Tally) (left size : List ℕ) (done : List (Pair En
             let l : listed (name m left size) 0 t.count ≡ map letters_of done = rw z at h.listed-are ∙ take_all (length left) (map letters_of done) (omega (arith, length-map done letters_of)) in
             sym (by ∙ ap distinct l)
 
-        judge-last : names (length left) x ≡ told done (cond r Yes (No 11))
+        judge-last : names (length left) x ≡ told done (cond r (Ok tt) (Err refusals.Twice))
         judge-last = let c = h.counted in let z : all (λ p. utf8 (letters_of p)) done ≡ true = opposite h.badly false good in rw (all-text, z, le-leb (length done) (length left) (omega arith), names-are) (two r)
           where
-            two : (b : Bool) → (TWICE unless b >> pass (map named_anyway done)) ≡ told done (cond b Yes (No 11))
+            two : (b : Bool) → (TWICE unless b >> pass (map named_anyway done)) ≡ told done (cond b (Ok tt) (Err refusals.Twice))
             two true = refl
             two false = refl
 
       module _ (few : t.count ≤ length left) where
-        pub judge-once : t.count < 2 → names (length left) x ≡ told done Yes
+        pub judge-once : t.count < 2 → names (length left) x ≡ told done (Ok tt)
         judge-once l = judge-last few true (sym (once _ _ l))
 
         module _ (r : Bool) (by : r ≡ distinct (listed (name (Here m 0) (Here left 0) (Here size 0)) 0 t.count)) where
           wholes : r ≡ distinct (listed (name m left size) 0 t.count)
           wholes = by ∙ ap (λ f. distinct (listed f 0 t.count)) (from-wholes m left size)
 
-          pub judge-apart : r ≡ true → names (length left) x ≡ told done Yes
+          pub judge-apart : r ≡ true → names (length left) x ≡ told done (Ok tt)
           judge-apart e = judge-last few true (sym e ∙ wholes)
 
-          pub judge-twice : r ≡ false → names (length left) x ≡ told done (No 11)
+          pub judge-twice : r ≡ false → names (length left) x ≡ told done (Err refusals.Twice)
           judge-twice e = judge-last few false (sym e ∙ wholes)
 
 -- names that pass are within the limit
@@ -156,7 +157,7 @@ few-names limit x ns e = mapped (a_mapping x) e
     mapped (pass ps) h = named (each (λ i. name_of) 0 ps) h
 
 -- what `judge` answered of a tally whose arrays were lent whole
-pub names-told : (limit : ℕ) (m : List ℕ) (t : Tally) (left size : List ℕ) → length left ≡ limit → (x : Answer) → Judged (Here m 0) t (Here left 0) (Here size 0) x → (y : Answer) → x ≡ y
+pub names-told : (limit : ℕ) (m : List ℕ) (t : Tally) (left size : List ℕ) → length left ≡ limit → (x : Result (Unit {0}) Refusal) → Judged (Here m 0) t (Here left 0) (Here size 0) x → (y : Result (Unit {0}) Refusal) → x ≡ y
     → (done : List (Pair Ends)) → Tallied m done t left size → (u : Node Ends) → kind u ≡ kinds.mapping done → names limit u ≡ told done y
 names-told limit m t left size room x h y e done tl u ku =
     let a : Judged m t left size y = rw (part_to_end m 0, part_to_end left 0, part_to_end size 0) at (rw e at h) in

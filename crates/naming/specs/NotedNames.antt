@@ -1,5 +1,5 @@
 -- The names of a map's pairs, as they are noted and judged.
-use Rattle.std.specs.Prelude.{ℕ, suc, ◌≤◌, min, List, [], ◌∷◌, ◌++◌, map, Bool, not, ◌≡◌, length, take, drop}
+use Rattle.std.specs.Prelude.{ℕ, suc, ◌≤◌, min, List, [], ◌∷◌, ◌++◌, map, Bool, not, ◌≡◌, length, take, drop, Ok, Err, Result}
 use Rattle.std.proofs.Math.Option.{Option, none, some}
 use Rattle.meaning.specs.Tree.{Node, Pair, note_of}
 use Rattle.meaning.specs.Check.{Check, pass, fault}
@@ -10,9 +10,9 @@ use Rattle.meaning.specs.Kind.{Kind, number, words, list, mapping, null, another
 use Rattle.meaning.specs.Field.{is_some, key_of, names}
 use Rattle.names.specs.Names.{name, listed}
 use Rattle.walk.specs.Reading.{Ends, Reads}
+use Rattle.numbers.specs.Numbered.{number_of}
 use Rattle.naming.specs.declared.Tally.{Tally}
-use Rattle.naming.specs.declared.Named.{Named}
-use Rattle.naming.specs.declared.Named.TheVariants.{No, Yes}
+use Rattle.numbers.specs.declared.refusal.Refusal.{Refusal}
 
 abbrev pub tally : ℕ → Bool → Bool → Tally
 tally n odd bad = record { count = n; odd = odd; bad = bad }
@@ -52,10 +52,10 @@ abbrev pub named_anyway : Pair Ends → model.Named Ends
 named_anyway p = record { name = word_or (note_of p.key) (kind p.key); value = p.value }
 
 -- an answer as a check
-abbrev pub told : List (Pair Ends) → Named → Check (List (model.Named Ends))
-told done (No n) = fault n
-told done Yes = pass (map named_anyway done)
+abbrev pub told : List (Pair Ends) → Result (Unit {0}) Refusal → Check (List (model.Named Ends))
+told done (Err r) = fault (number_of r)
+told done (Ok tt) = pass (map named_anyway done)
 
 -- for every map of these pairs
-abbrev pub Judged : List ℕ → Tally → List ℕ → List ℕ → Named → Type 0
+abbrev pub Judged : List ℕ → Tally → List ℕ → List ℕ → Result (Unit {0}) Refusal → Type 0
 Judged m t left size r = (done : List (Pair Ends)) → Tallied m done t left size → (x : Node Ends) → kind x ≡ mapping done → names (length left) x ≡ told done r

@@ -6,7 +6,7 @@ ghost use Rattle.std.specs.Prelude.{◌≡◌, ◌+◌, ◌<◌, ◌≤◌, leng
 ghost use Rattle.walk.specs.Put.{put};
 ghost use Rattle.naming.specs.NotedNames as spec;
 
-use walk::Letters;
+use numbers::Refusal;
 
 // How many keys there were, and whether one of them was no whole text, or no UTF-8.
 #[derive(Clone, Copy)]
@@ -14,12 +14,6 @@ pub struct Tally {
     pub count: usize,
     pub odd: bool,
     pub bad: bool,
-}
-
-#[derive(Clone, Copy)]
-pub enum Named {
-    No(u64),
-    Yes,
 }
 
 fn told(count: usize, odd: bool, bad: bool) -> Tally
@@ -47,15 +41,16 @@ pub fn note(s: &[u8], t: Tally, left: &mut [usize], size: &mut [usize]) -> Tally
     ensures { spec.Noted s.now t left.old size.old result left.new size.new }
 {
     match walk::text(&s[0..]) {
-        Letters::NoText => {
+        None => {
             put(left, t.count, 0);
             put(size, t.count, 0);
             told(t.count + 1, true, t.bad)
         }
-        Letters::Text(at, n) => {
-            let e = at + n;
+        Some(letters) => {
+            let at = letters.at;
+            let e = at + letters.size;
             put(left, t.count, s.len() - at);
-            put(size, t.count, n);
+            put(size, t.count, letters.size);
             if utf8::utf8(&s[at..e]) {
                 return told(t.count + 1, t.odd, t.bad);
             }
@@ -65,24 +60,30 @@ pub fn note(s: &[u8], t: Tally, left: &mut [usize], size: &mut [usize]) -> Tally
 }
 
 // The names' first fault, in document 01's order; a name alone stands once. ix is room for the work.
-pub fn judge(m: &[u8], t: Tally, left: &[usize], size: &[usize], ix: &mut [u16]) -> Named
+pub fn judge(
+    m: &[u8],
+    t: Tally,
+    left: &[usize],
+    size: &[usize],
+    ix: &mut [u16],
+) -> Result<(), Refusal>
     requires { (length left.now ≤ length ix.old) × (length left.now ≤ 65536) }
     ensures { spec.Judged m.now t left.now size.now result }
 {
     if t.odd {
-        return Named::No(numbers::KEY);
+        return Err(Refusal::Key);
     }
     if t.bad {
-        return Named::No(numbers::TEXT);
+        return Err(Refusal::Text);
     }
     if left.len() < t.count {
-        return Named::No(numbers::COUNT);
+        return Err(Refusal::Count);
     }
     if t.count < 2 {
-        return Named::Yes;
+        return Ok(());
     }
     if names::no_twice(&m[0..], &left[0..], &size[0..], t.count, ix) {
-        return Named::Yes;
+        return Ok(());
     }
-    Named::No(numbers::TWICE)
+    Err(Refusal::Twice)
 }

@@ -18,12 +18,14 @@ use Rattle.walk.specs.Reading.{Ends, Reads}
 use Rattle.fields.specs.Slots.{Stands}
 use Rattle.fields.proofs.Texts.{Here}
 use Rattle.shape.specs.Shape.{ShapeIs, ShapeRead}
-use Rattle.shape.specs.declared.Shaped.{Shaped}
-use Rattle.shape.specs.declared.Shaped.TheVariants.{No, Yes}
 use Rattle.table.specs.Object.{eight}
 use Rattle.object.specs.declared.judge.Measured.{Measured}
 use Rattle.object.specs.Place.{ShapeAt, DimensionsAt}
 use Rattle.object.specs.Laying.{Once}
+use Rattle.std.specs.Prelude.{Ok, Err, Result}
+use Rattle.numbers.specs.declared.refusal.Refusal.{Refusal}
+use Rattle.numbers.specs.declared.fault.ObjectFault.{ObjectFault}
+use Rattle.numbers.specs.Numbered.{number_of}
 
 -- ---------------------------------------------------------------- unused ones
 
@@ -52,20 +54,20 @@ eight-same d e h =
 
 -- ---------------------------------------------------------------- the shape where it stands
 
-module _ (s : List ℕ) (left at : ℕ) (is : at ≡ length s - left) (before dims : List ℕ) (zeros : before ≡ replicate 8 0) (r : Shaped) (h : ShapeRead 28 (Here s at) before dims r) where
+module _ (s : List ℕ) (left at : ℕ) (is : at ≡ length s - left) (before dims : List ℕ) (zeros : before ≡ replicate 8 0) (r : Result ℕ Refusal) (h : ShapeRead 28 (Here s at) before dims r) where
   said : (t : Node Ends) → Stands 29 s left t → ShapeIs dims r (shape_of t)
   said t st = h.trees t st.rest (subst (λ u. Reads 29 u t st.rest) (sym (part_to_end s at ∙ ap (λ (i : ℕ). drop i s) is)) st.reads)
 
-  module _ (rank : ℕ) (e : r ≡ Yes rank) where
+  module _ (rank : ℕ) (e : r ≡ Ok rank) where
     taken : (j : ℕ) → j < rank → get_or dims j 0 ≡ get_or (take rank dims) j 0
     taken j l = sym (get_or-take rank dims j 0 l)
 
     beyond : (j : ℕ) → j < 8 → rank ≤ j → get_or dims j 0 ≡ get_or (take rank dims) j 0
     beyond j m l = h.others rank e j l ∙ ap (λ (d : List ℕ). get_or d j 0) zeros ∙ get_or-replicate 8 j 0 0 m ∙ sym (past-taken rank dims j l)
 
-  put-so : (x : Shaped) → r ≡ x → (c : Check (List ℕ)) → ShapeIs dims x c → (d : List ℕ) → c ≡ pass d → eight dims ≡ dimensions d
-  put-so (No n) e c k d p = absurd (let z : pass d ≡ fault n = sym p ∙ k in let y : ◌≡◌ {A = ℕ} 0 1 = cc in omega arith)
-  put-so (Yes rank) e c k d p =
+  put-so : (x : Result ℕ Refusal) → r ≡ x → (c : Check (List ℕ)) → ShapeIs dims x c → (d : List ℕ) → c ≡ pass d → eight dims ≡ dimensions d
+  put-so (Err n) e c k d p = absurd (let z : pass d ≡ fault (number_of n) = sym p ∙ k in let y : ◌≡◌ {A = ℕ} 0 1 = cc in omega arith)
+  put-so (Ok rank) e c k d p =
       let same : take rank dims ≡ d = pass_same (sym k.0 ∙ p) in
       let few = k.1 in
       let room = h.room in
@@ -77,9 +79,9 @@ module _ (s : List ℕ) (left at : ℕ) (is : at ≡ length s - left) (before di
 
 -- ---------------------------------------------------------------- lent whole
 
-pub dimensions-there : (s : List ℕ) (left : ℕ) (dims : List ℕ) (r : Shaped) → ShapeAt (Here s 0) left dims r → DimensionsAt s left dims
+pub dimensions-there : (s : List ℕ) (left : ℕ) (dims : List ℕ) (r : Result ℕ Refusal) → ShapeAt (Here s 0) left dims r → DimensionsAt s left dims
 dimensions-there s left dims r h = subst (λ u. DimensionsAt u left dims) (part_to_end s 0) h.dimensions
 
-pub dimensions-whole : (s p dims : List ℕ) (v : Measured) → Once v (DimensionsAt (Here s 0) (get_or (Here p 0) 1 0) dims) → Once v (DimensionsAt s (get_or p 1 0) dims)
-dimensions-whole s p dims v h n rank e =
-    subst (λ u. DimensionsAt s (get_or u 1 0) dims) (part_to_end p 0) (subst (λ u. DimensionsAt u (get_or (Here p 0) 1 0) dims) (part_to_end s 0) (h n rank e))
+pub dimensions-whole : (s p dims : List ℕ) (v : Result Measured ObjectFault) → Once v (DimensionsAt (Here s 0) (get_or (Here p 0) 1 0) dims) → Once v (DimensionsAt s (get_or p 1 0) dims)
+dimensions-whole s p dims v h m e =
+    subst (λ u. DimensionsAt s (get_or u 1 0) dims) (part_to_end p 0) (subst (λ u. DimensionsAt u (get_or (Here p 0) 1 0) dims) (part_to_end s 0) (h m e))

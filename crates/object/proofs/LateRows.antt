@@ -25,16 +25,17 @@ use Rattle.table.specs.Late.{Gives, LatePut}
 use Rattle.table.specs.declared.Place.{Place}
 use Rattle.meaning.proofs.Checks.{passed, pass_same}
 use Rattle.object.specs.declared.judge.Measured.{Measured}
-use Rattle.object.specs.declared.judge.Measured.TheVariants.{No}
-use Rattle.object.specs.declared.place.Coded.{Coded}
-use Rattle.object.specs.declared.place.Coded.TheVariants.{Yes as Code}
-use Rattle.object.specs.Place.{coded, tensored, format_code, TensorAt}
+use Rattle.object.specs.Place.{tensored, format_code, TensorAt}
 use Rattle.object.specs.Verdict.{described, code_of, DescribedAt}
 use Rattle.object.specs.Laying.{WaitedPut, ShapedPut, Once}
+use Rattle.std.specs.Prelude.{Ok, Err, Result}
+use Rattle.numbers.specs.declared.refusal.Refusal.{Refusal}
+use Rattle.numbers.specs.declared.fault.ObjectFault.{ObjectFault}
+use Rattle.numbers.specs.Answered.{answered}
 
 -- an object that is refused doesn't pass
-pub refused-put : {P : Type 0} (n c : ℕ) → Once (No n c) P
-refused-put n c m rank e = absurd (let z : ◌≡◌ {A = ℕ} 0 1 = cc in omega arith)
+pub refused-put : {P : Type 0} (f : ObjectFault) (v : Result Measured ObjectFault) → v ≡ Err f → Once v P
+refused-put f v is m e = absurd (let z : Err f ≡ Ok m = sym is ∙ e in let y : ◌≡◌ {A = ℕ} 0 1 = cc in omega arith)
 
 module _ (layout format code : ℕ) (s : List ℕ) (start left : ℕ) (to : Place) (before : List ℕ) where
   pub waited-now : layout ≡ 1 → (at : ℕ) → at ≡ length s - left → (after : List ℕ) → RowsPut (offered layout format code) (Here s at) start to.end to.owner to.from before after
@@ -57,13 +58,13 @@ below d n = go (ltb d 13) refl
 
 -- ---------------------------------------------------------------- from the shape on
 
-module _ (layout d : ℕ) (s : List ℕ) (start : ℕ) (p : List ℕ) (to : Place) (before after : List ℕ) (r : Coded) (h : DescribedAt (Here s 0) (get_or p 2 0) (get_or p 3 0) r) (code : ℕ) (e : r ≡ Code code)
+module _ (layout d : ℕ) (s : List ℕ) (start : ℕ) (p : List ℕ) (to : Place) (before after : List ℕ) (r : Result ℕ Refusal) (h : DescribedAt (Here s 0) (get_or p 2 0) (get_or p 3 0) r) (code : ℕ) (e : r ≡ Ok code)
     (waited : WaitedPut layout code d (Here s 0) start (get_or p 4 0) to before after) where
   format-code : (o : Object Ends) → Gives (layout_of layout) start s p o → code ≡ format_code o.format
   unfolding described
   format-code o g =
-      let there : map_check code_of (described g.format g.attributes) ≡ coded (Code code) =
-      subst (λ u. DescribedAt u (get_or p 2 0) (get_or p 3 0) (Code code)) (part_to_end s 0) (rw e at h) 28 g.format g.attributes g.format-stands g.attributes-held in
+      let there : map_check code_of (described g.format g.attributes) ≡ answered (Ok code) =
+      subst (λ u. DescribedAt u (get_or p 2 0) (get_or p 3 0) (Ok code)) (part_to_end s 0) (rw e at h) 28 g.format g.attributes g.format-stands g.attributes-held in
       let y = passed-so code_of (described g.format g.attributes) code there in
       let x = passed (a_text g.format) _ y.value y.is in
       let z = passed (optional attributes_of g.attributes) _ y.value x.then in
@@ -83,17 +84,17 @@ module _ (layout d : ℕ) (s : List ℕ) (start : ℕ) (p : List ℕ) (to : Plac
 -- ---------------------------------------------------------------- from the dtype on
 
 module _ (layout : ℕ) (s : List ℕ) (start : ℕ) (p : List ℕ) (to : Place) (before after : List ℕ) where
-  pub sound-put : (r : Coded) → TensorAt (layout_of layout) (Here s 0) (get_or p 0 0) r → (d : ℕ) → r ≡ Code d → (v : Measured) → Once v (ShapedPut layout d (Here s 0) start (Here p 0) to before after)
+  pub sound-put : (r : Result ℕ Refusal) → TensorAt (layout_of layout) (Here s 0) (get_or p 0 0) r → (d : ℕ) → r ≡ Ok d → (v : Result Measured ObjectFault) → Once v (ShapedPut layout d (Here s 0) start (Here p 0) to before after)
       → Once v (LatePut layout s p start to.end to.owner to.from before after)
-  sound-put r h d e v put n rank is =
-      let w = subst (λ u. ShapedPut layout d s start u to before after) (part_to_end p 0) (subst (λ u. ShapedPut layout d u start (Here p 0) to before after) (part_to_end s 0) (put n rank is)) in
-      let tensor : (o : Object Ends) (g : Gives (layout_of layout) start s p o) → optional (a_dtype (layout_of layout)) g.dtype ≡ tensored (Code d) =
-      λ o g. subst (λ u. TensorAt (layout_of layout) u (get_or p 0 0) (Code d)) (part_to_end s 0) (rw e at h) 28 g.dtype g.dtype-held in
+  sound-put r h d e v put m is =
+      let w = subst (λ u. ShapedPut layout d s start u to before after) (part_to_end p 0) (subst (λ u. ShapedPut layout d u start (Here p 0) to before after) (part_to_end s 0) (put m is)) in
+      let tensor : (o : Object Ends) (g : Gives (layout_of layout) start s p o) → optional (a_dtype (layout_of layout)) g.dtype ≡ tensored (Ok d) =
+      λ o g. subst (λ u. TensorAt (layout_of layout) u (get_or p 0 0) (Ok d)) (part_to_end s 0) (rw e at h) 28 g.dtype g.dtype-held in
       record { late = λ x o g. w.late x o g (pass_same (sym g.code_is ∙ tensor o g)); other = w.other }
 
   -- lent whole
-  pub whole-put : (v : Measured) → Once v (LatePut layout (Here s 0) (Here p 0) start to.end to.owner to.from before after)
+  pub whole-put : (v : Result Measured ObjectFault) → Once v (LatePut layout (Here s 0) (Here p 0) start to.end to.owner to.from before after)
       → Once v (LatePut layout s p start to.end to.owner to.from before after)
-  whole-put v put n rank is =
+  whole-put v put m is =
       subst (λ u. LatePut layout s u start to.end to.owner to.from before after) (part_to_end p 0)
-      (subst (λ u. LatePut layout u (Here p 0) start to.end to.owner to.from before after) (part_to_end s 0) (put n rank is))
+      (subst (λ u. LatePut layout u (Here p 0) start to.end to.owner to.from before after) (part_to_end s 0) (put m is))

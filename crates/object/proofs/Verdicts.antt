@@ -24,46 +24,47 @@ use Rattle.walk.specs.Reading.{Ends, Chain, foldl}
 use Rattle.fields.specs.Slots.{marks, Holds}
 use Rattle.fields.proofs.Stands.{hold-none, Item, hold-some, keys-are-text, none-twice, field-stands}
 use Rattle.fields.proofs.Texts.{Here}
-use Rattle.components.specs.declared.Found.{Found}
 use Rattle.object.specs.declared.judge.Measured.{Measured}
-use Rattle.object.specs.declared.judge.Measured.TheVariants.{No}
-use Rattle.object.specs.declared.judge.Fine.{Fine}
-use Rattle.object.specs.declared.judge.Fine.TheVariants.{No as Bad, Yes as Good}
 use Rattle.object.specs.Verdict.{lacks_dtype, shaped, known, Description, described, measured, Fields, Standing, sound, SoundIs, VerdictIs}
+use Rattle.std.specs.Prelude.{Ok, Err, Result}
+use Rattle.numbers.specs.declared.refusal.Refusal.{Refusal}
+use Rattle.numbers.specs.declared.fault.ObjectFault.{ObjectFault}
+use Rattle.numbers.specs.declared.refusal.Refusal.TheVariants as refusals
+use Rattle.numbers.specs.Answered.{in_object}
 
 -- ---------------------------------------------------------------- what the slots say, a branch each
 
 module _ (layout : ℕ) (p : List ℕ) where
-  pub odd-key : (get_or p 6 0 ≡ 0 → ⊥) → Bad 9 ≡ known layout p
+  pub odd-key : (get_or p 6 0 ≡ 0 → ⊥) → Err refusals.Key ≡ known layout p
   unfolding known
   odd-key e = rw (ne_eqb _ _ e)
 
   module _ (a : get_or p 6 0 ≡ 0) where
-    pub repeated : (get_or p 7 0 ≡ 0 → ⊥) → Bad 11 ≡ known layout p
+    pub repeated : (get_or p 7 0 ≡ 0 → ⊥) → Err refusals.Twice ≡ known layout p
     unfolding known
     repeated e = rw (eq-eqb _ _ a, ne_eqb _ _ e)
 
     module _ (b : get_or p 7 0 ≡ 0) (lacks : Bool) (so : lacks ≡ lacks_dtype layout (get_or p 0 0)) where
-      pub no-dtype : lacks ≡ true → Bad 12 ≡ known layout p
+      pub no-dtype : lacks ≡ true → Err refusals.Missing ≡ known layout p
       unfolding known
       no-dtype e = rw (eq-eqb _ _ a, eq-eqb _ _ b, ← so, e)
 
       module _ (c : lacks ≡ false) where
-        pub no-shape : get_or p 1 0 ≡ 0 → Bad 12 ≡ known layout p
+        pub no-shape : get_or p 1 0 ≡ 0 → Err refusals.Missing ≡ known layout p
         unfolding known
         no-shape e = rw (eq-eqb _ _ a, eq-eqb _ _ b, ← so, c, eq-eqb _ _ e)
 
         module _ (d : get_or p 1 0 ≡ 0 → ⊥) where
-          pub no-format : get_or p 2 0 ≡ 0 → Bad 12 ≡ known layout p
+          pub no-format : get_or p 2 0 ≡ 0 → Err refusals.Missing ≡ known layout p
           unfolding known
           no-format e = rw (eq-eqb _ _ a, eq-eqb _ _ b, ← so, c, ne_eqb _ _ d, eq-eqb _ _ e)
 
           module _ (f : get_or p 2 0 ≡ 0 → ⊥) where
-            pub no-components : get_or p 4 0 ≡ 0 → Bad 12 ≡ known layout p
+            pub no-components : get_or p 4 0 ≡ 0 → Err refusals.Missing ≡ known layout p
             unfolding known
             no-components e = rw (eq-eqb _ _ a, eq-eqb _ _ b, ← so, c, ne_eqb _ _ d, ne_eqb _ _ f, eq-eqb _ _ e)
 
-            pub all_known : (get_or p 4 0 ≡ 0 → ⊥) → Good ≡ known layout p
+            pub all_known : (get_or p 4 0 ≡ 0 → ⊥) → (Ok tt) ≡ known layout p
             unfolding known
             all_known e = rw (eq-eqb _ _ a, eq-eqb _ _ b, ← so, c, ne_eqb _ _ d, ne_eqb _ _ f, ne_eqb _ _ e)
 
@@ -114,32 +115,32 @@ module _ (L : Layout) (start : ℕ) (t : Node Ends) (ps : List (Pair Ends)) (kt 
   abbrev at : ℕ → Option (Node Ends)
   at i = field.field (slot i L.object) ps
 
-  judged-odd : all (λ q. field.is_some (field.key_of q)) ps ≡ false → No 9 0 ≡ measured the
+  judged-odd : all (λ q. field.is_some (field.key_of q)) ps ≡ false → in_object (Err (record { refusal = refusals.Key; component = 0 })) ≡ measured the
   unfolding judge.object field.object_fields field.fields a_mapping as_mapping
   judged-odd e = rw kt (rw e refl)
 
   module _ (a : all (λ q. field.is_some (field.key_of q)) ps ≡ true) where
-    judged-twice : all (λ m. leb (field.count m ps) 1) (somes L.object) ≡ false → No 11 0 ≡ measured the
+    judged-twice : all (λ m. leb (field.count m ps) 1) (somes L.object) ≡ false → in_object (Err (record { refusal = refusals.Twice; component = 0 })) ≡ measured the
     unfolding judge.object field.object_fields field.fields a_mapping as_mapping
     judged-twice e = rw kt (rw (a, e) refl)
 
     module _ (b : all (λ m. leb (field.count m ps) 1) (somes L.object) ≡ true) where
-      judged-no-dtype : required_in (slot dtype_at L.object) (at 0) ≡ refuse 12 0 0 → No 12 0 ≡ measured the
+      judged-no-dtype : required_in (slot dtype_at L.object) (at 0) ≡ refuse 12 0 0 → in_object (Err (record { refusal = refusals.Missing; component = 0 })) ≡ measured the
       unfolding judge.object field.object_fields field.fields a_mapping as_mapping
       judged-no-dtype e = rw kt (rw (a, b) (rw e refl))
 
       module _ (g₀ : required_in (slot dtype_at L.object) (at 0) ≡ pass (at 0)) where
-        judged-no-shape : at 1 ≡ none → No 12 0 ≡ measured the
+        judged-no-shape : at 1 ≡ none → in_object (Err (record { refusal = refusals.Missing; component = 0 })) ≡ measured the
         unfolding judge.object field.object_fields field.fields a_mapping as_mapping
         judged-no-shape e = rw kt (rw (a, b) (rw (g₀, e) refl))
 
         module _ (shape : Node Ends) (g₁ : at 1 ≡ some shape) where
-          judged-no-format : at 2 ≡ none → No 12 0 ≡ measured the
+          judged-no-format : at 2 ≡ none → in_object (Err (record { refusal = refusals.Missing; component = 0 })) ≡ measured the
           unfolding judge.object field.object_fields field.fields a_mapping as_mapping
           judged-no-format e = rw kt (rw (a, b) (rw (g₀, g₁, e) refl))
 
           module _ (format : Node Ends) (g₂ : at 2 ≡ some format) where
-            judged-no-components : at 4 ≡ none → No 12 0 ≡ measured the
+            judged-no-components : at 4 ≡ none → in_object (Err (record { refusal = refusals.Missing; component = 0 })) ≡ measured the
             unfolding judge.object field.object_fields field.fields a_mapping as_mapping
             judged-no-components e = rw kt (rw (a, b) (rw (g₀, g₁, g₂, e) refl))
 
@@ -164,7 +165,7 @@ module _ (L : Layout) (start : ℕ) (t : Node Ends) (ps : List (Pair Ends)) (kt 
 
 -- ---------------------------------------------------------------- from the slots
 
-module _ (layout : ℕ) (s : List ℕ) (start : ℕ) (p : List ℕ) (found-there : Found) (rows : List ℕ) where
+module _ (layout : ℕ) (s : List ℕ) (start : ℕ) (p : List ℕ) (found-there : Result ℕ ObjectFault) (rows : List ℕ) where
   module _ (ps : List (Pair Ends)) (q : List ℕ) (chain : Chain 29 s ps q) (is : p ≡ foldl (marks (layout_of layout).object) (replicate 8 0) ps)
       (t : Node Ends) (kt : kind t ≡ mapping ps) (n : Word Ends) where
     keys : eqb (get_or p 6 0) 0 ≡ all (λ q. field.is_some (field.key_of q)) ps
@@ -214,9 +215,9 @@ module _ (layout : ℕ) (s : List ℕ) (start : ℕ) (p : List ℕ) (found-there
       pub components-are : value 4 ≡ some fields.components
       pub judged-so : verdict ≡ sound (layout_of layout) start n fields
 
-    abbrev Told : Fine → Type 0
-    Told (Bad m) = No m 0 ≡ measured verdict
-    Told Good = Ready
+    abbrev Told : Result (Unit {0}) Refusal → Type 0
+    Told (Err m) = in_object (Err (record { refusal = m; component = 0 })) ≡ measured verdict
+    Told (Ok tt) = Ready
 
     told : Told (known layout p)
     unfolding known
@@ -224,7 +225,7 @@ module _ (layout : ℕ) (s : List ℕ) (start : ℕ) (p : List ℕ) (found-there
       where
         go : (x₁ : Bool) → eqb (get_or p 6 0) 0 ≡ x₁ → (x₂ : Bool) → eqb (get_or p 7 0) 0 ≡ x₂ → (x₃ : Bool) → lacks_dtype layout (get_or p 0 0) ≡ x₃
             → (x₄ : Bool) → eqb (get_or p 1 0) 0 ≡ x₄ → (x₅ : Bool) → eqb (get_or p 2 0) 0 ≡ x₅ → (x₆ : Bool) → eqb (get_or p 4 0) 0 ≡ x₆
-            → Told (cond x₁ (cond x₂ (cond x₃ (Bad 12) (cond x₄ (Bad 12) (cond x₅ (Bad 12) (cond x₆ (Bad 12) Good)))) (Bad 11)) (Bad 9))
+            → Told (cond x₁ (cond x₂ (cond x₃ (Err refusals.Missing) (cond x₄ (Err refusals.Missing) (cond x₅ (Err refusals.Missing) (cond x₆ (Err refusals.Missing) (Ok tt))))) (Err refusals.Twice)) (Err refusals.Key))
         go false a x₂ b x₃ c x₄ d x₅ e x₆ f = judged-odd (layout_of layout) start t ps kt n (sym keys ∙ a)
         go true a false b x₃ c x₄ d x₅ e x₆ f = judged-twice (layout_of layout) start t ps kt n (sym keys ∙ a) (sym twice ∙ b)
         go true a true b true c x₄ d x₅ e x₆ f = judged-no-dtype (layout_of layout) start t ps kt n (sym keys ∙ a) (sym twice ∙ b) (dtype-missing c)
@@ -252,14 +253,14 @@ module _ (layout : ℕ) (s : List ℕ) (start : ℕ) (p : List ℕ) (found-there
               judged-so = judged-sound (layout_of layout) start t ps kt n (sym keys ∙ a) (sym twice ∙ b) (dtype-asked c) x.item x.is y.item y.is z.item z.is;
             }
 
-  module _ (f : Fine) (is : f ≡ known layout (Here p 0)) where
+  module _ (f : Result (Unit {0}) Refusal) (is : f ≡ known layout (Here p 0)) where
     slots-say : f ≡ known layout p
     slots-say = is ∙ ap (known layout) (part_to_end p 0)
 
-    pub refused : (m : ℕ) → f ≡ Bad m → VerdictIs layout s start p found-there rows (No m 0)
-    refused m e ps q chain noted t kt n = subst (Told ps q chain noted.0 t kt n) (sym slots-say ∙ e) (told ps q chain noted.0 t kt n)
+    pub refused : (m : Refusal) → f ≡ Err m → (r : Result Measured ObjectFault) → r ≡ Err (record { refusal = m; component = 0 }) → VerdictIs layout s start p found-there rows r
+    refused m e r is-r ps q chain noted t kt n = rw is-r (subst (Told ps q chain noted.0 t kt n) (sym slots-say ∙ e) (told ps q chain noted.0 t kt n))
 
-    pub as-sound : f ≡ Good → (r : Measured) → SoundIs layout (Here s 0) start (Here p 0) found-there rows r → VerdictIs layout s start p found-there rows r
+    pub as-sound : f ≡ (Ok tt) → (r : Result Measured ObjectFault) → SoundIs layout (Here s 0) start (Here p 0) found-there rows r → VerdictIs layout s start p found-there rows r
     as-sound e r h ps q chain noted t kt n =
         let x : Ready ps q chain noted.0 t kt n = subst (Told ps q chain noted.0 t kt n) (sym slots-say ∙ e) (told ps q chain noted.0 t kt n) in
         let y : SoundIs layout s start p found-there rows r =

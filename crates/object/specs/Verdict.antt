@@ -1,10 +1,9 @@
 -- An object's judgement in pieces, one for each function, and what the whole walk answers.
-use Rattle.std.specs.Prelude.{ℕ, suc, ◌*◌, ◌≤◌, ◌<◌, List, map, Bool, cond, not, ◌&&◌, ◌||◌, ◌≡◌, length, get_or, take, eqb}
+use Rattle.std.specs.Prelude.{ℕ, suc, ◌*◌, ◌≤◌, ◌<◌, List, map, Bool, cond, not, ◌&&◌, ◌||◌, ◌≡◌, length, get_or, take, eqb, Ok, Err, Result}
 use Rattle.std.proofs.Math.Option.{Option, none}
 use Rattle.meaning.specs.Tree.{Node, Pair}
 use Rattle.meaning.specs.Check.{Check, pass, refuse, ◌>>=◌, ◌>>◌, optional}
 use Rattle.meaning.specs.Notes.{map_check}
-use Rattle.meaning.specs.Refusal.{KEY, TWICE, MISSING}
 use Rattle.meaning.specs.Limit.{component_limit}
 use Rattle.meaning.specs.Model.{Word, Object}
 use Rattle.meaning.specs.Kind.{kind, mapping, a_text}
@@ -16,34 +15,31 @@ use Rattle.walk.specs.Reading.{Ends, Reads, Chain}
 use Rattle.fields.specs.Slots.{Stands, Holds}
 use Rattle.fields.specs.FieldWalk as keeping
 use Rattle.formats.specs.Parts.{part_rows}
-use Rattle.components.specs.declared.Found.{Found}
 use Rattle.table.specs.Given.{offered, Whichever}
 use Rattle.components.specs.Firsts.{FoundIs}
 use Rattle.component.specs.Value.{given}
-use Rattle.object.specs.declared.Judged.{Judged}
-use Rattle.object.specs.declared.Judged.TheVariants.{No, Yes}
 use Rattle.object.specs.declared.judge.Measured.{Measured}
-use Rattle.object.specs.declared.judge.Measured.TheVariants.{No as Refusing, Yes as Passing}
-use Rattle.object.specs.declared.place.Coded.{Coded}
-use Rattle.object.specs.declared.judge.Fine.{Fine}
-use Rattle.object.specs.declared.judge.Fine.TheVariants.{No as Bad, Yes as Good}
-use Rattle.object.specs.Place.{coded, format_code}
+use Rattle.object.specs.Place.{format_code}
+use Rattle.numbers.specs.declared.refusal.Refusal.{Refusal}
+use Rattle.numbers.specs.declared.fault.ObjectFault.{ObjectFault}
+use Rattle.numbers.specs.declared.refusal.Refusal.TheVariants as refusals
+use Rattle.numbers.specs.Answered.{answered, in_object}
 
 -- a dtype is missing where `left` bytes are left at it; only a 1.0 tensor needs one
 unfoldable pub lacks_dtype : ℕ → ℕ → Bool
 lacks_dtype layout left = eqb layout 1 && eqb left 0
 
 -- keys, repeats, missing fields: what the slots say
-unfoldable pub known : ℕ → List ℕ → Fine
+unfoldable pub known : ℕ → List ℕ → Result (Unit {0}) Refusal
 known layout p =
     cond (eqb (get_or p 6 0) 0)
     (cond (eqb (get_or p 7 0) 0)
-    (cond (lacks_dtype layout (get_or p 0 0)) (Bad MISSING)
-    (cond (eqb (get_or p 1 0) 0) (Bad MISSING)
-    (cond (eqb (get_or p 2 0) 0) (Bad MISSING)
-    (cond (eqb (get_or p 4 0) 0) (Bad MISSING) Good))))
-    (Bad TWICE))
-    (Bad KEY)
+    (cond (lacks_dtype layout (get_or p 0 0)) (Err refusals.Missing)
+    (cond (eqb (get_or p 1 0) 0) (Err refusals.Missing)
+    (cond (eqb (get_or p 2 0) 0) (Err refusals.Missing)
+    (cond (eqb (get_or p 4 0) 0) (Err refusals.Missing) (Ok tt)))))
+    (Err refusals.Twice))
+    (Err refusals.Key)
 
 -- ---------------------------------------------------------------- format and attributes
 
@@ -60,35 +56,36 @@ described format attributes = do
 abbrev pub code_of : Description → ℕ
 code_of d = format_code d.format
 
-abbrev pub DescribedAt : List ℕ → ℕ → ℕ → Coded → Type 0
-DescribedAt s a b r = (d : ℕ) (x : Node Ends) (y : Option (Node Ends)) → Stands (suc d) s a x → Holds (suc d) s b y → map_check code_of (described x y) ≡ coded r
+abbrev pub DescribedAt : List ℕ → ℕ → ℕ → Result ℕ Refusal → Type 0
+DescribedAt s a b r = (d : ℕ) (x : Node Ends) (y : Option (Node Ends)) → Stands (suc d) s a x → Holds (suc d) s b y → map_check code_of (described x y) ≡ answered r
 
 -- ---------------------------------------------------------------- the format's rules
 
 -- m components and `rank` dimensions, unless the rules refuse them
-abbrev pub ruled : Check (Unit {0}) → ℕ → ℕ → Measured
-ruled (pass a) m rank = Passing m rank
-ruled (refuse n o c) m rank = Refusing n c
+abbrev pub ruled : Check (Unit {0}) → ℕ → ℕ → Check Measured
+ruled (pass a) m rank = pass (record { count = m; rank = rank })
+ruled (refuse n o c) m rank = refuse n 0 c
 
-abbrev pub RuledIs : ℕ → List ℕ → ℕ → List ℕ → ℕ → Measured → Type 0
+abbrev pub RuledIs : ℕ → List ℕ → ℕ → List ℕ → ℕ → Result Measured ObjectFault → Type 0
 RuledIs code dims rank rows m r =
-    (f : List ℕ) (cs : List Part) → code ≡ position format_names f → rank ≤ length dims → m ≤ component_limit → take (4 * m) rows ≡ part_rows cs → r ≡ ruled (format_rules f (take rank dims) cs) m rank
+    (f : List ℕ) (cs : List Part) → code ≡ position format_names f → rank ≤ length dims → m ≤ component_limit → take (4 * m) rows ≡ part_rows cs → in_object r ≡ ruled (format_rules f (take rank dims) cs) m rank
 
 -- ---------------------------------------------------------------- the whole
 
-abbrev pub judged : Check (Object Ends) → Judged
-judged (pass o) = Yes (length o.components)
-judged (refuse n o c) = No n c
+-- how many components it has, and that a refusal belongs to one of them
+abbrev pub judged : Check (Object Ends) → Check ℕ
+judged (pass o) = pass (length o.components)
+judged (refuse n o c) = refuse n 0 c
 
 -- the same, with the rank
-abbrev pub measured : Check (Object Ends) → Measured
-measured (pass o) = Passing (length o.components) (length o.shape)
-measured (refuse n o c) = Refusing n c
+abbrev pub measured : Check (Object Ends) → Check Measured
+measured (pass o) = pass (record { count = length o.components; rank = length o.shape })
+measured (refuse n o c) = refuse n 0 c
 
 -- without it
-abbrev pub counted : Measured → Judged
-counted (Refusing n c) = No n c
-counted (Passing m rank) = Yes m
+abbrev pub counted : Result Measured ObjectFault → Result ℕ ObjectFault
+counted (Err f) = Err f
+counted (Ok v) = Ok v.count
 
 -- the fields of an object that has all it needs, and where they stand
 pub record Fields : Type 0 where
@@ -123,41 +120,41 @@ sound L start n f = do
   shaped L start n f code
 
 -- what was found in the components x and the rows that were put, where they are judged as they are met
-abbrev pub Says : ℕ → ℕ → Node Ends → Found × List ℕ → Type 0
+abbrev pub Says : ℕ → ℕ → Node Ends → Result ℕ ObjectFault × List ℕ → Type 0
 Says layout start x (found, rows) = (layout ≡ 1 → ⊥) → FoundIs (components_of (layout_of layout) start (λ r. none) x) found rows
 
 -- what was found in the components x, which stand where `left` bytes of s are left, of an object with this format and code
-abbrev pub LateIs : ℕ → ℕ → ℕ → List ℕ → ℕ → ℕ → Found → List ℕ → Found → List ℕ → Type 0
+abbrev pub LateIs : ℕ → ℕ → ℕ → List ℕ → ℕ → ℕ → Result ℕ ObjectFault → List ℕ → Result ℕ ObjectFault → List ℕ → Type 0
 LateIs layout format code s start left found rows found' rows' =
     (x : Node Ends) → Stands 29 s left x → Says layout start x (found, rows) → ((layout ≡ 1 → ⊥) → 13 ≤ code) → Whichever (offered layout format code) λ above.
     FoundIs (components_of (layout_of layout) start above x) found' rows'
 
-abbrev pub ShapedIs : ℕ → ℕ → List ℕ → ℕ → List ℕ → Found → List ℕ → Measured → Type 0
+abbrev pub ShapedIs : ℕ → ℕ → List ℕ → ℕ → List ℕ → Result ℕ ObjectFault → List ℕ → Result Measured ObjectFault → Type 0
 ShapedIs layout d s start p found rows r =
     (f : Fields) → Standing layout s p f → Says layout start f.components (found, rows) → (layout ≡ 1 → d < 13) → ((layout ≡ 1 → ⊥) → 13 ≤ d)
-    → (n : Word Ends) → r ≡ measured (shaped (layout_of layout) start n f (given d))
+    → (n : Word Ends) → in_object r ≡ measured (shaped (layout_of layout) start n f (given d))
 
-abbrev pub SoundIs : ℕ → List ℕ → ℕ → List ℕ → Found → List ℕ → Measured → Type 0
+abbrev pub SoundIs : ℕ → List ℕ → ℕ → List ℕ → Result ℕ ObjectFault → List ℕ → Result Measured ObjectFault → Type 0
 SoundIs layout s start p found rows r =
-    (f : Fields) → Standing layout s p f → Says layout start f.components (found, rows) → (n : Word Ends) → r ≡ measured (sound (layout_of layout) start n f)
+    (f : Fields) → Standing layout s p f → Says layout start f.components (found, rows) → (n : Word Ends) → in_object r ≡ measured (sound (layout_of layout) start n f)
 
 -- what is noted of pairs: their slots, and what was found in their components
-abbrev pub Noted : ℕ → ℕ → List ℕ → Found → List ℕ → List (Pair Ends) → Type 0
+abbrev pub Noted : ℕ → ℕ → List ℕ → Result ℕ ObjectFault → List ℕ → List (Pair Ends) → Type 0
 Noted layout start p found rows = keeping.Noted (layout_of layout).object 5 4 (Says layout start) p (found, rows)
 
 -- for every map of the pairs that are read from s on, where this is noted of them
-abbrev pub VerdictIs : ℕ → List ℕ → ℕ → List ℕ → Found → List ℕ → Measured → Type 0
+abbrev pub VerdictIs : ℕ → List ℕ → ℕ → List ℕ → Result ℕ ObjectFault → List ℕ → Result Measured ObjectFault → Type 0
 VerdictIs layout s start p found rows r =
     (ps : List (Pair Ends)) (q : List ℕ) → Chain 29 s ps q → Noted layout start p found rows ps → (t : Node Ends) → kind t ≡ mapping ps → (n : Word Ends)
-    → r ≡ measured (object (layout_of layout) start (record { name = n; value = t }))
+    → in_object r ≡ measured (object (layout_of layout) start (record { name = n; value = t }))
 
-abbrev pub ObjectIs : Layout → List ℕ → ℕ → Judged → Type 0
-ObjectIs L s start r = (t : Node Ends) (q : List ℕ) → Reads 30 s t q → (n : Word Ends) → r ≡ judged (object L start (record { name = n; value = t }))
+abbrev pub ObjectIs : Layout → List ℕ → ℕ → Result ℕ ObjectFault → Type 0
+ObjectIs L s start r = (t : Node Ends) (q : List ℕ) → Reads 30 s t q → (n : Word Ends) → in_object r ≡ judged (object L start (record { name = n; value = t }))
 
 -- no components that are judged where they stand: another field, components again, or layout 1.0
 unfoldable pub waiting : ℕ → ℕ → ℕ → Bool
 waiting layout k seen = eqb layout 1 || (not (eqb k 4) || not (eqb seen 0))
 
 -- the value that begins c, whose key has slot k, where the slot of `components` holds `seen`: the first components are judged, any other value changes nothing
-abbrev pub ValueIs : ℕ → ℕ → ℕ → ℕ → List ℕ → Found → List ℕ → Found → List ℕ → Type 0
+abbrev pub ValueIs : ℕ → ℕ → ℕ → ℕ → List ℕ → Result ℕ ObjectFault → List ℕ → Result ℕ ObjectFault → List ℕ → Type 0
 ValueIs layout start k seen c found rows found' rows' = keeping.ValueIs (layout_of layout).object 5 4 (Says layout start) 29 k seen c (found, rows) (found', rows')

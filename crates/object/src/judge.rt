@@ -5,25 +5,16 @@ ghost use Rattle.object.specs.Place.{DimensionsAt};
 ghost use Rattle.object.specs.Verdict as is;
 ghost use Rattle.object.specs.Laying.{WaitedPut, ShapedPut, Once};
 
-use crate::place::{Coded, format_at, shape_at, tensor_at};
-use components::Found;
+use crate::place::{format_at, shape_at, tensor_at};
 use fields::place_of;
-use formats::Ruled;
-use shape::Shaped;
+use numbers::{ObjectFault, Refusal};
 use table::Place;
 
-// A refusal number and the component, or how many components and how many dimensions there are.
+// How many components and how many dimensions there are.
 #[derive(Clone, Copy)]
-pub enum Measured {
-    No(u64, usize),
-    Yes(usize, usize),
-}
-
-// Sound, or a refusal.
-#[derive(Clone, Copy)]
-pub enum Fine {
-    No(u64),
-    Yes,
+pub struct Measured {
+    pub count: usize,
+    pub rank: usize,
 }
 
 // Is the dtype missing, where `left` bytes are left at it? Only a 1.0 tensor needs one.
@@ -37,62 +28,62 @@ fn lacks_dtype(layout: u64, left: usize) -> bool
 }
 
 // Keys, repeats, missing fields.
-fn known(layout: u64, p: &[usize]) -> Fine
+fn known(layout: u64, p: &[usize]) -> Result<(), Refusal>
     requires { length p.now ≡ 8 }
     ensures { result ≡ is.known layout p.now }
 {
     if p[6] != 0 {
-        return Fine::No(numbers::KEY);
+        return Err(Refusal::Key);
     }
     if p[7] != 0 {
-        return Fine::No(numbers::TWICE);
+        return Err(Refusal::Twice);
     }
     if lacks_dtype(layout, p[0]) {
-        return Fine::No(numbers::MISSING);
+        return Err(Refusal::Missing);
     }
     if p[1] == 0 {
-        return Fine::No(numbers::MISSING);
+        return Err(Refusal::Missing);
     }
     if p[2] == 0 {
-        return Fine::No(numbers::MISSING);
+        return Err(Refusal::Missing);
     }
     if p[4] == 0 {
-        return Fine::No(numbers::MISSING);
+        return Err(Refusal::Missing);
     }
-    Fine::Yes
+    Ok(())
 }
 
 // The format at a, the attributes at b.
-fn described(s: &[u8], a: usize, b: usize) -> Coded
+fn described(s: &[u8], a: usize, b: usize) -> Result<u64, Refusal>
     ensures { is.DescribedAt s.now a b result }
 {
-    match format_at(&s[0..], a) {
-        Coded::No(n) => Coded::No(n),
-        Coded::Yes(code) => {
-            if fields::attributes(&s[0..], b) {
-                return Coded::Yes(code);
-            }
-            Coded::No(numbers::KIND)
-        }
+    let code = format_at(&s[0..], a)?;
+    if fields::attributes(&s[0..], b) {
+        return Ok(code);
     }
+    Err(Refusal::Kind)
 }
 
 // The format's rules over m components and the first `rank` of dims. Neither is ever above its limit here: what was refused before isn't judged by rules.
-fn ruled(code: u64, dims: &[u64], rank: usize, rows: &[u64], m: usize) -> Measured
+fn ruled(
+    code: u64,
+    dims: &[u64],
+    rank: usize,
+    rows: &[u64],
+    m: usize,
+) -> Result<Measured, ObjectFault>
     requires { length rows.now ≡ 64 }
     ensures { is.RuledIs code dims.now rank rows.now m result }
 {
     if dims.len() < rank {
-        return Measured::No(numbers::COUNT, 0);
+        return Err(ObjectFault::from(Refusal::Count));
     }
     if 16 < m {
-        return Measured::No(numbers::COUNT, 0);
+        return Err(ObjectFault::from(Refusal::Count));
     }
     let e = 4 * m;
-    match formats::judge(code, &dims[0..rank], &rows[0..e]) {
-        Ruled::Wrong(n, c) => Measured::No(n, c),
-        Ruled::Right => Measured::Yes(m, rank),
-    }
+    formats::judge(code, &dims[0..rank], &rows[0..e])?;
+    Ok(Measured { count: m, rank })
 }
 
 // What was found in the components; in layout 1.0 they are looked at now, where `left` bytes of s are left, and their rows are put.
@@ -103,11 +94,11 @@ fn late(
     s: &[u8],
     start: u64,
     left: usize,
-    found: Found,
+    found: Result<usize, ObjectFault>,
     to: Place,
     rows: &mut [u64],
     t: &mut [u64],
-) -> Found
+) -> Result<usize, ObjectFault>
     requires { length rows.old ≡ 64 }
     ensures { (length rows.new ≡ 64) × is.LateIs layout format code s.now start left found rows.old result rows.new × WaitedPut layout format code s.now start left to t.old t.new }
 {
@@ -126,28 +117,19 @@ fn shaped(
     s: &[u8],
     start: u64,
     p: &[usize],
-    found: Found,
+    found: Result<usize, ObjectFault>,
     to: Place,
     dims: &mut [u64],
     rows: &mut [u64],
     t: &mut [u64],
-) -> Measured
+) -> Result<Measured, ObjectFault>
     requires { (length p.now ≡ 8) × (dims.old ≡ replicate 8 0) × (length rows.old ≡ 64) }
     ensures { is.ShapedIs layout d s.now start p.now found rows.old result × Once result (ShapedPut layout d s.now start p.now to t.old t.new) × Once result (DimensionsAt s.now (get_or p.now 1 0) dims.new) }
 {
-    match shape_at(&s[0..], p[1], dims) {
-        Shaped::No(n) => Measured::No(n, 0),
-        Shaped::Yes(rank) => match described(&s[0..], p[2], p[3]) {
-            Coded::No(n) => Measured::No(n, 0),
-            Coded::Yes(code) => {
-                let f = late(layout, code, d, &s[0..], start, p[4], found, to, rows, t);
-                match f {
-                    Found::No(n, c) => Measured::No(n, c),
-                    Found::Yes(m) => ruled(code, &dims[0..], rank, &rows[0..], m),
-                }
-            }
-        },
-    }
+    let rank = shape_at(&s[0..], p[1], dims)?;
+    let code = described(&s[0..], p[2], p[3])?;
+    let m = late(layout, code, d, &s[0..], start, p[4], found, to, rows, t)?;
+    ruled(code, &dims[0..], rank, &rows[0..], m)
 }
 
 // The same, from the dtype on.
@@ -156,19 +138,17 @@ fn sound(
     s: &[u8],
     start: u64,
     p: &[usize],
-    found: Found,
+    found: Result<usize, ObjectFault>,
     to: Place,
     dims: &mut [u64],
     rows: &mut [u64],
     t: &mut [u64],
-) -> Measured
+) -> Result<Measured, ObjectFault>
     requires { (length p.now ≡ 8) × (dims.old ≡ replicate 8 0) × (length rows.old ≡ 64) }
     ensures { is.SoundIs layout s.now start p.now found rows.old result × Once result (LatePut layout s.now p.now start to.end to.owner to.from t.old t.new) × Once result (DimensionsAt s.now (get_or p.now 1 0) dims.new) }
 {
-    match tensor_at(layout, &s[0..], p[0]) {
-        Coded::No(n) => Measured::No(n, 0),
-        Coded::Yes(d) => shaped(layout, d, &s[0..], start, &p[0..], found, to, dims, rows, t),
-    }
+    let d = tensor_at(layout, &s[0..], p[0])?;
+    shaped(layout, d, &s[0..], start, &p[0..], found, to, dims, rows, t)
 }
 
 // The object whose entries begin s, from the slots p and its components.
@@ -177,17 +157,15 @@ pub fn verdict(
     s: &[u8],
     start: u64,
     p: &[usize],
-    found: Found,
+    found: Result<usize, ObjectFault>,
     to: Place,
     dims: &mut [u64],
     rows: &mut [u64],
     t: &mut [u64],
-) -> Measured
+) -> Result<Measured, ObjectFault>
     requires { (length p.now ≡ 8) × (dims.old ≡ replicate 8 0) × (length rows.old ≡ 64) }
     ensures { is.VerdictIs layout s.now start p.now found rows.old result × Once result (LatePut layout s.now p.now start to.end to.owner to.from t.old t.new) × Once result (DimensionsAt s.now (get_or p.now 1 0) dims.new) }
 {
-    match known(layout, &p[0..]) {
-        Fine::No(n) => Measured::No(n, 0),
-        Fine::Yes => sound(layout, &s[0..], start, &p[0..], found, to, dims, rows, t),
-    }
+    known(layout, &p[0..])?;
+    sound(layout, &s[0..], start, &p[0..], found, to, dims, rows, t)
 }

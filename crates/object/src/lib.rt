@@ -15,23 +15,17 @@ ghost use Rattle.object.specs.Verdict.{counted, ObjectIs};
 ghost use Rattle.object.specs.Laying.{OwnPut};
 
 use judge::{Measured, verdict};
+use numbers::{ObjectFault, Refusal};
 use pass::entries;
 use table::Place;
 use table::object_row::put_object;
 use walk::Opening;
 
-// A refusal number and the component, or how many components there are.
-#[derive(Clone, Copy)]
-pub enum Judged {
-    No(u64, usize),
-    Yes(usize),
-}
-
-// Where a value ends, as `cbor::skip` answers it, and what it says if it is well-formed.
+// Where a value ends, as `cbor::skip` answers it, and if it is well-formed how many components there are, or the first fault.
 #[derive(Clone, Copy)]
 pub struct Whole {
     pub end: usize,
-    pub verdict: Judged,
+    pub verdict: Result<usize, ObjectFault>,
 }
 
 // Puts the row of an object that passes, whose key begins s; p holds the places of its fields in m, and dims its dimensions. The judge's answer is given back without the rank.
@@ -40,30 +34,26 @@ fn own(
     m: &[u8],
     p: &[usize],
     dims: &[u64],
-    v: Measured,
+    v: Result<Measured, ObjectFault>,
     to: Place,
     t: &mut [u64],
-) -> Judged
+) -> Result<usize, ObjectFault>
     requires { (length p.now ≡ 8) × (length dims.now ≡ 8) }
     ensures { (result ≡ counted v) × OwnPut s.now m.now p.now dims.now v to t.old t.new }
 {
-    match v {
-        Measured::No(n, c) => Judged::No(n, c),
-        Measured::Yes(count, rank) => {
-            put_object(
-                &s[0..],
-                &m[0..],
-                &p[0..],
-                rank,
-                &dims[0..],
-                count,
-                to.end,
-                to.row,
-                t,
-            );
-            Judged::Yes(count)
-        }
-    }
+    let Measured { count, rank } = v?;
+    put_object(
+        &s[0..],
+        &m[0..],
+        &p[0..],
+        rank,
+        &dims[0..],
+        count,
+        to.end,
+        to.row,
+        t,
+    );
+    Ok(count)
 }
 
 // The object whose key begins s and whose value begins c, at depth 3, of a file whose manifest begins at `start`. Its rows are put into t, and for the judge its components' into rows, which may hold anything
@@ -82,11 +72,11 @@ pub fn object(
 {
     let mut p = [0usize; 8];
     match walk::map(&c[0..]) {
-        Opening::NotOpen => Whole {
+        None => Whole {
             end: cbor::skip(&c[0..], numbers::IN_OBJECTS),
-            verdict: Judged::No(numbers::KIND, 0),
+            verdict: Err(ObjectFault::from(Refusal::Kind)),
         },
-        Opening::Opened(mode, count, size) => {
+        Some(Opening { mode, count, size }) => {
             let w = entries(layout, &c[size..], start, mode, count, to, &mut p, rows, t);
             let found = w.found;
             let mut dims = [0u64; 8];

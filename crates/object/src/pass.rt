@@ -7,21 +7,21 @@ ghost use Rattle.walk.specs.Places.{Modes};
 ghost use Rattle.object.specs.Verdict.{waiting, ValueIs};
 ghost use Rattle.object.specs.Laying.{ValuePut, Walked};
 
-use components::{Found, Whole};
+use components::Whole;
+use numbers::ObjectFault;
 use table::Place;
-use walk::{Entry, Letters};
+use walk::Entry;
 
 // The slot of the key that begins s.
 fn slot(layout: u64, s: &[u8]) -> usize
     ensures { (result ≤ 6) × SlotIs (layout_of layout).object s.now result }
 {
-    match walk::text(&s[0..]) {
-        Letters::NoText => 6,
-        Letters::Text(at, n) => {
-            let e = at + n;
-            types::object_key(layout, &s[at..e])
-        }
-    }
+    let Some(letters) = walk::text(&s[0..]) else {
+        return 6;
+    };
+    let at = letters.at;
+    let e = at + letters.size;
+    types::object_key(layout, &s[at..e])
 }
 
 // No components that are judged where they stand: another field, components again, or layout 1.0.
@@ -45,7 +45,7 @@ fn value(
     start: u64,
     k: usize,
     seen: usize,
-    found: Found,
+    found: Result<usize, ObjectFault>,
     to: Place,
     rows: &mut [u64],
     t: &mut [u64],
@@ -80,7 +80,7 @@ pub fn entries(
 {
     let mut at = 0;
     let mut due = count;
-    let mut found = Found::Yes(0);
+    let mut found = Ok(0);
     loop {
         match walk::past_key(&s[at..], mode, due, numbers::IN_OBJECT) {
             Entry::End(e) => {

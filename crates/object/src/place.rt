@@ -6,18 +6,10 @@ ghost use Rattle.types.specs.Known.{position, format_names};
 ghost use Rattle.object.specs.Place as is;
 
 use fields::place_of;
-use shape::Shaped;
-use walk::Letters;
-
-// The format's code (types::format_code), or a refusal.
-#[derive(Clone, Copy)]
-pub enum Coded {
-    No(u64),
-    Yes(u64),
-}
+use numbers::Refusal;
 
 // The shape, where `left` bytes are left: its dimensions are put into dims, over zeros.
-pub fn shape_at(s: &[u8], left: usize, dims: &mut [u64]) -> Shaped
+pub fn shape_at(s: &[u8], left: usize, dims: &mut [u64]) -> Result<usize, Refusal>
     requires { dims.old ≡ replicate 8 0 }
     ensures { is.ShapeAt s.now left dims.new result }
 {
@@ -36,25 +28,24 @@ fn legible(k: &[u8], code: u64) -> bool
     utf8::utf8(k)
 }
 
-// The format that begins s.
-fn format_of(s: &[u8]) -> Coded
+// The code (types::format_code) of the format that begins s.
+fn format_of(s: &[u8]) -> Result<u64, Refusal>
     ensures { is.FormatIs s.now result }
 {
-    match walk::text(&s[0..]) {
-        Letters::NoText => Coded::No(numbers::KIND),
-        Letters::Text(at, n) => {
-            let e = at + n;
-            let code = types::format_code(&s[at..e]);
-            if legible(&s[at..e], code) {
-                return Coded::Yes(code);
-            }
-            Coded::No(numbers::TEXT)
-        }
+    let Some(letters) = walk::text(&s[0..]) else {
+        return Err(Refusal::Kind);
+    };
+    let at = letters.at;
+    let e = at + letters.size;
+    let code = types::format_code(&s[at..e]);
+    if legible(&s[at..e], code) {
+        return Ok(code);
     }
+    Err(Refusal::Text)
 }
 
 // The format, where `left` bytes are left.
-pub fn format_at(s: &[u8], left: usize) -> Coded
+pub fn format_at(s: &[u8], left: usize) -> Result<u64, Refusal>
     ensures { is.FormatAt s.now left result }
 {
     let at = place_of(s.len(), left);
@@ -62,28 +53,27 @@ pub fn format_at(s: &[u8], left: usize) -> Coded
 }
 
 // The storage that a tensor's dtype names, at the start of s.
-fn tensor_of(layout: u64, s: &[u8]) -> Coded
+fn tensor_of(layout: u64, s: &[u8]) -> Result<u64, Refusal>
     ensures { is.TensorIs (layout_of layout) s.now result }
 {
-    match walk::text(&s[0..]) {
-        Letters::NoText => Coded::No(numbers::KIND),
-        Letters::Text(at, n) => {
-            let e = at + n;
-            let code = types::dtype_code(layout, &s[at..e]);
-            if code < 13 {
-                return Coded::Yes(code);
-            }
-            Coded::No(numbers::DTYPE)
-        }
+    let Some(letters) = walk::text(&s[0..]) else {
+        return Err(Refusal::Kind);
+    };
+    let at = letters.at;
+    let e = at + letters.size;
+    let code = types::dtype_code(layout, &s[at..e]);
+    if code < 13 {
+        return Ok(code);
     }
+    Err(Refusal::Dtype)
 }
 
 // The dtype of a 1.0 tensor, where `left` bytes are left; 13 where there is none.
-pub fn tensor_at(layout: u64, s: &[u8], left: usize) -> Coded
+pub fn tensor_at(layout: u64, s: &[u8], left: usize) -> Result<u64, Refusal>
     ensures { is.TensorAt (layout_of layout) s.now left result }
 {
     if left == 0 {
-        return Coded::Yes(13);
+        return Ok(13);
     }
     let at = place_of(s.len(), left);
     tensor_of(layout, &s[at..])

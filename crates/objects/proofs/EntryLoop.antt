@@ -24,23 +24,23 @@ use Rattle.naming.specs.declared.Tally.{Tally}
 use Rattle.naming.proofs.NameNoted.{none-noted}
 use Rattle.table.specs.Objects.{WholePut, ObjectsLaid, AllLaid}
 use Rattle.table.proofs.ObjectLoop.{none-laid, one-more-laid}
-use Rattle.object.specs.declared.Judged.{Judged}
-use Rattle.objects.specs.declared.First.{First}
-use Rattle.objects.specs.declared.First.TheVariants.{Fine}
 use Rattle.objects.specs.Firsts.{entries, OneIs, Beyond, Keeps, Kept, Walked}
 use Rattle.objects.proofs.Laying.{onward}
+use Rattle.std.specs.Prelude.{Ok, Result}
+use Rattle.numbers.specs.declared.fault.FileFault.{FileFault}
+use Rattle.numbers.specs.declared.fault.ObjectFault.{ObjectFault}
 
-none_kept : (deep : Bool) (L : Layout) (start : ℕ) (s left size : List ℕ) → length size ≡ length left → Kept deep L start s (tally 0 false false) left size (Fine 0) []
+none_kept : (deep : Bool) (L : Layout) (start : ℕ) (s left size : List ℕ) → length size ≡ length left → Kept deep L start s (tally 0 false false) left size (Ok 0) []
 unfolding entries component_count
 none_kept deep L start s left size e = record { named = none-noted s left size e; judged = record { found = []; passed = refl; few = omega arith; totals = λ l. refl } }
 
 -- what was noted of the pairs passed, and the table
-pub record SoFar (deep : Bool) (layout start end from : ℕ) (s : List ℕ) (names : Tally) (left size : List ℕ) (first : First) (before : List ℕ) (row next : ℕ) (t : List ℕ) (done : List (Pair Ends)) : Type 0 where
+pub record SoFar (deep : Bool) (layout start end from : ℕ) (s : List ℕ) (names : Tally) (left size : List ℕ) (first : Result ℕ FileFault) (before : List ℕ) (row next : ℕ) (t : List ℕ) (done : List (Pair Ends)) : Type 0 where
   pub kept : Kept deep (layout_of layout) start s names left size first done
   pub laid : deep ≡ true → ObjectsLaid layout start end from before row next t done
 
 -- up to `at`, with n items due
-pub record Looping (deep : Bool) (layout start end from mode count : ℕ) (s before : List ℕ) (at n : ℕ) (names : Tally) (left₀ left size : List ℕ) (first : First) (rows : List ℕ) (row next : ℕ) (t : List ℕ) : Type 0 where
+pub record Looping (deep : Bool) (layout start end from mode count : ℕ) (s before : List ℕ) (at n : ℕ) (names : Tally) (left₀ left size : List ℕ) (first : Result ℕ FileFault) (rows : List ℕ) (row next : ℕ) (t : List ℕ) : Type 0 where
   pub walking : Passed 30 mode count s at n (SoFar deep layout start end from s names left size first before row next t)
   pub slots : length left ≡ length left₀
   pub room : length rows ≡ 64
@@ -48,7 +48,7 @@ pub record Looping (deep : Bool) (layout start end from mode count : ℕ) (s bef
 
 -- before the first turn
 pub loop-starts : (deep : Bool) (layout start end from mode count : ℕ) (s left size before : List ℕ) → length s * 1 < 2 ^ 63 → length size ≡ length left → Modes mode count
-    → Looping deep layout start end from mode count s before 0 count (tally 0 false false) left left size (Fine 0) (replicate 64 0) 0 from before
+    → Looping deep layout start end from mode count s before 0 count (tally 0 false false) left left size (Ok 0) (replicate 64 0) 0 from before
 loop-starts deep layout start end from mode count s left size before lent same modes = record {
   walking =
       passed.passed-starts modes (omega arith) (record { kept = none_kept deep (layout_of layout) start s left size same; laid = λ d. none-laid layout start end from before });
@@ -57,7 +57,7 @@ loop-starts deep layout start end from mode count s left size before lent same m
   long = refl;
 }
 
-module _ {deep : Bool} {layout start end from mode count : ℕ} {s before : List ℕ} {at n : ℕ} {names : Tally} {left₀ left size : List ℕ} {first : First} {rows : List ℕ} {row next : ℕ} {t : List ℕ}
+module _ {deep : Bool} {layout start end from mode count : ℕ} {s before : List ℕ} {at n : ℕ} {names : Tally} {left₀ left size : List ℕ} {first : Result ℕ FileFault} {rows : List ℕ} {row next : ℕ} {t : List ℕ}
     (w : Looping deep layout start end from mode count s before at n names left₀ left size first rows row next t) where
   pub count_small : names.count < 9223372036854775808
   count_small =
@@ -103,16 +103,16 @@ module _ {deep : Bool} {layout start end from mode count : ℕ} {s before : List
         turn-less = omega (arith, passed.value-inside w.walking h is, passed.goes_on w.walking h is ended l, l)
 
 -- a turn, in the code's terms: the value at `at + k`, which takes e bytes, is judged as v
-module _ {deep : Bool} {layout start end from mode count : ℕ} {s before : List ℕ} {at n : ℕ} {names : Tally} {left₀ left size : List ℕ} {first : First} {rows : List ℕ} {row next : ℕ} {t : List ℕ}
+module _ {deep : Bool} {layout start end from mode count : ℕ} {s before : List ℕ} {at n : ℕ} {names : Tally} {left₀ left size : List ℕ} {first : Result ℕ FileFault} {rows : List ℕ} {row next : ℕ} {t : List ℕ}
     (w : Looping deep layout start end from mode count s before at n names left₀ left size first rows row next t) {x : Entry} (h : EntryIs 30 mode n (Here s at) x) {k : ℕ} (is : x ≡ Value k)
     {e : ℕ} (ended : e ≡ code (item_end 30 (Here s (at + k)))) (l : e ≤ length s - (at + k)) where
-  pub loops-on : {v : Judged} → OneIs deep (layout_of layout) (Here s (at + k)) start v
+  pub loops-on : (v : Result ℕ ObjectFault) → OneIs deep (layout_of layout) (Here s (at + k)) start v
       → {t' : List ℕ} → (deep ≡ true → WholePut layout (Here s at) (Here s (at + k)) start end names.count row next t t') → length t' ≡ length t
-      → {rows' : List ℕ} → length rows' ≡ length rows → {first' : First} → Keeps v names.count first first'
+      → {rows' : List ℕ} → length rows' ≡ length rows → {first' : Result ℕ FileFault} → Keeps v names.count first first'
       → {row' : ℕ} → (row + object_width ≤ length t' → row' ≡ row + object_width) → {next' : ℕ} → Beyond v next (length t') next'
       → {names' : Tally} {left' size' : List ℕ} → Noted (Here s at) names left size names' left' size'
       → Looping deep layout start end from mode count s before (at + k + e) (n - 2) names' left₀ left' size' first' rows' row' next' t'
-  loops-on judged put same room keeps further beyond noted =
+  loops-on v judged put same room keeps further beyond noted =
       let inside = passed.value-inside w.walking h is in
       record {
         walking = passed.one-more-lent w.walking h is ended l (λ done p key value so. record {
@@ -120,7 +120,7 @@ module _ {deep : Bool} {layout start end from mode count : ℕ} {s before : List
             named = noted.1 s at (omega (arith, inside)) (part_to_end s at) done 29 p _ key so.kept.named;
             judged = keeps deep (layout_of layout) start done p _ _ value judged so.kept.named.counted so.kept.judged;
           };
-          laid = λ d. one-more-laid layout start (Here s at) (Here s (at + k)) w.long (put d) same further (onward layout start (Here s (at + k)) next d judged beyond) p key value so.kept.named.counted (so.laid d);
+          laid = λ d. one-more-laid layout start (Here s at) (Here s (at + k)) w.long (put d) same further (onward layout start (Here s (at + k)) next d v judged beyond) p key value so.kept.named.counted (so.laid d);
         });
         slots = noted.0 ∙ w.slots;
         room = room ∙ w.room;

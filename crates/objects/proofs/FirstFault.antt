@@ -17,32 +17,32 @@ use Rattle.meaning.proofs.Lengths.{count-snoc}
 use Rattle.meaning.proofs.Checks.{each-length}
 use Rattle.walk.specs.Reading.{Ends}
 use Rattle.naming.specs.NotedNames.{named_anyway, told}
-use Rattle.naming.specs.declared.Named.TheVariants.{No as NoNames, Yes as Names}
 use Rattle.naming.proofs.NamesJudged.{few-names}
 use Rattle.naming.proofs.Entries as named-entries
 use Rattle.object.specs.Verdict as objects
-use Rattle.object.specs.declared.Judged.{Judged}
-use Rattle.object.specs.declared.Judged.TheVariants.{No as NoObject, Yes as AnObject}
-use Rattle.objects.specs.declared.First.{First}
-use Rattle.objects.specs.declared.First.TheVariants.{Fine, Fault}
-use Rattle.objects.specs.declared.Found.TheVariants.{No, Yes}
 use Rattle.objects.specs.Found.{judging, objects_by, judged}
 use Rattle.objects.specs.Firsts.{plus, entry, entries, FirstIs, Keeps}
 use Rattle.objects.proofs.Few.{few-in-judging}
+use Rattle.std.specs.Prelude.{Ok, Err, Result}
+use Rattle.numbers.specs.declared.fault.ObjectFault.{ObjectFault}
+use Rattle.numbers.specs.declared.fault.FileFault.{FileFault}
+use Rattle.numbers.specs.Answered as answers
+use Rattle.numbers.specs.Numbered.{number_of}
+use Rattle.numbers.specs.declared.refusal.Refusal.{Refusal}
 
 module _ (deep : Bool) (L : Layout) (start : ℕ) (done : List (Pair Ends)) (p : Pair Ends) where
   one_more : entries deep L start (done ++ p ∷ []) ≡ (entries deep L start done >>= λ os. entry deep L start (length done) (named_anyway p) >>= λ o. pass (os ++ o ∷ []))
   unfolding entries
   one_more = named-entries.one_more (entry deep L start) done p
 
-  fault-stays : (n o c : ℕ) → FirstIs deep L start done (Fault n o c) → FirstIs deep L start (done ++ p ∷ []) (Fault n o c)
-  fault-stays n o c h = one_more ∙ (rw h refl)
+  fault-stays : (f : FileFault) → FirstIs deep L start done (Err f) → FirstIs deep L start (done ++ p ∷ []) (Err f)
+  fault-stays f h = one_more ∙ (rw h refl)
 
-  first-fault : (total n o c : ℕ) → FirstIs deep L start done (Fine total) → judging deep L start (named_anyway p) ≡ refuse n o c → FirstIs deep L start (done ++ p ∷ []) (Fault n (length done) c)
+  first-fault : (total : ℕ) (n : Refusal) (o c : ℕ) → FirstIs deep L start done (Ok total) → judging deep L start (named_anyway p) ≡ refuse (number_of n) o c → FirstIs deep L start (done ++ p ∷ []) (Err (record { refusal = n; object = length done; component = c }))
   unfolding entry
   first-fault total n o c h e = let z = h.passed in one_more ∙ (rw (z, e) refl)
 
-  still-fine : (total : ℕ) (o : Object Ends) → FirstIs deep L start done (Fine total) → judging deep L start (named_anyway p) ≡ pass o → FirstIs deep L start (done ++ p ∷ []) (Fine (plus total (length o.components)))
+  still-fine : (total : ℕ) (o : Object Ends) → FirstIs deep L start done (Ok total) → judging deep L start (named_anyway p) ≡ pass o → FirstIs deep L start (done ++ p ∷ []) (Ok (plus total (length o.components)))
   unfolding entry
   still-fine total o h e =
       let z = h.passed in
@@ -57,43 +57,44 @@ module _ (deep : Bool) (L : Layout) (start : ℕ) (done : List (Pair Ends)) (p :
         totals = λ b. let t = h.totals (omega arith) in let i : total ≤ 16368 = omega arith in (rw (le-leb (length o.components) 16 m, le-leb total 16368 i) (omega arith));
       }
 
-module _ (v : Judged) (j : ℕ) (first : First) where
-  pub stays : (n o c : ℕ) → first ≡ Fault n o c → Keeps v j first (Fault n o c)
-  stays n o c e deep L start done p b r x is at h = fault-stays deep L start done p n o c (rw e at h)
+module _ (v : Result ℕ ObjectFault) (j : ℕ) (first : Result ℕ FileFault) where
+  pub stays : (f : FileFault) → first ≡ Err f → (q : Result ℕ FileFault) → q ≡ Err f → Keeps v j first q
+  stays f e q is-q deep L start done p b r x is at h = rw is-q (fault-stays deep L start done p f (rw e at h))
 
-  module _ (total : ℕ) (e : first ≡ Fine total) where
-    pub begins : (n c : ℕ) → v ≡ NoObject n c → (r : First) → r ≡ Fault n j c → Keeps v j first r
-    begins n c a r here deep L start done p b q x is at h = go (judging deep L start (named_anyway p)) refl (sym a ∙ is p.value q x (named_anyway p).name)
+  module _ (total : ℕ) (e : first ≡ Ok total) where
+    pub begins : (f : ObjectFault) → v ≡ Err f → Keeps v j first (Err (record { refusal = f.refusal; object = j; component = f.component }))
+    begins f a deep L start done p b q x is at h = go (judging deep L start (named_anyway p)) refl (sym (ap answers.in_object a) ∙ is p.value q x (named_anyway p).name)
       where
-        go : (k : Check (Object Ends)) → judging deep L start (named_anyway p) ≡ k → NoObject n c ≡ objects.judged k → FirstIs deep L start (done ++ p ∷ []) r
+        go : (k : Check (Object Ends)) → judging deep L start (named_anyway p) ≡ k → answers.in_object (Err f) ≡ objects.judged k → FirstIs deep L start (done ++ p ∷ []) (Err (record { refusal = f.refusal; object = j; component = f.component }))
         go (pass o) z w = absurd (let y : ◌≡◌ {A = ℕ} 0 1 = cc in omega arith)
         go (refuse m o l) z w =
-            let f : FirstIs deep L start (done ++ p ∷ []) (Fault m (length done) l) = first-fault deep L start done p total m o l (rw e at h) z in
-            let a : m ≡ n = cc in let b : l ≡ c = cc in
-            subst (FirstIs deep L start (done ++ p ∷ [])) (sym here) (rw (← a, ← b, at) f)
+            let a : number_of f.refusal ≡ m = cc in let b : f.component ≡ l = cc in
+            let w : FirstIs deep L start (done ++ p ∷ []) (Err (record { refusal = f.refusal; object = length done; component = f.component })) =
+            first-fault deep L start done p total f.refusal o f.component (rw e at h) (z ∙ (rw (← a, ← b) refl)) in
+            rw at w
 
-    pub goes_on : (m r : ℕ) → v ≡ AnObject m → r ≡ plus total m → Keeps v j first (Fine r)
-    goes_on m r a is-r deep L start done p b q x is at h = go (judging deep L start (named_anyway p)) refl (sym a ∙ is p.value q x (named_anyway p).name)
+    pub goes_on : (m r : ℕ) → v ≡ Ok m → r ≡ plus total m → Keeps v j first (Ok r)
+    goes_on m r a is-r deep L start done p b q x is at h = go (judging deep L start (named_anyway p)) refl (sym (ap answers.in_object a) ∙ is p.value q x (named_anyway p).name)
       where
-        go : (k : Check (Object Ends)) → judging deep L start (named_anyway p) ≡ k → AnObject m ≡ objects.judged k → FirstIs deep L start (done ++ p ∷ []) (Fine r)
-        go (pass o) z w = let y : length o.components ≡ m = cc in subst (λ r. FirstIs deep L start (done ++ p ∷ []) (Fine r)) (ap (plus total) y ∙ sym is-r) (still-fine deep L start done p total o (rw e at h) z)
+        go : (k : Check (Object Ends)) → judging deep L start (named_anyway p) ≡ k → answers.in_object (Ok m) ≡ objects.judged k → FirstIs deep L start (done ++ p ∷ []) (Ok r)
+        go (pass o) z w = let y : length o.components ≡ m = cc in subst (λ r. FirstIs deep L start (done ++ p ∷ []) (Ok r)) (ap (plus total) y ∙ sym is-r) (still-fine deep L start done p total o (rw e at h) z)
         go (refuse n o i) z w = absurd (let y : ◌≡◌ {A = ℕ} 0 1 = cc in omega arith)
 
 -- the whole map: its names, and then its entries
 module _ (deep : Bool) (L : Layout) (start : ℕ) (done : List (Pair Ends)) (x : Node Ends) where
-  pub names-fault : (n : ℕ) → names object_limit x ≡ told done (NoNames n) → No n 0 0 ≡ judged (objects_by deep L start x)
+  pub names-fault : (n : Refusal) → names object_limit x ≡ told done (Err n) → answers.in_file (Err (record { refusal = n; object = 0; component = 0 })) ≡ judged (objects_by deep L start x)
   unfolding objects_by
   names-fault n h = rw h refl
 
-  module _ (h : names object_limit x ≡ told done Names) where
+  module _ (h : names object_limit x ≡ told done (Ok tt)) where
     named : objects_by deep L start x ≡ entries deep L start done
     unfolding objects_by entries entry
     named = named-entries.names-pass (λ i o. in_object i (judging deep L start o)) done object_limit x h
 
-    pub entry-fault : (n o c : ℕ) → FirstIs deep L start done (Fault n o c) → No n o c ≡ judged (objects_by deep L start x)
-    entry-fault n o c f = sym (ap judged (named ∙ f))
+    pub entry-fault : (k : FileFault) → FirstIs deep L start done (Err k) → answers.in_file (Err k) ≡ judged (objects_by deep L start x)
+    entry-fault k f = sym (ap judged (named ∙ f))
 
-    pub all-fine : (m total : ℕ) → m ≡ length done → FirstIs deep L start done (Fine total) → Yes m total ≡ judged (objects_by deep L start x)
+    pub all-fine : (m total : ℕ) → m ≡ length done → FirstIs deep L start done (Ok total) → answers.in_file (Ok (record { objects = m; components = total })) ≡ judged (objects_by deep L start x)
     unfolding entries
     all-fine m total is f =
         let same = each-length (λ i p. entry deep L start i (named_anyway p)) 0 done f.found f.passed in

@@ -1,5 +1,5 @@
 -- What is answered about the `objects` map, in the words of meaning's judgement.
-use Rattle.std.specs.Prelude.{ℕ, List, [], Bool, true, false, ◌≡◌, length}
+use Rattle.std.specs.Prelude.{ℕ, List, [], Bool, true, false, ◌≡◌, length, Result}
 use Rattle.std.proofs.Math.Option.{none}
 use Rattle.meaning.specs.Tree.{Node}
 use Rattle.meaning.specs.Limit.{object_limit}
@@ -11,7 +11,8 @@ use Rattle.meaning.specs.Rows.{component_count}
 use Rattle.meaning.specs.Layouts.{Layout}
 use Rattle.walk.specs.Reading.{Ends, Reads}
 use Rattle.objects.specs.declared.Found.{Found}
-use Rattle.objects.specs.declared.Found.TheVariants.{No, Yes}
+use Rattle.numbers.specs.declared.fault.FileFault.{FileFault}
+use Rattle.numbers.specs.Answered.{in_file}
 
 -- an object that is passed over: it has its name and nothing more
 unfoldable pub passed_over : {P : Type 0} → Named P → Object P
@@ -28,10 +29,10 @@ objects_by deep L start t = do
   ns ← names object_limit t
   each (λ i o. in_object i (judging deep L start o)) 0 ns
 
-abbrev pub judged : Check (List (Object Ends)) → Found
-judged (pass os) = Yes (length os) (component_count os)
-judged (refuse n o c) = No n o c
+abbrev pub judged : Check (List (Object Ends)) → Check Found
+judged (pass os) = pass (record { objects = length os; components = component_count os })
+judged (refuse n o c) = refuse n o c
 
 -- for every tree that s is read as, of a file whose manifest begins at `start`
-abbrev pub ObjectsIs : Bool → Layout → List ℕ → ℕ → Found → Type 0
-ObjectsIs deep L s start r = (t : Node Ends) (q : List ℕ) → Reads 31 s t q → r ≡ judged (objects_by deep L start t)
+abbrev pub ObjectsIs : Bool → Layout → List ℕ → ℕ → Result Found FileFault → Type 0
+ObjectsIs deep L s start r = (t : Node Ends) (q : List ℕ) → Reads 31 s t q → in_file r ≡ judged (objects_by deep L start t)

@@ -9,39 +9,32 @@ ghost use Rattle.table.specs.Objects.{WholePut, AllLaid, Written};
 ghost use Rattle.objects.specs.Found.{ObjectsIs};
 ghost use Rattle.objects.specs.Firsts.{plus, OneIs, Beyond, Keeps, Walked, Concluded};
 
-use naming::{Named, Tally};
-use object::Judged;
+use naming::Tally;
+use numbers::{FileFault, ObjectFault, Refusal};
 use table::Place;
 use table::lay::next_row;
 use walk::{Entry, Opening};
 
-// The first fault among the entries so far: its number, object and component; or how many components there are.
+// How many objects and components there are.
 #[derive(Clone, Copy)]
-pub enum First {
-    Fine(usize),
-    Fault(u64, usize, usize),
+pub struct Found {
+    pub objects: usize,
+    pub components: usize,
 }
 
-// The first fault: number, object, component; or how many objects and components there are.
-#[derive(Clone, Copy)]
-pub enum Found {
-    No(u64, usize, usize),
-    Yes(usize, usize),
-}
-
-// Where the entries end, the tally of their names, and the first fault.
+// Where the entries end, the tally of their names, and how many components there are, or the first fault among the entries.
 #[derive(Clone, Copy)]
 struct Run {
     end: usize,
     names: Tally,
-    first: First,
+    first: Result<usize, FileFault>,
 }
 
-// Where the value ends, as `cbor::skip` answers it, and what it says if it is well-formed.
+// Where the value ends, as `cbor::skip` answers it, and what it says if it is well-formed: what there is, or the first fault.
 #[derive(Clone, Copy)]
 pub struct Whole {
     pub end: usize,
-    pub found: Found,
+    pub found: Result<Found, FileFault>,
 }
 
 // Components so far and m more; as they are where there are too many to count, which COUNT refuses.
@@ -57,15 +50,21 @@ pub fn plus(total: usize, m: usize) -> usize
 }
 
 // The first fault after one more object, number j.
-fn keep(v: Judged, j: usize, first: First) -> First
+fn keep(
+    v: Result<usize, ObjectFault>,
+    j: usize,
+    first: Result<usize, FileFault>,
+) -> Result<usize, FileFault>
     ensures { Keeps v j first result }
 {
-    match first {
-        First::Fault(n, o, c) => First::Fault(n, o, c),
-        First::Fine(total) => match v {
-            Judged::No(n, c) => First::Fault(n, j, c),
-            Judged::Yes(m) => First::Fine(plus(total, m)),
-        },
+    let total = first?;
+    match v {
+        Err(fault) => Err(FileFault {
+            refusal: fault.refusal,
+            object: j,
+            component: fault.component,
+        }),
+        Ok(m) => Ok(plus(total, m)),
     }
 }
 
@@ -88,23 +87,21 @@ fn one(
     }
     object::Whole {
         end: cbor::skip(&c[0..], numbers::IN_OBJECTS),
-        verdict: Judged::Yes(0),
+        verdict: Ok(0),
     }
 }
 
 // Where the components' rows of the next object begin, if those of this one, judged as v, begin at `from` of a table with `room` numbers.
-fn beyond(v: Judged, from: usize, room: usize) -> usize
+fn beyond(v: Result<usize, ObjectFault>, from: usize, room: usize) -> usize
     ensures { Beyond v from room result }
 {
-    match v {
-        Judged::No(_, _) => from,
-        Judged::Yes(n) => {
-            if 16 < n {
-                return from;
-            }
-            next_row(from, columns::COMPONENT * n, room)
-        }
+    let Ok(n) = v else {
+        return from;
+    };
+    if 16 < n {
+        return from;
     }
+    next_row(from, columns::COMPONENT * n, room)
 }
 
 // Entries that begin s, counted as `walk::map` says. Their names are noted in left and size; the objects' rows are put from the table's start on, the components' from `from` on.
@@ -131,7 +128,7 @@ fn entries(
         odd: false,
         bad: false,
     };
-    let mut first = First::Fine(0);
+    let mut first = Ok(0);
     let mut rows = [0u64; 64];
     let mut row = 0;
     let mut next = from;
@@ -180,19 +177,24 @@ fn entries(
 }
 
 // What the names and the first fault come to.
-fn verdict(m: &[u8], names: Tally, first: First, left: &[usize], size: &[usize]) -> Found
+fn verdict(
+    m: &[u8],
+    names: Tally,
+    first: Result<usize, FileFault>,
+    left: &[usize],
+    size: &[usize],
+) -> Result<Found, FileFault>
     requires { length left.now ≡ 1024 }
     ensures { Concluded m.now names first left.now size.now result }
 {
     let mut ix = [0u16; 1024];
-    let count = names.count;
-    match naming::judge(&m[0..], names, &left[0..], &size[0..], &mut ix) {
-        Named::No(n) => Found::No(n, 0, 0),
-        Named::Yes => match first {
-            First::Fault(n, o, c) => Found::No(n, o, c),
-            First::Fine(total) => Found::Yes(count, total),
-        },
-    }
+    let objects = names.count;
+    naming::judge(&m[0..], names, &left[0..], &size[0..], &mut ix)?;
+    let components = first?;
+    Ok(Found {
+        objects,
+        components,
+    })
 }
 
 // The objects that begin c, at depth 2, of a file whose manifest begins at `start`; their names alone unless `deep`.
@@ -203,11 +205,17 @@ pub fn objects(layout: u64, c: &[u8], start: u64, deep: bool) -> Whole
     let mut size = [0usize; 1024];
     let mut none = [0u64; 0];
     match walk::map(&c[0..]) {
-        Opening::NotOpen => Whole {
+        None => Whole {
             end: cbor::skip(&c[0..], numbers::IN_ROOT),
-            found: Found::No(numbers::KIND, 0, 0),
+            found: Err(FileFault::from(Refusal::Kind)),
         },
-        Opening::Opened(mode, count, from) => {
+        Some(
+            Opening {
+                mode,
+                count,
+                size: from,
+            },
+        ) => {
             let w = entries(
                 layout,
                 &c[from..],
@@ -244,22 +252,21 @@ pub fn lay(layout: u64, c: &[u8], start: u64, end: usize, from: usize, t: &mut [
 {
     let mut left = [0usize; 0];
     let mut size = [0usize; 0];
-    match walk::map(&c[0..]) {
-        Opening::NotOpen => {}
-        Opening::Opened(mode, count, head) => {
-            entries(
-                layout,
-                &c[head..],
-                start,
-                true,
-                mode,
-                count,
-                end,
-                from,
-                &mut left,
-                &mut size,
-                t,
-            );
-        }
-    }
+    let Some(opening) = walk::map(&c[0..]) else {
+        return;
+    };
+    let head = opening.size;
+    entries(
+        layout,
+        &c[head..],
+        start,
+        true,
+        opening.mode,
+        opening.count,
+        end,
+        from,
+        &mut left,
+        &mut size,
+        t,
+    );
 }

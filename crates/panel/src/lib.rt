@@ -14,6 +14,8 @@ ghost use Rattle.panel.specs.Lines as is;
 ghost use Rattle.panel.specs.Summary as summaries;
 ghost use Rattle.panel.specs.ListedText.{told, text_after};
 
+use numbers::Refusal;
+
 // 0, and how many bytes the listing has; or INDEX or ROOM, and 0.
 #[repr(C)]
 #[derive(Clone, Copy)]
@@ -32,7 +34,7 @@ pub fn list(file: &[u8], table: &[u64], objects: u64, components: u64, text: &mu
         let n = lines::whole(file, table, objects, components, false, &mut scrap);
         if text.len() < n {
             return Listed {
-                number: numbers::ROOM,
+                number: Refusal::Room as u64,
                 length: 0,
             };
         }
@@ -43,7 +45,7 @@ pub fn list(file: &[u8], table: &[u64], objects: u64, components: u64, text: &mu
         };
     }
     Listed {
-        number: numbers::INDEX,
+        number: Refusal::Index as u64,
         length: 0,
     }
 }
@@ -89,7 +91,7 @@ pub fn summary(
         );
         if text.len() < n {
             return Listed {
-                number: numbers::ROOM,
+                number: Refusal::Room as u64,
                 length: 0,
             };
         }
@@ -102,7 +104,7 @@ pub fn summary(
         };
     }
     Listed {
-        number: numbers::INDEX,
+        number: Refusal::Index as u64,
         length: 0,
     }
 }
@@ -116,7 +118,7 @@ pub fn refusal(number: u64, object: u64, component: u64, text: &mut [u8]) -> Lis
     let n = lines::refused(number, object, component, &mut scrap);
     if text.len() < n {
         return Listed {
-            number: numbers::ROOM,
+            number: Refusal::Room as u64,
             length: 0,
         };
     }
@@ -134,7 +136,7 @@ pub fn words(said: &[u8], text: &mut [u8]) -> Listed
 {
     if text.len() < said.len() {
         return Listed {
-            number: numbers::ROOM,
+            number: Refusal::Room as u64,
             length: 0,
         };
     }

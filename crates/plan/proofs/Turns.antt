@@ -14,7 +14,7 @@ use Rattle.meaning.specs.Refusal.{PLAN}
 use Rattle.meaning.specs.Limit.{end_limit}
 use Rattle.meaning.specs.Columns.{component_width, length_column}
 use Rattle.meaning.specs.Text.{all}
-use Rattle.meaning.specs.Check.{pass, refuse, ◌>>◌, ◌unless◌, in_object}
+use Rattle.meaning.specs.Check.{Check, pass, refuse, ◌>>◌, ◌unless◌, in_object}
 use Rattle.meaning.specs.Layouts.{magic}
 use Rattle.meaning.specs.Asked.{each_row, asked_component}
 use Rattle.meaning.specs.Placement.{end_from, last_end}
@@ -27,6 +27,14 @@ use Rattle.readback.specs.Follows.{Before}
 use Rattle.readback.proofs.Planned.{before_more}
 use Rattle.plan.specs.Earlier.{earlier, Earlier, Next, sizes}
 use Rattle.plan.proofs.Tests.{ends_low}
+use Rattle.numbers.specs.Numbered.{number_of}
+use Rattle.numbers.specs.declared.fault.FileFault.{FileFault}
+use Rattle.numbers.specs.declared.refusal.Refusal.TheVariants as refusals
+
+-- PLAN at a row, as the code answers it
+pub at_row : {k : Check (Unit {0})} (i : ℕ) → k ≡ refuse PLAN i 0 → (f : FileFault) → f ≡ record { refusal = refusals.Plan; object = i; component = 0 }
+    → k ≡ refuse (number_of f.refusal) f.object f.component
+at_row i e f is = e ∙ ap (λ (g : FileFault). refuse (number_of g.refusal) g.object g.component) (sym is)
 
 pub too-high : (plan rows : List ℕ) (n ceiling : ℕ) → end_limit < ceiling → planned ceiling plan (sizes plan rows n) ≡ refuse PLAN 0 0
 unfolding planned

@@ -1,6 +1,5 @@
 -- Blobs by their offsets in a plan and their lengths in the components' rows, and what is answered of them.
-use Rattle.std.specs.Prelude.{ℕ, zero, suc, ◌+◌, ◌*◌, ◌≤◌, ◌<◌, List, [], ◌∷◌, ◌≡◌, length, get_or}
-use Rattle.meaning.specs.Refusal.{PLAN}
+use Rattle.std.specs.Prelude.{ℕ, zero, suc, ◌+◌, ◌*◌, ◌≤◌, ◌<◌, List, [], ◌∷◌, ◌≡◌, length, get_or, Ok, Err, Result}
 use Rattle.meaning.specs.Limit.{end_limit}
 use Rattle.meaning.specs.Check.{pass, refuse}
 use Rattle.meaning.specs.Columns.{component_width, length_column}
@@ -10,8 +9,8 @@ use Rattle.meaning.specs.Placement.{last_end}
 use Rattle.meaning.specs.Plan.{ranged, planned}
 use Rattle.rows.specs.Turns.{blob_sizes}
 use Rattle.readback.specs.Follows.{Before}
-use Rattle.plan.specs.declared.Judged.{Judged}
-use Rattle.plan.specs.declared.Judged.TheVariants.{No, Yes}
+use Rattle.numbers.specs.Numbered.{number_of}
+use Rattle.numbers.specs.declared.fault.FileFault.{FileFault}
 
 module _ (plan rows : List ℕ) where
   -- the i-th blob
@@ -40,6 +39,6 @@ module _ (plan rows : List ℕ) where
   abbrev pub sizes : ℕ → List ℕ
   sizes n = blob_sizes (each_row asked_component component_width n rows)
 
-  abbrev pub Judges : ℕ → ℕ → Judged → Type 0
-  Judges n ceiling (No i) = planned ceiling plan (sizes n) ≡ refuse PLAN i 0
-  Judges n ceiling (Yes end) = (planned ceiling plan (sizes n) ≡ pass tt) × (end ≡ last_end plan (sizes n))
+  abbrev pub Judges : ℕ → ℕ → Result ℕ FileFault → Type 0
+  Judges n ceiling (Err f) = planned ceiling plan (sizes n) ≡ refuse (number_of f.refusal) f.object f.component
+  Judges n ceiling (Ok end) = (planned ceiling plan (sizes n) ≡ pass tt) × (end ≡ last_end plan (sizes n))

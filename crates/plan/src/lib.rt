@@ -6,16 +6,22 @@ ghost use Rattle.meaning.specs.Columns.{component_width};
 ghost use Rattle.meaning.specs.Limit.{end_limit};
 ghost use Rattle.meaning.specs.Text.{all};
 ghost use Rattle.meaning.specs.Plan as is;
+ghost use Rattle.numbers.specs.declared.refusal.Refusal.TheVariants as refusals;
 ghost use Rattle.plan.specs.Earlier.{earlier, Earlier};
 ghost use Rattle.plan.specs.Earlier as told;
 
 use columns::{COMPONENT, LENGTH};
+use numbers::{FileFault, Refusal};
 
-// The row of a refusal; or the greatest end, 8 if there is no row.
-#[derive(Clone, Copy)]
-pub enum Judged {
-    No(u64),
-    Yes(u64),
+// PLAN, at a row.
+fn refused(row: usize) -> FileFault
+    ensures { result ≡ record { refusal = refusals.Plan; object = row; component = 0 } }
+{
+    FileFault {
+        refusal: Refusal::Plan,
+        object: row,
+        component: 0,
+    }
 }
 
 // What an offset keeps to by itself. The end is never summed, so it can't wrap.
@@ -53,23 +59,23 @@ fn follows(plan: &[u64], rows: &[u64], i: usize, end: u64, ceiling: u64) -> bool
     allowed(offset, size, ceiling) && (end <= offset || apart_from(plan, rows, i, offset, size))
 }
 
-// A plan for the blobs of n components' rows, under a ceiling.
-pub fn verdict(plan: &[u64], rows: &[u64], n: usize, ceiling: u64) -> Judged
+// A plan for the blobs of n components' rows, under a ceiling: the greatest end, 8 if there is no row; or PLAN, with the row of the refusal.
+pub fn verdict(plan: &[u64], rows: &[u64], n: usize, ceiling: u64) -> Result<u64, FileFault>
     requires { component_width * n ≤ length rows.now }
     ensures { told.Judges plan.now rows.now n ceiling result }
 {
     if numbers::END_MOST < ceiling {
-        return Judged::No(0);
+        return Err(refused(0));
     }
     let mut end = 8;
     for i in 0..n {
         if plan.len() <= i || !follows(plan, rows, i, end, ceiling) {
-            return Judged::No(i as u64);
+            return Err(refused(i));
         }
         end = end.max(plan[i] + rows[COMPONENT * i + LENGTH]);
     }
     if n < plan.len() {
-        return Judged::No(n as u64);
+        return Err(refused(n));
     }
-    Judged::Yes(end)
+    Ok(end)
 }

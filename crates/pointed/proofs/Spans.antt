@@ -9,7 +9,7 @@ use lib.Seq.{drop_at}
 use borrow.Author.Rules.{part_to_end}
 use Rattle.meaning.specs.Limit.{depth_limit}
 use Rattle.meaning.specs.Model.{Word}
-use Rattle.meaning.specs.Read.{Span, span_to}
+use Rattle.meaning.specs.Read.{span_to}
 use Rattle.cbor.specs.Ending.{code, ending, item_end}
 use Rattle.walk.specs.Reading.{Ends}
 use Rattle.fields.proofs.Texts.{Here}

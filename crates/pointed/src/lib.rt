@@ -9,6 +9,7 @@ use table::span::text_span_at;
 
 // The check with the number n, for the object o and the component c of the manifest m, which ends at `end`: it looks where `left` bytes are left. The names stand
 // where `object` and `role` bytes are left, 0 for none.
+// By its number: a caller may give any, and document 02's notes name this function.
 pub fn pointed(
     m: &[u8],
     end: usize,

@@ -35,14 +35,17 @@ use Rattle.table.specs.declared.span.Span.{Span}
 use Rattle.table.proofs.ObjectLoop.{count-mapped}
 use Rattle.frame.specs.FrameAnswer.{told as framed-told}
 use Rattle.frame.specs.declared.Framed.{Framed}
-use Rattle.frame.specs.declared.Framed.TheVariants.{No as NoFrame, At}
 use Rattle.reader.specs.declared.Told.{Told}
-use Rattle.reader.specs.declared.Told.TheVariants.{No, Yes}
 use Rattle.reader.specs.declared.into.Answer.{Answer}
 use Rattle.reader.specs.Verdict.{manifest_reading, Accepted, ManifestIs}
 use Rattle.reader.specs.Answer.{refused, read, answered, AttributesIs, before_rows, laid_over, placed, Filled}
 use Rattle.reader.proofs.Frames.{at_zero, framed, inside, manifest-read}
 use Rattle.reader.proofs.RootParts.{attributes_at, rooted, field-holds}
+use Rattle.std.specs.Prelude.{Ok, Err, Result}
+use Rattle.numbers.specs.declared.refusal.Refusal.{Refusal}
+use Rattle.numbers.specs.declared.fault.FileFault.{FileFault}
+use Rattle.numbers.specs.Numbered.{number_of}
+use Rattle.numbers.specs.declared.refusal.Refusal.TheVariants as refusals
 
 -- ---------------------------------------------------------------- what an accepted root is made of
 
@@ -199,26 +202,27 @@ module _ (layout start : ℕ) (m : List ℕ) (before : List ℕ) where
 
 -- ---------------------------------------------------------------- as the code has it
 
-module _ (layout : ℕ) (last : Bool) (start : ℕ) (m before : List ℕ) (x : Told) (h : (end : ℕ) → ManifestIs (layout_of layout) end start m x) where
-  told-there : (y : Told) → x ≡ y → ManifestIs (layout_of layout) (start + length m) start m y
+module _ (layout : ℕ) (last : Bool) (start : ℕ) (m before : List ℕ) (x : Result Told FileFault) (h : (end : ℕ) → ManifestIs (layout_of layout) end start m x) where
+  told-there : (y : Result Told FileFault) → x ≡ y → ManifestIs (layout_of layout) (start + length m) start m y
   told-there y e = subst (ManifestIs (layout_of layout) (start + length m) start m) e (h (start + length m))
 
-  pub filled-not : (n o c : ℕ) → x ≡ No n o c → (r : Answer) → r ≡ refused n o c → Filled (layout_of layout) last start m before r before
-  filled-not n o c e r is = subst (λ r. Filled (layout_of layout) last start m before r before) (sym is) (manifest-refuses layout start m before last n o c (told-there (No n o c) e))
+  pub filled-not : (k : FileFault) → x ≡ Err k → (r : Answer) → r ≡ refused (number_of k.refusal) k.object k.component → Filled (layout_of layout) last start m before r before
+  filled-not k e r is =
+      subst (λ r. Filled (layout_of layout) last start m before r before) (sym is) (manifest-refuses layout start m before last (number_of k.refusal) k.object k.component (told-there (Err k) e))
 
-  module _ (objects components left at : ℕ) (e : x ≡ Yes objects components left at) where
-    module _ (roomy-so : Bool) (by : roomy-so ≡ leb (object_width * objects + component_width * components) (length before)) where
-      pub filled-no-room : not roomy-so ≡ true → (r : Answer) → r ≡ refused 24 0 0 → Filled (layout_of layout) last start m before r before
-      filled-no-room f r is =
-          subst (λ r. Filled (layout_of layout) last start m before r before) (sym is)
-          (no_room layout start m before objects components left at (told-there (Yes objects components left at) e) last (sym (not-true roomy-so f) ∙ by))
+  module _ (v : Told) (e : x ≡ Ok v) where
+    module _ (roomy-so : Bool) (by : roomy-so ≡ leb (object_width * v.objects + component_width * v.components) (length before)) where
+      pub filled-no-room : not roomy-so ≡ true → (k : FileFault) → k ≡ record { refusal = refusals.Room; object = 0; component = 0 } → (r : Answer) → r ≡ refused (number_of k.refusal) k.object k.component → Filled (layout_of layout) last start m before r before
+      filled-no-room f k room r is =
+          subst (λ r. Filled (layout_of layout) last start m before r before) (sym (is ∙ ap (λ (k : FileFault). refused (number_of k.refusal) k.object k.component) room))
+          (no_room layout start m before v.objects v.components v.attributes v.place (told-there (Ok v) e) last (sym (not-true roomy-so f) ∙ by))
 
       pub filled-so : start + length m < FAULT → not roomy-so ≡ false
-          → (first : ℕ) → first ≡ before_rows last (length before) (object_width * objects + component_width * components) → (place : ℕ) → place ≡ length m - at → (after : List ℕ)
-          → Written layout (Here m place) start (start + length m) (object_width * objects) (lent_part first before) after → (s : Span) → AttributesIs m left (start + length m) s
-          → Filled (layout_of layout) last start m before (read objects components start s) (lent_back first before after)
+          → (first : ℕ) → first ≡ before_rows last (length before) (object_width * v.objects + component_width * v.components) → (place : ℕ) → place ≡ length m - v.place → (after : List ℕ)
+          → Written layout (Here m place) start (start + length m) (object_width * v.objects) (lent_part first before) after → (s : Span) → AttributesIs m v.attributes (start + length m) s
+          → Filled (layout_of layout) last start m before (read v.objects v.components start s) (lent_back first before after)
       filled-so room f first before-rows-are place here after w s a =
-          written layout start m before objects components left at (told-there (Yes objects components left at) e) (omega arith) (sym (not-false roomy-so f) ∙ by) last first before-rows-are place here after w s a
+          written layout start m before v.objects v.components v.attributes v.place (told-there (Ok v) e) (omega arith) (sym (not-false roomy-so f) ∙ by) last first before-rows-are place here after w s a
 
 -- the room for the rows
 pub room-enough : {needed room : ℕ} {fits : Bool} → not fits ≡ false → fits ≡ leb needed room → needed ≤ room
@@ -228,25 +232,26 @@ pub object-rows-fit : (objects more room : ℕ) {fits : Bool} → not fits ≡ f
 object-rows-fit objects more room f by l = let r : object_width * objects + more ≤ room = room-enough f by in record { fits = omega (arith, r, l) }
 
 -- from the frame on
-module _ (layout : ℕ) (last : Bool) (file before : List ℕ) (r : Framed) (asked : frame (layout_of layout) file ≡ framed-told r) where
-  pub no-frame-read : (n : ℕ) → r ≡ NoFrame n → (a : Answer) → a ≡ refused n 0 0 → (a ≡ answered (read_into (layout_of layout) file (length before))) × (before ≡ placed last before (read_into (layout_of layout) file (length before)))
+module _ (layout : ℕ) (last : Bool) (file before : List ℕ) (r : Result Framed Refusal) (asked : frame (layout_of layout) file ≡ framed-told r) where
+  pub no-frame-read : (n : Refusal) → r ≡ Err n → (k : FileFault) → k ≡ record { refusal = n; object = 0; component = 0 } → (a : Answer) → a ≡ refused (number_of k.refusal) k.object k.component → (a ≡ answered (read_into (layout_of layout) file (length before))) × (before ≡ placed last before (read_into (layout_of layout) file (length before)))
   unfolding read_into reading answer placed
-  no-frame-read n e a is = let z = framed layout file r asked (NoFrame n) e in (is ∙ (rw z refl), rw z refl)
+  no-frame-read n e k is-k a is =
+      let z = framed layout file r asked (Err n) e in (is ∙ ap (λ (k : FileFault). refused (number_of k.refusal) k.object k.component) is-k ∙ (rw z refl), rw z refl)
 
-  module _ (start size : ℕ) (e : r ≡ At start size) where
-    manifest-length : length (take (start + size - start) (drop start file)) ≡ size
-    manifest-length = let i = inside layout file r asked start size e in length-take-le (start + size - start) (drop start file) (omega (arith, length-drop start file)) ∙ (omega arith)
+  module _ (fr : Framed) (e : r ≡ Ok fr) where
+    manifest-length : length (take (fr.start + fr.size - fr.start) (drop fr.start file)) ≡ fr.size
+    manifest-length = let i = inside layout file r asked fr e in length-take-le (fr.start + fr.size - fr.start) (drop fr.start file) (omega (arith, length-drop fr.start file)) ∙ (omega arith)
 
-    pub manifest-short : length file * 1 < 2 ^ 63 → start + length (take (start + size - start) (drop start file)) < FAULT
-    manifest-short l = let i = inside layout file r asked start size e in let n = manifest-length in omega arith
+    pub manifest-short : length file * 1 < 2 ^ 63 → fr.start + length (take (fr.start + fr.size - fr.start) (drop fr.start file)) < FAULT
+    manifest-short l = let i = inside layout file r asked fr e in let n = manifest-length in omega arith
 
-    pub frame-read : (a : Answer) (after : List ℕ) → Filled (layout_of layout) last start (take (start + size - start) (drop start file)) before a after
+    pub frame-read : (a : Answer) (after : List ℕ) → Filled (layout_of layout) last fr.start (take (fr.start + fr.size - fr.start) (drop fr.start file)) before a after
         → (a ≡ answered (read_into (layout_of layout) file (length before))) × (after ≡ placed last before (read_into (layout_of layout) file (length before)))
     unfolding read_into
     frame-read a after f =
-        let m = take (start + size - start) (drop start file) in
-        let z : reading (layout_of layout) file ≡ manifest_reading (layout_of layout) (start + length m) start m =
-        manifest-read layout file r asked start size e ∙ ap (λ (i : ℕ). manifest_reading (layout_of layout) (start + i) start m) (sym manifest-length) in
+        let m = take (fr.start + fr.size - fr.start) (drop fr.start file) in
+        let z : reading (layout_of layout) file ≡ manifest_reading (layout_of layout) (fr.start + length m) fr.start m =
+        manifest-read layout file r asked fr e ∙ ap (λ (i : ℕ). manifest_reading (layout_of layout) (fr.start + i) fr.start m) (sym manifest-length) in
         (f.0 ∙ ap (λ k. answered (k >>= roomy (length before))) (sym z), f.1 ∙ ap (λ k. placed last before (k >>= roomy (length before))) (sym z))
 
 -- at the beginning it is meaning's own table

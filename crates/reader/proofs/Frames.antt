@@ -3,24 +3,26 @@ use Prim.Native.Nat.{ℕ, ◌+◌, ◌-◌, ◌≤◌}
 use native.Mathlib.Omega.{arith}
 use mathlib.Core.List.{List}
 use mathlib.Core.Bool.{Bool, true, false, ◌&&◌}
-use mathlib.Core.Path.{◌≡◌, refl, sym, ap, ◌∙◌, subst}
+use mathlib.Core.Path.{◌≡◌, refl, sym, ap, ◌∙◌}
 use lib.ListN.{length, take, drop}
 use lib.Dec.{leb}
 use borrow.Author.Tests.{leb-true}
-use Rattle.meaning.specs.Check.{pass, ◌>>◌, ◌unless◌}
+use Rattle.meaning.specs.Check.{Check, pass, ◌>>◌, ◌unless◌}
 use Rattle.meaning.specs.Text.{same}
 use Rattle.meaning.specs.Refusal.{SHORT, HEADER, FOOTER, BIG, FIT}
 use Rattle.meaning.specs.Limit.{manifest_limit}
 use Rattle.meaning.specs.Layouts.{Layout, magic, current, layout_of}
-use Rattle.meaning.specs.Frame.{Frame, frame, little, reading}
+use Rattle.meaning.specs.Frame.{Frame, Reading, frame, little, reading}
 use Rattle.frame.specs.FrameAnswer.{told}
 use Rattle.frame.proofs.Frames.{size_back_lem}
 use Rattle.frame.specs.declared.Framed.{Framed}
-use Rattle.frame.specs.declared.Framed.TheVariants.{No, At}
 use Rattle.reader.specs.declared.Verdict.{Verdict}
 use Rattle.reader.specs.declared.Told.{Told}
-use Rattle.reader.specs.declared.Told.TheVariants.{No as Refused, Yes}
-use Rattle.reader.specs.Verdict.{refusal, verdict, manifest_reading, ManifestIs}
+use Rattle.reader.specs.Verdict.{refusal, verdict, manifest_reading, ManifestIs, Judges}
+use Rattle.std.specs.Prelude.{Ok, Err, Result}
+use Rattle.numbers.specs.declared.refusal.Refusal.{Refusal}
+use Rattle.numbers.specs.declared.fault.FileFault.{FileFault}
+use Rattle.numbers.specs.Numbered.{number_of}
 
 -- 0 is 1.2.0
 pub at_zero : layout_of 0 ≡ current
@@ -59,35 +61,40 @@ module _ (layout : ℕ) (file : List ℕ) where
           let b = size_back_lem layout in
           omega arith
 
-  module _ (r : Framed) (asked : frame L file ≡ told r) where
-    pub framed : (q : Framed) → r ≡ q → frame L file ≡ told q
+  module _ (r : Result Framed Refusal) (asked : frame L file ≡ told r) where
+    pub framed : (q : Result Framed Refusal) → r ≡ q → frame L file ≡ told q
     framed q e = asked ∙ ap told e
 
-    pub no-frame : (number : ℕ) → r ≡ No number → (v : Verdict) → v ≡ refusal number 0 0 → v ≡ verdict (reading L file)
+    pub no-frame : (number : Refusal) → r ≡ Err number → (q : Result Told FileFault) → q ≡ Err (record { refusal = number; object = 0; component = 0 }) → Judges (reading L file) q
     unfolding reading
-    no-frame number e v is = is ∙ (rw (framed (No number) e) refl)
+    no-frame number e q is = rw is (rw (framed (Err number) e) refl)
 
-    module _ (start sized : ℕ) (e : r ≡ At start sized) where
-      pub inside : start + sized ≤ n
-      inside = framed-inside (record { start = start; size = sized }) (framed (At start sized) e)
+    module _ (fr : Framed) (e : r ≡ Ok fr) where
+      pub inside : fr.start + fr.size ≤ n
+      inside = framed-inside (record { start = fr.start; size = fr.size }) (framed (Ok fr) e)
 
       -- the file's reading is that of its manifest
-      pub manifest-read : reading L file ≡ manifest_reading L (start + sized) start (take (start + sized - start) (drop start file))
+      pub manifest-read : reading L file ≡ manifest_reading L (fr.start + fr.size) fr.start (take (fr.start + fr.size - fr.start) (drop fr.start file))
       unfolding reading
       manifest-read =
-          let z : start + sized - start ≡ sized = omega arith in
-          (rw (framed (At start sized) e) refl) ∙ ap (λ (i : ℕ). manifest_reading L (start + sized) start (take i (drop start file))) (sym z)
+          let z : fr.start + fr.size - fr.start ≡ fr.size = omega arith in
+          (rw (framed (Ok fr) e) refl) ∙ ap (λ (i : ℕ). manifest_reading L (fr.start + fr.size) fr.start (take i (drop fr.start file))) (sym z)
 
       -- by what the manifest's reader told
-      module _ (x : Told) (h : (end : ℕ) → ManifestIs L end start (take (start + sized - start) (drop start file)) x) (v : Verdict) where
-        told-there : (y : Told) → x ≡ y → ManifestIs L (start + sized) start (take (start + sized - start) (drop start file)) y
-        told-there y same = subst (ManifestIs L (start + sized) start (take (start + sized - start) (drop start file))) same (h (start + sized))
+      pub manifest-judges : (x : Result Told FileFault) → ((end : ℕ) → ManifestIs L end fr.start (take (fr.start + fr.size - fr.start) (drop fr.start file)) x) → Judges (reading L file) x
+      manifest-judges x h = go x (h (fr.start + fr.size))
+        where
+          go : (x : Result Told FileFault) → ManifestIs L (fr.start + fr.size) fr.start (take (fr.start + fr.size - fr.start) (drop fr.start file)) x → Judges (reading L file) x
+          go (Err f) k = manifest-read ∙ k
+          go (Ok v) k = (_, manifest-read ∙ k.is)
 
-        pub accept-refuses : (n o c : ℕ) → x ≡ Refused n o c → v ≡ refusal n o c → v ≡ verdict (reading L file)
-        accept-refuses n o c same is = is ∙ sym (ap verdict (manifest-read ∙ told-there (Refused n o c) same))
+-- the verdict by what was judged
+module _ (k : Check Reading) (x : Result Told FileFault) (h : Judges k x) where
+  pub accept-refuses : (f : FileFault) → x ≡ Err f → (n : ℕ) → n ≡ number_of f.refusal → refusal n f.object f.component ≡ verdict k
+  accept-refuses f e n is = let z : Judges k (Err f) = rw e at h in rw is (sym (ap verdict z))
 
-        pub accept-accepts : (objects components left at : ℕ) → x ≡ Yes objects components left at → v ≡ refusal 0 0 0 → v ≡ verdict (reading L file)
-        accept-accepts objects components left at same is = is ∙ sym (ap verdict (manifest-read ∙ (told-there (Yes objects components left at) same).is))
+  pub accept-accepts : (v : Told) → x ≡ Ok v → refusal 0 0 0 ≡ verdict k
+  accept-accepts v e = let z : Judges k (Ok v) = rw e at h in sym (ap verdict z.1)
 
 -- for 1.2.0
 pub accepts-current : (file : List ℕ) (v : Verdict) → v ≡ verdict (reading (layout_of 0) file) → v ≡ verdict (reading current file)

@@ -3,7 +3,7 @@
 use Prim.Native.Nat.{ℕ, ◌-◌, ◌*◌, ◌^◌, ◌≤◌, ◌<◌}
 use native.Mathlib.Omega.{arith}
 use mathlib.Core.List.{List}
-use mathlib.Core.Path.{◌≡◌, refl, ap, ◌∙◌, subst}
+use mathlib.Core.Path.{◌≡◌, refl, sym, ap, ◌∙◌, subst}
 use lib.ListN.{length}
 use Rattle.meaning.specs.Tree.{Node}
 use Rattle.meaning.specs.Check.{Check, pass, refuse, ◌>>=◌}
@@ -13,20 +13,34 @@ use Rattle.meaning.specs.Read.{Span}
 use Rattle.meaning.specs.Judge.{judge}
 use Rattle.meaning.specs.Frame.{Reading}
 use Rattle.meaning.specs.Layouts.{Layout}
+use Rattle.meaning.specs.Rows.{component_count}
 use Rattle.meaning.proofs.JudgeNatural.{judge-map}
-use Rattle.cbor.specs.Ending.{FAULT, code, item_end}
-use Rattle.walk.specs.Reading.{Ends}
+use Rattle.cbor.specs.Ending.{FAULT, code, item_end, refusal_of}
+use Rattle.walk.specs.Reading.{Ends, left_at}
 use Rattle.root.specs.declared.Judged.{Judged}
-use Rattle.root.specs.declared.Judged.TheVariants.{No, Yes}
 use Rattle.root.specs.Verdict.{judged, RootIs, ObjectsAt}
-use Rattle.reader.specs.Verdict.{manifest_reading, Accepted}
+use Rattle.reader.specs.Verdict.{manifest_reading, Accepted, ManifestIs}
 use Rattle.table.specs.Spans.{span_of}
 use Rattle.reader.proofs.ItemFills as items
 use Rattle.reader.proofs.ItemFills.{Filling}
+use Rattle.std.specs.Prelude.{Ok, Err, Result}
+use Rattle.numbers.specs.declared.fault.FileFault.{FileFault}
+use Rattle.numbers.specs.Numbered.{number_of}
+use Rattle.numbers.specs.Answered.{in_file}
+use Rattle.numbers.specs.declared.refusal.Refusal.{Refusal}
+use Rattle.numbers.specs.declared.refusal.Refusal.TheVariants as refusals
+use Rattle.cbor.proofs.Refusals.{fault-number}
+use mathlib.Core.Logic.{⊎_elim}
+use Rattle.reader.specs.declared.Told.{Told}
 
 -- a walk over s that ended beyond it found a fault
 pub a-fault : (s : List ℕ) (e : ℕ) → e ≡ code (item_end 32 s) → length s < e → FAULT ≤ e
 a-fault s e asked l = (items.faulty 0 s e asked l).high
+
+-- what is refused so, by its number
+refused-number : (d : ℕ) (s : List ℕ) (e : ℕ) → e ≡ code (item_end d s) → length s < e → e - FAULT ≡ number_of (refusal_of e)
+unfolding refusal_of
+refused-number d s e asked l = ⊎_elim (λ h. rw h refl) (λ h. rw h refl) (fault-number d s e asked l)
 
 module _ (L : Layout) (end start : ℕ) where
   abbrev spans : Ends → Span
@@ -40,12 +54,13 @@ module _ (L : Layout) (end start : ℕ) where
     -- the walk over s, lent whole, ended at e
     module _ (e : ℕ) (asked : e ≡ code (item_end 32 s)) where
       -- malformed, ended early or too deep
-      pub faulty : length s < e → manifest_reading L end start s ≡ refuse (e - FAULT) 0 0
-      faulty l = ap judging (items.faulty end s e asked l).is
+      pub faulty : length s < e → (n : Refusal) → n ≡ refusal_of e → (k : FileFault) → k ≡ record { refusal = n; object = 0; component = 0 } → manifest_reading L end start s ≡ in_file (Err k)
+      faulty l n is k is-k =
+          rw is-k (ap judging (items.faulty end s e asked l).is ∙ ap (λ (i : ℕ). refuse i 0 0) (refused-number 32 s e asked l) ∙ ap (λ (n : Refusal). refuse (number_of n) 0 0) (sym is))
 
       module _ (lent : length s * 1 < 2 ^ 63) where
-        pub left_over : e < length s → manifest_reading L end start s ≡ refuse 6 0 0
-        left_over l = ap judging (items.left_over end s e asked (omega arith) l)
+        pub left_over : e < length s → (k : FileFault) → k ≡ record { refusal = refusals.Cbor; object = 0; component = 0 } → manifest_reading L end start s ≡ in_file (Err k)
+        left_over l k is-k = rw is-k (ap judging (items.left_over end s e asked (omega arith) l))
 
         module _ (low : e ≤ length s) (high : length s ≤ e) where
           -- the root fills the manifest exactly
@@ -55,27 +70,30 @@ module _ (L : Layout) (end start : ℕ) where
           read-so : manifest_reading L end start s ≡ (map_check (map_model spans) (judge L start filling.tree) >>= λ m. pass (record { start = start; model = m }))
           read-so = ap judging filling.is ∙ ap (λ k. k >>= λ m. pass (record { start = start; model = m })) (judge-map spans L start filling.tree)
 
-          module _ (u : Judged) (told : RootIs L s start u) where
-            root : (v : Judged) → u ≡ v → v ≡ judged (judge L start filling.tree)
+          module _ (u : Result Judged FileFault) (told : RootIs L s start u) where
+            root : (v : Result Judged FileFault) → u ≡ v → in_file v ≡ judged (judge L start filling.tree)
             root v same = subst (RootIs L s start) same told filling.tree filling.rest filling.reads
 
-            pub root-refuses : (n o c : ℕ) → u ≡ No n o c → manifest_reading L end start s ≡ refuse n o c
-            root-refuses n o c same = go (judge L start filling.tree) refl
+            pub root-refuses : (f : FileFault) → u ≡ Err f → (q : Result Told FileFault) → q ≡ Err f → ManifestIs L end start s q
+            root-refuses f same q is-q = rw is-q (go (judge L start filling.tree) refl)
               where
-                go : (k : Check (Model Ends)) → judge L start filling.tree ≡ k → manifest_reading L end start s ≡ refuse n o c
-                go (pass m) h = let z : No n o c ≡ judged (pass m) = root (No n o c) same ∙ ap judged h in absurd (let y : ◌≡◌ {A = ℕ} 0 1 = cc in omega arith)
+                go : (k : Check (Model Ends)) → judge L start filling.tree ≡ k → manifest_reading L end start s ≡ in_file (Err f)
+                go (pass m) h = let z : in_file (Err f) ≡ judged (pass m) = root (Err f) same ∙ ap judged h in absurd (let y : ◌≡◌ {A = ℕ} 0 1 = cc in omega arith)
                 go (refuse n' o' c') h =
-                    let z : No n o c ≡ judged (refuse n' o' c') = root (No n o c) same ∙ ap judged h in
-                    let a : n' ≡ n = cc in let b : o' ≡ o = cc in let d : c' ≡ c = cc in
-                    read-so ∙ (rw (h, a, b, d) refl)
+                    let z : in_file (Err f) ≡ judged (refuse n' o' c') = root (Err f) same ∙ ap judged h in
+                    let number : number_of f.refusal ≡ n' = cc in
+                    let object : f.object ≡ o' = cc in
+                    let component : f.component ≡ c' = cc in
+                    read-so ∙ (rw h (rw (number, object, component) refl))
 
-            pub root-accepts : (objects components left at : ℕ) → u ≡ Yes objects components left → ObjectsAt L s at → Accepted L end start s objects components left at
-            root-accepts objects components left at same stand = go (judge L start filling.tree) refl
+            pub root-accepts : (v : Judged) → u ≡ Ok v → (at : ℕ) → ObjectsAt L s at → Accepted L end start s v.objects v.components v.attributes at
+            root-accepts v same at stand = go (judge L start filling.tree) refl
               where
-                go : (k : Check (Model Ends)) → judge L start filling.tree ≡ k → Accepted L end start s objects components left at
-                go (refuse n o c) h = let z : Yes objects components left ≡ judged (refuse n o c) = root (Yes objects components left) same ∙ ap judged h in absurd (let y : ◌≡◌ {A = ℕ} 0 1 = cc in omega arith)
+                go : (k : Check (Model Ends)) → judge L start filling.tree ≡ k → Accepted L end start s v.objects v.components v.attributes at
+                go (refuse n o c) h = let z : in_file (Ok v) ≡ judged (refuse n o c) = root (Ok v) same ∙ ap judged h in absurd (let y : ◌≡◌ {A = ℕ} 0 1 = cc in omega arith)
                 go (pass m) h =
-                    let z : Yes objects components left ≡ judged (pass m) = root (Yes objects components left) same ∙ ap judged h in
+                    let z : in_file (Ok v) ≡ judged (pass m) = root (Ok v) same ∙ ap judged h in
+                    let y : v ≡ record { objects = length m.objects; components = component_count m.objects; attributes = left_at m.attributes } = cc in
                     record {
                       tree = filling.tree;
                       rest = filling.rest;
@@ -83,8 +101,8 @@ module _ (L : Layout) (end start : ℕ) where
                       model = m;
                       judged = h;
                       is = read-so ∙ (rw h refl);
-                      objects-are = cc;
-                      components-are = cc;
-                      attributes-left = cc;
+                      objects-are = ap (λ (v : Judged). v.objects) y;
+                      components-are = ap (λ (v : Judged). v.components) y;
+                      attributes-left = ap (λ (v : Judged). v.attributes) y;
                       objects-at = stand;
                     }

@@ -1,5 +1,5 @@
 -- The answer of the acceptance check, for the meaning of a file.
-use Rattle.std.specs.Prelude.{ℕ, List, ◌≡◌, length}
+use Rattle.std.specs.Prelude.{ℕ, List, ◌≡◌, length, Ok, Err, Result}
 use Rattle.meaning.specs.Tree.{Node}
 use Rattle.meaning.specs.Check.{Check, pass, refuse, ◌>>=◌}
 use Rattle.meaning.specs.Read.{span_to, manifest}
@@ -13,8 +13,9 @@ use Rattle.walk.specs.Reading.{Ends, Reads, left_at}
 use Rattle.root.specs.Verdict.{ObjectsAt}
 use Rattle.reader.specs.declared.Verdict.{Verdict}
 use Rattle.reader.specs.declared.Told.{Told}
-use Rattle.reader.specs.declared.Told.TheVariants.{No, Yes}
 use Rattle.table.specs.Spans.{span_of}
+use Rattle.numbers.specs.declared.fault.FileFault.{FileFault}
+use Rattle.numbers.specs.Answered.{in_file}
 
 abbrev pub refusal : ℕ → ℕ → ℕ → Verdict
 refusal n o c = record { number = n; object = o; component = c }
@@ -43,6 +44,11 @@ pub record Accepted (L : Layout) (end start : ℕ) (m : List ℕ) (objects compo
   pub attributes-left : left ≡ left_at model.attributes
   pub objects-at : ObjectsAt L m at
 
-abbrev pub ManifestIs : Layout → ℕ → ℕ → List ℕ → Told → Type 0
-ManifestIs L end start m (No n o c) = manifest_reading L end start m ≡ refuse n o c
-ManifestIs L end start m (Yes objects components left at) = Accepted L end start m objects components left at
+abbrev pub ManifestIs : Layout → ℕ → ℕ → List ℕ → Result Told FileFault → Type 0
+ManifestIs L end start m (Err f) = manifest_reading L end start m ≡ in_file (Err f)
+ManifestIs L end start m (Ok v) = Accepted L end start m v.objects v.components v.attributes v.place
+
+-- a reading that is refused so, or one that passes
+abbrev pub Judges : Check Reading → Result Told FileFault → Type 0
+Judges k (Err f) = k ≡ in_file (Err f)
+Judges k (Ok v) = (r : Reading) × (k ≡ pass r)

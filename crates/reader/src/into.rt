@@ -4,11 +4,13 @@ ghost use Rattle.meaning.specs.Columns.{object_width, component_width};
 ghost use Rattle.meaning.specs.Rows.{read_into, table_after};
 ghost use Rattle.meaning.specs.Layouts.{current, layout_of};
 ghost use Rattle.cbor.specs.Ending.{FAULT};
+ghost use Rattle.numbers.specs.Numbered.{number_of};
 ghost use Rattle.reader.specs.Answer as is;
 
-use crate::{Told, manifest};
+use crate::manifest;
 use fields::place_of;
 use frame::Framed;
+use numbers::{FileFault, Refusal};
 use table::span::{Span, item_at};
 
 // The verdict; and for a file that is accepted both counts, the manifest's start, and the place and length of the root's attributes. All 0 on refusal.
@@ -25,13 +27,13 @@ pub struct Answer {
     pub size: u64,
 }
 
-fn refused(number: u64, object: u64, component: u64) -> Answer
-    ensures { result ≡ is.refused number object component }
+fn refused(fault: FileFault) -> Answer
+    ensures { result ≡ is.refused (number_of fault.refusal) fault.object fault.component }
 {
     Answer {
-        number: number,
-        object: object,
-        component: component,
+        number: u64::from(fault.refusal),
+        object: fault.object as u64,
+        component: fault.component as u64,
         objects: 0,
         components: 0,
         start: 0,
@@ -71,13 +73,15 @@ fn fill(layout: u64, m: &[u8], start: usize, last: bool, t: &mut [u64]) -> Answe
     ensures { is.Filled (layout_of layout) last start m.now t.old result t.new }
 {
     match manifest(layout, m, start as u64) {
-        Told::No(n, o, c) => refused(n, o, c),
-        Told::Yes(objects, components, left, at) => {
+        Err(fault) => refused(fault),
+        Ok(told) => {
+            let objects = told.objects;
+            let components = told.components;
             if !fits(t.len(), objects, components) {
-                return refused(numbers::ROOM, 0, 0);
+                return refused(FileFault::from(Refusal::Room));
             }
             let end = start + m.len();
-            let place = place_of(m.len(), at);
+            let place = place_of(m.len(), told.place);
             let first = before_rows(last, t.len(), objects, components);
             objects::lay(
                 layout,
@@ -87,7 +91,7 @@ fn fill(layout: u64, m: &[u8], start: usize, last: bool, t: &mut [u64]) -> Answe
                 columns::OBJECT * objects,
                 &mut t[first..],
             );
-            let a = attributes(m, left, end);
+            let a = attributes(m, told.attributes, end);
             Answer {
                 number: 0,
                 object: 0,
@@ -107,8 +111,8 @@ fn place(layout: u64, file: &[u8], last: bool, t: &mut [u64]) -> Answer
     ensures { (result ≡ is.answered (read_into (layout_of layout) file.now (length t.old))) × (t.new ≡ is.placed last t.old (read_into (layout_of layout) file.now (length t.old))) }
 {
     match frame::frame(layout, file) {
-        Framed::No(n) => refused(n, 0, 0),
-        Framed::At(start, size) => {
+        Err(refusal) => refused(FileFault::from(refusal)),
+        Ok(Framed { start, size }) => {
             let end = start + size;
             fill(layout, &file[start..end], start, last, t)
         }

@@ -9,10 +9,7 @@ ghost use Rattle.meaning.specs.Layouts.{current, layout_of};
 ghost use Rattle.reader.specs.Verdict as is;
 
 use frame::Framed;
-use root::Judged;
-
-// 2^63, above every length: `cbor` adds it to the number of a refusal.
-const FAULT: usize = 0x8000_0000_0000_0000;
+use numbers::{FileFault, Refusal};
 
 // The first failing check of document 01's order: its number, object and component; 0, 0 and 0 for a file that is accepted.
 #[repr(C)]
@@ -23,55 +20,60 @@ pub struct Verdict {
     pub component: u64,
 }
 
-fn refusal(number: u64, object: u64, component: u64) -> Verdict
-    ensures { result ≡ is.refusal number object component }
-{
-    Verdict {
-        number: number,
-        object: object,
-        component: component,
-    }
-}
-
-// What a manifest says: a refusal with its object and component; or how many objects and components there are, and the places of the root's attributes and objects.
+// What a manifest says: how many objects and components there are, and the places of the root's attributes and objects.
 #[derive(Clone, Copy)]
-pub enum Told {
-    No(u64, u64, u64),
-    Yes(usize, usize, usize, usize),
+pub struct Told {
+    pub objects: usize,
+    pub components: usize,
+    pub attributes: usize,
+    pub place: usize,
 }
 
 // The manifest m, which begins at `start`: one item that fills it exactly, and what that says.
-pub fn manifest(layout: u64, m: &[u8], start: u64) -> Told
+pub fn manifest(layout: u64, m: &[u8], start: u64) -> Result<Told, FileFault>
     ensures { (end : ℕ) → is.ManifestIs (layout_of layout) end start m.now result }
 {
     let w = root::root(layout, m, start);
     let e = w.end;
     if m.len() < e {
-        return Told::No((e - FAULT) as u64, 0, 0);
+        return Err(FileFault::from(cbor::refusal(e)));
     }
     if e < m.len() {
-        return Told::No(numbers::CBOR, 0, 0);
+        return Err(FileFault::from(Refusal::Cbor));
     }
-    let v = w.verdict;
-    match v {
-        Judged::No(n, o, c) => Told::No(n, o as u64, c as u64),
-        Judged::Yes(objects, components, left) => Told::Yes(objects, components, left, w.objects),
-    }
+    let v = w.verdict?;
+    Ok(Told {
+        objects: v.objects,
+        components: v.components,
+        attributes: v.attributes,
+        place: w.objects,
+    })
+}
+
+// What the manifest of a file of this layout says, which is lent whole.
+fn judged(layout: u64, file: &[u8]) -> Result<Told, FileFault>
+    ensures { is.Judges (reading (layout_of layout) file.now) result }
+{
+    let Framed { start, size } = frame::frame(layout, file)?;
+    let end = start + size;
+    manifest(layout, &file[start..end], start as u64)
 }
 
 // The verdict on a file of this layout, which is lent whole.
 pub fn accept_as(layout: u64, file: &[u8]) -> Verdict
     ensures { result ≡ is.verdict (reading (layout_of layout) file.now) }
 {
-    match frame::frame(layout, file) {
-        Framed::No(n) => refusal(n, 0, 0),
-        Framed::At(start, size) => {
-            let end = start + size;
-            match manifest(layout, &file[start..end], start as u64) {
-                Told::No(n, o, c) => refusal(n, o, c),
-                Told::Yes(_, _, _, _) => refusal(0, 0, 0),
-            }
-        }
+    match judged(layout, file) {
+        Err(fault) => Verdict {
+            number: u64::from(fault.refusal),
+            object: fault.object as u64,
+            component: fault.component as u64,
+        },
+        Ok(_) => Verdict {
+            number: 0,
+            object: 0,
+            component: 0,
+        },
     }
 }
 

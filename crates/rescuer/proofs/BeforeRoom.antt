@@ -9,7 +9,6 @@ use borrow.Author.Tests.{le-leb}
 use mir.Val.{Fits}
 use mir.Syntax.{w64}
 use borrow.Author.Rules.{part_to_end}
-use Rattle.meaning.specs.Refusal.{COUNT, BIG}
 use Rattle.meaning.specs.Limit.{manifest_limit, end_limit, object_limit}
 use Rattle.meaning.specs.Check.{Check, pass, refuse}
 use Rattle.meaning.specs.Read.{Span}
@@ -46,11 +45,14 @@ use Rattle.rescuing.proofs.RescueAnswers.{refusals, kept-written, rescue-answers
 use Rattle.sieve.specs.declared.Sieve.{Sieve}
 use Rattle.sieve.specs.Sieved.{Bounded, Sifted}
 use Rattle.rescuer.specs.declared.opening.Found.{Found}
-use Rattle.rescuer.specs.declared.opening.Found.TheVariants as found
 use Rattle.rescuer.specs.Opened as opened
 use Rattle.rescuer.specs.Opened.{OpensAt, between, FoundIs}
-use Rattle.rescuer.specs.declared.checks.Verdict.TheVariants as verdict
+use Rattle.rescuer.specs.declared.checks.Verdict.{Verdict}
 use Rattle.rescuer.specs.Checked.{MeasuredOf, Measured, CheckedIs}
+use Rattle.std.specs.Prelude.{Ok, Err}
+use Rattle.numbers.specs.declared.refusal.Refusal.TheVariants as refusals
+use Rattle.numbers.specs.declared.fault.FileFault.{FileFault}
+use Rattle.std.specs.Prelude.{Result}
 
 -- ---- the objects in a window
 
@@ -80,28 +82,37 @@ module _ (place size n : ℕ) {t h : ℕ} (t-is : t ≡ capped (optional_copy 11
 
 -- ---- from what was found of a file
 
-module _ (layout : ℕ) (file : List ℕ) {w : Found} (says : FoundIs (sifted (layout_of layout) file) layout 0 (length file) (between file) w) where
+module _ (layout : ℕ) (file : List ℕ) {w : Result Found FileFault} (says : FoundIs (sifted (layout_of layout) file) layout 0 (length file) (between file) w) where
   abbrev L : Layout
   L = layout_of layout
 
-  there : {v : Found} → w ≡ v → opened.Cases (sifted L file) layout 0 (length file) (between file) v
+  there : {v : Result Found FileFault} → w ≡ v → opened.Cases (sifted L file) layout 0 (length file) (between file) v
   there e = subst (λ v. opened.Cases (sifted L file) layout 0 (length file) (between file) v) e says.case
 
   -- refused as the reader refuses it
-  pub refuses : {n o c : ℕ} → w ≡ found.No n o c → CheckedIs layout file (verdict.No n o c)
+  pub refuses : (f : FileFault) → w ≡ Err f → (q : Result Verdict FileFault) → q ≡ Err f → CheckedIs layout file q
   unfolding rescue after
-  refuses e = record { case = λ lent list room. rw (there e) refl }
+  refuses f e q is = record { case = rw is (λ lent list room. rw (there e) refl) }
 
   -- it passes up to its objects' names
-  module _ {start end first place size : ℕ} (passes : w ≡ found.Yes start end first place size) where
+  module _ {found : Found} (passes : w ≡ Ok found) where
+    abbrev start : ℕ
+    start = found.start
+
+    abbrev end : ℕ
+    end = found.end
+
+    abbrev first : ℕ
+    first = found.first
+
+    abbrev place : ℕ
+    place = found.place
+
+    abbrev size : ℕ
+    size = found.size
+
     o : OpensAt (sifted L file) layout 0 (length file) start end first (between file first end) place size
     o = there passes
-
-    pub in_order : first ≤ end
-    in_order = o.ordered.1
-
-    pub inside : end ≤ length file
-    inside = o.ordered.2
 
     module _ (held : Held file) {z : Sieve} (measured : Measured layout (between file first end) start end z) where
       abbrev m : Model Span
@@ -139,9 +150,9 @@ module _ (layout : ℕ) (file : List ℕ) {w : Found} (says : FoundIs (sifted (l
       answers : (lent list room : ℕ) → rescue L file lent list room ≡ after (refusals file o.sift) (λ u. roomed file o.sift lent list room)
       answers = rescue-answers L (size_back_lem layout) file held o.sift o.is
 
-      pub too_far : end_limit < z.place → CheckedIs layout file (verdict.No COUNT 0 0)
+      pub too_far : end_limit < z.place → (f : FileFault) → f ≡ record { refusal = refusals.Count; object = 0; component = 0 } → CheckedIs layout file (Err f)
       unfolding after
-      too_far h = record { case = λ lent list room. answers lent list room ∙ rw (of-sum.too_far d m.objects lengths entries sum h) refl }
+      too_far h f is = record { case = rw is λ lent list room. answers lent list room ∙ rw (of-sum.too_far d m.objects lengths entries sum h) refl }
 
       module _ (near : z.place ≤ end_limit) {t h k : ℕ} (t-is : t ≡ capped (optional_copy 11 (record { place = place; size = size }))) (h-is : h ≡ head_size z.kept) (k-is : k ≡ capped (23 + t + h + z.total)) where
         attributes-size : t ≡ capped (field_size 11 d.attributes)
@@ -152,14 +163,14 @@ module _ (layout : ℕ) (file : List ℕ) {w : Found} (says : FoundIs (sifted (l
         long-so : k ≡ capped (23 + t + head_size z.kept + z.total)
         long-so = k-is ∙ ap (λ (x : ℕ). capped (23 + t + x + z.total)) h-is
 
-        pub too-big : manifest_limit < k → CheckedIs layout file (verdict.No BIG 0 0)
+        pub too-big : manifest_limit < k → (f : FileFault) → f ≡ record { refusal = refusals.Big; object = 0; component = 0 } → CheckedIs layout file (Err f)
         unfolding after
-        too-big b =
+        too-big b f is =
             let far = of-sum.in-time d m.objects lengths entries sum near in
             let big = of-sum.too-big d m.objects lengths entries sum near counted attributes-size long-so b in
-            record { case = λ lent list room. answers lent list room ∙ rw (far, big) refl }
+            record { case = rw is λ lent list room. answers lent list room ∙ rw (far, big) refl }
 
-        pub ready : Bounded z → k ≤ manifest_limit → CheckedIs layout file (verdict.Yes start end first place size z.kept z.dropped z.components (z.place + k + 16))
+        pub ready : Bounded z → k ≤ manifest_limit → CheckedIs layout file (Ok (record { start = start; end = end; first = first; place = place; size = size; kept = z.kept; dropped = z.dropped; components = z.components; long = z.place + k + 16 }))
         unfolding after written_again
         ready few fits =
             let in-time = of-sum.in-time d m.objects lengths entries sum near in

@@ -10,14 +10,13 @@ use Rattle.meaning.specs.Check.{Check, pass, refuse}
 use Rattle.meaning.specs.Notes.{map_check}
 use Rattle.meaning.specs.Layouts.{Layout, layout_of, slot}
 use Rattle.meaning.specs.Frame.{frame}
-use Rattle.cbor.specs.Ending.{FAULT, code, item_end}
+use Rattle.cbor.specs.Ending.{FAULT, code, item_end, refusal_of}
+use Rattle.cbor.proofs.Refusals.{fault-number}
 use Rattle.walk.specs.Reading.{Ends, left_at, Reads}
 use Rattle.fields.specs.Slots.{Holds}
 use Rattle.frame.specs.FrameAnswer.{told}
 use Rattle.frame.specs.declared.Framed.{Framed}
-use Rattle.frame.specs.declared.Framed.TheVariants as frames-are
 use Rattle.root.specs.declared.Judged.{Judged}
-use Rattle.root.specs.declared.Judged.TheVariants.{No, Yes}
 use Rattle.root.specs.Verdict.{judged, WholeIs, ObjectsAt}
 use Rattle.table.specs.declared.span.Span.{Span}
 use Rattle.reader.specs.Answer.{AttributesIs}
@@ -27,49 +26,61 @@ use Rattle.reader.proofs.ItemFills.{Filling}
 use Rattle.reader.proofs.RootParts.{attributes_at, field-holds}
 use Rattle.rescuing.specs.Sift.{Opened, opened, Sifted, sift, sifted}
 use Rattle.rescuer.specs.declared.opening.Told.{Told}
-use Rattle.rescuer.specs.declared.opening.Told.TheVariants as names-are
 use Rattle.rescuer.specs.declared.opening.Found.{Found}
-use Rattle.rescuer.specs.declared.opening.Found.TheVariants as found
 use Rattle.rescuer.specs.Opened.{manifest_sifted, spanned, Opens, NamesAre, OpensAt, behind, between, FoundIs}
 use Rattle.rescuer.proofs.RootNames as naming
 use Rattle.rescuer.proofs.RootNames.{Parts, passed_model}
+use Rattle.std.specs.Prelude.{Ok, Err, Result}
+use Rattle.numbers.specs.declared.refusal.Refusal.{Refusal}
+use Rattle.numbers.specs.declared.fault.FileFault.{FileFault}
+use Rattle.numbers.specs.declared.refusal.Refusal.TheVariants as refusals
+use Rattle.numbers.specs.Numbered.{number_of}
+use Rattle.numbers.specs.Answered.{in_file}
+use mathlib.Core.Logic.{⊎_elim}
+use Rattle.meaning.specs.Rows.{component_count}
 
 -- ---- the walk over the manifest s, lent whole, ended at e
 
 module _ (L : Layout) (end start : ℕ) (s : List ℕ) (e : ℕ) (ended : e ≡ code (item_end 32 s)) where
-  pub malformed : length s < e → manifest_sifted L end start s ≡ refuse (e - FAULT) 0 0
-  malformed l = rw (filling.faulty end s e ended l).is refl
+  refused-number : length s < e → e - FAULT ≡ number_of (refusal_of e)
+  unfolding refusal_of
+  refused-number l = ⊎_elim (λ h. rw h refl) (λ h. rw h refl) (fault-number 32 s e ended l)
 
-  pub left_over : length s * 1 < 2 ^ 63 → e < length s → manifest_sifted L end start s ≡ refuse 6 0 0
-  left_over lent l = rw (filling.left_over end s e ended (omega arith) l) refl
+  pub malformed : length s < e → (n : Refusal) → n ≡ refusal_of e → (k : FileFault) → k ≡ record { refusal = n; object = 0; component = 0 } → NamesAre L end start s (Err k)
+  malformed l n is k same =
+      rw same ((rw (filling.faulty end s e ended l).is refl) ∙ ap (λ (i : ℕ). refuse i 0 0) (refused-number l) ∙ ap (λ (r : Refusal). refuse (number_of r) 0 0) (sym is))
 
-  module _ (lent : length s * 1 < 2 ^ 63) (low : e ≤ length s) (high : length s ≤ e) (u : Judged) (says : WholeIs false L s 0 u) where
+  pub left_over : length s * 1 < 2 ^ 63 → e < length s → (k : FileFault) → k ≡ record { refusal = refusals.Cbor; object = 0; component = 0 } → NamesAre L end start s (Err k)
+  left_over lent l k same = rw same (rw (filling.left_over end s e ended (omega arith) l) refl)
+
+  module _ (lent : length s * 1 < 2 ^ 63) (low : e ≤ length s) (high : length s ≤ e) (u : Result Judged FileFault) (says : WholeIs false L s 0 u) where
     abbrev f : Filling end s
     f = filling.filling end s e ended (omega arith) (omega arith)
 
-    verdict : (v : Judged) → u ≡ v → v ≡ judged (map_check (passed_model L 0) (opened L f.tree))
+    verdict : (v : Result Judged FileFault) → u ≡ v → in_file v ≡ judged (map_check (passed_model L 0) (opened L f.tree))
     verdict v same =
         subst (WholeIs false L s 0) same says f.tree f.rest f.reads
         ∙ ap judged (naming.by_names L 0 f.tree)
 
-    pub names-refuse : (n o c : ℕ) → u ≡ No n o c → manifest_sifted L end start s ≡ refuse n o c
-    names-refuse n o c same = go (opened L f.tree) refl
+    pub names-refuse : (g : FileFault) → u ≡ Err g → (q : Result Told FileFault) → q ≡ Err g → NamesAre L end start s q
+    names-refuse g same q is = rw is (go (opened L f.tree) refl)
       where
-        go : (k : Check (Opened Ends)) → opened L f.tree ≡ k → manifest_sifted L end start s ≡ refuse n o c
-        go (pass p) h = let z : No n o c ≡ judged (pass (passed_model L 0 p)) = verdict (No n o c) same ∙ ap (λ k. judged (map_check (passed_model L 0) k)) h in absurd (let y : ◌≡◌ {A = ℕ} 0 1 = cc in omega arith)
-        go (refuse n' o' c') h =
-            let z : No n o c ≡ No n' o' c' = verdict (No n o c) same ∙ ap (λ k. judged (map_check (passed_model L 0) k)) h in
-            let a : n' ≡ n = cc in let b : o' ≡ o = cc in let d : c' ≡ c = cc in
-            rw (f.is, naming.opened-spanned L end f.tree, h, a, b, d) refl
+        go : (k : Check (Opened Ends)) → opened L f.tree ≡ k → manifest_sifted L end start s ≡ in_file (Err g)
+        go (pass p) h = let z : in_file (Err g) ≡ judged (pass (passed_model L 0 p)) = verdict (Err g) same ∙ ap (λ k. judged (map_check (passed_model L 0) k)) h in absurd (let y : ◌≡◌ {A = ℕ} 0 1 = cc in omega arith)
+        go (refuse n o c) h =
+            let z : in_file (Err g) ≡ judged (refuse n o c) = verdict (Err g) same ∙ ap (λ k. judged (map_check (passed_model L 0) k)) h in
+            let number : number_of g.refusal ≡ n = cc in let object : g.object ≡ o = cc in let component : g.component ≡ c = cc in
+            rw (f.is, naming.opened-spanned L end f.tree, h, number, object, component) refl
 
-    pub names-pass : (x y left at : ℕ) → u ≡ Yes x y left → ObjectsAt L s at → Opens L end start s left at
-    names-pass x y left at same stand = go (opened L f.tree) refl
+    pub names-pass : (v : Judged) → u ≡ Ok v → (at : ℕ) → ObjectsAt L s at → Opens L end start s v.attributes at
+    names-pass v same at stand = go (opened L f.tree) refl
       where
-        go : (k : Check (Opened Ends)) → opened L f.tree ≡ k → Opens L end start s left at
-        go (refuse n o c) h = let z : Yes x y left ≡ No n o c = verdict (Yes x y left) same ∙ ap (λ k. judged (map_check (passed_model L 0) k)) h in absurd (let y : ◌≡◌ {A = ℕ} 0 1 = cc in omega arith)
+        go : (k : Check (Opened Ends)) → opened L f.tree ≡ k → Opens L end start s v.attributes at
+        go (refuse n o c) h = let z : in_file (Ok v) ≡ judged (refuse n o c) = verdict (Ok v) same ∙ ap (λ k. judged (map_check (passed_model L 0) k)) h in absurd (let y : ◌≡◌ {A = ℕ} 0 1 = cc in omega arith)
         go (pass p) h =
-            let z : Yes x y left ≡ judged (pass (passed_model L 0 p)) = verdict (Yes x y left) same ∙ ap (λ k. judged (map_check (passed_model L 0) k)) h in
-            let left_is : left ≡ left_at p.attributes = cc in
+            let z : in_file (Ok v) ≡ judged (pass (passed_model L 0 p)) = verdict (Ok v) same ∙ ap (λ k. judged (map_check (passed_model L 0) k)) h in
+            let y : v ≡ record { objects = length (passed_model L 0 p).objects; components = component_count (passed_model L 0 p).objects; attributes = left_at p.attributes } = cc in
+            let left_is : v.attributes ≡ left_at p.attributes = ap (λ (v : Judged). v.attributes) y in
             let parts : Parts L f.tree p = naming.parts-of L f.tree p h in
             record {
               opening = p;
@@ -86,30 +97,27 @@ module _ (L : Layout) (end start : ℕ) (s : List ℕ) (e : ℕ) (ended : e ≡ 
 
 -- ---- the manifest m, which begins at `start`
 
-module _ (layout start : ℕ) (m : List ℕ) (x : Told) (h : (end start : ℕ) → NamesAre (layout_of layout) end start m x) where
+module _ (layout start : ℕ) (m : List ℕ) (x : Result Told FileFault) (h : (end start : ℕ) → NamesAre (layout_of layout) end start m x) where
   abbrev end : ℕ
   end = start + length m
 
-  there : (y : Told) → x ≡ y → NamesAre (layout_of layout) end start m y
+  there : (y : Result Told FileFault) → x ≡ y → NamesAre (layout_of layout) end start m y
   there y e = subst (NamesAre (layout_of layout) end start m) e (h end start)
 
-  pub refuses : (n o c : ℕ) → x ≡ names-are.No n o c → FoundIs (manifest_sifted (layout_of layout) end start m) layout start end (behind start m) (found.No n o c)
-  refuses n o c e = record { case = there (names-are.No n o c) e }
-
-  module _ (left at : ℕ) (e : x ≡ names-are.Yes left at) (p : ℕ) (here : p ≡ length m - at) (s : Span) (attributes : AttributesIs m left end s) where
-    abbrev o : Opens (layout_of layout) end start m left at
-    o = there (names-are.Yes left at) e
+  module _ (v : Told) (e : x ≡ Ok v) (p : ℕ) (here : p ≡ length m - v.objects) (s : Span) (attributes : AttributesIs m v.attributes end s) where
+    abbrev o : Opens (layout_of layout) end start m v.attributes v.objects
+    o = there (Ok v) e
 
     abbrev named : Sifted
     named = sift (layout_of layout) start (spanned end o.opening)
 
-    piece_is : behind start m (start + p) end ≡ drop (length m - at) m
+    piece_is : behind start m (start + p) end ≡ drop (length m - v.objects) m
     piece_is =
-        let a : start + p - start ≡ length m - at = omega (arith, here) in
+        let a : start + p - start ≡ length m - v.objects = omega (arith, here) in
         let b : end - start ≡ length m = omega arith in
-        ap₂ (λ (i j : ℕ). drop i (take j m)) a b ∙ ap (drop (length m - at)) (take_all (length m) m (omega arith))
+        ap₂ (λ (i j : ℕ). drop i (take j m)) a b ∙ ap (drop (length m - v.objects)) (take_all (length m) m (omega arith))
 
-    pub opens_at : FoundIs (manifest_sifted (layout_of layout) end start m) layout start end (behind start m) (found.Yes start end (start + p) s.place s.size)
+    pub opens_at : FoundIs (manifest_sifted (layout_of layout) end start m) layout start end (behind start m) (Ok (record { start = start; end = end; first = start + p; place = s.place; size = s.size }))
     unfolding sift
     opens_at = record {
       case = record {
@@ -143,17 +151,23 @@ part-of-part l start size first end a b c d =
     ∙ ap (drop i) (take-add i n s) ∙ drop_at (take i s) (take n (drop i s)) i (length-take-le i s g)
     ∙ ap (take n) (drop-drop i start l ∙ ap (λ (k : ℕ). drop k l) f)
 
-module _ (layout : ℕ) (file : List ℕ) (r : Framed) (asked : frame (layout_of layout) file ≡ told r) where
-  pub no-frame : (n : ℕ) → r ≡ frames-are.No n → FoundIs (sifted (layout_of layout) file) layout 0 (length file) (between file) (found.No n 0 0)
+module _ (layout : ℕ) (file : List ℕ) (r : Result Framed Refusal) (asked : frame (layout_of layout) file ≡ told r) where
+  pub no-frame : (n : Refusal) → r ≡ Err n → (q : Result Found FileFault) → q ≡ Err (record { refusal = n; object = 0; component = 0 }) → FoundIs (sifted (layout_of layout) file) layout 0 (length file) (between file) q
   unfolding sifted
-  no-frame n e = record { case = rw (framed layout file r asked (frames-are.No n) e) refl }
+  no-frame n e q is = record { case = rw is (rw (framed layout file r asked (Err n) e) refl) }
 
-  module _ (start size : ℕ) (e : r ≡ frames-are.At start size) where
+  module _ (fr : Framed) (e : r ≡ Ok fr) where
+    abbrev start : ℕ
+    start = fr.start
+
+    abbrev size : ℕ
+    size = fr.size
+
     abbrev m : List ℕ
     m = take (start + size - start) (drop start file)
 
     low : start + size ≤ length file
-    low = inside layout file r asked start size e
+    low = inside layout file r asked fr e
 
     as-sized : start + size - start ≡ size
     as-sized = omega arith
@@ -167,17 +181,17 @@ module _ (layout : ℕ) (file : List ℕ) (r : Framed) (asked : frame (layout_of
     sifted-is : sifted (layout_of layout) file ≡ manifest_sifted (layout_of layout) (start + length m) start m
     unfolding sifted
     sifted-is =
-        (rw (framed layout file r asked (frames-are.At start size) e) refl)
+        (rw (framed layout file r asked (Ok fr) e) refl)
         ∙ ap₂ (λ (i j : ℕ). manifest_sifted (layout_of layout) (start + i) start (take j (drop start file))) (sym sized) (sym as-sized)
 
-    pub whole : (w : Found) → FoundIs (manifest_sifted (layout_of layout) (start + length m) start m) layout start (start + length m) (behind start m) w
+    pub whole : (w : Result Found FileFault) → FoundIs (manifest_sifted (layout_of layout) (start + length m) start m) layout start (start + length m) (behind start m) w
         → FoundIs (sifted (layout_of layout) file) layout 0 (length file) (between file) w
-    whole (found.No n o c) h = record { case = sifted-is ∙ h.case }
-    whole (found.Yes s z first place long) h =
-        let o : OpensAt (manifest_sifted (layout_of layout) (start + length m) start m) layout start (start + length m) s z first (behind start m first z) place long = h.case in
-        let top : z ≤ start + size = omega (arith, o.ordered.2, sized) in
-        let piece : behind start m first z ≡ between file first z =
-        ap (λ (j : ℕ). behind start (take j (drop start file)) first z) as-sized ∙ part-of-part file start size first z o.ordered.0 o.ordered.1 top low in
+    whole (Err f) h = record { case = sifted-is ∙ h.case }
+    whole (Ok v) h =
+        let o : OpensAt (manifest_sifted (layout_of layout) (start + length m) start m) layout start (start + length m) v.start v.end v.first (behind start m v.first v.end) v.place v.size = h.case in
+        let top : v.end ≤ start + size = omega (arith, o.ordered.2, sized) in
+        let piece : behind start m v.first v.end ≡ between file v.first v.end =
+        ap (λ (j : ℕ). behind start (take j (drop start file)) v.first v.end) as-sized ∙ part-of-part file start size v.first v.end o.ordered.0 o.ordered.1 top low in
         record {
           case = record {
             sift = o.sift;

@@ -1,14 +1,14 @@
 -- From what is known before ROOM to the rescued file: the kept objects' rows and the dropped ones' entries, the file that the writer makes of the rows, and the tests of room.
-use Prim.Native.Nat.{ℕ, ◌+◌, ◌*◌, ◌≤◌, ◌<◌}
+use Prim.Native.Nat.{ℕ, ◌+◌, ◌*◌, ◌≤◌}
 use native.Mathlib.Omega.{arith}
 use native.Mathlib.Nat.{zero-add}
 use mathlib.Core.List.{List, ◌++◌}
 use mathlib.Core.Bool.{Bool, true, false, not, ◌&&◌}
 use mathlib.Core.Path.{◌≡◌, refl, sym, ap, ap₂, ◌∙◌, subst}
 use lib.ListN.{length, drop, length-map, replicate}
-use lib.Seq.{sets, sets-eq, length-sets}
+use lib.Seq.{sets, sets-eq}
 use lib.Dec.{leb}
-use borrow.Author.Tests.{le-leb, lt-leb, leb-true, not-true, not-false}
+use borrow.Author.Tests.{le-leb, leb-true, not-true, not-false}
 use Rattle.meaning.specs.Limit.{object_limit}
 use Rattle.meaning.specs.Columns.{object_width, component_width}
 use Rattle.meaning.specs.Check.{Check, pass}
@@ -38,9 +38,12 @@ use Rattle.sieve.proofs.ObjectJudged.{entries-length}
 use Rattle.rescuer.specs.Opened.{between}
 use Rattle.rescuer.specs.Checked.{Ready, Cases, CheckedIs}
 use Rattle.rescuer.specs.declared.checks.Verdict.{Verdict}
-use Rattle.rescuer.specs.declared.checks.Verdict.TheVariants.{No, Yes}
 use Rattle.rescuer.specs.declared.Rescued.{Rescued}
 use Rattle.rescuer.specs.RescuedFile.{answer, answered, Enough}
+use Rattle.std.specs.Prelude.{Ok, Err}
+use Rattle.numbers.specs.declared.fault.FileFault.{FileFault}
+use Rattle.numbers.specs.Numbered.{number_of}
+use Rattle.std.specs.Prelude.{Result}
 
 -- ---- the tests of room
 
@@ -48,16 +51,6 @@ module _ (needs rows listed list long out : ℕ) where
   -- rows, list and output are enough
   abbrev pub roomy : Bool
   roomy = leb needs rows && leb listed list && leb long out
-
-  module _ {t : Bool} (e : t ≡ leb needs rows) where
-    pub rows_short : not t ≡ true → false ≡ roomy
-    rows_short f = rw (sym e ∙ not-true t f) refl
-
-    pub list-short : not t ≡ false → list < listed → false ≡ roomy
-    list-short f h = rw (sym e ∙ not-false t f, lt-leb listed list h) refl
-
-    pub output-decides : not t ≡ false → listed ≤ list → leb long out ≡ roomy
-    output-decides f h = rw (sym e ∙ not-false t f, le-leb listed list h) refl
 
 three-true : (x y z : Bool) → x && y && z ≡ true → (x ≡ true) × (y ≡ true) × (z ≡ true)
 three-true true true z h = (refl, refl, h)
@@ -68,12 +61,12 @@ three-true false true false h = (h, refl, h)
 three-true false false true h = (h, h, refl)
 three-true false false false h = (h, h, h)
 
-pub enough-so : {t : Bool} → not t ≡ false → (k j c long : ℕ) (rows list out : List ℕ) → t ≡ roomy (object_width * k + component_width * c) (length rows) (entry_width * j) (length list) long (length out)
-    → Enough k j c long rows list out
-enough-so {t} f k j c long rows list out e =
-    let p : ℕ = object_width * k + component_width * c in
-    let h = three-true (leb p (length rows)) (leb (entry_width * j) (length list)) (leb long (length out)) (sym e ∙ not-false t f) in
-    record { numbers = leb-true p (length rows) h.0; entries = leb-true (entry_width * j) (length list) h.1; bytes = leb-true long (length out) h.2 }
+pub enough-so : {t : Bool} → not t ≡ false → (v : Verdict) (rows list out : List ℕ) → t ≡ roomy (object_width * v.kept + component_width * v.components) (length rows) (entry_width * v.dropped) (length list) v.long (length out)
+    → Enough v rows list out
+enough-so {t} f v rows list out e =
+    let p : ℕ = object_width * v.kept + component_width * v.components in
+    let h = three-true (leb p (length rows)) (leb (entry_width * v.dropped) (length list)) (leb v.long (length out)) (sym e ∙ not-false t f) in
+    record { numbers = leb-true p (length rows) h.0; entries = leb-true (entry_width * v.dropped) (length list) h.1; bytes = leb-true v.long (length out) h.2 }
 
 -- ---- rows of a model over a table's beginning
 
@@ -90,7 +83,34 @@ rows-laid m t from e fits =
 
 -- ---- a file that is ready
 
-module _ {layout : ℕ} {file : List ℕ} {start end first place size k j c long : ℕ} (y : Ready layout file start end first place size k j c long) where
+module _ {layout : ℕ} {file : List ℕ} {v : Verdict} (y : Ready layout file v) where
+  abbrev start : ℕ
+  start = v.start
+
+  abbrev end : ℕ
+  end = v.end
+
+  abbrev first : ℕ
+  first = v.first
+
+  abbrev place : ℕ
+  place = v.place
+
+  abbrev size : ℕ
+  size = v.size
+
+  abbrev k : ℕ
+  k = v.kept
+
+  abbrev j : ℕ
+  j = v.dropped
+
+  abbrev c : ℕ
+  c = v.components
+
+  abbrev long : ℕ
+  long = v.long
+
   abbrev m : Model Span
   m = y.opens.sift.model
 
@@ -114,7 +134,7 @@ module _ {layout : ℕ} {file : List ℕ} {start end first place size k j c long
         y.left lent list room
         ∙ rw (needs, ← y.dropped-are, ← y.kept-are, ← y.long-is, le-leb (object_width * k + component_width * c) lent p, le-leb (entry_width * j) list q, le-leb long room r) refl
 
-  module _ {table list out : List ℕ} (room : Enough k j c long table list out) where
+  module _ {table list out : List ℕ} (room : Enough v table list out) where
     well : rescue (layout_of layout) file (length table) (length list) (length out) ≡ done (plain_file d) k y.opens.sift.dropped
     well = goes-well (length table) (length list) (length out) room.numbers room.entries room.bytes
 
@@ -142,9 +162,6 @@ module _ {layout : ℕ} {file : List ℕ} {start end first place size k j c long
           let n = room.numbers in
           of.lays refl (omega (arith, kept-count)) (omega (arith, component-count, n))
           ∙ ap (λ (os : List (Object Span)). sets (sets table 0 (object_rows os)) from (component_rows 0 os)) (sym y.opens.kept-are)
-
-      pub still-long : length t ≡ length table
-      still-long = ap length table-so ∙ length-sets (sets table 0 (object_rows m.objects)) from (component_rows 0 m.objects) ∙ length-sets table 0 (object_rows m.objects)
 
       table_is : t ≡ rows m ++ drop (room_for m) table
       table_is = let n = room.numbers in table-so ∙ rows-laid m table from (ap (λ (n : ℕ). object_width * n) y.kept-are) (omega (arith, n, needs))
@@ -186,14 +203,14 @@ cleared-after table t e f = f ∙ ap (λ (n : ℕ). replicate n 0) e
 
 -- ---- what a caller sees, from the verdict before ROOM
 
-module _ {layout : ℕ} {file : List ℕ} {v : Verdict} (says : CheckedIs layout file v) where
-  module _ {n o c : ℕ} (is : v ≡ No n o c) where
-    refused-so : (lent list room : ℕ) → rescue (layout_of layout) file lent list room ≡ refused n o c
-    refused-so = subst (λ v. Cases layout file v) is says.case
+module _ {layout : ℕ} {file : List ℕ} {w : Result Verdict FileFault} (says : CheckedIs layout file w) where
+  module _ {f : FileFault} (is : w ≡ Err f) where
+    refused-so : (lent list room : ℕ) → rescue (layout_of layout) file lent list room ≡ refused (number_of f.refusal) f.object f.component
+    refused-so = subst (λ w. Cases layout file w) is says.case
 
-    pub refused-told : (lent list room : ℕ) {r : Rescued} → r ≡ answer n o c 0 0 0 → r ≡ answered (rescue (layout_of layout) file lent list room)
+    pub refused-told : (lent list room x : ℕ) → x ≡ number_of f.refusal → {r : Rescued} → r ≡ answer x f.object f.component 0 0 0 → r ≡ answered (rescue (layout_of layout) file lent list room)
     unfolding rescue_answer
-    refused-told lent list room e = e ∙ rw (refused-so lent list room) refl
+    refused-told lent list room x same e = e ∙ ap (λ (x : ℕ). answer x f.object f.component 0 0 0) same ∙ rw (refused-so lent list room) refl
 
     pub refused-list : (lent room : ℕ) (list : List ℕ) → list ≡ rescue_list list (rescue (layout_of layout) file lent (length list) room)
     unfolding rescue_list
@@ -203,19 +220,16 @@ module _ {layout : ℕ} {file : List ℕ} {v : Verdict} (says : CheckedIs layout
     unfolding rescue_output
     refused-output lent list out = rw (refused-so lent list (length out)) refl
 
-  module _ {start end first place size k j c long : ℕ} (is : v ≡ Yes start end first place size k j c long) where
-    pub ready-so : Ready layout file start end first place size k j c long
-    ready-so = subst (λ v. Cases layout file v) is says.case
+  module _ {v : Verdict} (is : w ≡ Ok v) where
+    pub ready-so : Ready layout file v
+    ready-so = subst (λ w. Cases layout file w) is says.case
 
-    pub few-dropped : j ≤ 1024
-    few-dropped = ready-so.few.1
-
-    module _ (rows list out : List ℕ) {t : Bool} (tested : t ≡ roomy (object_width * k + component_width * c) (length rows) (entry_width * j) (length list) long (length out)) where
+    module _ (rows list out : List ℕ) {t : Bool} (tested : t ≡ roomy (object_width * v.kept + component_width * v.components) (length rows) (entry_width * v.dropped) (length list) v.long (length out)) where
       module _ (lacks : not t ≡ true) where
-        short-so : rescue (layout_of layout) file (length rows) (length list) (length out) ≡ short k j long
+        short-so : rescue (layout_of layout) file (length rows) (length list) (length out) ≡ short v.kept v.dropped v.long
         short-so = short-of ready-so (length rows) (length list) (length out) tested (not-true t lacks)
 
-        pub short-told : {r : Rescued} → r ≡ answer 24 0 0 k j long → r ≡ answered (rescue (layout_of layout) file (length rows) (length list) (length out))
+        pub short-told : {r : Rescued} → r ≡ answer 24 0 0 v.kept v.dropped v.long → r ≡ answered (rescue (layout_of layout) file (length rows) (length list) (length out))
         unfolding rescue_answer
         short-told e = e ∙ rw short-so refl
 
@@ -227,5 +241,5 @@ module _ {layout : ℕ} {file : List ℕ} {v : Verdict} (says : CheckedIs layout
         unfolding rescue_output
         short-output = rw short-so refl
 
-      pub well-told : not t ≡ false → {r : Rescued} → r ≡ answer 0 0 0 k j long → r ≡ answered (rescue (layout_of layout) file (length rows) (length list) (length out))
-      well-told f e = e ∙ told-well ready-so (enough-so f k j c long rows list out tested)
+      pub well-told : not t ≡ false → {r : Rescued} → r ≡ answer 0 0 0 v.kept v.dropped v.long → r ≡ answered (rescue (layout_of layout) file (length rows) (length list) (length out))
+      well-told f e = e ∙ told-well ready-so (enough-so f v rows list out tested)

@@ -1,5 +1,5 @@
 -- What is answered of a rescue before ROOM: its refusal, whatever rows, list and output are lent, or what is needed to lay the rescued file.
-use Rattle.std.specs.Prelude.{ℕ, ◌≤◌, List, ◌≡◌, length}
+use Rattle.std.specs.Prelude.{ℕ, ◌≤◌, List, ◌≡◌, length, Ok, Err, Result}
 use Rattle.meaning.specs.Limit.{object_limit}
 use Rattle.meaning.specs.Tree.{Node}
 use Rattle.meaning.specs.Check.{Check, pass}
@@ -19,7 +19,8 @@ use Rattle.rescuing.specs.Rescue.{refused, rescue, roomed}
 use Rattle.sieve.specs.declared.Sieve.{Sieve}
 use Rattle.rescuer.specs.Opened.{OpensAt, between}
 use Rattle.rescuer.specs.declared.checks.Verdict.{Verdict}
-use Rattle.rescuer.specs.declared.checks.Verdict.TheVariants.{No, Yes}
+use Rattle.numbers.specs.declared.fault.FileFault.{FileFault}
+use Rattle.numbers.specs.Numbered.{number_of}
 
 -- what the verdicts ks keep and drop, and what the kept ones add up to
 pub record MeasuredOf (end : ℕ) (z : Sieve) (ks : List (Check (Object Ends))) : Type 0 where
@@ -34,20 +35,20 @@ Measured layout s start end z =
     (t : Node Ends) (r : List ℕ) → Reads 31 s t r → (ns : List (Named Ends)) → names object_limit t ≡ pass ns → length ns ≤ object_limit → MeasuredOf end z (verdicts (layout_of layout) start ns)
 
 -- the file passes up to its objects' names, and only ROOM is left
-pub record Ready (layout : ℕ) (file : List ℕ) (start end first place size keeps drops components long : ℕ) : Type 0 where
+pub record Ready (layout : ℕ) (file : List ℕ) (v : Verdict) : Type 0 where
   pub held : Held file
-  pub opens : OpensAt (sifted (layout_of layout) file) layout 0 (length file) start end first (between file first end) place size
-  pub kept-are : keeps ≡ length opens.sift.model.objects
-  pub dropped-are : drops ≡ length opens.sift.dropped
-  pub components-are : components ≡ component_count opens.sift.model.objects
-  pub few : (keeps ≤ 1024) × (drops ≤ 1024) × (components ≤ 16384)
-  pub long-is : long ≡ length (plain_file (described_by file opens.sift.model))
-  pub writes : (room : ℕ) → long ≤ room → written_plain (described_by file opens.sift.model) room ≡ pass (plain_file (described_by file opens.sift.model))
+  pub opens : OpensAt (sifted (layout_of layout) file) layout 0 (length file) v.start v.end v.first (between file v.first v.end) v.place v.size
+  pub kept-are : v.kept ≡ length opens.sift.model.objects
+  pub dropped-are : v.dropped ≡ length opens.sift.dropped
+  pub components-are : v.components ≡ component_count opens.sift.model.objects
+  pub few : (v.kept ≤ 1024) × (v.dropped ≤ 1024) × (v.components ≤ 16384)
+  pub long-is : v.long ≡ length (plain_file (described_by file opens.sift.model))
+  pub writes : (room : ℕ) → v.long ≤ room → written_plain (described_by file opens.sift.model) room ≡ pass (plain_file (described_by file opens.sift.model))
   pub left : (lent list room : ℕ) → rescue (layout_of layout) file lent list room ≡ roomed file opens.sift lent list room
 
-abbrev pub Cases : ℕ → List ℕ → Verdict → Type 0
-Cases layout file (No n o c) = (lent list room : ℕ) → rescue (layout_of layout) file lent list room ≡ refused n o c
-Cases layout file (Yes start end first place size keeps drops components long) = Ready layout file start end first place size keeps drops components long
+abbrev pub Cases : ℕ → List ℕ → Result Verdict FileFault → Type 0
+Cases layout file (Err f) = (lent list room : ℕ) → rescue (layout_of layout) file lent list room ≡ refused (number_of f.refusal) f.object f.component
+Cases layout file (Ok v) = Ready layout file v
 
-pub record CheckedIs (layout : ℕ) (file : List ℕ) (v : Verdict) : Type 0 where
+pub record CheckedIs (layout : ℕ) (file : List ℕ) (v : Result Verdict FileFault) : Type 0 where
   pub case : Cases layout file v

@@ -1,5 +1,5 @@
 -- What is answered of a file that is judged up to its objects' names: the refusal, or what a rescue keeps and drops of it, by trees that carry the bytes left at each item, and where they are read.
-use Rattle.std.specs.Prelude.{ℕ, ◌-◌, ◌≤◌, List, map, ◌≡◌, take, drop}
+use Rattle.std.specs.Prelude.{ℕ, ◌-◌, ◌≤◌, List, map, ◌≡◌, take, drop, Ok, Err, Result}
 use Rattle.std.proofs.Math.Option.{some}
 use Rattle.meaning.specs.Limit.{object_limit}
 use Rattle.meaning.specs.Tree.{Node, map_p}
@@ -17,9 +17,9 @@ use Rattle.table.specs.Spans.{span_of}
 use Rattle.window.specs.Summed.{spans}
 use Rattle.rescuing.specs.Sift.{Opened, opened, kept, dropped, verdicts, Sifted, sift}
 use Rattle.rescuer.specs.declared.opening.Told.{Told}
-use Rattle.rescuer.specs.declared.opening.Told.TheVariants as told
 use Rattle.rescuer.specs.declared.opening.Found.{Found}
-use Rattle.rescuer.specs.declared.opening.Found.TheVariants as found
+use Rattle.numbers.specs.declared.fault.FileFault.{FileFault}
+use Rattle.numbers.specs.Numbered.{number_of}
 
 -- the part of a sifting that follows the frame: the manifest s, which begins at `start` and ends at `end`
 abbrev pub manifest_sifted : Layout → ℕ → ℕ → List ℕ → Check Sifted
@@ -41,9 +41,9 @@ pub record Opens (L : Layout) (end start : ℕ) (m : List ℕ) (left at : ℕ) :
   pub attributes-hold : Holds 31 m left opening.attributes
   pub objects-hold : Holds 31 m at (some objects)
 
-abbrev pub NamesAre : Layout → ℕ → ℕ → List ℕ → Told → Type 0
-NamesAre L end start m (told.No n o c) = manifest_sifted L end start m ≡ refuse n o c
-NamesAre L end start m (told.Yes left at) = Opens L end start m left at
+abbrev pub NamesAre : Layout → ℕ → ℕ → List ℕ → Result Told FileFault → Type 0
+NamesAre L end start m (Err f) = manifest_sifted L end start m ≡ refuse (number_of f.refusal) f.object f.component
+NamesAre L end start m (Ok v) = Opens L end start m v.attributes v.objects
 
 -- what passes with the outcome c, in bytes that begin at `low` and end at `top`: its objects' map is read at s, between `first` and `end`
 pub record OpensAt (c : Check Sifted) (layout low top start end first : ℕ) (s : List ℕ) (place size : ℕ) : Type 0 where
@@ -66,10 +66,10 @@ behind start m first end = drop (first - start) (take (end - start) m)
 abbrev pub between : List ℕ → ℕ → ℕ → List ℕ
 between file first end = take (end - first) (drop first file)
 
-abbrev pub Cases : Check Sifted → ℕ → ℕ → ℕ → (ℕ → ℕ → List ℕ) → Found → Type 0
-Cases c layout low top piece (found.No n o k) = c ≡ refuse n o k
-Cases c layout low top piece (found.Yes start end first place size) = OpensAt c layout low top start end first (piece first end) place size
+abbrev pub Cases : Check Sifted → ℕ → ℕ → ℕ → (ℕ → ℕ → List ℕ) → Result Found FileFault → Type 0
+Cases c layout low top piece (Err f) = c ≡ refuse (number_of f.refusal) f.object f.component
+Cases c layout low top piece (Ok v) = OpensAt c layout low top v.start v.end v.first (piece v.first v.end) v.place v.size
 
 -- of bytes that begin at `low` and end at `top`
-pub record FoundIs (c : Check Sifted) (layout low top : ℕ) (piece : ℕ → ℕ → List ℕ) (w : Found) : Type 0 where
+pub record FoundIs (c : Check Sifted) (layout low top : ℕ) (piece : ℕ → ℕ → List ℕ) (w : Result Found FileFault) : Type 0 where
   pub case : Cases c layout low top piece w

@@ -3,6 +3,7 @@ use Rattle.std.specs.Prelude.{ℕ, ◌+◌, ◌*◌, ◌≤◌, List, length}
 use Rattle.meaning.specs.Columns.{object_width, component_width}
 use Rattle.rescuing.specs.Rescue as meant
 use Rattle.rescuing.specs.Rescue.{Rescue, entry_width, rescue_answer}
+use Rattle.rescuer.specs.declared.checks.Verdict.{Verdict}
 use Rattle.rescuer.specs.declared.Rescued.{Rescued}
 
 abbrev pub answer : ℕ → ℕ → ℕ → ℕ → ℕ → ℕ → Rescued
@@ -14,7 +15,7 @@ told a = answer a.number a.object a.component a.kept a.dropped a.length
 abbrev pub answered : Rescue → Rescued
 answered r = told (rescue_answer r)
 
-pub record Enough (kept dropped components long : ℕ) (rows list out : List ℕ) : Type 0 where
-  pub numbers : object_width * kept + component_width * components ≤ length rows
-  pub entries : entry_width * dropped ≤ length list
-  pub bytes : long ≤ length out
+pub record Enough (v : Verdict) (rows list out : List ℕ) : Type 0 where
+  pub numbers : object_width * v.kept + component_width * v.components ≤ length rows
+  pub entries : entry_width * v.dropped ≤ length list
+  pub bytes : v.long ≤ length out

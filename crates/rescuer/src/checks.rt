@@ -3,16 +3,23 @@ ghost use Rattle.sieve.specs.Sieved.{Bounded};
 ghost use Rattle.rescuer.specs.Checked.{Measured, CheckedIs};
 
 use crate::opening;
-use crate::opening::Found;
+use numbers::{FileFault, Refusal};
 use sieve::Sieve;
 use sizes::piece;
 
-// A refusal with its object and component. Or where the manifest begins and ends, where the map of its objects begins, and place and length of the root's attributes; how many objects are kept and dropped,
-// how many components are kept; and how long the rescued file is.
+// Where the manifest begins and ends, where the map of its objects begins, and place and length of the root's attributes; how many objects are kept and dropped, how many components are kept; and how long
+// the rescued file is.
 #[derive(Clone, Copy)]
-pub enum Verdict {
-    No(u64, u64, u64),
-    Yes(usize, usize, usize, u64, u64, usize, usize, usize, u64),
+pub struct Verdict {
+    pub start: usize,
+    pub end: usize,
+    pub first: usize,
+    pub place: u64,
+    pub size: u64,
+    pub kept: usize,
+    pub dropped: usize,
+    pub components: usize,
+    pub long: u64,
 }
 
 // What is kept and dropped of the objects whose map begins s.
@@ -34,33 +41,33 @@ fn measured(layout: u64, s: &[u8], start: u64, end: usize) -> Sieve
     )
 }
 
-pub fn checked(layout: u64, file: &[u8]) -> Verdict
+pub fn checked(layout: u64, file: &[u8]) -> Result<Verdict, FileFault>
     ensures { CheckedIs layout file.now result }
 {
-    match opening::file(layout, file) {
-        Found::No(n, o, c) => Verdict::No(n, o, c),
-        Found::Yes(start, end, first, place, size) => {
-            let z = measured(layout, &file[first..end], start as u64, end);
-            if numbers::END_MOST < z.place {
-                return Verdict::No(numbers::COUNT, 0, 0);
-            }
-            let head = piece::head(z.kept as u64);
-            let m = piece::capped(23 + piece::attributes(place, size) + head + z.total);
-            if numbers::MANIFEST_MOST < m {
-                return Verdict::No(numbers::BIG, 0, 0);
-            }
-            let long = z.place + m + 16;
-            Verdict::Yes(
-                start,
-                end,
-                first,
-                place,
-                size,
-                z.kept,
-                z.dropped,
-                z.components,
-                long,
-            )
-        }
+    let found = opening::file(layout, file)?;
+    let sum = measured(
+        layout,
+        &file[found.first..found.end],
+        found.start as u64,
+        found.end,
+    );
+    if numbers::END_MOST < sum.place {
+        return Err(FileFault::from(Refusal::Count));
     }
+    let head = piece::head(sum.kept as u64);
+    let m = piece::capped(23 + piece::attributes(found.place, found.size) + head + sum.total);
+    if numbers::MANIFEST_MOST < m {
+        return Err(FileFault::from(Refusal::Big));
+    }
+    Ok(Verdict {
+        start: found.start,
+        end: found.end,
+        first: found.first,
+        place: found.place,
+        size: found.size,
+        kept: sum.kept,
+        dropped: sum.dropped,
+        components: sum.components,
+        long: sum.place + m + 16,
+    })
 }

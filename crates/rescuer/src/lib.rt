@@ -12,6 +12,7 @@ ghost use Rattle.rescuer.specs.Checked.{Ready};
 ghost use Rattle.rescuer.specs.RescuedFile.{answer, answered, Enough};
 
 use checks::Verdict;
+use numbers::Refusal;
 
 // How many numbers an entry of the list takes: the object's index, its refusal's number and component.
 const ENTRY: u64 = 3;
@@ -49,61 +50,42 @@ fn told(
 }
 
 // The kept objects' rows into the lent ones, the dropped ones into the list, and the file by the rows.
-fn lay(
-    layout: u64,
-    file: &[u8],
-    rows: &mut [u64],
-    list: &mut [u64],
-    out: &mut [u8],
-    start: usize,
-    end: usize,
-    first: usize,
-    place: u64,
-    size: u64,
-    kept: usize,
-    dropped: usize,
-    components: usize,
-    long: u64,
-)
-    requires { Ready layout file.now start end first place size kept dropped components long × Enough kept dropped components long rows.old list.old out.old }
+fn lay(layout: u64, file: &[u8], rows: &mut [u64], list: &mut [u64], out: &mut [u8], v: Verdict)
+    requires { Ready layout file.now v × Enough v rows.old list.old out.old }
     ensures output { out.new ≡ is.rescue_output out.old (is.rescue (layout_of layout) file.now (length rows.old) (length list.old) (length out.old)) }
     ensures listed { list.new ≡ is.rescue_list list.old (is.rescue (layout_of layout) file.now (length rows.old) (length list.old) (length out.old)) }
     ensures numbers { length rows.new ≡ length rows.old }
 {
-    let from = columns::OBJECT * kept;
+    let from = columns::OBJECT * v.kept;
     sieve::sift(
         layout,
-        &file[first..end],
-        start as u64,
-        end,
+        &file[v.first..v.end],
+        v.start as u64,
+        v.end,
         true,
         from,
         rows,
         list,
     );
-    writer::write(rows, kept as u64, components as u64, place, size, file, out);
+    writer::write(
+        rows,
+        v.kept as u64,
+        v.components as u64,
+        v.place,
+        v.size,
+        file,
+        out,
+    );
 }
 
 // The kept objects' rows fit the lent ones, the dropped ones the list, and the rescued file the output.
-fn fits(
-    rows: usize,
-    list: usize,
-    out: usize,
-    kept: usize,
-    dropped: usize,
-    components: usize,
-    long: u64,
-) -> bool
-    requires { dropped ≤ 1024 }
-    ensures { result ≡ leb (object_width * kept + component_width * components) rows && leb (is.entry_width * dropped) list && leb long out }
+fn fits(rows: usize, list: usize, out: usize, v: Verdict) -> bool
+    requires { v.dropped ≤ 1024 }
+    ensures { result ≡ leb (object_width * v.kept + component_width * v.components) rows && leb (is.entry_width * v.dropped) list && leb v.long out }
 {
-    if !columns::holds(rows, kept as u64, components as u64) {
-        return false;
-    }
-    if (list as u64) < ENTRY * dropped as u64 {
-        return false;
-    }
-    long <= out as u64
+    columns::holds(rows, v.kept as u64, v.components as u64)
+        && ENTRY * v.dropped as u64 <= list as u64
+        && v.long <= out as u64
 }
 
 // Refused, or short of room: the rows are cleared all the same.
@@ -120,29 +102,25 @@ pub fn rescue(
     ensures cleared { rows.new ≡ is.rescue_rows rows.old }
 {
     match checks::checked(layout, file) {
-        Verdict::No(n, o, c) => {
+        Err(fault) => {
             account::clear(rows);
-            told(n, o, c, 0, 0, 0)
+            told(
+                u64::from(fault.refusal),
+                fault.object as u64,
+                fault.component as u64,
+                0,
+                0,
+                0,
+            )
         }
-        Verdict::Yes(start, end, first, place, size, kept, dropped, components, long) => {
-            if !fits(
-                rows.len(),
-                list.len(),
-                out.len(),
-                kept,
-                dropped,
-                components,
-                long,
-            ) {
+        Ok(v) => {
+            if !fits(rows.len(), list.len(), out.len(), v) {
                 account::clear(rows);
-                return told(24, 0, 0, kept, dropped, long);
+                return told(Refusal::Room as u64, 0, 0, v.kept, v.dropped, v.long);
             }
-            lay(
-                layout, file, rows, list, out, start, end, first, place, size, kept, dropped,
-                components, long,
-            );
+            lay(layout, file, rows, list, out, v);
             account::clear(rows);
-            told(0, 0, 0, kept, dropped, long)
+            told(0, 0, 0, v.kept, v.dropped, v.long)
         }
     }
 }

@@ -6,71 +6,68 @@ ghost use Rattle.rescuing.specs.Sift.{sifted};
 ghost use Rattle.rescuer.specs.Opened as is;
 
 use fields::place_of;
-use frame::Framed;
+use numbers::{FileFault, Refusal};
 use reader::into::attributes;
-use root::Judged;
 
-// 2^63, above every length: `cbor` adds it to the number of a refusal.
-const FAULT: usize = 0x8000_0000_0000_0000;
-
-// A refusal with its object and component; or the places of the root's attributes and objects, as bytes left.
+// The places of the root's attributes and objects, as bytes left.
 #[derive(Clone, Copy)]
-enum Told {
-    No(u64, u64, u64),
-    Yes(usize, usize),
+struct Told {
+    attributes: usize,
+    objects: usize,
 }
 
-// A refusal with its object and component; or where the manifest begins and ends, where the map of its objects begins, and place and length of the root's attributes.
+// Where the manifest begins and ends, where the map of its objects begins, and place and length of the root's attributes.
 #[derive(Clone, Copy)]
-pub enum Found {
-    No(u64, u64, u64),
-    Yes(usize, usize, usize, u64, u64),
+pub struct Found {
+    pub start: usize,
+    pub end: usize,
+    pub first: usize,
+    pub place: u64,
+    pub size: u64,
 }
 
 // The manifest m: one item that fills it exactly, and what that says up to its objects' names.
-fn names(layout: u64, m: &[u8]) -> Told
+fn names(layout: u64, m: &[u8]) -> Result<Told, FileFault>
     ensures { (end start : ℕ) → is.NamesAre (layout_of layout) end start m.now result }
 {
     let w = root::opened(layout, m);
     let e = w.end;
     if m.len() < e {
-        return Told::No((e - FAULT) as u64, 0, 0);
+        return Err(FileFault::from(cbor::refusal(e)));
     }
     if e < m.len() {
-        return Told::No(numbers::CBOR, 0, 0);
+        return Err(FileFault::from(Refusal::Cbor));
     }
-    let v = w.verdict;
-    match v {
-        Judged::No(n, o, c) => Told::No(n, o as u64, c as u64),
-        Judged::Yes(_, _, left) => Told::Yes(left, w.objects),
-    }
+    let judged = w.verdict?;
+    Ok(Told {
+        attributes: judged.attributes,
+        objects: w.objects,
+    })
 }
 
 // The manifest m, which begins at `start`.
-fn manifest(layout: u64, m: &[u8], start: usize) -> Found
+fn manifest(layout: u64, m: &[u8], start: usize) -> Result<Found, FileFault>
     requires { start + length m.now < FAULT }
     ensures { is.FoundIs (is.manifest_sifted (layout_of layout) (start + length m.now) start m.now) layout start (start + length m.now) (is.behind start m.now) result }
 {
-    match names(layout, m) {
-        Told::No(n, o, c) => Found::No(n, o, c),
-        Told::Yes(left, at) => {
-            let end = start + m.len();
-            let first = start + place_of(m.len(), at);
-            let a = attributes(m, left, end);
-            Found::Yes(start, end, first, a.place, a.size)
-        }
-    }
+    let told = names(layout, m)?;
+    let end = start + m.len();
+    let first = start + place_of(m.len(), told.objects);
+    let kept = attributes(m, told.attributes, end);
+    Ok(Found {
+        start,
+        end,
+        first,
+        place: kept.place,
+        size: kept.size,
+    })
 }
 
 // A file of this layout, lent whole.
-pub fn file(layout: u64, file: &[u8]) -> Found
+pub fn file(layout: u64, file: &[u8]) -> Result<Found, FileFault>
     ensures { is.FoundIs (sifted (layout_of layout) file.now) layout 0 (length file.now) (is.between file.now) result }
 {
-    match frame::frame(layout, file) {
-        Framed::No(n) => Found::No(n, 0, 0),
-        Framed::At(start, size) => {
-            let end = start + size;
-            manifest(layout, &file[start..end], start)
-        }
-    }
+    let framed = frame::frame(layout, file)?;
+    let end = framed.start + framed.size;
+    manifest(layout, &file[framed.start..end], framed.start)
 }

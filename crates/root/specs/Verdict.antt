@@ -1,8 +1,7 @@
 -- A root's judgement in pieces, one for each function, and what the whole walk answers.
-use Rattle.std.specs.Prelude.{ℕ, suc, List, Bool, cond, ◌≡◌, length, get_or, eqb}
+use Rattle.std.specs.Prelude.{ℕ, suc, List, Bool, cond, ◌≡◌, length, get_or, eqb, Ok, Err, Result}
 use Rattle.meaning.specs.Tree.{Node, Pair}
-use Rattle.meaning.specs.Check.{Check, pass, refuse, ◌>>=◌, ◌>>◌, fault, required, optional}
-use Rattle.meaning.specs.Refusal.{KIND, KEY, TWICE, MISSING}
+use Rattle.meaning.specs.Check.{Check, pass, refuse, ◌>>=◌, ◌>>◌, required, optional}
 use Rattle.meaning.specs.Model.{Model}
 use Rattle.meaning.specs.Field.{field, root_fields}
 use Rattle.meaning.specs.Kind.{kind, mapping}
@@ -14,35 +13,30 @@ use Rattle.walk.specs.Places.{Whatever}
 use Rattle.fields.specs.Slots.{ItemAt, Holds}
 use Rattle.objects.specs.Found.{objects_by}
 use Rattle.objects.specs.declared.Found.{Found}
-use Rattle.objects.specs.declared.Found.TheVariants.{No as NoObjects, Yes as Objects}
 use Rattle.root.specs.Walk.{Noted}
 use Rattle.root.specs.declared.Judged.{Judged}
-use Rattle.root.specs.declared.Judged.TheVariants.{No, Yes}
-use Rattle.root.specs.declared.judge.Fine.{Fine}
-use Rattle.root.specs.declared.judge.Fine.TheVariants.{No as Bad, Yes as Good}
-
--- the outcome that an answer stands for
-abbrev pub fine : Fine → Check (Unit {0})
-fine (Bad n) = fault n
-fine Good = pass tt
+use Rattle.numbers.specs.declared.refusal.Refusal.{Refusal}
+use Rattle.numbers.specs.declared.fault.FileFault.{FileFault}
+use Rattle.numbers.specs.declared.refusal.Refusal.TheVariants as refusals
+use Rattle.numbers.specs.Answered.{answered, in_file}
 
 -- keys, repeats, version missing: what the slots say
-unfoldable pub known : List ℕ → Fine
-known p = cond (eqb (get_or p 4 0) 0) (cond (eqb (get_or p 5 0) 0) (cond (eqb (get_or p 0 0) 0) (Bad MISSING) Good) (Bad TWICE)) (Bad KEY)
+unfoldable pub known : List ℕ → Result (Unit {0}) Refusal
+known p = cond (eqb (get_or p 4 0) 0) (cond (eqb (get_or p 5 0) 0) (cond (eqb (get_or p 0 0) 0) (Err refusals.Missing) (Ok tt)) (Err refusals.Twice)) (Err refusals.Key)
 
-abbrev pub VersionIs : List ℕ → Fine → Type 0
-VersionIs s r = Whatever s λ d t q. a_version t ≡ fine r
+abbrev pub VersionIs : List ℕ → Result (Unit {0}) Refusal → Type 0
+VersionIs s r = Whatever s λ d t q. a_version t ≡ answered r
 
-abbrev pub VersionAt : List ℕ → ℕ → Fine → Type 0
-VersionAt s left r = ItemAt s left λ t. a_version t ≡ fine r
+abbrev pub VersionAt : List ℕ → ℕ → Result (Unit {0}) Refusal → Type 0
+VersionAt s left r = ItemAt s left λ t. a_version t ≡ answered r
 
 -- attributes, objects missing, and then the objects
-abbrev pub counted : ℕ → Found → Judged
-counted left (NoObjects n o c) = No n o c
-counted left (Objects os cs) = Yes os cs left
+abbrev pub counted : ℕ → Result Found FileFault → Result Judged FileFault
+counted left (Err f) = Err f
+counted left (Ok v) = Ok (record { objects = v.objects; components = v.components; attributes = left })
 
-abbrev pub told : Bool → ℕ → ℕ → Found → Judged
-told map left objects found = cond map (cond (eqb objects 0) (No MISSING 0 0) (counted left found)) (No KIND 0 0)
+abbrev pub told : Bool → ℕ → ℕ → Result Found FileFault → Result Judged FileFault
+told map left objects found = cond map (cond (eqb objects 0) (Err (record { refusal = refusals.Missing; object = 0; component = 0 })) (counted left found)) (Err (record { refusal = refusals.Kind; object = 0; component = 0 }))
 
 -- ---------------------------------------------------------------- the whole
 
@@ -57,21 +51,21 @@ judge_by deep L start t = do
   os ← objects_by deep L start objects
   pass (record { attributes = a; objects = os })
 
-abbrev pub judged : Check (Model Ends) → Judged
-judged (pass m) = Yes (length m.objects) (component_count m.objects) (left_at m.attributes)
-judged (refuse n o c) = No n o c
+abbrev pub judged : Check (Model Ends) → Check Judged
+judged (pass m) = pass (record { objects = length m.objects; components = component_count m.objects; attributes = left_at m.attributes })
+judged (refuse n o c) = refuse n o c
 
 -- for every map of the pairs that are read from s on, where p holds their slots, and `found` what the objects say
-abbrev pub VerdictIs : List ℕ → List ℕ → Found → Judged → Type 0
+abbrev pub VerdictIs : List ℕ → List ℕ → Result Found FileFault → Result Judged FileFault → Type 0
 VerdictIs s p found r = (deep : Bool) (L : Layout) (start d : ℕ) (ps : List (Pair Ends)) (q : List ℕ) → Chain (suc d) s ps q → Noted deep L start p found ps
-    → (t : Node Ends) → kind t ≡ mapping ps → r ≡ judged (judge_by deep L start t)
+    → (t : Node Ends) → kind t ≡ mapping ps → in_file r ≡ judged (judge_by deep L start t)
 
-abbrev pub WholeIs : Bool → Layout → List ℕ → ℕ → Judged → Type 0
-WholeIs deep L s start r = (t : Node Ends) (q : List ℕ) → Reads 32 s t q → r ≡ judged (judge_by deep L start t)
+abbrev pub WholeIs : Bool → Layout → List ℕ → ℕ → Result Judged FileFault → Type 0
+WholeIs deep L s start r = (t : Node Ends) (q : List ℕ) → Reads 32 s t q → in_file r ≡ judged (judge_by deep L start t)
 
 -- all is judged
-abbrev pub RootIs : Layout → List ℕ → ℕ → Judged → Type 0
-RootIs L s start r = (t : Node Ends) (q : List ℕ) → Reads 32 s t q → r ≡ judged (judge L start t)
+abbrev pub RootIs : Layout → List ℕ → ℕ → Result Judged FileFault → Type 0
+RootIs L s start r = (t : Node Ends) (q : List ℕ) → Reads 32 s t q → in_file r ≡ judged (judge L start t)
 
 -- the place of the objects of whatever map s is read as
 abbrev pub ObjectsAt : Layout → List ℕ → ℕ → Type 0

@@ -11,21 +11,23 @@ ghost use Rattle.cbor.specs.Ending.{code, item_end};
 ghost use Rattle.root.specs.Verdict.{WholeIs, RootIs, ObjectsAt};
 
 use judge::verdict;
+use numbers::{FileFault, Refusal};
 use pass::entries;
 use walk::Opening;
 
-// A refusal: number, object, component; or how many objects and components there are, and the place of the attributes, 0 for none.
+// How many objects and components there are, and the place of the attributes, 0 for none.
 #[derive(Clone, Copy)]
-pub enum Judged {
-    No(u64, usize, usize),
-    Yes(usize, usize, usize),
+pub struct Judged {
+    pub objects: usize,
+    pub components: usize,
+    pub attributes: usize,
 }
 
 // Where a value ends, as `cbor::skip` answers it, what it says if it is well-formed, and the place of its objects, 0 for none.
 #[derive(Clone, Copy)]
 pub struct Whole {
     pub end: usize,
-    pub verdict: Judged,
+    pub verdict: Result<Judged, FileFault>,
     pub objects: usize,
 }
 
@@ -35,12 +37,12 @@ fn judged_root(layout: u64, s: &[u8], start: u64, deep: bool) -> Whole
 {
     let mut p = [0usize; 6];
     match walk::map(&s[0..]) {
-        Opening::NotOpen => Whole {
+        None => Whole {
             end: cbor::skip(&s[0..], numbers::AT_ROOT),
-            verdict: Judged::No(numbers::KIND, 0, 0),
+            verdict: Err(FileFault::from(Refusal::Kind)),
             objects: 0,
         },
-        Opening::Opened(mode, count, size) => {
+        Some(Opening { mode, count, size }) => {
             let w = entries(layout, &s[size..], start, deep, mode, count, &mut p);
             let e = w.end;
             let found = w.found;

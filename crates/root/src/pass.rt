@@ -6,20 +6,20 @@ ghost use Rattle.fields.specs.Slots.{SlotIs};
 ghost use Rattle.root.specs.Walk as is;
 ghost use Rattle.walk.specs.Places.{Modes};
 
+use numbers::FileFault;
 use objects::{Found, Whole};
-use walk::{Entry, Letters};
+use walk::Entry;
 
 // The slot of the key that begins s.
 fn slot(layout: u64, s: &[u8]) -> usize
     ensures { (result ≤ 4) × SlotIs (layout_of layout).root s.now result }
 {
-    match walk::text(&s[0..]) {
-        Letters::NoText => 4,
-        Letters::Text(at, n) => {
-            let e = at + n;
-            types::root_key(layout, &s[at..e])
-        }
-    }
+    let Some(letters) = walk::text(&s[0..]) else {
+        return 4;
+    };
+    let at = letters.at;
+    let e = at + letters.size;
+    types::root_key(layout, &s[at..e])
 }
 
 // The value that begins c, whose key has slot k. The first `objects` (their slot still holds 0, which is `seen`) are walked; with any other value, what was found
@@ -31,7 +31,7 @@ fn value(
     deep: bool,
     k: usize,
     seen: usize,
-    found: Found,
+    found: Result<Found, FileFault>,
 ) -> Whole
     ensures { (result.end ≡ code (item_end 31 c.now)) × is.ValueIs deep (layout_of layout) start k seen c.now found result.found }
 {
@@ -61,7 +61,10 @@ pub fn entries(
 {
     let mut at = 0;
     let mut due = count;
-    let mut found = Found::Yes(0, 0);
+    let mut found = Ok(Found {
+        objects: 0,
+        components: 0,
+    });
     loop {
         match walk::past_key(&s[at..], mode, due, numbers::IN_ROOT) {
             Entry::End(e) => {

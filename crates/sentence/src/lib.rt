@@ -10,6 +10,7 @@ ghost use Rattle.panel.specs.ListedText.{told, text_after};
 ghost use Rattle.explained.specs.Sentence.{reason, said};
 ghost use Rattle.sentence.specs.Given as is;
 
+use numbers::Refusal;
 use panel::Listed;
 use put::{blank_number, blank_text, byte, word};
 use view::part;
@@ -31,6 +32,13 @@ pub struct Explanation {
     pub room: u64,
 }
 
+// An explanation is C's, so that a refusal is a number there; those that are said in another way than the rest.
+const SHORT: u64 = Refusal::Short as u64;
+
+const FIT: u64 = Refusal::Fit as u64;
+
+const ROOM: u64 = Refusal::Room as u64;
+
 // The reasons by number, one after the other, and those that layout 1.0 has instead.
 const REASONS: [u8; 1008] =
     *b"SHORT: file under 24 bytesHEADER: first 8 wrongFOOTER: last 8 wrongBIG: manifest size over 16777216FIT: manifest size 0 or over file length - 24CBOR: malformed, ended early, or bytes left overDEEP: an item at depth 33 beginsKIND: known value of another kind, or chunked text in a known placeKEY: a key or name isn't whole textTEXT: name, format, type or digest isn't UTF-8TWICE: a known field or a name repeatedMISSING: required field absentVERSION: not two or three runs of 1 to 9 digits joined by dots, without leading zerosMAJOR: major isn't 1COUNT: over 1024 objects, 16 components an object or rank 8DTYPE: not one of the 13 dtypesENCODING: present and not rawTYPE: listed type over another dtypeALIGN: offset not a multiple of 64BOUNDS: offset under 64, or offset + length over the manifest startRANK: sparse_csr not of rank 2ROLE: needed role absent, or index role not plain u64LENGTH: length rule brokenROOM: lent table too shortSHORT: file under 16 bytesFIT: manifest size 0 or over file length - 16";
@@ -45,14 +53,14 @@ const BEGINS: [usize; 28] = [
 fn listed(layout: u64, number: u64) -> usize
     ensures { result ≡ is.listed layout number }
 {
-    if numbers::ROOM < number {
+    if ROOM < number {
         return 0;
     }
     if layout == 1 {
-        if number == numbers::SHORT {
+        if number == SHORT {
             return 25;
         }
-        if number == numbers::FIT {
+        if number == FIT {
             return 26;
         }
     }
@@ -95,7 +103,7 @@ fn bounds(number: u64, place: u64, size: u64, room: u64, out: &mut [u8], at: usi
     requires { place + size < 18446744073709551616 }
     ensures { Wrote (is.bounds number place size room) at out.old out.new result }
 {
-    if number == numbers::ROOM {
+    if number == ROOM {
         let a = word(out, at, b";");
         let b = blank_number(out, a, room);
         return word(out, b, b" numbers needed");
@@ -155,7 +163,7 @@ pub fn say(layout: u64, file: &[u8], e: Explanation, text: &mut [u8]) -> Listed
     let n = line(layout, file, e, &mut scrap);
     if text.len() < n {
         return Listed {
-            number: numbers::ROOM,
+            number: ROOM,
             length: 0,
         };
     }

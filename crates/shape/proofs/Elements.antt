@@ -22,16 +22,15 @@ use Rattle.cbor.proofs.Loops as loops
 use Rattle.walk.specs.Reading.{Ends, Reads, DueNodes}
 use Rattle.walk.specs.Places.{ListIs, NumberIs, numeral, MoreIs, is_any}
 use Rattle.walk.specs.declared.Opening.{Opening}
-use Rattle.walk.specs.declared.Opening.TheVariants.{NotOpen, Opened}
-use Rattle.walk.specs.declared.Numeral.{Numeral}
-use Rattle.walk.specs.declared.Numeral.TheVariants.{NoNumber, Number}
 use Rattle.walk.proofs.Lists.{none_read, past-node}
 use Rattle.meaning.specs.Judge.{shape_of}
 use Rattle.walk.specs.Put.{put}
 use Rattle.walk.proofs.Puts.{length-put, put_other}
 use Rattle.walk.proofs.Found.{number_read}
 use Rattle.shape.specs.Shape.{ShapeRead}
-use Rattle.shape.specs.declared.Shaped.TheVariants.{No, Yes}
+use Rattle.std.specs.Prelude.{Some, None, Ok, Err, Option}
+use Rattle.numbers.specs.declared.refusal.Refusal.{Refusal}
+use Rattle.numbers.specs.declared.refusal.Refusal.TheVariants as refusals
 
 module _ (a : List ℕ) (i x : ℕ) where
   pub put-there : i < length a → set a i x ≡ put a i x
@@ -107,7 +106,7 @@ module _ {d mode due : ℕ} {s dims : List ℕ} {rank : ℕ} {verdict : Check (L
 
 -- ---------------------------------------------------------------- as the code passes them
 
-refused : {n rank : ℕ} → No n ≡ Yes rank → ⊥
+refused : {r : Refusal} {rank : ℕ} → Err r ≡ Ok rank → ⊥
 refused e = let z : ◌≡◌ {A = ℕ} 0 1 = cc in omega arith
 
 -- what is known of the length of a slice that is lent
@@ -117,15 +116,15 @@ Lent s = length s * 1 < FAULT
 abbrev From : List ℕ → ℕ → List ℕ
 From s at = take (length s - at) (drop at s)
 
-module _ {d : ℕ} {s dims : List ℕ} (room : length dims ≡ rank_limit) {v : Opening} (h : ListIs (From s 0) v) where
-  pub no-list : v ≡ NotOpen → ShapeRead d s dims dims (No 8)
+module _ {d : ℕ} {s dims : List ℕ} (room : length dims ≡ rank_limit) {v : Option Opening} (h : ListIs (From s 0) v) where
+  pub no-list : v ≡ None → ShapeRead d s dims dims (Err refusals.Kind)
   unfolding shape_of
-  no-list e = let k : ListIs s NotOpen = rw (part_to_end s 0, e) at h in record { room = room; others = λ _ z. absurd (refused z); trees = λ t r x. rw (k d t r x) refl }
+  no-list e = let k : ListIs s None = rw (part_to_end s 0, e) at h in record { room = room; others = λ _ z. absurd (refused z); trees = λ t r x. rw (k d t r x) refl }
 
-  pub begins : {mode count size : ℕ} → Lent s → v ≡ Opened mode count size → Passing d mode count s dims dims size 0
+  pub begins : {op : Opening} → Lent s → v ≡ Some op → Passing d op.mode op.count s dims dims op.size 0
   unfolding shape_of kinds.a_list kinds.as_list
-  begins {mode} {count} {size} lent e =
-      let k : ListIs s (Opened mode count size) = rw (part_to_end s 0, e) at h in
+  begins {op} lent e =
+      let k : ListIs s (Some op) = rw (part_to_end s 0, e) at h in
       record {
         short = omega arith;
         within = k.within;
@@ -134,7 +133,7 @@ module _ {d : ℕ} {s dims : List ℕ} (room : length dims ≡ rank_limit) {v : 
         others = λ j l. refl;
         trees = λ t r x.
             let l = k.trees d t r x in
-            let z : count - 0 ≡ count = omega arith in
+            let z : op.count - 0 ≡ op.count = omega arith in
             record { found = []; items = l.items; rest = record { last = l.last; due = rw z l.due; many = refl; noted = λ _. refl; verdict-is = rw l.kind-is refl } };
       }
 
@@ -164,14 +163,14 @@ module _ {d mode count : ℕ} {s before dims : List ℕ} {at rank : ℕ} (p : Pa
           go [] z y = f t (p.trees t r e).found y
           go (x ∷ xs) z y = absurd (let z : ◌≡◌ {A = ℕ} 0 1 = cc in omega arith)
 
-      pub many-dimensions : rank_limit < rank → ShapeRead d s before dims (No 15)
+      pub many-dimensions : rank_limit < rank → ShapeRead d s before dims (Err refusals.Count)
       many-dimensions l = record { room = p.room; others = λ _ z. absurd (refused z); trees = at-the-end _ λ t found y. too_many y l }
 
-      pub dimensions-are : rank ≤ rank_limit → ShapeRead d s before dims (Yes rank)
+      pub dimensions-are : rank ≤ rank_limit → ShapeRead d s before dims (Ok rank)
       dimensions-are l = record { room = p.room; others = λ r z j h. p.others j (let y : rank ≡ r = cc in omega (arith, y, h)); trees = at-the-end _ λ t found y. (not-too-many y l, l) }
 
     module _ (on : more ≡ true) where
-      at-the-next : (v : Numeral) → NumberIs (From s at) v → (P : Node Ends → Type 0) → ((t : Node Ends) (found : List ℕ) (x : Node Ends) (xs : List (Node Ends)) → a_number x ≡ numeral v → Here t found (x ∷ xs) → P t)
+      at-the-next : (v : Option ℕ) → NumberIs (From s at) v → (P : Node Ends → Type 0) → ((t : Node Ends) (found : List ℕ) (x : Node Ends) (xs : List (Node Ends)) → a_number x ≡ numeral v → Here t found (x ∷ xs) → P t)
           → (t : Node Ends) (r : List ℕ) → Reads (suc d) s t r → P t
       at-the-next v is-v P f t r e = go (p.trees t r e).items (any-due t r e ∙ on) (p.trees t r e).rest
         where
@@ -181,16 +180,16 @@ module _ {d mode count : ℕ} {s before dims : List ℕ} {at rank : ℕ} (p : Pa
               let c = y.due.chain in
               f t (p.trees t r e).found x xs (number_read d (drop at s) v (subst (λ u. NumberIs u v) (part_to_end s at) is-v) x c.0 c.1) y
 
-      module _ {v : Numeral} (is-v : NumberIs (From s at) v) where
-        pub no_number : v ≡ NoNumber → ShapeRead d s before dims (No 8)
+      module _ {v : Option ℕ} (is-v : NumberIs (From s at) v) where
+        pub no_number : v ≡ None → ShapeRead d s before dims (Err refusals.Kind)
         no_number e = record { room = p.room; others = λ _ z. absurd (refused z); trees = at-the-next v is-v _ λ t found x xs z y. not-a-number y (z ∙ ap numeral e) }
 
-        module _ {n : ℕ} (is-n : v ≡ Number n) {k : ℕ} (is-k : k ≡ code (item_end d (From s at))) {noted : List ℕ} (is-noted : noted ≡ put dims rank n) where
+        module _ {n : ℕ} (is-n : v ≡ Some n) {k : ℕ} (is-k : k ≡ code (item_end d (From s at))) {noted : List ℕ} (is-noted : noted ≡ put dims rank n) where
           still-room : length noted ≡ rank_limit
           still-room = ap length is-noted ∙ length-put dims rank n ∙ p.room
 
           -- no element of a tree is refused
-          pub no_end : length s - at < k → ShapeRead d s before noted (No 8)
+          pub no_end : length s - at < k → ShapeRead d s before noted (Err refusals.Kind)
           no_end l =
               let f = loops.fails (item no_note d) (item-exact d) (item-hungry d) s p.short at p.within k (ends_so is-k) l in
               record {

@@ -10,6 +10,7 @@ ghost use Rattle.reader.specs.Answer as read;
 ghost use Rattle.engines.specs.Calls.{load, drops, holds, view, list, layout_number, answered, leaves};
 ghost use Rattle.sharing.specs.EngineAnswers as is;
 
+use numbers::Refusal;
 use panel::Listed;
 use reader::into::{Answer, read_as, read_last};
 use states::Place;
@@ -129,8 +130,8 @@ pub fn load(shared: &mut [u64], engine: u64, layout: u64, file: &[u8]) -> Answer
     ensures left { shared.new ≡ leaves 65536 engine (load layout file.now) shared.old }
 {
     match states::standing(&shared[0..], engine) {
-        Place::Nowhere => refused(numbers::INDEX),
-        Place::Loaded(_, _, _, _) => refused(numbers::BUSY),
+        Place::Nowhere => refused(Refusal::Index as u64),
+        Place::Loaded(_, _, _, _) => refused(Refusal::Busy as u64),
         Place::Idle(free) => {
             let a = lay(shared, engine, free, layout, file);
             if 0 < a.number {
@@ -166,7 +167,7 @@ pub fn release(shared: &mut [u64], engine: u64) -> u64
     ensures left { shared.new ≡ leaves 65536 engine drops shared.old }
 {
     match states::standing(&shared[0..], engine) {
-        Place::Nowhere => numbers::INDEX,
+        Place::Nowhere => Refusal::Index as u64,
         Place::Idle(_) => 0,
         Place::Loaded(place, numbers, _, _) => {
             clear(shared, place, numbers);
@@ -182,12 +183,12 @@ pub fn view(shared: &[u64], engine: u64, file: &[u8], index: u64) -> Extent
 {
     match states::standing(shared, engine) {
         Place::Nowhere => Extent {
-            number: numbers::INDEX,
+            number: Refusal::Index as u64,
             offset: 0,
             length: 0,
         },
         Place::Idle(_) => Extent {
-            number: numbers::INDEX,
+            number: Refusal::Index as u64,
             offset: 0,
             length: 0,
         },
@@ -205,11 +206,11 @@ pub fn list(shared: &[u64], engine: u64, file: &[u8], text: &mut [u8]) -> Listed
 {
     match states::standing(shared, engine) {
         Place::Nowhere => Listed {
-            number: numbers::INDEX,
+            number: Refusal::Index as u64,
             length: 0,
         },
         Place::Idle(_) => Listed {
-            number: numbers::INDEX,
+            number: Refusal::Index as u64,
             length: 0,
         },
         Place::Loaded(place, numbers, objects, components) => {
@@ -255,7 +256,7 @@ pub fn holds(shared: &[u64], engine: u64) -> Held
     ensures { result ≡ is.held (answered 65536 engine holds shared.now) }
 {
     match states::standing(shared, engine) {
-        Place::Nowhere => nothing_held(numbers::INDEX),
+        Place::Nowhere => nothing_held(Refusal::Index as u64),
         Place::Idle(_) => nothing_held(0),
         Place::Loaded(place, _, _, _) => {
             let at = states::state_at(engine);

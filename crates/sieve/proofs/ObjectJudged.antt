@@ -8,8 +8,6 @@ use mathlib.Core.Path.{◌≡◌, refl, sym, ap, ap₂, ◌∙◌, subst}
 use lib.ListN.{length, length-append, length-map}
 use lib.Seq.{sets}
 use borrow.Author.Tests.{le-leb}
-use mir.Val.{Fits}
-use mir.Syntax.{w64}
 use borrow.Author.Rules.{part_to_end}
 use Rattle.meaning.specs.Columns.{object_width, component_width}
 use Rattle.meaning.specs.Limit.{object_limit}
@@ -29,7 +27,6 @@ use Rattle.cbor.specs.Ending.{code, item_end}
 use Rattle.walk.specs.Reading.{Ends, Reads}
 use Rattle.walk.specs.Places.{Modes, MapIs, EntryIs}
 use Rattle.walk.specs.declared.Opening.{Opening}
-use Rattle.walk.specs.declared.Opening.TheVariants.{NotOpen, Opened}
 use Rattle.walk.specs.declared.Entry.{Entry}
 use Rattle.walk.specs.declared.Entry.TheVariants.{End, Value}
 use Rattle.walk.proofs.Opens as opens
@@ -37,8 +34,6 @@ use Rattle.walk.proofs.Passed as walked
 use Rattle.walk.proofs.Passed.{Here, Passed}
 use Rattle.naming.proofs.NameNoted.{map_snoc}
 use Rattle.object.specs.Verdict.{ObjectIs, judged}
-use Rattle.object.specs.declared.Judged.{Judged}
-use Rattle.object.specs.declared.Judged.TheVariants.{No, Yes}
 use Rattle.objects.specs.Found.{judging}
 use Rattle.objects.proofs.Few.{few-in-judging}
 use Rattle.table.specs.Spans.{span_of}
@@ -57,6 +52,10 @@ use Rattle.rescuing.proofs.Parted.{all-counted}
 use Rattle.sieve.specs.declared.Sieve.{Sieve}
 use Rattle.sieve.specs.Sieved.{Bounded, Keeps, Omits, SieveOf, Steps, own, Sieved, AllSieved, Sifted}
 use Rattle.sieve.proofs.ObjectPut.{one_more, none-bounded}
+use Rattle.std.specs.Prelude.{Some, None, Ok, Err, Result, Option}
+use Rattle.numbers.specs.declared.fault.ObjectFault.{ObjectFault}
+use Rattle.numbers.specs.Answered.{in_object}
+use Rattle.numbers.specs.Numbered.{number_of}
 
 -- ---- one verdict more
 
@@ -139,26 +138,22 @@ module _ (end from : ℕ) (before : List ℕ) (os : List (Object Ends)) (o : Obj
       ∙ ap (λ (t : List ℕ). sets t from (B ++ R)) (sym (laying.sets-append A O before 0))
       ∙ ap₂ (λ (x y : List ℕ). sets (sets before 0 x) from y) (sym rows-so) (sym parts-so)
 
--- where a value that is lent whole ends
-pub lent-end : (c : List ℕ) (e : ℕ) → e ≡ code (item_end 30 (Here c 0)) → e ≡ code (item_end 30 c)
-lent-end c e h = h ∙ ap (λ (s : List ℕ). code (item_end 30 s)) (part_to_end c 0)
-
 -- ---- an object that is refused
 
 module _ (layout : ℕ) (s c : List ℕ) (start end : ℕ) (fill : Bool) (from : ℕ) (have : Sieve) (t list : List ℕ) (z : Sieve) where
   -- the verdict that was answered is the object's own
-  judged-own : (v : Judged) → ObjectIs (layout_of layout) (Here c 0) start v → (x : Pair Ends) (r : List ℕ) → Reads 30 c x.value r → (m : Named Ends) → name_of x ≡ pass m → v ≡ judged (object (layout_of layout) start m)
+  judged-own : (v : Result ℕ ObjectFault) → ObjectIs (layout_of layout) (Here c 0) start v → (x : Pair Ends) (r : List ℕ) → Reads 30 c x.value r → (m : Named Ends) → name_of x ≡ pass m → in_object v ≡ judged (object (layout_of layout) start m)
   judged-own v is x r value m named =
       let b : Reads 30 (Here c 0) x.value r = subst (λ u. Reads 30 u x.value r) (sym (part_to_end c 0)) value in
       is x.value r b m.name ∙ ap (λ (m : Named Ends). judged (object (layout_of layout) start m)) (sym (named-pair x m named).is)
 
-  pub steps-omit : (list' : List ℕ) (v : Judged) → ObjectIs (layout_of layout) (Here c 0) start v → (n k : ℕ) → v ≡ No n k → Omits fill n k have list z list' → Steps layout s c start end fill from have t list z t list'
-  steps-omit list' v is n k e om x d u r key value m named before list₀ ks same-t same-list few h = go (object (layout_of layout) start m) (sym e ∙ judged-own v is x r value m named)
+  pub steps-omit : (list' : List ℕ) (v : Result ℕ ObjectFault) → ObjectIs (layout_of layout) (Here c 0) start v → (f : ObjectFault) → v ≡ Err f → Omits fill (number_of f.refusal) f.component have list z list' → Steps layout s c start end fill from have t list z t list'
+  steps-omit list' v is f e om x d u r key value m named before list₀ ks same-t same-list few h = go (object (layout_of layout) start m) (ap in_object (sym e) ∙ judged-own v is x r value m named)
     where
-      go : (q : Check (Object Ends)) → No n k ≡ judged q → SieveOf end fill from before list₀ z t list' (ks ++ q ∷ [])
+      go : (q : Check (Object Ends)) → refuse (number_of f.refusal) 0 f.component ≡ judged q → SieveOf end fill from before list₀ z t list' (ks ++ q ∷ [])
       go (pass o) w = absurd (let y : ◌≡◌ {A = ℕ} 0 1 = cc in omega (arith, y))
       go (refuse n' j k') w =
-          let n-is : n ≡ n' = cc in let k-is : k ≡ k' = cc in
+          let n-is : number_of f.refusal ≡ n' = cc in let k-is : f.component ≡ k' = cc in
           let same : kept (ks ++ refuse n' j k' ∷ []) ≡ kept ks = kept-refuse ks n' j k' in
           let one : Dropped = record { index = 0 + length ks; number = n'; component = k' } in
           let more-dropped : dropped 0 (ks ++ refuse n' j k' ∷ []) ≡ dropped 0 ks ++ one ∷ [] = dropped-refuse 0 ks n' j k' in
@@ -185,11 +180,11 @@ module _ (layout : ℕ) (s c : List ℕ) (start end : ℕ) (fill : Bool) (from :
 
   -- ---- an object that passes
 
-  pub steps-keep : (t' : List ℕ) (v : Judged) → ObjectIs (layout_of layout) (Here c 0) start v → (m : ℕ) → v ≡ Yes m → Keeps layout (Here s 0) (Here c 0) start end fill from m have t z t' → Steps layout s c start end fill from have t list z t' list
+  pub steps-keep : (t' : List ℕ) (v : Result ℕ ObjectFault) → ObjectIs (layout_of layout) (Here c 0) start v → (m : ℕ) → v ≡ Ok m → Keeps layout (Here s 0) (Here c 0) start end fill from m have t z t' → Steps layout s c start end fill from have t list z t' list
   unfolding judging
-  steps-keep t' v is m e kp x d u r key value nm named before list₀ ks same-t same-list few h = go (object (layout_of layout) start nm) refl (sym e ∙ judged-own v is x r value nm named)
+  steps-keep t' v is m e kp x d u r key value nm named before list₀ ks same-t same-list few h = go (object (layout_of layout) start nm) refl (ap in_object (sym e) ∙ judged-own v is x r value nm named)
     where
-      go : (q : Check (Object Ends)) → object (layout_of layout) start nm ≡ q → Yes m ≡ judged q → SieveOf end fill from before list₀ z t' list (ks ++ q ∷ [])
+      go : (q : Check (Object Ends)) → object (layout_of layout) start nm ≡ q → pass m ≡ judged q → SieveOf end fill from before list₀ z t' list (ks ++ q ∷ [])
       go (refuse n j k) p w = absurd (let y : ◌≡◌ {A = ℕ} 0 1 = cc in omega (arith, y))
       go (pass o) p w =
           let m-is : m ≡ length o.components = cc in
@@ -276,9 +271,6 @@ module _ {layout start end mode count : ℕ} {fill : Bool} {from : ℕ} {s befor
     pub none-there : length s - (at + k) < e → (z : Sieve) (t' list' : List ℕ) → AllSieved layout start end mode count fill from s before list₀ z t' list'
     none-there l z t' list' = walked.no_pairs w.walking h is ended l _
 
-    pub next_fits : e ≤ length s - (at + k) → Fits w64 (at + k + e)
-    next_fits l = record { fits = let y = walked.next-inside w.walking h is ended l in let z = w.walking.short in omega arith }
-
     pub loops-on : e ≤ length s - (at + k) → {z : Sieve} {t' list' : List ℕ} → Steps layout (Here s at) (Here s (at + k)) start end fill from have t list z t' list' → Bounded z → length t' ≡ length t → length list' ≡ length list
         → Looping layout start end mode count fill from s before list₀ (at + k + e) (due - 2) z t' list'
     loops-on l steps bounded long listed = record {
@@ -290,11 +282,11 @@ module _ {layout start end mode count : ℕ} {fill : Bool} {from : ℕ} {s befor
 
 -- ---------------------------------------------------------------- the whole map, lent whole to `walk::map`, which answered x
 
-module _ (layout : ℕ) (s : List ℕ) (start end : ℕ) (fill : Bool) (from : ℕ) (before list₀ : List ℕ) (z : Sieve) (after list : List ℕ) (x : Opening) (h : MapIs (Here s 0) x) where
-  pub no-map : x ≡ NotOpen → Sifted layout s start end fill from before list₀ z after list
+module _ (layout : ℕ) (s : List ℕ) (start end : ℕ) (fill : Bool) (from : ℕ) (before list₀ : List ℕ) (z : Sieve) (after list : List ℕ) (x : Option Opening) (h : MapIs (Here s 0) x) where
+  pub no-map : x ≡ None → Sifted layout s start end fill from before list₀ z after list
   unfolding names
   no-map e t u r ns is few =
-      let w = opens.opening s x h NotOpen e 30 t u r in
+      let w = opens.opening s x h None e 30 t u r in
       let y : names object_limit t ≡ refuse 8 0 0 = rw w refl in
       let v : pass ns ≡ refuse 8 0 0 = sym is ∙ y in
       absurd (let o : ◌≡◌ {A = ℕ} 0 1 = cc in omega (arith, o))
@@ -304,11 +296,11 @@ module _ (layout : ℕ) (s : List ℕ) (start end : ℕ) (fill : Bool) (from : �
   each-own i [] = refl
   each-own i (n ∷ ns) = rw (each-own (suc i) ns) refl
 
-  pub map-sifted : (mode count size : ℕ) → x ≡ Opened mode count size → AllSieved layout start end mode count fill from (Here s size) before list₀ z after list → Sifted layout s start end fill from before list₀ z after list
+  pub map-sifted : (op : Opening) → x ≡ Some op → AllSieved layout start end op.mode op.count fill from (Here s op.size) before list₀ z after list → Sifted layout s start end fill from before list₀ z after list
   unfolding verdicts
-  map-sifted mode count size e all t u r ns is few =
-      let o = (opens.opened s x h mode count size e).trees 30 t u r in
-      let a = subst (λ v. AllSieved layout start end mode count fill from v before list₀ z after list) (part_to_end s size) all in
+  map-sifted op e all t u r ns is few =
+      let o = (opens.opened s x h op e).trees 30 t u r in
+      let a = subst (λ v. AllSieved layout start end op.mode op.count fill from v before list₀ z after list) (part_to_end s op.size) all in
       let ks : List (Check (Object Ends)) = verdicts (layout_of layout) start ns in
       let both : (names object_limit t >>= each (own layout start) 0) ≡ pass ks = rw is (each-own 0 ns) in
       let g = entering.all-entered (own layout start) object_limit t o.pairs o.kind-is ks both in

@@ -6,13 +6,15 @@ ghost use Rattle.std.specs.Prelude.{◌≡◌, [], ◌∷◌, suc, ◌+◌, ◌�
 ghost use Rattle.std.proofs.lemmas.List.Edits.{sets};
 ghost use Rattle.meaning.specs.Limit.{manifest_limit, end_limit};
 ghost use Rattle.cbor.specs.Ending.{code, item_end};
+ghost use Rattle.numbers.specs.Numbered.{number_of};
 ghost use Rattle.objects.specs.Firsts.{plus};
 ghost use Rattle.sieve.specs.Sieved as is;
 ghost use Rattle.walk.specs.Places.{Modes};
 
-use object::Judged;
+use numbers::ObjectFault;
 use table::{Place, lay};
 use walk::{Entry, Opening};
+use window::Sum;
 
 // How many objects are kept and dropped, how many components are kept; where the last blob ends, or 2^40 + 1, and how many bytes the entries take, or the limit and 1.
 #[derive(Clone, Copy)]
@@ -24,6 +26,16 @@ pub struct Sieve {
     pub total: u64,
 }
 
+// A pass over a manifest of this layout, which begins and ends there in its file: its objects are measured; or they are to be filled, the components' rows from `from` on.
+#[derive(Clone, Copy)]
+struct Pass {
+    layout: u64,
+    start: u64,
+    end: usize,
+    fill: bool,
+    from: usize,
+}
+
 // Where a value ends, as `cbor::skip` answers it, and what there is with it.
 #[derive(Clone, Copy)]
 struct Turn {
@@ -31,7 +43,7 @@ struct Turn {
     sieve: Sieve,
 }
 
-// One more, up to the limit of objects.
+// One more, up to the limit of objects. No `min`: the definition `more` leaves a number above the limit as it is.
 fn more(n: usize) -> usize
     ensures { result ≡ is.more n }
 {
@@ -42,59 +54,39 @@ fn more(n: usize) -> usize
 }
 
 // The object whose key begins s and whose value begins c, put into the window t and added to the sums.
-fn weigh(
-    layout: u64,
-    s: &[u8],
-    c: &[u8],
-    start: u64,
-    end: usize,
-    place: u64,
-    total: u64,
-    t: &mut [u64],
-) -> window::Sum
+fn weigh(pass: Pass, s: &[u8], c: &[u8], have: Sum, t: &mut [u64]) -> Sum
     requires in_bounds { 208 ≤ length t.old }
-    requires place_bound { (place ≤ suc end_limit) × (total ≤ suc manifest_limit) }
-    ensures sum { is.Weighed layout s.now c.now start end place total result.place result.total }
+    requires place_bound { (have.place ≤ suc end_limit) × (have.total ≤ suc manifest_limit) }
+    ensures sum { is.Weighed pass.layout s.now c.now pass.start pass.end have.place have.total result.place result.total }
     ensures small { (result.place ≤ suc end_limit) × (result.total ≤ suc manifest_limit) }
 {
     let mut rows = [0u64; 64];
     let to = Place {
-        end: end,
+        end: pass.end,
         owner: 0,
         row: 0,
         from: columns::OBJECT,
     };
-    object::object(layout, &s[0..], &c[0..], start, to, &mut rows, t);
-    window::add(t, place, total)
+    object::object(pass.layout, &s[0..], &c[0..], pass.start, to, &mut rows, t);
+    window::add(t, have)
 }
 
-// An object that passes, of m components: measured in the window t, or put into the table t, where the components' rows begin at `from`.
-fn keep(
-    layout: u64,
-    s: &[u8],
-    c: &[u8],
-    start: u64,
-    end: usize,
-    fill: bool,
-    from: usize,
-    m: usize,
-    have: Sieve,
-    t: &mut [u64],
-) -> Sieve
-    requires { (from ≤ 16384) × is.Bounded have × (208 ≤ length t.old + is.when fill) }
-    ensures kept { is.Keeps layout s.now c.now start end fill from m have t.old result t.new }
+// An object that passes, of m components: measured in the window t, or put into the table t.
+fn keep(pass: Pass, s: &[u8], c: &[u8], m: usize, have: Sieve, t: &mut [u64]) -> Sieve
+    requires { (pass.from ≤ 16384) × is.Bounded have × (208 ≤ length t.old + is.when pass.fill) }
+    ensures kept { is.Keeps pass.layout s.now c.now pass.start pass.end pass.fill pass.from m have t.old result t.new }
     ensures small { is.Bounded result }
 {
     let mut rows = [0u64; 64];
     let components = objects::plus(have.components, m);
-    if fill {
+    if pass.fill {
         let to = Place {
-            end: end,
+            end: pass.end,
             owner: have.kept as u64,
             row: columns::OBJECT * have.kept,
-            from: from + columns::COMPONENT * have.components,
+            from: pass.from + columns::COMPONENT * have.components,
         };
-        object::object(layout, &s[0..], &c[0..], start, to, &mut rows, t);
+        object::object(pass.layout, &s[0..], &c[0..], pass.start, to, &mut rows, t);
         return Sieve {
             kept: more(have.kept),
             dropped: have.dropped,
@@ -103,16 +95,11 @@ fn keep(
             total: have.total,
         };
     }
-    let sum = weigh(
-        layout,
-        &s[0..],
-        &c[0..],
-        start,
-        end,
-        have.place,
-        have.total,
-        t,
-    );
+    let before = Sum {
+        place: have.place,
+        total: have.total,
+    };
+    let sum = weigh(pass, &s[0..], &c[0..], before, t);
     Sieve {
         kept: more(have.kept),
         dropped: have.dropped,
@@ -133,10 +120,10 @@ fn three(list: &mut [u64], i: usize, a: u64, b: u64, c: u64)
     }
 }
 
-// An object that is refused with the number n and the component c: into the list with it, where that is filled.
-fn omit(fill: bool, n: u64, c: usize, have: Sieve, list: &mut [u64]) -> Sieve
+// An object that is refused: into the list with the refusal's number and its component, where that is filled.
+fn omit(fill: bool, fault: ObjectFault, have: Sieve, list: &mut [u64]) -> Sieve
     requires { is.Bounded have }
-    ensures dropped { is.Omits fill n c have list.old result list.new }
+    ensures dropped { is.Omits fill (number_of fault.refusal) fault.component have list.old result list.new }
     ensures small { is.Bounded result }
 {
     if fill {
@@ -144,16 +131,9 @@ fn omit(fill: bool, n: u64, c: usize, have: Sieve, list: &mut [u64]) -> Sieve
             list,
             3 * have.dropped,
             (have.kept + have.dropped) as u64,
-            n,
-            c as u64,
+            u64::from(fault.refusal),
+            fault.component as u64,
         );
-        return Sieve {
-            kept: have.kept,
-            dropped: more(have.dropped),
-            components: have.components,
-            place: have.place,
-            total: have.total,
-        };
     }
     Sieve {
         kept: have.kept,
@@ -165,61 +145,43 @@ fn omit(fill: bool, n: u64, c: usize, have: Sieve, list: &mut [u64]) -> Sieve
 }
 
 // The object whose key begins s and whose value begins c, judged for itself.
-fn step(
-    layout: u64,
-    s: &[u8],
-    c: &[u8],
-    start: u64,
-    end: usize,
-    fill: bool,
-    from: usize,
-    have: Sieve,
-    t: &mut [u64],
-    list: &mut [u64],
-) -> Turn
-    requires { (from ≤ 16384) × is.Bounded have × (208 ≤ length t.old + is.when fill) }
+fn step(pass: Pass, s: &[u8], c: &[u8], have: Sieve, t: &mut [u64], list: &mut [u64]) -> Turn
+    requires { (pass.from ≤ 16384) × is.Bounded have × (208 ≤ length t.old + is.when pass.fill) }
     ensures end { result.end ≡ code (item_end 30 c.now) }
-    ensures sieve { is.Steps layout s.now c.now start end fill from have t.old list.old result.sieve t.new list.new }
+    ensures sieve { is.Steps pass.layout s.now c.now pass.start pass.end pass.fill pass.from have t.old list.old result.sieve t.new list.new }
     ensures small { is.Bounded result.sieve }
 {
     let mut rows = [0u64; 64];
     let mut none = [0u64; 0];
     let to = Place {
-        end: end,
+        end: pass.end,
         owner: 0,
         row: 0,
         from: 0,
     };
-    let w = object::object(layout, &s[0..], &c[0..], start, to, &mut rows, &mut none);
-    let e = w.end;
-    let v = w.verdict;
-    match v {
-        Judged::No(n, k) => Turn {
-            end: e,
-            sieve: omit(fill, n, k, have, list),
-        },
-        Judged::Yes(m) => Turn {
-            end: e,
-            sieve: keep(layout, &s[0..], &c[0..], start, end, fill, from, m, have, t),
-        },
+    let judged = object::object(
+        pass.layout,
+        &s[0..],
+        &c[0..],
+        pass.start,
+        to,
+        &mut rows,
+        &mut none,
+    );
+    let sieve = match judged.verdict {
+        Ok(m) => keep(pass, &s[0..], &c[0..], m, have, t),
+        Err(fault) => omit(pass.fill, fault, have, list),
+    };
+    Turn {
+        end: judged.end,
+        sieve: sieve,
     }
 }
 
 // Entries that begin s, counted as `walk::map` says.
-fn each(
-    layout: u64,
-    s: &[u8],
-    start: u64,
-    end: usize,
-    mode: u64,
-    count: u64,
-    fill: bool,
-    from: usize,
-    t: &mut [u64],
-    list: &mut [u64],
-) -> Sieve
-    requires { (from ≤ 16384) × Modes mode count × (208 ≤ length t.old + is.when fill) }
-    ensures sieve { is.AllSieved layout start end mode count fill from s.now t.old list.old result t.new list.new }
+fn each(pass: Pass, s: &[u8], mode: u64, count: u64, t: &mut [u64], list: &mut [u64]) -> Sieve
+    requires { (pass.from ≤ 16384) × Modes mode count × (208 ≤ length t.old + is.when pass.fill) }
+    ensures sieve { is.AllSieved pass.layout pass.start pass.end mode count pass.fill pass.from s.now t.old list.old result t.new list.new }
     ensures small { is.Bounded result }
 {
     let mut at = 0;
@@ -236,18 +198,7 @@ fn each(
             Entry::End(_) => return have,
             Entry::Value(k) => {
                 let v = at + k;
-                let w = step(
-                    layout,
-                    &s[at..],
-                    &s[v..],
-                    start,
-                    end,
-                    fill,
-                    from,
-                    have,
-                    t,
-                    list,
-                );
+                let w = step(pass, &s[at..], &s[v..], have, t, list);
                 let e = w.end;
                 have = w.sieve;
                 if s.len() - v < e {
@@ -277,24 +228,22 @@ pub fn sift(
     ensures small { is.Bounded result }
 {
     match walk::map(&s[0..]) {
-        Opening::NotOpen => Sieve {
+        None => Sieve {
             kept: 0,
             dropped: 0,
             components: 0,
             place: 8,
             total: 0,
         },
-        Opening::Opened(mode, count, size) => each(
-            layout,
-            &s[size..],
-            start,
-            end,
-            mode,
-            count,
-            fill,
-            from,
-            t,
-            list,
-        ),
+        Some(Opening { mode, count, size }) => {
+            let pass = Pass {
+                layout,
+                start,
+                end,
+                fill,
+                from,
+            };
+            each(pass, &s[size..], mode, count, t, list)
+        }
     }
 }

@@ -2,7 +2,10 @@
 #![tactic(auto)]
 
 ghost use Rattle.std.specs.Prelude.{◌≡◌};
+ghost use Rattle.numbers.specs.Numbered.{number_of};
 ghost use Rattle.spot.specs.Shown as is;
+
+use numbers::Refusal;
 
 // A refusal number, 0 for none, and the bytes left at what it refuses.
 #[derive(Clone, Copy)]
@@ -11,11 +14,18 @@ pub struct Spot {
     pub left: usize,
 }
 
-pub fn at(number: u64, left: usize) -> Spot
-    ensures { result ≡ is.spot number left }
+pub fn at(refusal: Refusal, left: usize) -> Spot
+    ensures { result ≡ is.spot (number_of refusal) left }
 {
     Spot {
-        number: number,
+        number: u64::from(refusal),
         left: left,
     }
+}
+
+// No check breaks.
+pub fn none() -> Spot
+    ensures { result ≡ is.spot 0 0 }
+{
+    Spot { number: 0, left: 0 }
 }

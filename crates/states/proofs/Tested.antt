@@ -19,10 +19,10 @@ use Rattle.engines.specs.Shared.{first, second, flag_of, held_of, objects_of, co
 use Rattle.engines.specs.Calls.{place_of}
 use Rattle.states.specs.Places.{stands_by, fitting, both, stands, standing}
 use Rattle.states.specs.declared.Usage.{Usage}
-use Rattle.states.specs.declared.Usage.TheVariants.{Unusable, Holding}
 use Rattle.states.specs.declared.Place.{Place}
 use Rattle.states.specs.declared.Place.TheVariants.{Nowhere, Idle, Loaded}
 use Rattle.engines.proofs.Opens.{Opened, opened-closed}
+use Rattle.std.specs.Prelude.{Some, None, Option}
 
 -- ---- exactly so many numbers
 
@@ -98,7 +98,7 @@ stands-loaded s place free h = rw (ne_eqb (flag_of s) 0 h) refl
 
 -- what two states hold
 module _ (size : ℕ) (a b : List ℕ) (p : Bool) (asked : p ≡ state_sound a) where
-  pub first-unsound : not p ≡ true → Unusable ≡ fitting size a b
+  pub first-unsound : not p ≡ true → None ≡ fitting size a b
   unfolding fitting
   first-unsound h = let k : state_sound a ≡ false = sym asked ∙ not-true p h in rw k refl
 
@@ -106,7 +106,7 @@ module _ (size : ℕ) (a b : List ℕ) (p : Bool) (asked : p ≡ state_sound a) 
     one : state_sound a ≡ true
     one = sym asked ∙ not-false p yes
 
-    pub second-unsound : not q ≡ true → Unusable ≡ fitting size a b
+    pub second-unsound : not q ≡ true → None ≡ fitting size a b
     unfolding fitting
     second-unsound h = let j = one in let k : state_sound b ≡ false = sym also-asked ∙ not-true q h in rw (j, k) refl
 
@@ -114,18 +114,18 @@ module _ (size : ℕ) (a b : List ℕ) (p : Bool) (asked : p ≡ state_sound a) 
       two : state_sound b ≡ true
       two = sym also-asked ∙ not-false q also
 
-      too_many : size < held_of a + held_of b → Unusable ≡ fitting size a b
+      too_many : size < held_of a + held_of b → None ≡ fitting size a b
       unfolding fitting
       too_many l = let j = one in let k = two in rw (j, k, lt-leb (held_of a + held_of b) size l) refl
 
-      pub front-past : size < held_of a → Unusable ≡ fitting size a b
+      pub front-past : size < held_of a → None ≡ fitting size a b
       front-past l = too_many (omega arith)
 
       module _ (l : held_of a ≤ size) where
-        pub back-past : size - held_of a < held_of b → Unusable ≡ fitting size a b
+        pub back-past : size - held_of a < held_of b → None ≡ fitting size a b
         back-past m = too_many (omega arith)
 
-        pub both-fit : held_of b ≤ size - held_of a → Holding (held_of a) (held_of b) ≡ fitting size a b
+        pub both-fit : held_of b ≤ size - held_of a → Some (record { front = held_of a; back = held_of b }) ≡ fitting size a b
         unfolding fitting
         both-fit m = let j = one in let k = two in rw (j, k, le-leb (held_of a + held_of b) size (omega arith)) refl
 
@@ -136,14 +136,14 @@ module _ (size : ℕ) (l : List ℕ) where
   abbrev back : List ℕ
   back = take 8 (drop (size + 8) l)
 
-  length-past : (length l ≡ size + 16 → ⊥) → Unusable ≡ both size l
+  length-past : (length l ≡ size + 16 → ⊥) → None ≡ both size l
   unfolding both usable
   length-past h = rw (ne_eqb (length l) (size + 16) h) refl
 
-  pub too_short : length l < size + 16 → Unusable ≡ both size l
+  pub too_short : length l < size + 16 → None ≡ both size l
   too_short h = length-past (λ e. omega arith)
 
-  pub too_long : size + 16 < length l → Unusable ≡ both size l
+  pub too_long : size + 16 < length l → None ≡ both size l
   too_long h = length-past (λ e. omega arith)
 
   module _ (n : length l ≡ size + 16) where
@@ -169,12 +169,12 @@ module _ (size : ℕ) (l : List ℕ) where
     pub eights : (length front ≡ 8) × (length back ≡ 8)
     eights = (front-eight sized, back-eight sized)
 
-    pub both_told : (r : Usage) → r ≡ fitting size front back → r ≡ both size l
+    pub both_told : (r : Option Usage) → r ≡ fitting size front back → r ≡ both size l
     both_told r h = h ∙ both-are sized
 
   -- ---- and from there where an engine stands
 
-  asked : (x y : Usage) → x ≡ both size (take (length l - 0) (drop 0 l)) → x ≡ y → both size l ≡ y
+  asked : (x y : Option Usage) → x ≡ both size (take (length l - 0) (drop 0 l)) → x ≡ y → both size l ≡ y
   asked x y e g = ap (both size) (sym (part_to_end l 0)) ∙ sym e ∙ g
 
   abbrev is_usable : Bool
@@ -195,24 +195,24 @@ module _ (size : ℕ) (l : List ℕ) where
   unfolding opened apart
   opens-none u = rw u refl
 
-  abbrev say_of : Usage → List ℕ
-  say_of Unusable = 0 ∷ []
-  say_of (Holding f b) = 1 ∷ f ∷ b ∷ []
+  abbrev say_of : Option Usage → List ℕ
+  say_of None = 0 ∷ []
+  say_of (Some v) = 1 ∷ v.front ∷ v.back ∷ []
 
   record Uses (f b : ℕ) : Type 0 where
     usable-so : is_usable ≡ true
     front-is : f ≡ held_of (part_of size first l).state
     back-held : b ≡ held_of (part_of size second l).state
 
-  uses : (f b : ℕ) → both size l ≡ Holding f b → Uses f b
+  uses : (f b : ℕ) → both size l ≡ Some (record { front = f; back = b }) → Uses f b
   unfolding both
   uses f b = by is_usable refl
     where
-      by : (u : Bool) → is_usable ≡ u → cond u (Holding (held_of (part_of size first l).state) (held_of (part_of size second l).state)) Unusable ≡ Holding f b → Uses f b
-      by true e h = record { usable-so = e; front-is = sym (ap (λ (x : Usage). get_or (say_of x) 1 0) h); back-held = sym (ap (λ (x : Usage). get_or (say_of x) 2 0) h) }
-      by false e h = absurd (let z : ◌≡◌ {A = ℕ} 0 1 = ap (λ (x : Usage). get_or (say_of x) 0 0) h in omega (arith, z))
+      by : (u : Bool) → is_usable ≡ u → cond {A = Option Usage} u (Some (record { front = held_of (part_of size first l).state; back = held_of (part_of size second l).state })) None ≡ Some (record { front = f; back = b }) → Uses f b
+      by true e h = record { usable-so = e; front-is = sym (ap (λ (x : Option Usage). get_or (say_of x) 1 0) h); back-held = sym (ap (λ (x : Option Usage). get_or (say_of x) 2 0) h) }
+      by false e h = absurd (let z : ◌≡◌ {A = ℕ} 0 1 = ap (λ (x : Option Usage). get_or (say_of x) 0 0) h in omega (arith, z))
 
-  module _ (f b : ℕ) (h : both size l ≡ Holding f b) where
+  module _ (f b : ℕ) (h : both size l ≡ Some (record { front = f; back = b })) where
     there : Uses f b
     there = uses f b h
 
@@ -241,7 +241,7 @@ module _ (size : ℕ) (l : List ℕ) where
     unfolding standing stands place_of part_of
     back-stands = let o = opens-parts there.usable-so in let e = free-length in let i = back_is whole in let j = there.back-held in rw (o, e, ← i, j) refl
 
-  none-stands : (engine : ℕ) → both size l ≡ Unusable → Nowhere ≡ standing size engine l
+  none-stands : (engine : ℕ) → both size l ≡ None → Nowhere ≡ standing size engine l
   unfolding both standing stands
   none-stands engine = by is_usable refl engine
     where
@@ -250,8 +250,8 @@ module _ (size : ℕ) (l : List ℕ) where
       none (suc zero) o = rw o refl
       none (suc (suc n)) o = refl
 
-      by : (u : Bool) → is_usable ≡ u → (n : ℕ) → cond u (Holding (held_of (part_of size first l).state) (held_of (part_of size second l).state)) Unusable ≡ Unusable → Nowhere ≡ standing size n l
-      by true e n h = absurd (let z : ◌≡◌ {A = ℕ} 1 0 = ap (λ (x : Usage). get_or (say_of x) 0 0) h in omega (arith, z))
+      by : (u : Bool) → is_usable ≡ u → (n : ℕ) → cond {A = Option Usage} u (Some (record { front = held_of (part_of size first l).state; back = held_of (part_of size second l).state })) None ≡ None → Nowhere ≡ standing size n l
+      by true e n h = absurd (let z : ◌≡◌ {A = ℕ} 1 0 = ap (λ (x : Option Usage). get_or (say_of x) 0 0) h in omega (arith, z))
       by false e n h = none n (opens-none e)
 
   pub standing-stranger : (engine : ℕ) → (engine ≡ 0 → ⊥) → (engine ≡ 1 → ⊥) → Nowhere ≡ standing size engine l
@@ -262,13 +262,19 @@ module _ (size : ℕ) (l : List ℕ) where
 
 -- ---- the same, by what `both` answered of the numbers lent whole
 
-module _ (l : List ℕ) (u : Usage) (told : u ≡ both 65536 (take (length l - 0) (drop 0 l))) where
-  pub standing-unusable : u ≡ Unusable → (engine : ℕ) → Nowhere ≡ standing 65536 engine l
-  standing-unusable e engine = none-stands 65536 l engine (asked 65536 l u Unusable told e)
+module _ (l : List ℕ) (u : Option Usage) (told : u ≡ both 65536 (take (length l - 0) (drop 0 l))) where
+  pub standing-unusable : u ≡ None → (engine : ℕ) → Nowhere ≡ standing 65536 engine l
+  standing-unusable e engine = none-stands 65536 l engine (asked 65536 l u None told e)
 
-  module _ (f b : ℕ) (is : u ≡ Holding f b) where
-    holding : both 65536 l ≡ Holding f b
-    holding = asked 65536 l u (Holding f b) told is
+  module _ (v : Usage) (is : u ≡ Some v) where
+    abbrev f : ℕ
+    f = v.front
+
+    abbrev b : ℕ
+    b = v.back
+
+    holding : both 65536 l ≡ Some (record { front = f; back = b })
+    holding = asked 65536 l u (Some v) told is
 
     all-lent : length l ≡ 65552
     all-lent = whole 65536 l f b holding

@@ -17,11 +17,11 @@ pub const SHARED: usize = 65552;
 // A state's numbers.
 pub const STATE: usize = 8;
 
-// The numbers that the engines hold, if the states are sound.
+// The numbers that the engines hold.
 #[derive(Clone, Copy)]
-pub enum Usage {
-    Unusable,
-    Holding(usize, usize),
+pub struct Usage {
+    pub front: usize,
+    pub back: usize,
 }
 
 // Nothing sound; nothing loaded, with so many numbers free; or rows at a place: how many numbers, objects and components.
@@ -67,36 +67,36 @@ fn sound(s: &[u64]) -> bool
 }
 
 // What two states of eight numbers hold, tested; their numbers stand side by side in the table.
-fn fitting(first: &[u64], second: &[u64]) -> Usage
+fn fitting(first: &[u64], second: &[u64]) -> Option<Usage>
     requires { (length first.now ≡ 8) × (length second.now ≡ 8) }
     ensures { result ≡ is.fitting 65536 first.now second.now }
 {
     if !sound(first) {
-        return Usage::Unusable;
+        return None;
     }
     if !sound(second) {
-        return Usage::Unusable;
+        return None;
     }
     let front = first[1] as usize;
     let back = second[1] as usize;
     if TABLE < front {
-        return Usage::Unusable;
+        return None;
     }
     if TABLE - front < back {
-        return Usage::Unusable;
+        return None;
     }
-    Usage::Holding(front, back)
+    Some(Usage { front, back })
 }
 
 // Both states, tested.
-fn both(shared: &[u64]) -> Usage
+fn both(shared: &[u64]) -> Option<Usage>
     ensures { result ≡ is.both 65536 shared.now }
 {
     if shared.len() < SHARED {
-        return Usage::Unusable;
+        return None;
     }
     if SHARED < shared.len() {
-        return Usage::Unusable;
+        return None;
     }
     fitting(&shared[TABLE..SECOND], &shared[SECOND..SHARED])
 }
@@ -116,8 +116,8 @@ pub fn standing(shared: &[u64], engine: u64) -> Place
     ensures { result ≡ is.standing 65536 engine shared.now }
 {
     match both(&shared[0..]) {
-        Usage::Unusable => Place::Nowhere,
-        Usage::Holding(front, back) => {
+        None => Place::Nowhere,
+        Some(Usage { front, back }) => {
             let free = TABLE - front - back;
             if engine == 0 {
                 return stands_by(&shared[TABLE..SECOND], 0, free);

@@ -19,13 +19,12 @@ use Rattle.cbor.proofs.Ends.{fine-ending, is-took, is-fault, shift-shift, got-wh
 use Rattle.cbor.proofs.Loops.{holds-others, holds-none}
 use Rattle.cbor.proofs.Rest as due
 use Rattle.cbor.proofs.FirstByte as leads
-use Rattle.stop.specs.declared.Reached.{Reached}
-use Rattle.stop.specs.declared.Reached.TheVariants.{Past, Stopped}
 use Rattle.stop.specs.declared.Begun.{Begun}
 use Rattle.stop.specs.declared.Begun.TheVariants.{Ended, Holds}
 use Rattle.stop.specs.Stop.{LeftBy, Refuses, PlainStops, head_left, Inside, Opens, Reaches, Light, Begins}
 use Rattle.stop.proofs.Heads as heads
 use Rattle.stop.proofs.Turns.{Lent, onwards, Inv, from_at, stops-here, stops_at, goes_on, at-end}
+use Rattle.std.specs.Prelude.{Result, Ok, Err}
 
 -- what was answered of a part of s that goes on to its end, where the answer is known
 pub told : {R : Type 0} (P : List ℕ → R → Type 0) (s : List ℕ) (at : ℕ) {r v : R} → P (take (length s - at) (drop at s)) r → r ≡ v → P (drop at s) v
@@ -70,7 +69,7 @@ module _ (s : List ℕ) where
   pub high-holds-none : 224 ≤ get_or s 0 0 → holds (get_or (onwards s 0) 0 0) ≡ false
   high-holds-none l = none-held (λ x y. omega arith)
 
-  pub plain-ends : (d : ℕ) (r : Reached) → Reaches d (onwards s 0) r → Begins d s (Ended r)
+  pub plain-ends : (d : ℕ) (r : Result ℕ ℕ) → Reaches d (onwards s 0) r → Begins d s (Ended r)
   plain-ends d r f = told (Reaches d) s 0 {r = r} f refl
 
 -- ---------------------------------------------------------------- where an item is refused as it begins
@@ -173,7 +172,7 @@ begins-with (suc d) (b ∷ t) r room o = let z : suc d - 1 ≡ d = omega arith i
 
 -- what `begin` answered of all of s
 module _ (d : ℕ) (s : List ℕ) (o : Begun) (f : Begins d (onwards s 0) o) where
-  pub ended : {r : Reached} → o ≡ Ended r → Reaches d s r
+  pub ended : {r : Result ℕ ℕ} → o ≡ Ended r → Reaches d s r
   ended e = told (Begins d) s 0 f e
 
   pub begins : {r : Holding} → Lent s → o ≡ Holds r → Walk d s r.mode r.count r.size
@@ -184,7 +183,7 @@ module _ (d : ℕ) (s : List ℕ) (at k : ℕ) where
   pub by-light : Light d (onwards s at) k → k ≤ length s - at → item_end d (drop at s) ≡ took k
   by-light f l = told (Light d) s at f refl (omega (arith, length-drop at s))
 
-  pub by-pass : {o : Reached} → Reaches d (onwards s at) o → o ≡ Past k → item_end d (drop at s) ≡ took k
+  pub by-pass : {o : Result ℕ ℕ} → Reaches d (onwards s at) o → o ≡ Ok k → item_end d (drop at s) ≡ took k
   by-pass f e = told (Reaches d) s at f e
 
 module _ {d : ℕ} {s : List ℕ} {mode n at : ℕ} (w : Walk d s mode n at) where
@@ -223,8 +222,8 @@ module _ {d : ℕ} {s : List ℕ} {mode n at : ℕ} (w : Walk d s mode n at) whe
         break-stops k = stops d s w.room r answers k (stops-here w.going l (a-break (d - 1) (get_or s at 0) (drop (suc at) s) is))
 
       module _ (no : get_or s at 0 ≡ 255 → ⊥) where
-        pub item-stops : {o : Reached} {k : ℕ} → Reaches (d - 1) (onwards s at) o → o ≡ Stopped k → Refuses (item no_note d) s k
-        item-stops f e =
+        pub item-stops : {o : Result ℕ ℕ} {k : ℕ} → Reaches (d - 1) (onwards s at) o → o ≡ Err k → {q : Result ℕ ℕ} → q ≡ Err k → Reaches d s q
+        item-stops f e is-q = rw is-q
             let x = told (Reaches (d - 1)) s at f e in
             refuses d s
             (w.ends ∙ ap (shift at) (due.rest-stops (d - 1) mode n (drop at s) x.number some left_over (λ e. no (sym first ∙ e)) (ap (ending (drop at s)) x.is)))

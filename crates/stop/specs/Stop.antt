@@ -1,11 +1,9 @@
 -- How many bytes are left where a reading is refused, in terms of the meaning's own reading.
-use Rattle.std.specs.Prelude.{ℕ, suc, ◌%◌, ◌≤◌, ◌<◌, List, [], ◌∷◌, false, cond, ◌≡◌, length, get_or, leb}
+use Rattle.std.specs.Prelude.{ℕ, suc, ◌%◌, ◌≤◌, ◌<◌, List, [], ◌∷◌, false, cond, ◌≡◌, length, get_or, leb, Result, Ok, Err}
 use Rattle.meaning.specs.Read.{Reader, refused, item, chunk, to_break, no_note}
 use Rattle.cbor.specs.Ending.{took, FAULT, item_end, head_of, holds, HolderIs}
 use Rattle.cbor.specs.declared.Argued.{Argued}
 use Rattle.cbor.specs.declared.Holding.{Holding}
-use Rattle.stop.specs.declared.Reached.{Reached}
-use Rattle.stop.specs.declared.Reached.TheVariants.{Past, Stopped}
 use Rattle.stop.specs.declared.Begun.{Begun}
 use Rattle.stop.specs.declared.Begun.TheVariants.{Ended, Holds}
 
@@ -37,9 +35,9 @@ pub record Refuses {A : Type 0} (m : Reader A) (s : List ℕ) (k : ℕ) : Type 0
   pub left : k ≡ length at
 
 -- how an item ends that begins s where d levels are left
-abbrev pub Reaches : ℕ → List ℕ → Reached → Type 0
-Reaches d s (Past n) = item_end d s ≡ took n
-Reaches d s (Stopped k) = Refuses (item no_note d) s k
+abbrev pub Reaches : ℕ → List ℕ → Result ℕ ℕ → Type 0
+Reaches d s (Ok n) = item_end d s ≡ took n
+Reaches d s (Err k) = Refuses (item no_note d) s k
 
 -- an item of r bytes, if there are so many
 abbrev pub Light : ℕ → List ℕ → ℕ → Type 0

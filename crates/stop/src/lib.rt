@@ -64,23 +64,16 @@ fn at_plain(s: &[u8]) -> usize
     at_head(&s[0..])
 }
 
-// How many bytes an item takes, or how many are left where it is refused.
-#[derive(Clone, Copy)]
-pub enum Reached {
-    Past(usize),
-    Stopped(usize),
-}
-
-// An item that holds no other, where a level is left.
-fn plain(s: &[u8], left: u64) -> Reached
+// An item that holds no other, where a level is left: how many bytes it takes, or how many are left where it is refused.
+fn plain(s: &[u8], left: u64) -> Result<usize, usize>
     requires { (0 < left) × (holds (get_or s.now 0 0) ≡ false) }
     ensures { is.Reaches left s.now result }
 {
     let r = cbor::skip(&s[0..], left);
     if s.len() < r {
-        return Reached::Stopped(at_plain(&s[0..]));
+        return Err(at_plain(&s[0..]));
     }
-    Reached::Past(r)
+    Ok(r)
 }
 
 // What an array, a map or a tag holds that begins with b and has the head h.
@@ -123,10 +116,10 @@ fn inside(b: u8, h: cbor::Argued) -> cbor::Holding
     }
 }
 
-// How an item ended that holds no other or whose head is refused, or what it holds.
+// How an item ended that holds no other or whose head is refused, or what it holds. No Result: an item that ends is no fault.
 #[derive(Clone, Copy)]
 enum Begun {
-    Ended(Reached),
+    Ended(Result<usize, usize>),
     Holds(cbor::Holding),
 }
 
@@ -135,10 +128,10 @@ fn begin(s: &[u8], left: u64) -> Begun
     ensures { is.Begins left s.now result }
 {
     if s.len() == 0 {
-        return Begun::Ended(Reached::Stopped(0));
+        return Begun::Ended(Err(0));
     }
     if left == 0 {
-        return Begun::Ended(Reached::Stopped(s.len()));
+        return Begun::Ended(Err(s.len()));
     }
     let b = s[0];
     if b < 128 {
@@ -149,10 +142,10 @@ fn begin(s: &[u8], left: u64) -> Begun
     }
     let h = cbor::head(&s[0..]);
     if s.len() < h.size {
-        return Begun::Ended(Reached::Stopped(at_head(&s[0..])));
+        return Begun::Ended(Err(at_head(&s[0..])));
     }
     if b == 223 {
-        return Begun::Ended(Reached::Stopped(s.len()));
+        return Begun::Ended(Err(s.len()));
     }
     Begun::Holds(inside(b, h))
 }
@@ -173,8 +166,8 @@ fn light(s: &[u8], left: u64) -> usize
     cbor::skip(&s[0..], left)
 }
 
-// The item that begins s, where `left` levels are left. Whatever is passed is passed once, at whatever level it stands.
-pub fn pass(s: &[u8], left: u64) -> Reached
+// The item that begins s, where `left` levels are left: how many bytes it takes, or how many are left where it is refused. Whatever is passed is passed once, at whatever level it stands.
+pub fn pass(s: &[u8], left: u64) -> Result<usize, usize>
     ensures { is.Reaches left s.now result }
 {
     let begun = begin(&s[0..], left);
@@ -186,14 +179,14 @@ pub fn pass(s: &[u8], left: u64) -> Reached
             let mut at = h.size;
             while 0 < due {
                 if s.len() <= at {
-                    return Reached::Stopped(0);
+                    return Err(0);
                 }
                 if s[at] == 255 {
                     let end = cbor::broken(mode, due, at);
                     if s.len() < end {
-                        return Reached::Stopped(s.len() - at);
+                        return Err(s.len() - at);
                     }
-                    return Reached::Past(end);
+                    return Ok(end);
                 }
                 let k = light(&s[at..], left - 1);
                 if k <= s.len() - at {
@@ -201,18 +194,11 @@ pub fn pass(s: &[u8], left: u64) -> Reached
                     due -= 1;
                     continue;
                 }
-                let next = pass(&s[at..], left - 1);
-                match next {
-                    Reached::Past(n) => {
-                        at += n;
-                        due -= 1;
-                    }
-                    Reached::Stopped(left) => {
-                        return Reached::Stopped(left);
-                    }
-                }
+                let next = pass(&s[at..], left - 1)?;
+                at += next;
+                due -= 1;
             }
-            Reached::Past(at)
+            Ok(at)
         }
     }
 }

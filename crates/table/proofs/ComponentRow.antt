@@ -25,7 +25,6 @@ use Rattle.naming.specs.NotedNames.{word_or}
 use Rattle.component.specs.Value.{left_word, given}
 use Rattle.component.specs.Verdict.{judged}
 use Rattle.component.specs.declared.Judged.{Judged}
-use Rattle.component.specs.declared.Judged.TheVariants.{No, Yes}
 use Rattle.table.specs.Stored.{StorageIs, stored_as}
 use Rattle.table.proofs.Storage.{with_code, stored-so}
 use Rattle.table.proofs.Lettered.{named-so, type_at, digest-at, entered_so}
@@ -34,6 +33,9 @@ use Rattle.table.specs.declared.span.Span.{Span}
 use Rattle.table.specs.Spans.{span_of, spanned, span_of_word, span_of_option, TextSpanIs, TextSpanAt, WholeFrom}
 use Rattle.table.specs.Row.{twelve, row_in, RowPut}
 use Rattle.table.proofs.Runs as laying
+use Rattle.std.specs.Prelude.{Ok, Err, Result}
+use Rattle.numbers.specs.declared.refusal.Refusal.{Refusal}
+use Rattle.numbers.specs.Answered.{answered}
 
 -- ---------------------------------------------------------------- a pair that has a name
 
@@ -92,52 +94,52 @@ own_of layout format code start n f fm has k passes = go (component (layout_of l
 -- ---------------------------------------------------------------- the row
 
 -- beyond the table's end nothing is put
-pub row-beyond : (layout format : ℕ) (s c : List ℕ) (v : Judged) (size end owner i : ℕ) (before : List ℕ) → length before ≤ i → RowPut layout format s c v size end owner i before before
+pub row-beyond : (layout format : ℕ) (s c : List ℕ) (v : Result Judged Refusal) (size end owner i : ℕ) (before : List ℕ) → length before ≤ i → RowPut layout format s c v size end owner i before before
 row-beyond layout format s c v size end owner i before h code start says p d q r key value sized n name f fm has k passes = sym (laying.sets-out (row_in end owner k) before i h)
 
-module _ (layout format : ℕ) (s c : List ℕ) (v : Judged) (size end owner i : ℕ) (before after : List ℕ) where
-  pub no_row : (m : ℕ) → v ≡ No m → RowPut layout format s c v size end owner i before after
+module _ (layout format : ℕ) (s c : List ℕ) (v : Result Judged Refusal) (size end owner i : ℕ) (before after : List ℕ) where
+  pub no_row : (m : Refusal) → v ≡ Err m → RowPut layout format s c v size end owner i before after
   no_row m e code start says p d q r key value sized n name f fm has k passes =
       let so = named-pair p n name in
       let own = own_of layout format code start n f fm has k passes in
-      let j : No m ≡ judged (pass own.own) = sym e ∙ says p.value r value n.name ∙ ap judged (ap (component (layout_of layout) start (given code)) (sym so.is) ∙ own.is) in
+      let j : answered (Err m) ≡ judged (pass own.own) = sym (ap answered e) ∙ says p.value r value n.name ∙ ap judged (ap (component (layout_of layout) start (given code)) (sym so.is) ∙ own.is) in
       absurd (let z : ◌≡◌ {A = ℕ} 0 1 = cc in omega arith)
 
-  pub a-row : (code t o l g : ℕ) → v ≡ Yes code t o l g → (x y z w : Span) → TextSpanIs (Here s 0) end x → TextSpanAt (Here c 0) t end y → TextSpanAt (Here c 0) g end z → WholeFrom (Here c 0) size end w
-      → (kept : ℕ) → StorageIs layout format s code kept → length c * 1 < 2 ^ 63
-      → after ≡ sets before i (twelve (spanned x) kept (spanned y) o l (spanned z) owner (spanned w)) → RowPut layout format s c v size end owner i before after
+  pub a-row : (jd : Judged) → v ≡ Ok jd → (x y z w : Span) → TextSpanIs (Here s 0) end x → TextSpanAt (Here c 0) jd.kind end y → TextSpanAt (Here c 0) jd.digest end z → WholeFrom (Here c 0) size end w
+      → (kept : ℕ) → StorageIs layout format s jd.code kept → length c * 1 < 2 ^ 63
+      → after ≡ sets before i (twelve (spanned x) kept (spanned y) jd.offset jd.length (spanned z) owner (spanned w)) → RowPut layout format s c v size end owner i before after
   unfolding component_row
-  a-row code t o l g e x y z w sx sy sz sw kept stored lent put above start says p d q r key value sized n name f fm has k passes =
+  a-row jd e x y z w sx sy sz sw kept stored lent put above start says p d q r key value sized n name f fm has k passes =
       let room : length c < FAULT = omega arith in
       let so = named-pair p n name in
       let A = inherited f (given above) n.name.letters in
       let own = own_of layout format above start n f fm has k passes in
       let is : component (layout_of layout) start A (record { name = n.name; value = p.value }) ≡ pass k = ap (component (layout_of layout) start A) (sym so.is) ∙ passes in
-      let j : Yes code t o l g ≡ judged (pass own.own) = sym e ∙ says p.value r value n.name ∙ ap judged (ap (component (layout_of layout) start (given above)) (sym so.is) ∙ own.is) in
-      let kept-is : kept ≡ stored_as layout format (position role_names n.name.letters) code =
-      stored d p.key q key ∙ ap (λ w. stored_as layout format (position role_names w.letters) code) so.anyway in
-      let own_code : code ≡ own.own.dtype = cc in
-      let own-type : left_word own.own.type ≡ t = cc in
-      let own-offset : o ≡ own.own.offset = cc in
-      let own-length : l ≡ own.own.length = cc in
-      let own-digest : left_word own.own.digest ≡ g = cc in
+      let j : answered (Ok (record { code = jd.code; kind = jd.kind; offset = jd.offset; length = jd.length; digest = jd.digest })) ≡ judged (pass own.own) = sym (ap answered e) ∙ says p.value r value n.name ∙ ap judged (ap (component (layout_of layout) start (given above)) (sym so.is) ∙ own.is) in
+      let kept-is : kept ≡ stored_as layout format (position role_names n.name.letters) jd.code =
+      stored d p.key q key ∙ ap (λ w. stored_as layout format (position role_names w.letters) jd.code) so.anyway in
+      let own_code : jd.code ≡ own.own.dtype = cc in
+      let own-type : left_word own.own.type ≡ jd.kind = cc in
+      let own-offset : jd.offset ≡ own.own.offset = cc in
+      let own-length : jd.length ≡ own.own.length = cc in
+      let own-digest : left_word own.own.digest ≡ jd.digest = cc in
       let code_is : kept ≡ k.dtype = kept-is ∙ ap (stored_as layout format (position role_names n.name.letters)) own_code ∙ ap (λ (c : Component Ends). c.dtype) own.recoded in
-      let type-is : left_word k.type ≡ t = ap (λ (c : Component Ends). left_word c.type) (sym own.recoded) ∙ own-type in
-      let offset-is : o ≡ k.offset = own-offset ∙ ap (λ (c : Component Ends). c.offset) own.recoded in
-      let length-is : l ≡ k.length = own-length ∙ ap (λ (c : Component Ends). c.length) own.recoded in
-      let digest-is : left_word k.digest ≡ g = ap (λ (c : Component Ends). left_word c.digest) (sym own.recoded) ∙ own-digest in
+      let type-is : left_word k.type ≡ jd.kind = ap (λ (c : Component Ends). left_word c.type) (sym own.recoded) ∙ own-type in
+      let offset-is : jd.offset ≡ k.offset = own-offset ∙ ap (λ (c : Component Ends). c.offset) own.recoded in
+      let length-is : jd.length ≡ k.length = own-length ∙ ap (λ (c : Component Ends). c.length) own.recoded in
+      let digest-is : left_word k.digest ≡ jd.digest = ap (λ (c : Component Ends). left_word c.digest) (sym own.recoded) ∙ own-digest in
       let a : spanned x ≡ span_of_word end k.name =
       subst (λ u. TextSpanIs u end x) (part_to_end s 0) sx d p.key q key n.name so.word ∙ ap (span_of_word end) (named-so c room p.value r value (layout_of layout) A start n.name k is) in
       let b : spanned y ≡ span_of_option end k.type =
-      subst (λ u. TextSpanAt u t end y) (part_to_end c 0) sy k.type (type_at c room p.value r value (layout_of layout) A start n.name k is) type-is in
+      subst (λ u. TextSpanAt u jd.kind end y) (part_to_end c 0) sy k.type (type_at c room p.value r value (layout_of layout) A start n.name k is) type-is in
       let f : spanned z ≡ span_of_option end k.digest =
-      subst (λ u. TextSpanAt u g end z) (part_to_end c 0) sz k.digest (digest-at c room p.value r value (layout_of layout) A start n.name k is) digest-is in
+      subst (λ u. TextSpanAt u jd.digest end z) (part_to_end c 0) sz k.digest (digest-at c room p.value r value (layout_of layout) A start n.name k is) digest-is in
       let m : spanned w ≡ span_of end k.entry =
       (subst (λ u. WholeFrom u size end w) (part_to_end c 0) sw).is 28 p.value r value sized ∙ ap (span_of end) (entered_so c room p.value r value (layout_of layout) A start n.name k is) in
-      let same : twelve (spanned x) kept (spanned y) o l (spanned z) owner (spanned w) ≡ row_in end owner k =
-      ap (λ u. twelve u kept (spanned y) o l (spanned z) owner (spanned w)) a
-      ∙ ap (λ u. twelve (span_of_word end k.name) kept u o l (spanned z) owner (spanned w)) b
-      ∙ ap (λ u. twelve (span_of_word end k.name) kept (span_of_option end k.type) o l u owner (spanned w)) f
-      ∙ ap (λ u. twelve (span_of_word end k.name) kept (span_of_option end k.type) o l (span_of_option end k.digest) owner u) m
+      let same : twelve (spanned x) kept (spanned y) jd.offset jd.length (spanned z) owner (spanned w) ≡ row_in end owner k =
+      ap (λ u. twelve u kept (spanned y) jd.offset jd.length (spanned z) owner (spanned w)) a
+      ∙ ap (λ u. twelve (span_of_word end k.name) kept u jd.offset jd.length (spanned z) owner (spanned w)) b
+      ∙ ap (λ u. twelve (span_of_word end k.name) kept (span_of_option end k.type) jd.offset jd.length u owner (spanned w)) f
+      ∙ ap (λ u. twelve (span_of_word end k.name) kept (span_of_option end k.type) jd.offset jd.length (span_of_option end k.digest) owner u) m
       ∙ (rw (code_is, offset-is, length-is) refl) in
       put ∙ ap (sets before i) same

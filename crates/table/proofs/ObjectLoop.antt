@@ -24,7 +24,6 @@ use Rattle.meaning.proofs.Lengths.{object-length, objects-length, components-len
 use Rattle.walk.specs.Reading.{Ends, Reads}
 use Rattle.walk.specs.Places.{MapIs}
 use Rattle.walk.specs.declared.Opening.{Opening}
-use Rattle.walk.specs.declared.Opening.TheVariants.{NotOpen, Opened}
 use Rattle.walk.proofs.Passed.{Here}
 use Rattle.walk.proofs.Opens as opens
 use Rattle.naming.proofs.NameNoted.{map_snoc}
@@ -35,6 +34,7 @@ use Rattle.table.specs.Objects.{WholePut, Onward, entry, objects_in, components_
 use Rattle.table.proofs.Runs as laying
 use Rattle.table.proofs.MapEntries as entering
 use Rattle.table.proofs.ComponentRow.{named-pair}
+use Rattle.std.specs.Prelude.{Some, None, Option}
 
 -- ---------------------------------------------------------------- rows
 
@@ -132,20 +132,20 @@ module _ (layout start : ℕ) (s c : List ℕ) {end from n row row' next next' :
 
 -- ---------------------------------------------------------------- the whole map, lent whole to `walk::map`, which answered x
 
-module _ (layout : ℕ) (s : List ℕ) (start end from : ℕ) (before after : List ℕ) (x : Opening) (h : MapIs (Here s 0) x) where
-  pub no-map : x ≡ NotOpen → Written layout s start end from before after
+module _ (layout : ℕ) (s : List ℕ) (start end from : ℕ) (before after : List ℕ) (x : Option Opening) (h : MapIs (Here s 0) x) where
+  pub no-map : x ≡ None → Written layout s start end from before after
   unfolding objects_of names
   no-map e t q r m is low room =
-      let z = opens.opening s x h NotOpen e 30 t q r in
+      let z = opens.opening s x h None e 30 t q r in
       let y : objects_of (layout_of layout) start t ≡ refuse 8 0 0 = rw z refl in
       let w : pass m.objects ≡ refuse 8 0 0 = sym is ∙ y in absurd (let v : ◌≡◌ {A = ℕ} 0 1 = cc in omega arith)
 
-  pub map-written : (mode count size : ℕ) → x ≡ Opened mode count size → (true ≡ true → AllLaid layout start end from mode count (Here s size) before after)
+  pub map-written : (op : Opening) → x ≡ Some op → (true ≡ true → AllLaid layout start end from op.mode op.count (Here s op.size) before after)
       → Written layout s start end from before after
   unfolding objects_of rows room_for
-  map-written mode count size e all t q r m is low room =
-      let o = (opens.opened s x h mode count size e).trees 30 t q r in
-      let w = (subst (λ u. AllLaid layout start end from mode count u before after) (part_to_end s size) (all refl)).are o.pairs o.last o.due in
+  map-written op e all t q r m is low room =
+      let o = (opens.opened s x h op e).trees 30 t q r in
+      let w = (subst (λ u. AllLaid layout start end from op.mode op.count u before after) (part_to_end s op.size) (all refl)).are o.pairs o.last o.due in
       let g = entering.all-entered (entry layout start) object_limit t o.pairs o.kind-is m.objects is in
       let laid = w m.objects g (omega arith) (omega arith) in
       let A = objects_in end m.objects in

@@ -12,10 +12,10 @@ use Rattle.types.specs.Known.{position, role_names}
 use Rattle.walk.specs.Reading.{Ends}
 use Rattle.walk.specs.Places.{TextIs}
 use Rattle.walk.specs.declared.Letters.{Letters}
-use Rattle.walk.specs.declared.Letters.TheVariants.{NoText, Text}
 use Rattle.naming.specs.NotedNames.{word_or}
 use Rattle.fields.proofs.Texts.{Here, no_word, word, letters}
 use Rattle.table.specs.Stored.{RoleIs}
+use Rattle.std.specs.Prelude.{Some, None, Option}
 
 no-letters : (e : Ends) (k : Kind Ends) → as_word k ≡ fault KIND → (word_or e k).letters ≡ []
 unfolding as_word
@@ -39,11 +39,11 @@ no-role : 8 ≡ position role_names []
 unfolding position role_names
 no-role = refl
 
-module _ (s : List ℕ) (l : Letters) (h : TextIs (Here s 0) l) where
-  pub role-odd : l ≡ NoText → RoleIs s 8
+module _ (s : List ℕ) (l : Option Letters) (h : TextIs (Here s 0) l) where
+  pub role-odd : l ≡ None → RoleIs s 8
   unfolding a_word
   role-odd e d t q r = no-role ∙ ap (position role_names) (sym (no-letters _ (kind t) (no_word s l h e d t q r)))
 
-  pub role-named : (at n : ℕ) (e : l ≡ Text at n) (u : ℕ) → u ≡ position role_names (letters s l h at n e) → RoleIs s u
+  pub role-named : (at n : ℕ) (e : l ≡ Some (record { at = at; size = n })) (u : ℕ) → u ≡ position role_names (letters s l h at n e) → RoleIs s u
   unfolding a_word
   role-named at n e u is d t q r = is ∙ ap (position role_names) (its-letters _ (kind t) _ (word s l h at n e d t q r))

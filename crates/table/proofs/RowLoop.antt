@@ -23,7 +23,6 @@ use Rattle.cbor.specs.Ending.{code, item_end}
 use Rattle.walk.specs.Reading.{Ends, Reads}
 use Rattle.walk.specs.Places.{MapIs}
 use Rattle.walk.specs.declared.Opening.{Opening}
-use Rattle.walk.specs.declared.Opening.TheVariants.{NotOpen, Opened}
 use Rattle.walk.proofs.Passed.{Here}
 use Rattle.walk.proofs.Opens as opens
 use Rattle.component.specs.Value.{given}
@@ -37,6 +36,9 @@ use Rattle.table.specs.Rows.{rows_in, Laid, Rowed, AllRowed, RowsPut}
 use Rattle.table.proofs.Runs as laying
 use Rattle.table.proofs.Whole.{item-size}
 use Rattle.table.proofs.MapEntries as entering
+use Rattle.std.specs.Prelude.{Some, None, Option}
+use Rattle.numbers.specs.declared.refusal.Refusal.{Refusal}
+use Rattle.std.specs.Prelude.{Result}
 
 -- ---------------------------------------------------------------- rows
 
@@ -70,7 +72,7 @@ none-rowed g start end owner from before f fm has cs h room =
     let z = entering.none-entered (entry (layout_of g.layout) (inherited f (given g.code)) start) cs h in subst (Laid end owner from before from before) (sym z) (record { next-is = omega arith; after_is = refl })
 
 -- the key begins s and the value, judged as v, begins c
-module _ (g : Given) (start : ℕ) (s c : List ℕ) {end owner from next next' : ℕ} {before after after' : List ℕ} (same : length after ≡ length before) {v : Judged} (judged : ComponentIs (layout_of g.layout) (given g.code) c start v)
+module _ (g : Given) (start : ℕ) (s c : List ℕ) {end owner from next next' : ℕ} {before after after' : List ℕ} (same : length after ≡ length before) (v : Result Judged Refusal) (judged : ComponentIs (layout_of g.layout) (given g.code) c start v)
     {size : ℕ} (took : size ≡ code (item_end 28 c)) (put : RowPut g.layout g.format s c v size end owner next after after') (same' : length after' ≡ length after)
     (further : next + component_width ≤ length after' → next' ≡ next + component_width) where
   pub one-more-rowed : {done : List (Pair Ends)} (p : Pair Ends) {q r : List ℕ} → Reads 28 s p.key q → Reads 28 c p.value r
@@ -96,17 +98,17 @@ module _ (g : Given) (start : ℕ) (s c : List ℕ) {end owner from next next' :
 
 -- ---------------------------------------------------------------- the whole map, lent whole to `walk::map`, which answered x
 
-module _ (g : Given) (c : List ℕ) (start end owner from : ℕ) (before : List ℕ) (x : Opening) (h : MapIs (Here c 0) x) where
-  pub no-map : (after : List ℕ) → x ≡ NotOpen → RowsPut g c start end owner from before after
+module _ (g : Given) (c : List ℕ) (start end owner from : ℕ) (before : List ℕ) (x : Option Opening) (h : MapIs (Here c 0) x) where
+  pub no-map : (after : List ℕ) → x ≡ None → RowsPut g c start end owner from before after
   unfolding components_of names
   no-map after e t q r f fm has cs is =
-      absurd (let z = opens.opening c x h NotOpen e 28 t q r in let y : components_of (layout_of g.layout) start (inherited f (given g.code)) t ≡ refuse 8 0 0 = rw z refl in let w : pass cs ≡ refuse 8 0 0 = sym is ∙ y in let v : ◌≡◌ {A = ℕ} 0 1 = cc in omega arith)
+      absurd (let z = opens.opening c x h None e 28 t q r in let y : components_of (layout_of g.layout) start (inherited f (given g.code)) t ≡ refuse 8 0 0 = rw z refl in let w : pass cs ≡ refuse 8 0 0 = sym is ∙ y in let v : ◌≡◌ {A = ℕ} 0 1 = cc in omega arith)
 
-  pub map-rowed : (mode count size : ℕ) → x ≡ Opened mode count size → (after : List ℕ) → AllRowed g start end owner from mode count (Here c size) before after
+  pub map-rowed : (op : Opening) → x ≡ Some op → (after : List ℕ) → AllRowed g start end owner from op.mode op.count (Here c op.size) before after
       → RowsPut g c start end owner from before after
   unfolding components_of entry
-  map-rowed mode count size e after all t q r f fm has cs is room =
+  map-rowed op e after all t q r f fm has cs is room =
       let E = entry (layout_of g.layout) (inherited f (given g.code)) start in
-      let m = (opens.opened c x h mode count size e).trees 28 t q r in
-      let w = (subst (λ u. AllRowed g start end owner from mode count u before after) (part_to_end c size) all).are m.pairs m.last m.due in
+      let m = (opens.opened c x h op e).trees 28 t q r in
+      let w = (subst (λ u. AllRowed g start end owner from op.mode op.count u before after) (part_to_end c op.size) all).are m.pairs m.last m.due in
       (w f fm has cs (entering.all-entered E component_limit t m.pairs m.kind-is cs is) room).after_is

@@ -1,5 +1,5 @@
 -- The row of a component, put into the table where its key and its value were met.
-use Rattle.std.specs.Prelude.{ℕ, suc, List, [], ◌∷◌, ◌≡◌}
+use Rattle.std.specs.Prelude.{ℕ, suc, List, [], ◌∷◌, ◌≡◌, Result}
 use Rattle.std.proofs.lemmas.List.Edits.{sets}
 use Rattle.meaning.specs.Tree.{Pair}
 use Rattle.meaning.specs.Check.{pass}
@@ -16,6 +16,7 @@ use Rattle.component.specs.Verdict.{ComponentIs}
 use Rattle.component.specs.declared.Judged.{Judged}
 use Rattle.table.specs.Given.{offered, Whichever}
 use Rattle.table.specs.Spans.{span_of, SizeIs}
+use Rattle.numbers.specs.declared.refusal.Refusal.{Refusal}
 
 -- its twelve numbers
 abbrev pub twelve : Span → ℕ → Span → ℕ → ℕ → Span → ℕ → Span → List ℕ
@@ -26,7 +27,7 @@ abbrev pub row_in : ℕ → ℕ → Component Ends → List ℕ
 row_in end owner k = component_row owner (map_component (span_of end) k)
 
 -- the row of every component that passes, whose key begins s and whose value, judged as v with its object's code, begins c and takes `size` bytes
-abbrev pub RowPut : ℕ → ℕ → List ℕ → List ℕ → Judged → ℕ → ℕ → ℕ → ℕ → List ℕ → List ℕ → Type 0
+abbrev pub RowPut : ℕ → ℕ → List ℕ → List ℕ → Result Judged Refusal → ℕ → ℕ → ℕ → ℕ → List ℕ → List ℕ → Type 0
 RowPut layout format s c v size end owner i before after =
     (code start : ℕ) → ComponentIs (layout_of layout) (given code) c start v → (p : Pair Ends) (d : ℕ) (q r : List ℕ) → Reads (suc d) s p.key q → Reads 28 c p.value r → SizeIs p.value size
     → (n : Named Ends) → name_of p ≡ pass n → Whichever (offered layout format code) λ above.

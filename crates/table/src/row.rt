@@ -8,6 +8,7 @@ use crate::lay::{five, two};
 use crate::span::{Span, text_span, text_span_at, whole_from};
 use crate::stored::storage;
 use component::Judged;
+use numbers::Refusal;
 
 // Puts twelve numbers.
 fn put_twelve(
@@ -46,7 +47,7 @@ pub fn put_row(
     format: u64,
     s: &[u8],
     c: &[u8],
-    v: Judged,
+    v: Result<Judged, Refusal>,
     size: usize,
     end: usize,
     owner: u64,
@@ -58,17 +59,24 @@ pub fn put_row(
     if t.len() <= i {
         return;
     }
-    match v {
-        Judged::No(_) => {}
-        Judged::Yes(code, kind, offset, length, digest) => {
-            let name = text_span(&s[0..], end);
-            let typed = text_span_at(&c[0..], kind, end);
-            let digested = text_span_at(&c[0..], digest, end);
-            let entry = whole_from(&c[0..], size, end);
-            let kept = storage(layout, format, s, code);
-            put_twelve(
-                t, i, name, kept, typed, offset, length, digested, owner, entry,
-            );
-        }
-    }
+    let Ok(judged) = v else {
+        return;
+    };
+    let name = text_span(&s[0..], end);
+    let typed = text_span_at(&c[0..], judged.kind, end);
+    let digested = text_span_at(&c[0..], judged.digest, end);
+    let entry = whole_from(&c[0..], size, end);
+    let kept = storage(layout, format, s, judged.code);
+    put_twelve(
+        t,
+        i,
+        name,
+        kept,
+        typed,
+        judged.offset,
+        judged.length,
+        digested,
+        owner,
+        entry,
+    );
 }

@@ -2,19 +2,16 @@
 ghost use Rattle.std.specs.Prelude.{◌≡◌};
 ghost use Rattle.table.specs.Stored.{RoleIs, StorageIs, stored_as};
 
-use walk::Letters;
-
 // The code of the role that the key at the start of s names.
 pub fn role(s: &[u8]) -> u64
     ensures { RoleIs s.now result }
 {
-    match walk::text(&s[0..]) {
-        Letters::NoText => 8,
-        Letters::Text(at, n) => {
-            let e = at + n;
-            types::role_code(&s[at..e])
-        }
-    }
+    let Some(letters) = walk::text(&s[0..]) else {
+        return 8;
+    };
+    let at = letters.at;
+    let e = at + letters.size;
+    types::role_code(&s[at..e])
 }
 
 // The storage of a component with this role, judged with this code. In layout 1.0 an index role is u64, whatever its object's dtype.

@@ -99,18 +99,18 @@ module _ (layout : ℕ) (file : List ℕ) where
 
     -- by the tests of the number
     module _ (r : Explanation) where
-      pub the-file : k ≡ 1 → goal.explanation r ≡ lone 1 0 n → Unframed layout file k r
+      pub the-file : k ≡ 1 → goal.explanation r ≡ lone k 0 n → Unframed layout file k r
       unfolding shown_for
       the-file z is e room = is ∙ sym (refused-with e room ∙ (rw z refl))
 
-      pub the-header : k ≡ 2 → goal.explanation r ≡ lone 2 0 8 → Unframed layout file k r
+      pub the-header : k ≡ 2 → goal.explanation r ≡ lone k 0 8 → Unframed layout file k r
       unfolding shown_for
       the-header z is e room = is ∙ sym (refused-with e room ∙ (rw z refl))
 
       module _ (p : ℕ) where
-        pub the-footer : k ≡ 3 → p ≡ n - 8 → goal.explanation r ≡ lone 3 p 8 → Unframed layout file k r
+        pub the-footer : k ≡ 3 → p ≡ n - 8 → goal.explanation r ≡ lone k p 8 → Unframed layout file k r
         unfolding shown_for
-        the-footer z placed is e room = is ∙ ap (λ (i : ℕ). lone 3 i 8) placed ∙ sym (refused-with e room ∙ (rw z refl))
+        the-footer z placed is e room = is ∙ ap (λ (i : ℕ). lone k i 8) placed ∙ sym (refused-with e room ∙ (rw z refl))
 
         pub the_size : (k ≡ 1 → ⊥) → (k ≡ 2 → ⊥) → (k ≡ 3 → ⊥) → (b : ℕ) → b ≡ L.size_back → p ≡ n - b → goal.explanation r ≡ lone k p 8 → Unframed layout file k r
         unfolding shown_for

@@ -15,13 +15,12 @@ use Rattle.cbor.specs.Ending.{took, fault, ending, item_end}
 use Rattle.cbor.proofs.Ends.{got-what}
 use Rattle.fields.proofs.Texts.{Here}
 use Rattle.stop.specs.Stop.{Refuses, Reaches}
-use Rattle.stop.specs.declared.Reached.{Reached}
-use Rattle.stop.specs.declared.Reached.TheVariants.{Past, Stopped}
 use Rattle.stop.proofs.Held.{told}
 use Rattle.sentence.specs.Given as goal
 use Rattle.sentence.specs.declared.Explanation.{Explanation}
 use Rattle.explained.specs.Explain.{span, head_span, explanation, alone}
 use Rattle.unread.specs.Unread.{lone, StopsAt, Unread}
+use Rattle.std.specs.Prelude.{Result, Ok, Err}
 
 abbrev Item : Type 0
 Item = Node (Unit {0})
@@ -33,8 +32,8 @@ still-left t [] n q e = absurd (let z : ◌≡◌ {A = ℕ} 0 1 = cc in omega ar
 still-left t (b ∷ r) n q e = cc
 
 -- m is lent whole to `stop::pass`, which answered x
-module _ (m : List ℕ) (x : Reached) (h : Reaches 32 (Here m 0) x) where
-  module _ (e : ℕ) (past : x ≡ Past e) where
+module _ (m : List ℕ) (x : Result ℕ ℕ) (h : Reaches 32 (Here m 0) x) where
+  module _ (e : ℕ) (past : x ≡ Ok e) where
     ends : item_end 32 m ≡ took e
     ends = told (Reaches 32) m 0 h past
 
@@ -55,7 +54,7 @@ module _ (m : List ℕ) (x : Reached) (h : Reaches 32 (Here m 0) x) where
             omega (arith, v, x, w)
         go (refused k p) h z = absurd (let y : fault k ≡ took e = sym (ap (ending m) h) ∙ ends in let u : ◌≡◌ {A = ℕ} 0 1 = cc in omega (arith, u))
 
-  pub stops : (k : ℕ) → x ≡ Stopped k → StopsAt m k
+  pub stops : (k : ℕ) → x ≡ Err k → StopsAt m k
   unfolding manifest
   stops k at n q e =
       let r : Refuses (item no_note 32) m k = told (Reaches 32) m 0 h at in

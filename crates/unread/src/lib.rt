@@ -5,10 +5,16 @@ ghost use Rattle.std.specs.Prelude.{◌≡◌};
 ghost use Rattle.unread.specs.Unread as is;
 
 use fields::place_of;
+use numbers::Refusal;
 use sentence::Explanation;
-use stop::Reached;
 
-// A refusal that belongs to no object, and the bytes at fault.
+const SHORT: u64 = Refusal::Short as u64;
+
+const HEADER: u64 = Refusal::Header as u64;
+
+const FOOTER: u64 = Refusal::Footer as u64;
+
+// A refusal that belongs to no object, by its number, and the bytes at fault.
 pub fn alone(number: u64, place: u64, length: u64) -> Explanation
     ensures { is.explanation result ≡ is.lone number place length }
 {
@@ -26,19 +32,20 @@ pub fn alone(number: u64, place: u64, length: u64) -> Explanation
     }
 }
 
-// A file that is refused by its frame with the number n: 1, the file; 2, the first eight bytes; 3, the last eight; 4 and 5, the size's eight.
+// A file that is refused by its frame with the number n: SHORT, the file; HEADER, the first eight bytes; FOOTER, the last eight; BIG and FIT, the size's eight.
+// By its number: a caller may give any, and document 02's notes name this function.
 pub fn framed(layout: u64, n: u64, file: &[u8]) -> Explanation
     ensures { is.Unframed layout file.now n result }
 {
     let length = file.len();
-    if n == numbers::SHORT {
-        return alone(numbers::SHORT, 0, length as u64);
+    if n == SHORT {
+        return alone(n, 0, length as u64);
     }
-    if n == numbers::HEADER {
-        return alone(numbers::HEADER, 0, 8);
+    if n == HEADER {
+        return alone(n, 0, 8);
     }
-    if n == numbers::FOOTER {
-        return alone(numbers::FOOTER, place_of(length, 8) as u64, 8);
+    if n == FOOTER {
+        return alone(n, place_of(length, 8) as u64, 8);
     }
     let back = frame::size_back(layout);
     alone(n, place_of(length, back) as u64, 8)
@@ -48,14 +55,14 @@ pub fn framed(layout: u64, n: u64, file: &[u8]) -> Explanation
 fn left_at(m: &[u8]) -> usize
     ensures { is.StopsAt m.now result }
 {
-    let reached = stop::pass(&m[0..], numbers::AT_ROOT);
-    match reached {
-        Reached::Past(n) => m.len() - n,
-        Reached::Stopped(left) => left,
+    match stop::pass(&m[0..], numbers::AT_ROOT) {
+        Ok(n) => m.len() - n,
+        Err(left) => left,
     }
 }
 
 // A manifest m that ends at `end` and is refused with the number n as it is read.
+// By its number: a caller may give any, and document 02's notes name this function.
 pub fn unread(n: u64, m: &[u8], end: usize) -> Explanation
     ensures { is.Unread m.now end n result }
 {

@@ -76,11 +76,12 @@ fn answer_all(out: &impl Print, vectors: &[u8]) -> Result<()> {
     Ok(())
 }
 
-// Reads until the space is full or the input ends.
+// Reads until the space is full or the input ends. listing's fill is the same loop; a crate that both programs ask for this alone is no plainer.
 fn read_full(file: &mut impl Read, space: &mut [u8]) -> Result<usize>
     ensures { ReadsAtMost result space.new }
 {
     let mut at = 0;
+    // The index moves by what a read took, so a `for` is no plainer.
     while at < space.len() {
         let got = file.read(&mut space[at..])?;
         if got == 0 {

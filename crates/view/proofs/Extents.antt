@@ -15,8 +15,7 @@ use Rattle.meaning.specs.Read.{Span}
 use Rattle.meaning.specs.View.{viewed, part_at, view}
 use Rattle.view.specs.Extents.{told, found, within}
 use Rattle.view.specs.declared.Extent.{Extent}
-use Rattle.view.specs.declared.Row.{Row}
-use Rattle.view.specs.declared.Row.TheVariants.{Nowhere, At}
+use Rattle.std.specs.Prelude.{Some, None, Option}
 
 unfoldable nowhere : Extent
 nowhere = record { number = 26; offset = 0; length = 0 }
@@ -45,38 +44,38 @@ module _ (size place n : ℕ) where
 -- ---- a row in a table
 
 module _ (room objects components index : ℕ) where
-  pub not-counted : components ≤ index → Nowhere ≡ found room objects components index
+  pub not-counted : components ≤ index → None ≡ found room objects components index
   unfolding found
   not-counted a = rw (le-ltb index components a) refl
 
-  pub objects-past : index < components → room / object_width < objects → Nowhere ≡ found room objects components index
+  pub objects-past : index < components → room / object_width < objects → None ≡ found room objects components index
   unfolding found
   objects-past a b = rw (lt-ltb index components a, lt-leb (object_width * objects + component_width * index + component_width) room (omega (arith, b))) refl
 
-  pub row-past : index < components → objects ≤ room / object_width → (room - object_width * objects) / component_width ≤ index → Nowhere ≡ found room objects components index
+  pub row-past : index < components → objects ≤ room / object_width → (room - object_width * objects) / component_width ≤ index → None ≡ found room objects components index
   unfolding found
   row-past a b d = rw (lt-ltb index components a, lt-leb (object_width * objects + component_width * index + component_width) room (omega (arith, b, d))) refl
 
   pub row_lies : index < components → objects ≤ room / object_width → index < (room - object_width * objects) / component_width
-      → At (object_width * objects + component_width * index) ≡ found room objects components index
+      → Some (object_width * objects + component_width * index) ≡ found room objects components index
   unfolding found
   row_lies a b d = rw (lt-ltb index components a, le-leb (object_width * objects + component_width * index + component_width) room (omega (arith, b, d))) refl
 
 -- all numbers of a row stand in the table
-RowFits : ℕ → Row → Type 0
-RowFits room Nowhere = Unit {0}
-RowFits room (At row) = row + component_width ≤ room
+RowFits : ℕ → Option ℕ → Type 0
+RowFits room None = Unit {0}
+RowFits room (Some row) = row + component_width ≤ room
 
 found-fits : (room objects components index : ℕ) → RowFits room (found room objects components index)
 unfolding found RowFits
 found-fits room objects components index = by (ltb index components) (leb (object_width * objects + component_width * index + component_width) room) refl
   where
-    by : (b d : Bool) → leb (object_width * objects + component_width * index + component_width) room ≡ d → RowFits room (cond (b && d) (At (object_width * objects + component_width * index)) Nowhere)
+    by : (b d : Bool) → leb (object_width * objects + component_width * index + component_width) room ≡ d → RowFits room (cond (b && d) (Some (object_width * objects + component_width * index)) None)
     by true true e = leb-true (object_width * objects + component_width * index + component_width) room e
     by true false e = tt
     by false d e = tt
 
-module _ (table : List ℕ) (objects components index : ℕ) (r : Row) (at : ℕ) (asked : r ≡ found (length table) objects components index) (is : r ≡ At at) where
+module _ (table : List ℕ) (objects components index : ℕ) (r : Option ℕ) (at : ℕ) (asked : r ≡ found (length table) objects components index) (is : r ≡ Some at) where
   row_fits : at + component_width ≤ length table
   unfolding RowFits
   row_fits = subst (RowFits (length table)) (sym asked ∙ is) (found-fits (length table) objects components index)
@@ -96,9 +95,9 @@ bytes_fit n table lent inside = record { fits = omega arith }
 
 -- ---- both
 
-unfoldable extent_at : List ℕ → List ℕ → Row → Extent
-extent_at file table Nowhere = nowhere
-extent_at file table (At row) = within (length file) (get_or table (row + offset_column) 0) (get_or table (row + length_column) 0)
+unfoldable extent_at : List ℕ → List ℕ → Option ℕ → Extent
+extent_at file table None = nowhere
+extent_at file table (Some row) = within (length file) (get_or table (row + offset_column) 0) (get_or table (row + length_column) 0)
 
 module _ (file table : List ℕ) (objects components index : ℕ) where
   row : ℕ
@@ -121,20 +120,20 @@ module _ (file table : List ℕ) (objects components index : ℕ) where
   told_is = by (ltb index components && leb (row + component_width) (length table)) (leb (place + size) (length file)) refl refl
 
 -- what `range` answers: by whether there is a row
-module _ (file table : List ℕ) (objects components index : ℕ) (r : Row) (asked : r ≡ found (length table) objects components index) where
-  pub no-row-told : r ≡ Nowhere → record { number = 26; offset = 0; length = 0 } ≡ told (viewed file table objects components index)
+module _ (file table : List ℕ) (objects components index : ℕ) (r : Option ℕ) (asked : r ≡ found (length table) objects components index) where
+  pub no-row-told : r ≡ None → record { number = 26; offset = 0; length = 0 } ≡ told (viewed file table objects components index)
   unfolding extent_at nowhere
   no-row-told e = sym (told_is file table objects components index ∙ ap (extent_at file table) (sym asked ∙ e))
 
-  pub row_told : (at : ℕ) → r ≡ At at → (x : Extent) → x ≡ within (length file) (get_or table (at + offset_column) 0) (get_or table (at + length_column) 0)
+  pub row_told : (at : ℕ) → r ≡ Some at → (x : Extent) → x ≡ within (length file) (get_or table (at + offset_column) 0) (get_or table (at + length_column) 0)
       → x ≡ told (viewed file table objects components index)
   unfolding extent_at
   row_told at e x h = h ∙ sym (told_is file table objects components index ∙ ap (extent_at file table) (sym asked ∙ e))
 
-extent-fits : (file table : List ℕ) (r : Row) → (extent_at file table r).offset + (extent_at file table r).length ≤ length file
+extent-fits : (file table : List ℕ) (r : Option ℕ) → (extent_at file table r).offset + (extent_at file table r).length ≤ length file
 unfolding extent_at nowhere
-extent-fits file table Nowhere = omega arith
-extent-fits file table (At row) = within-fits (length file) (get_or table (row + offset_column) 0) (get_or table (row + length_column) 0)
+extent-fits file table None = omega arith
+extent-fits file table (Some row) = within-fits (length file) (get_or table (row + offset_column) 0) (get_or table (row + length_column) 0)
 
 part_of : (file : List ℕ) (v : Check Span) → take (told v).length (drop (told v).offset file) ≡ part_at file v
 unfolding part_at

@@ -5,6 +5,8 @@ ghost use Rattle.std.specs.Prelude.{◌≡◌, ◌+◌, ◌*◌, length, take, d
 ghost use Rattle.meaning.specs.View as meaning;
 ghost use Rattle.view.specs.Extents.{told, found, within};
 
+use numbers::Refusal;
+
 // 0, and where a component lies and how long it is; or INDEX, 0 and 0.
 #[repr(C)]
 #[derive(Clone, Copy)]
@@ -16,31 +18,24 @@ pub struct Extent {
 
 // What lies outside.
 const NOWHERE: Extent = Extent {
-    number: numbers::INDEX,
+    number: Refusal::Index as u64,
     offset: 0,
     length: 0,
 };
 
-// Where a component's row begins in the table.
-#[derive(Clone, Copy)]
-pub enum Row {
-    Nowhere,
-    At(usize),
-}
-
-// The row of the component `index`, where all objects' rows come first, in a table of n numbers. Compared by division, so that no product wraps.
-fn row_of(n: usize, objects: u64, components: u64, index: u64) -> Row
+// Where the row of the component `index` begins, where all objects' rows come first, in a table of n numbers. Compared by division, so that no product wraps.
+fn row_of(n: usize, objects: u64, components: u64, index: u64) -> Option<usize>
     ensures { result ≡ found n objects components index }
 {
     let room = n as u64;
     if components <= index || room / columns::OBJECT_64 < objects {
-        return Row::Nowhere;
+        return None;
     }
     let first = columns::OBJECT_64 * objects;
     if (room - first) / columns::COMPONENT_64 <= index {
-        return Row::Nowhere;
+        return None;
     }
-    Row::At((first + columns::COMPONENT_64 * index) as usize)
+    Some((first + columns::COMPONENT_64 * index) as usize)
 }
 
 // A range of this place and size, in a file of n bytes.
@@ -62,8 +57,8 @@ pub fn range(file: &[u8], table: &[u64], objects: u64, components: u64, index: u
     ensures { result ≡ told (meaning.viewed file.now table.now objects components index) }
 {
     match row_of(table.len(), objects, components, index) {
-        Row::Nowhere => NOWHERE,
-        Row::At(at) => inside(
+        None => NOWHERE,
+        Some(at) => inside(
             file.len(),
             table[at + columns::OFFSET],
             table[at + columns::LENGTH],

@@ -25,9 +25,9 @@ use Rattle.cbor.proofs.Majors.{majors-late}
 use Rattle.walk.specs.Reading.{Ends, ends, Reads}
 use Rattle.cbor.proofs.Heads as heads
 use Rattle.endian.proofs.Which.{eq-or, lt-or}
-use Rattle.walk.specs.declared.Numeral.{Numeral}
 use Rattle.walk.specs.Places.{Whatever, is_null, NullIs, NumberIs, numeral}
 use Rattle.walk.proofs.ReadSays.{Says, KindSays, kind-says, Stood, sized, loose, stood, nothing_read}
+use Rattle.std.specs.Prelude.{Option}
 
 -- the number of a major type
 abbrev number_of : Major → ℕ
@@ -327,6 +327,6 @@ unfolding item
 no-levels s t r e = never-beyond s t r e
 
 -- a number that was found is the one that is read, whatever levels are left
-pub number_read : (d : ℕ) (s : List ℕ) (v : Numeral) → NumberIs s v → (x : Node Ends) (r : List ℕ) → Reads d s x r → kinds.a_number x ≡ numeral v
+pub number_read : (d : ℕ) (s : List ℕ) (v : Option ℕ) → NumberIs s v → (x : Node Ends) (r : List ℕ) → Reads d s x r → kinds.a_number x ≡ numeral v
 number_read zero s v h x r e = absurd (no-levels s x r e)
 number_read (suc d) s v h x r e = h d x r e

@@ -1,5 +1,5 @@
 -- What is said of the item at the start of some bytes, for every tree that is read there.
-use Rattle.std.specs.Prelude.{ℕ, suc, ◌+◌, ◌%◌, ◌≤◌, ◌<◌, List, [], ◌∷◌, Bool, true, false, ◌≡◌, length, get_or, take, drop}
+use Rattle.std.specs.Prelude.{ℕ, suc, ◌+◌, ◌%◌, ◌≤◌, ◌<◌, List, [], ◌∷◌, Bool, true, false, ◌≡◌, length, get_or, take, drop, Some, None, Option}
 use Rattle.meaning.specs.Tree.{Node, Pair}
 use Rattle.meaning.specs.Check.{Check, pass, fault}
 use Rattle.meaning.specs.Refusal.{KIND}
@@ -9,11 +9,7 @@ use Rattle.meaning.specs.Kind.{Kind, kind}
 use Rattle.cbor.specs.Ending.{took, code, shift, item_end, rest, endless}
 use Rattle.walk.specs.Reading.{Ends, ends, Reads, Due, DueNodes}
 use Rattle.walk.specs.declared.Letters.{Letters}
-use Rattle.walk.specs.declared.Letters.TheVariants.{NoText, Text}
-use Rattle.walk.specs.declared.Numeral.{Numeral}
-use Rattle.walk.specs.declared.Numeral.TheVariants.{NoNumber, Number}
 use Rattle.walk.specs.declared.Opening.{Opening}
-use Rattle.walk.specs.declared.Opening.TheVariants.{NotOpen, Opened}
 use Rattle.walk.specs.declared.Entry.{Entry}
 use Rattle.walk.specs.declared.Entry.TheVariants.{End, Value}
 
@@ -22,22 +18,22 @@ abbrev pub Whatever : List ℕ → (ℕ → Node Ends → List ℕ → Type 0) �
 Whatever s P = (d : ℕ) (t : Node Ends) (r : List ℕ) → Reads (suc d) s t r → P d t r
 
 -- whole text: its letters are n bytes from `at` on
-abbrev pub text_at : List ℕ → List ℕ → Letters → Check (Word Ends)
-text_at s r NoText = fault KIND
-text_at s r (Text at n) = pass (record { note = ends s r; letters = take n (drop at s) })
+abbrev pub text_at : List ℕ → List ℕ → Option Letters → Check (Word Ends)
+text_at s r None = fault KIND
+text_at s r (Some letters1) = pass (record { note = ends s r; letters = take letters1.size (drop letters1.at s) })
 
-abbrev pub TextIs : List ℕ → Letters → Type 0
+abbrev pub TextIs : List ℕ → Option Letters → Type 0
 TextIs s l = Whatever s λ d t r. kinds.a_word t ≡ text_at s r l
 
-abbrev pub Inside : List ℕ → Letters → Type 0
-Inside s NoText = Unit {0}
-Inside s (Text at n) = at + n ≤ length s
+abbrev pub Inside : List ℕ → Option Letters → Type 0
+Inside s None = Unit {0}
+Inside s (Some letters) = letters.at + letters.size ≤ length s
 
-abbrev pub numeral : Numeral → Check ℕ
-numeral NoNumber = fault KIND
-numeral (Number n) = pass n
+abbrev pub numeral : Option ℕ → Check ℕ
+numeral None = fault KIND
+numeral (Some n) = pass n
 
-abbrev pub NumberIs : List ℕ → Numeral → Type 0
+abbrev pub NumberIs : List ℕ → Option ℕ → Type 0
 NumberIs s n = Whatever s λ d t r. kinds.a_number t ≡ numeral n
 
 abbrev pub is_null : Kind Ends → Bool
@@ -69,9 +65,9 @@ pub record OpenMap (s : List ℕ) (mode count size : ℕ) : Type 0 where
   pub ending-is : (d : ℕ) → item_end (suc d) s ≡ shift size (rest mode count d (drop size s))
   pub trees : Whatever s λ d t r. Mapped d mode count (drop size s) t
 
-abbrev pub MapIs : List ℕ → Opening → Type 0
-MapIs s NotOpen = Whatever s λ d t r. kinds.a_mapping t ≡ fault KIND
-MapIs s (Opened mode count size) = OpenMap s mode count size
+abbrev pub MapIs : List ℕ → Option Opening → Type 0
+MapIs s None = Whatever s λ d t r. kinds.a_mapping t ≡ fault KIND
+MapIs s (Some o) = OpenMap s o.mode o.count o.size
 
 -- one turn of a loop over a map's entries, of which `due` items are left: the end, or where the value stands
 abbrev pub EntryIs : ℕ → ℕ → ℕ → List ℕ → Entry → Type 0
@@ -94,9 +90,9 @@ pub record OpenList (s : List ℕ) (mode count size : ℕ) : Type 0 where
   pub loose : 1 ≤ mode → (mode ≡ 1) × (count ≡ endless)
   pub trees : Whatever s λ d t r. Listed d mode count (drop size s) t
 
-abbrev pub ListIs : List ℕ → Opening → Type 0
-ListIs s NotOpen = Whatever s λ d t r. kinds.a_list t ≡ fault KIND
-ListIs s (Opened mode count size) = OpenList s mode count size
+abbrev pub ListIs : List ℕ → Option Opening → Type 0
+ListIs s None = Whatever s λ d t r. kinds.a_list t ≡ fault KIND
+ListIs s (Some o) = OpenList s o.mode o.count o.size
 
 abbrev pub is_any : List (Node Ends) → Bool
 is_any [] = false

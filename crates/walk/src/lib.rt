@@ -7,51 +7,48 @@ ghost use Rattle.walk.specs.Places as places;
 
 // Whole text: where its letters begin, and how many there are.
 #[derive(Clone, Copy)]
-pub enum Letters {
-    NoText,
-    Text(usize, usize),
-}
-
-// An unsigned integer.
-#[derive(Clone, Copy)]
-pub enum Numeral {
-    NoNumber,
-    Number(u64),
+pub struct Letters {
+    pub at: usize,
+    pub size: usize,
 }
 
 // A map or an array: how its parts are counted, how many are due, and where they begin.
 #[derive(Clone, Copy)]
-pub enum Opening {
-    NotOpen,
-    Opened(u64, u64, usize),
+pub struct Opening {
+    pub mode: u64,
+    pub count: u64,
+    pub size: usize,
 }
 
 // The whole text that begins s, with any head.
-fn any_text(s: &[u8]) -> Letters
+fn any_text(s: &[u8]) -> Option<Letters>
     ensures { places.Inside s.now result × places.TextIs s.now result }
 {
     if s.len() == 0 {
-        return Letters::NoText;
+        return None;
     }
     let b = s[0];
     if b < 96 {
-        return Letters::NoText;
+        return None;
     }
     if 124 <= b {
-        return Letters::NoText;
+        return None;
     }
     let h = cbor::head(&s[0..]);
     if s.len() < h.size {
-        return Letters::NoText;
+        return None;
     }
     if ((s.len() - h.size) as u64) < h.value {
-        return Letters::NoText;
+        return None;
     }
-    Letters::Text(h.size, h.value as usize)
+    Some(Letters {
+        at: h.size,
+        size: h.value as usize,
+    })
 }
 
 // The whole text that begins s. Short text is seen at once; two calls of `any_text` keep it apart, so that this is small enough to be inlined.
-pub fn text(s: &[u8]) -> Letters
+pub fn text(s: &[u8]) -> Option<Letters>
     ensures { places.Inside s.now result × places.TextIs s.now result }
 {
     if s.len() == 0 {
@@ -62,7 +59,7 @@ pub fn text(s: &[u8]) -> Letters
         if b < 120 {
             let n = (b - 96) as usize;
             if n < s.len() {
-                return Letters::Text(1, n);
+                return Some(Letters { at: 1, size: n });
             }
         }
     }
@@ -70,17 +67,17 @@ pub fn text(s: &[u8]) -> Letters
 }
 
 // The unsigned integer that begins s.
-pub fn number(s: &[u8]) -> Numeral
+pub fn number(s: &[u8]) -> Option<u64>
     ensures { places.NumberIs s.now result }
 {
     if s.len() == 0 {
-        return Numeral::NoNumber;
+        return None;
     }
     if 28 <= s[0] {
-        return Numeral::NoNumber;
+        return None;
     }
     let h = cbor::head(&s[0..]);
-    Numeral::Number(h.value)
+    Some(h.value)
 }
 
 // Is null at the start of s?
@@ -94,31 +91,39 @@ pub fn null(s: &[u8]) -> bool
 }
 
 // The map that begins s, with any head.
-fn any_map(s: &[u8]) -> Opening
+fn any_map(s: &[u8]) -> Option<Opening>
     ensures { places.MapIs s.now result }
 {
     if s.len() == 0 {
-        return Opening::NotOpen;
+        return None;
     }
     let b = s[0];
     if b < 160 {
-        return Opening::NotOpen;
+        return None;
     }
     if 192 <= b {
-        return Opening::NotOpen;
+        return None;
     }
     let h = cbor::head(&s[0..]);
     if s.len() < h.size {
-        return Opening::NotOpen;
+        return None;
     }
     if b == 191 {
-        return Opening::Opened(2, h.value, h.size);
+        return Some(Opening {
+            mode: 2,
+            count: h.value,
+            size: h.size,
+        });
     }
-    Opening::Opened(0, cbor::doubled(h.value), h.size)
+    Some(Opening {
+        mode: 0,
+        count: cbor::doubled(h.value),
+        size: h.size,
+    })
 }
 
 // The map that begins s. A short one is seen at once, as in `text`.
-pub fn map(s: &[u8]) -> Opening
+pub fn map(s: &[u8]) -> Option<Opening>
     ensures { places.MapIs s.now result }
 {
     if s.len() == 0 {
@@ -127,34 +132,46 @@ pub fn map(s: &[u8]) -> Opening
     let b = s[0];
     if 160 <= b {
         if b < 184 {
-            return Opening::Opened(0, cbor::doubled((b - 160) as u64), 1);
+            return Some(Opening {
+                mode: 0,
+                count: cbor::doubled((b - 160) as u64),
+                size: 1,
+            });
         }
     }
     any_map(&s[0..])
 }
 
 // The array that begins s.
-pub fn list(s: &[u8]) -> Opening
+pub fn list(s: &[u8]) -> Option<Opening>
     ensures { places.ListIs s.now result }
 {
     if s.len() == 0 {
-        return Opening::NotOpen;
+        return None;
     }
     let b = s[0];
     if b < 128 {
-        return Opening::NotOpen;
+        return None;
     }
     if 160 <= b {
-        return Opening::NotOpen;
+        return None;
     }
     let h = cbor::head(&s[0..]);
     if s.len() < h.size {
-        return Opening::NotOpen;
+        return None;
     }
     if b == 159 {
-        return Opening::Opened(1, h.value, h.size);
+        return Some(Opening {
+            mode: 1,
+            count: h.value,
+            size: h.size,
+        });
     }
-    Opening::Opened(0, h.value, h.size)
+    Some(Opening {
+        mode: 0,
+        count: h.value,
+        size: h.size,
+    })
 }
 
 // Is one more item of an array due from s on, after `done` of `count` (mode 0), or up to the break?

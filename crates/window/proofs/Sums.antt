@@ -7,8 +7,6 @@ use mathlib.Core.Path.{◌≡◌, refl, ap, ap₂, sym, ◌∙◌, subst}
 use lib.ListN.{length, drop, get_or, replicate, length-append, length-map}
 use lib.Seq.{sets, sets-eq}
 use borrow.Author.Rules.{part_to_end}
-use mir.Syntax.{w64}
-use mir.Val.{Fits}
 use Rattle.meaning.specs.Columns.{object_width}
 use Rattle.meaning.specs.Tree.{Pair}
 use Rattle.meaning.specs.Check.{pass, refuse}
@@ -26,7 +24,6 @@ use Rattle.cbor.specs.Ending.{code, item_end}
 use Rattle.walk.specs.Reading.{Ends, Reads}
 use Rattle.walk.specs.Places.{MapIs, EntryIs, Modes}
 use Rattle.walk.specs.declared.Opening.{Opening}
-use Rattle.walk.specs.declared.Opening.TheVariants.{NotOpen, Opened}
 use Rattle.walk.specs.declared.Entry.{Entry}
 use Rattle.walk.specs.declared.Entry.TheVariants.{End, Value}
 use Rattle.walk.proofs.Passed as walked
@@ -44,6 +41,7 @@ use Rattle.window.specs.Sums.{name_pairs}
 use Rattle.window.specs.Summed.{InWindow, Holds, Added, Sum, spans, SumOf, Summed, AllSummed, Measured}
 use Rattle.window.proofs.Window.{Small, name-is}
 use Rattle.window.proofs.Snoc as snoc
+use Rattle.std.specs.Prelude.{Some, None, Option}
 
 pub mapped-in-window : (end : ℕ) (o : Object Ends) → InWindow o → InWindow (map_object (span_of end) o)
 mapped-in-window end o w = record { rank = w.rank; count = let a = w.count in omega (arith, a, length-map o.components (map_component (span_of end))) }
@@ -126,9 +124,6 @@ loop-starts layout start end mode count p n from s before modes lent small = rec
 
 module _ {layout start end mode count p n from : ℕ} {s before : List ℕ} {at due place total next : ℕ} {names rows t : List ℕ}
     (w : Looping layout start end mode count p n from s before at due place total next names rows t) where
-  pub still-wide : (t' : List ℕ) → length t' ≡ length t → 208 ≤ length t'
-  still-wide t' same = let y = w.window in omega (arith, same, y)
-
   module _ {x : Entry} (h : EntryIs 30 mode due (Here s at) x) where
     pub all-summed : {e : ℕ} → x ≡ End e → AllSummed layout start end mode count p n from s before place total names
     all-summed is = record { next = next; are = walked.holds-of-all w.walking h is }
@@ -139,9 +134,6 @@ module _ {layout start end mode count p n from : ℕ} {s before : List ℕ} {at 
       none_read l = record { next = next; are = walked.no_pairs w.walking h is ended l _ }
 
       module _ (l : e ≤ length s - (at + k)) where
-        pub turn-fits : Fits w64 (at + k + e)
-        turn-fits = record { fits = (let d = w.walking.short in omega (arith, walked.value-inside w.walking h is, l, d)) }
-
         pub turn-less : length s - (at + k + e) < length s - at
         turn-less = omega (arith, walked.value-inside w.walking h is, walked.goes_on w.walking h is ended l, l)
 
@@ -167,20 +159,20 @@ module _ {layout start end mode count p n from : ℕ} {s before : List ℕ} {at 
 
 -- ---------------------------------------------------------------- the whole map, lent whole to `walk::map`, which answered x
 
-module _ (layout : ℕ) (s : List ℕ) (start end p n from : ℕ) (before : List ℕ) (q j : ℕ) (after : List ℕ) (x : Opening) (h : MapIs (Here s 0) x) where
-  pub no-map : x ≡ NotOpen → Measured layout start end p n from s before q j after
+module _ (layout : ℕ) (s : List ℕ) (start end p n from : ℕ) (before : List ℕ) (q j : ℕ) (after : List ℕ) (x : Option Opening) (h : MapIs (Here s 0) x) where
+  pub no-map : x ≡ None → Measured layout start end p n from s before q j after
   unfolding objects_of names
   no-map e t u r os is w =
-      let z = opens.opening s x h NotOpen e 30 t u r in
+      let z = opens.opening s x h None e 30 t u r in
       let y : objects_of (layout_of layout) start t ≡ refuse 8 0 0 = rw z refl in
       let v : pass os ≡ refuse 8 0 0 = sym is ∙ y in absurd (let o : ◌≡◌ {A = ℕ} 0 1 = cc in omega arith)
 
-  pub map-measured : (mode count size : ℕ) → x ≡ Opened mode count size → AllSummed layout start end mode count p n from (Here s size) before q j after
+  pub map-measured : (op : Opening) → x ≡ Some op → AllSummed layout start end op.mode op.count p n from (Here s op.size) before q j after
       → Measured layout start end p n from s before q j after
   unfolding objects_of
-  map-measured mode count size e all t u r os is w =
-      let o = (opens.opened s x h mode count size e).trees 30 t u r in
-      let a = subst (λ v. AllSummed layout start end mode count p n from v before q j after) (part_to_end s size) all in
+  map-measured op e all t u r os is w =
+      let o = (opens.opened s x h op e).trees 30 t u r in
+      let a = subst (λ v. AllSummed layout start end op.mode op.count p n from v before q j after) (part_to_end s op.size) all in
       let g = entering.all-entered (entry layout start) object_limit t o.pairs o.kind-is os is in
       let sum = a.are o.pairs o.last o.due os g w in
       (sum.sum, λ room. (sum.names room).1)

@@ -1,10 +1,10 @@
 -- One object's rows in the window ask for what the object says, and so the writer's sums over them are the object's.
-use Prim.Native.Nat.{ℕ, suc, ◌+◌, ◌*◌, ◌≤◌, ◌<◌}
+use Prim.Native.Nat.{ℕ, suc, ◌+◌, ◌≤◌, ◌<◌}
 use native.Mathlib.Omega.{arith}
 use mathlib.Core.List.{List, [], ◌∷◌, ◌++◌, map, append-nil, append_assoc}
 use mathlib.Core.Option.{none}
 use mathlib.Core.Path.{◌≡◌, refl, sym, ap, ◌∙◌}
-use lib.ListN.{length, drop, get_or, length-drop}
+use lib.ListN.{length, drop, get_or}
 use borrow.Author.Rules.{part_to_end}
 use mir.Syntax.{w64}
 use mir.Val.{Fits}
@@ -118,21 +118,10 @@ module _ (t : List ℕ) (p n : ℕ) where
           );
     }
 
--- what was capped is small
-pub end-small : (a q : ℕ) → q ≡ capped_end a → q ≤ suc end_limit
-end-small a q e = omega (arith, e)
-
-pub total-small : (a k : ℕ) → k ≡ capped a → k ≤ suc manifest_limit
-total-small a k e = omega (arith, e)
-
--- what the calls ask
-pub object-there : (t : List ℕ) → 208 ≤ length t → get_or t rank_column 0 ≤ 8 → (object_width ≤ length (Here t 0)) × (get_or (Here t 0) rank_column 0 ≤ 8)
-object-there t l r = (rw (part_to_end t 0) (omega (arith, l)), rw (part_to_end t 0) r)
-
-pub parts-there : (t : List ℕ) (p : ℕ) → 208 ≤ length t → get_or t count_column 0 ≤ 16 → (q : ℕ) → q ≡ capped_end (reached [] p (blob_sizes (parts_in t))) → q ≤ end_limit
-    → (component_width * get_or t count_column 0 ≤ length (Here t object_width)) × (reached [] p (blob_sizes (parts_in t)) ≤ turn_limit [])
+-- what the call asks
+pub parts-there : (t : List ℕ) (p q : ℕ) → q ≡ capped_end (reached [] p (blob_sizes (parts_in t))) → q ≤ end_limit → reached [] p (blob_sizes (parts_in t)) ≤ turn_limit []
 unfolding turn_limit
-parts-there t p l few q e low = (rw (part_to_end t object_width) (omega (arith, l, few, length-drop object_width t)), omega (arith, e, low))
+parts-there t p q e low = omega (arith, e, low)
 
 -- the sums are numbers of 64 bits
 module _ (a b own head : ℕ) (own_is : own ≡ capped a) (head-is : head ≡ head_size b) where

@@ -19,44 +19,29 @@ pub struct Sum {
     pub total: u64,
 }
 
-// One object's rows, which begin t: its blobs from `place` on, its entry after `total` bytes.
-pub fn add(t: &[u64], place: u64, total: u64) -> Sum
+// One object's rows, which begin t, added: its blobs from the place on, its entry after the bytes.
+pub fn add(t: &[u64], have: Sum) -> Sum
     requires in_bounds { 208 ≤ length t.now }
-    requires place_bound { (place ≤ suc end_limit) × (total ≤ suc manifest_limit) }
-    ensures sum { Added t.now place total result.place result.total }
+    requires place_bound { (have.place ≤ suc end_limit) × (have.total ≤ suc manifest_limit) }
+    ensures sum { Added t.now have.place have.total result.place result.total }
     ensures small { (result.place ≤ suc end_limit) × (result.total ≤ suc manifest_limit) }
 {
     let count = t[COUNT];
-    if 16 < count {
-        return Sum {
-            place: place,
-            total: total,
-        };
+    if 16 < count || 8 < t[RANK] || numbers::END_MOST < have.place {
+        return have;
     }
-    if 8 < t[RANK] {
-        return Sum {
-            place: place,
-            total: total,
-        };
-    }
-    if numbers::END_MOST < place {
-        return Sum {
-            place: place,
-            total: total,
-        };
-    }
-    let next = placing::end(&t[columns::OBJECT..], count, place);
+    let next = placing::end(&t[columns::OBJECT..], count, have.place);
     if numbers::END_MOST < next {
         return Sum {
             place: next,
-            total: total,
+            total: have.total,
         };
     }
     let own = entries::object(&t[0..]) + piece::head(count);
-    let parts = entries::components(&t[0..0], &t[columns::OBJECT..], count, place);
+    let parts = entries::components(&t[0..0], &t[columns::OBJECT..], count, have.place);
     Sum {
         place: next,
-        total: piece::capped(total + own + parts),
+        total: piece::capped(have.total + own + parts),
     }
 }
 
@@ -68,31 +53,24 @@ fn each(
     end: usize,
     mode: u64,
     count: u64,
-    first: u64,
-    before: u64,
+    have: Sum,
     from: usize,
     names: &mut [u64],
 ) -> Sum
     requires modes { Modes mode count }
-    requires first_bound { (first ≤ suc end_limit) × (before ≤ suc manifest_limit) }
-    ensures sum { AllSummed layout start end mode count first before from s.now names.old result.place result.total names.new }
+    requires first_bound { (have.place ≤ suc end_limit) × (have.total ≤ suc manifest_limit) }
+    ensures sum { AllSummed layout start end mode count have.place have.total from s.now names.old result.place result.total names.new }
     ensures small { (result.place ≤ suc end_limit) × (result.total ≤ suc manifest_limit) }
 {
     let mut rows = [0u64; 64];
     let mut t = [0u64; 208];
     let mut at = 0;
     let mut due = count;
-    let mut place = first;
-    let mut total = before;
+    let mut sum = have;
     let mut next = from;
     loop {
         match walk::past_key(&s[at..], mode, due, numbers::IN_OBJECTS) {
-            Entry::End(_) => {
-                return Sum {
-                    place: place,
-                    total: total,
-                };
-            }
+            Entry::End(_) => return sum,
             Entry::Value(k) => {
                 let v = at + k;
                 let to = Place {
@@ -103,15 +81,10 @@ fn each(
                 };
                 let w = object::object(layout, &s[at..], &s[v..], start, to, &mut rows, &mut t);
                 if s.len() - v < w.end {
-                    return Sum {
-                        place: place,
-                        total: total,
-                    };
+                    return sum;
                 }
-                let sum = add(&t, place, total);
+                sum = add(&t, sum);
                 lay::two(names, next, t[NAME], t[NAME_LENGTH]);
-                place = sum.place;
-                total = sum.total;
                 next = lay::next_row(next, 2, names.len());
                 at = v + w.end;
                 due -= 2;
@@ -120,35 +93,30 @@ fn each(
     }
 }
 
-// The objects whose map begins s, at depth 2, in a file whose manifest begins at `start`: their blobs from the place `first` on, their entries after `before` bytes.
+// The objects whose map begins s, at depth 2, in a file whose manifest begins at `start`: their blobs from the place of `have` on, their entries after its bytes.
 pub fn measure(
     layout: u64,
     s: &[u8],
     start: u64,
     end: usize,
-    first: u64,
-    before: u64,
+    have: Sum,
     from: usize,
     names: &mut [u64],
 ) -> Sum
-    requires { (first ≤ suc end_limit) × (before ≤ suc manifest_limit) }
-    ensures sum { Measured layout start end first before from s.now names.old result.place result.total names.new }
+    requires { (have.place ≤ suc end_limit) × (have.total ≤ suc manifest_limit) }
+    ensures sum { Measured layout start end have.place have.total from s.now names.old result.place result.total names.new }
     ensures small { (result.place ≤ suc end_limit) × (result.total ≤ suc manifest_limit) }
 {
     match walk::map(&s[0..]) {
-        Opening::NotOpen => Sum {
-            place: first,
-            total: before,
-        },
-        Opening::Opened(mode, count, size) => each(
+        None => have,
+        Some(Opening { mode, count, size }) => each(
             layout,
             &s[size..],
             start,
             end,
             mode,
             count,
-            first,
-            before,
+            have,
             from,
             names,
         ),

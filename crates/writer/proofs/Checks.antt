@@ -10,7 +10,7 @@ use mir.Syntax.{w64}
 use mir.Val.{Fits as FitsIn}
 use borrow.Author.Tests.{not-true, not-false, le-leb, lt-leb}
 use borrow.Author.Rules.{part_to_end}
-use Rattle.meaning.specs.Refusal.{BIG, ROOM, PLAN}
+use Rattle.meaning.specs.Refusal.{BIG, ROOM}
 use Rattle.meaning.specs.Check.{Check, pass, refuse, ◌>>◌, ◌unless◌}
 use Rattle.meaning.specs.Limit.{manifest_limit, end_limit}
 use Rattle.meaning.specs.Columns.{object_width, component_width}
@@ -33,8 +33,6 @@ use Rattle.rows.proofs.Describes.{blob-lengths}
 use Rattle.sizes.specs.Measured.{Measurable, EndIs, ManifestIs}
 use Rattle.sizes.proofs.Exact.{measurable}
 use Rattle.plan.specs.Earlier.{sizes, Judges}
-use Rattle.plan.specs.declared.Judged.{Judged}
-use Rattle.plan.specs.declared.Judged.TheVariants as judged-as
 use Rattle.readback.specs.Judged.{judged}
 use Rattle.readback.specs.Lent.{Lent}
 use Rattle.readback.proofs.Planned.{Accepted, accepted, as_many, ends-in-time, placement-accepted}
@@ -43,9 +41,12 @@ use Rattle.readback.proofs.ReadBack.{written-at-is}
 use Rattle.readback.proofs.SoundIsFine.{sound-is-fine}
 use Rattle.writer.specs.declared.Written.{Written}
 use Rattle.writer.specs.declared.Sized.{Sized}
-use Rattle.writer.specs.declared.Sized.TheVariants.{No, Yes}
 use Rattle.writer.specs.WriterAnswer.{refused, told, Answered, Numbers}
 use Rattle.writer.specs.Sized.{of_rows, lengths_of, offsets_of, file_at, Fit, Measures}
+use Rattle.std.specs.Prelude.{Ok, Err, Result}
+use Rattle.numbers.specs.declared.fault.FileFault.{FileFault}
+use Rattle.numbers.specs.declared.refusal.Refusal.TheVariants as refusals
+use Rattle.numbers.specs.Numbered.{number_of}
 
 -- ---- numbers below 2^64
 
@@ -144,7 +145,7 @@ module _ (rows : List ℕ) (objects components place size : ℕ) (buffer : List 
   abbrev plain-answer : ℕ → Check (List ℕ)
   plain-answer = written rows objects components (record { place = place; size = size }) buffer
 
-  abbrev Plain : Sized → Type 0
+  abbrev Plain : Result Sized FileFault → Type 0
   Plain = Measures [] rows objects components (record { place = place; size = size }) buffer plain-answer
 
   abbrev rule-lengths : List ℕ
@@ -153,9 +154,9 @@ module _ (rows : List ℕ) (objects components place size : ℕ) (buffer : List 
   abbrev end : ℕ
   end = last_end (placement rule-lengths) rule-lengths
 
-  pub row : not b ≡ true → Plain (No 25 0)
+  pub row : not b ≡ true → (k : FileFault) → k ≡ record { refusal = refusals.Row; object = 0; component = 0 } → Plain (Err k)
   unfolding written
-  row e room = rw (← is, not-true b e) refl
+  row e k is-k room = rw is-k (rw (← is, not-true b e) refl)
 
   -- and `last_end` e
   module _ (so : not b ≡ false) {e : ℕ} (ended : EndIs rows objects components e) where
@@ -165,9 +166,9 @@ module _ (rows : List ℕ) (objects components place size : ℕ) (buffer : List 
     ends : e ≡ min end (suc end_limit)
     ends = ended buffer (record { place = place; size = size }) sound
 
-    pub count : end_limit < e → Plain (No 15 0)
+    pub count : end_limit < e → (k : FileFault) → k ≡ record { refusal = refusals.Count; object = 0; component = 0 } → Plain (Err k)
     unfolding written written_plain
-    count h room = rw (sound, lt-leb end end_limit (omega (arith, ends, h))) refl
+    count h k is-k room = rw is-k (rw (sound, lt-leb end end_limit (omega (arith, ends, h))) refl)
 
     module _ (in-time : e ≤ end_limit) where
       end_low : end ≤ end_limit
@@ -195,8 +196,8 @@ module _ (rows : List ℕ) (objects components place size : ℕ) (buffer : List 
 
       -- and `manifest` m, of slices as they are lent
       module _ (numbers : Numbers rows) (few : length rows * 8 < 2 ^ 63) (small : length buffer * 1 < 2 ^ 63) {m : ℕ} (long : ManifestIs [] rows objects components (record { place = place; size = size }) m) where
-        pub big : manifest_limit < m → Plain (No 4 0)
-        big h room = settled room ∙ big-at [] rows objects components place size buffer sound (lent numbers few small) by-rule turns-low m (long buffer sound) h room
+        pub big : manifest_limit < m → (k : FileFault) → k ≡ record { refusal = refusals.Big; object = 0; component = 0 } → Plain (Err k)
+        big h k is-k room = rw is-k (settled room ∙ big-at [] rows objects components place size buffer sound (lent numbers few small) by-rule turns-low m (long buffer sound) h room)
 
         pub fit : m ≤ manifest_limit → Fit [] rows objects components (record { place = place; size = size }) buffer e m
         fit h =
@@ -221,15 +222,15 @@ module _ (plan : List ℕ) (ceiling : ℕ) (rows : List ℕ) (objects components
   abbrev planned-answer : ℕ → Check (List ℕ)
   planned-answer = written_by rows objects components (record { place = place; size = size }) buffer plan ceiling
 
-  abbrev Planned : Sized → Type 0
+  abbrev Planned : Result Sized FileFault → Type 0
   Planned = Measures plan rows objects components (record { place = place; size = size }) buffer planned-answer
 
   abbrev plan-lengths : List ℕ
   plan-lengths = lengths plan rows objects components place size buffer
 
-  pub row_by : not b ≡ true → Planned (No 25 0)
+  pub row_by : not b ≡ true → (k : FileFault) → k ≡ record { refusal = refusals.Row; object = 0; component = 0 } → Planned (Err k)
   unfolding written_by
-  row_by e room = rw (← is, not-true b e) refl
+  row_by e k is-k room = rw is-k (rw (← is, not-true b e) refl)
 
   -- and `plan::verdict` x
   module _ (so : not b ≡ false) where
@@ -244,13 +245,13 @@ module _ (plan : List ℕ) (ceiling : ℕ) (rows : List ℕ) (objects components
     verdict-is : {k : Check (Unit {0})} → planned ceiling plan (sizes plan (lent_rows objects rows) components) ≡ k → planned ceiling plan plan-lengths ≡ k
     verdict-is e = ap (planned ceiling plan) (sym same-lengths) ∙ e
 
-    pub refused-by : {x : Judged} {i : ℕ} → x ≡ judged-as.No i → Judges plan (lent_rows objects rows) components ceiling x → Planned (No 27 i)
+    pub refused-by : {x : Result ℕ FileFault} (f : FileFault) → x ≡ Err f → Judges plan (lent_rows objects rows) components ceiling x → (r : Result Sized FileFault) → r ≡ Err f → Planned r
     unfolding written_by written_planned
-    refused-by {x} {i} q judges room =
-        let e : planned ceiling plan (sizes plan (lent_rows objects rows) components) ≡ refuse PLAN i 0 = subst (Judges plan (lent_rows objects rows) components ceiling) q judges in
-        rw (sound-by, verdict-is e) refl
+    refused-by f q judges r is-r =
+        let e : planned ceiling plan (sizes plan (lent_rows objects rows) components) ≡ refuse (number_of f.refusal) f.object f.component = subst (Judges plan (lent_rows objects rows) components ceiling) q judges in
+        rw is-r (λ room. rw (sound-by, verdict-is e) refl)
 
-    module _ {x : Judged} {e : ℕ} (q : x ≡ judged-as.Yes e) (judges : Judges plan (lent_rows objects rows) components ceiling x) (few : length rows * 8 < 2 ^ 63) where
+    module _ {x : Result ℕ FileFault} {e : ℕ} (q : x ≡ Ok e) (judges : Judges plan (lent_rows objects rows) components ceiling x) (few : length rows * 8 < 2 ^ 63) where
       both : (planned ceiling plan (sizes plan (lent_rows objects rows) components) ≡ pass tt) × (e ≡ last_end plan (sizes plan (lent_rows objects rows) components))
       both = subst (Judges plan (lent_rows objects rows) components ceiling) q judges
 
@@ -289,8 +290,8 @@ module _ (plan : List ℕ) (ceiling : ℕ) (rows : List ℕ) (objects components
 
       -- and `manifest` m, of slices as they are lent
       module _ (numbers : Numbers rows) (small : length buffer * 1 < 2 ^ 63) {m : ℕ} (long : ManifestIs plan rows objects components (record { place = place; size = size }) m) where
-        pub big-by : manifest_limit < m → Planned (No 4 0)
-        big-by h room = settled-by room ∙ big-at plan rows objects components place size buffer sound-by (lent numbers few small) by-plan turns-in-time m (long buffer sound-by) h room
+        pub big-by : manifest_limit < m → (k : FileFault) → k ≡ record { refusal = refusals.Big; object = 0; component = 0 } → Planned (Err k)
+        big-by h k is-k room = rw is-k (settled-by room ∙ big-at plan rows objects components place size buffer sound-by (lent numbers few small) by-plan turns-in-time m (long buffer sound-by) h room)
 
         pub fit-by : m ≤ manifest_limit → Fit plan rows objects components (record { place = place; size = size }) buffer e m
         fit-by h =
@@ -300,42 +301,42 @@ module _ (plan : List ℕ) (ceiling : ℕ) (rows : List ℕ) (objects components
 -- ---- by the code's answers
 
 -- `measured` or `measured_by` said x of the whole answer
-module _ (answer : ℕ → Check (List ℕ)) (plan rows : List ℕ) (objects components place size : ℕ) (buffer : List ℕ) (x : Sized)
+module _ (answer : ℕ → Check (List ℕ)) (plan rows : List ℕ) (objects components place size : ℕ) (buffer : List ℕ) (x : Result Sized FileFault)
     (h : Measures plan rows objects components (record { place = place; size = size }) buffer answer x) where
-  abbrev Told : Sized → Type 0
+  abbrev Told : Result Sized FileFault → Type 0
   Told = Measures plan rows objects components (record { place = place; size = size }) buffer answer
 
-  measured-no : {n o : ℕ} → x ≡ No n o → {r : Written} → r ≡ refused n o 0 → (out : List ℕ) → Answered (answer (length out)) r out out
-  measured-no {n} {o} e is out =
-      let so : Told (No n o) = subst Told e h in
-      subst (λ (a : Written). Answered (answer (length out)) a out out) (sym is) (refused-answer n o 0 (so (length out)) out)
+  measured-no : (f : FileFault) → x ≡ Err f → {r : Written} → r ≡ refused (number_of f.refusal) f.object f.component → (out : List ℕ) → Answered (answer (length out)) r out out
+  measured-no f e is out =
+      let so : Told (Err f) = subst Told e h in
+      subst (λ (a : Written). Answered (answer (length out)) a out out) (sym is) (refused-answer (number_of f.refusal) f.object f.component (so (length out)) out)
 
-  module _ {e m : ℕ} (q : x ≡ Yes e m) where
-    so : Told (Yes e m)
+  module _ (s : Sized) (q : x ≡ Ok s) where
+    so : Told (Ok s)
     so = subst Told q h
 
-    pub measured-yes : Fit plan rows objects components (record { place = place; size = size }) buffer e m
+    pub measured-yes : Fit plan rows objects components (record { place = place; size = size }) buffer s.end s.manifest
     measured-yes = so.0
 
     filled : {r : Written} (out : List ℕ) {after : List ℕ} → Answered (answer_at plan rows objects components place size buffer (length out)) r out after → Answered (answer (length out)) r out after
     filled {r} out {after} a = answer-of (answer_at plan rows objects components place size buffer (length out)) (so.1 (length out)) out after r a
 
-module _ (rows : List ℕ) (objects components place size : ℕ) (buffer : List ℕ) (x : Sized)
+module _ (rows : List ℕ) (objects components place size : ℕ) (buffer : List ℕ) (x : Result Sized FileFault)
     (h : Measures [] rows objects components (record { place = place; size = size }) buffer (written rows objects components (record { place = place; size = size }) buffer) x) where
-  pub plain-refused : {n o : ℕ} → x ≡ No n o → {r : Written} → r ≡ refused n o 0 → (out : List ℕ)
+  pub plain-refused : (f : FileFault) → x ≡ Err f → {r : Written} → r ≡ refused (number_of f.refusal) f.object f.component → (out : List ℕ)
       → Answered (written rows objects components (record { place = place; size = size }) buffer (length out)) r out out
   plain-refused = measured-no (written rows objects components (record { place = place; size = size }) buffer) [] rows objects components place size buffer x h
 
-  pub plain-filled : {e m : ℕ} → x ≡ Yes e m → {r : Written} (out : List ℕ) {after : List ℕ} → Answered (answer_at [] rows objects components place size buffer (length out)) r out after
+  pub plain-filled : (s : Sized) → x ≡ Ok s → {r : Written} (out : List ℕ) {after : List ℕ} → Answered (answer_at [] rows objects components place size buffer (length out)) r out after
       → Answered (written rows objects components (record { place = place; size = size }) buffer (length out)) r out after
   plain-filled = filled (written rows objects components (record { place = place; size = size }) buffer) [] rows objects components place size buffer x h
 
-module _ (plan : List ℕ) (ceiling : ℕ) (rows : List ℕ) (objects components place size : ℕ) (buffer : List ℕ) (x : Sized)
+module _ (plan : List ℕ) (ceiling : ℕ) (rows : List ℕ) (objects components place size : ℕ) (buffer : List ℕ) (x : Result Sized FileFault)
     (h : Measures plan rows objects components (record { place = place; size = size }) buffer (written_by rows objects components (record { place = place; size = size }) buffer plan ceiling) x) where
-  pub planned-refused : {n o : ℕ} → x ≡ No n o → {r : Written} → r ≡ refused n o 0 → (out : List ℕ)
+  pub planned-refused : (f : FileFault) → x ≡ Err f → {r : Written} → r ≡ refused (number_of f.refusal) f.object f.component → (out : List ℕ)
       → Answered (written_by rows objects components (record { place = place; size = size }) buffer plan ceiling (length out)) r out out
   planned-refused = measured-no (written_by rows objects components (record { place = place; size = size }) buffer plan ceiling) plan rows objects components place size buffer x h
 
-  pub planned-filled : {e m : ℕ} → x ≡ Yes e m → {r : Written} (out : List ℕ) {after : List ℕ} → Answered (answer_at plan rows objects components place size buffer (length out)) r out after
+  pub planned-filled : (s : Sized) → x ≡ Ok s → {r : Written} (out : List ℕ) {after : List ℕ} → Answered (answer_at plan rows objects components place size buffer (length out)) r out after
       → Answered (written_by rows objects components (record { place = place; size = size }) buffer plan ceiling (length out)) r out after
   planned-filled = filled (written_by rows objects components (record { place = place; size = size }) buffer plan ceiling) plan rows objects components place size buffer x h

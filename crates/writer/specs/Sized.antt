@@ -1,5 +1,5 @@
 -- What is known of rows once all is judged that comes before the reader's refusal.
-use Rattle.std.specs.Prelude.{ℕ, ◌+◌, ◌≤◌, List, map, true, ◌≡◌, length, leb}
+use Rattle.std.specs.Prelude.{ℕ, ◌+◌, ◌≤◌, List, map, true, ◌≡◌, length, leb, Ok, Err, Result}
 use Rattle.meaning.specs.Refusal.{ROOM}
 use Rattle.meaning.specs.Check.{Check, pass, refuse, ◌>>◌, ◌unless◌}
 use Rattle.meaning.specs.Limit.{manifest_limit, end_limit}
@@ -12,7 +12,8 @@ use Rattle.meaning.specs.Write.{written_at}
 use Rattle.rows.specs.Turns.{begun, turn_limit, reached, offsets_from}
 use Rattle.readback.specs.Judged.{judged}
 use Rattle.writer.specs.declared.Sized.{Sized}
-use Rattle.writer.specs.declared.Sized.TheVariants.{No, Yes}
+use Rattle.numbers.specs.declared.fault.FileFault.{FileFault}
+use Rattle.numbers.specs.Numbered.{number_of}
 
 -- by a plan, or by the rule where it is empty
 module _ (plan rows : List ℕ) (objects components : ℕ) (attributes : Span) (buffer : List ℕ) where
@@ -42,6 +43,6 @@ module _ (plan rows : List ℕ) (objects components : ℕ) (attributes : Span) (
     pub is : (room : ℕ) → file_at room ≡ (judged of_rows >> ((ROOM unless leb (length file) room) >> pass file))
 
   -- of the whole answer, by the output's length
-  abbrev pub Measures : (ℕ → Check (List ℕ)) → Sized → Type 0
-  Measures answer (No n o) = (room : ℕ) → answer room ≡ refuse n o 0
-  Measures answer (Yes end manifest) = Fit end manifest × ((room : ℕ) → answer room ≡ file_at room)
+  abbrev pub Measures : (ℕ → Check (List ℕ)) → Result Sized FileFault → Type 0
+  Measures answer (Err f) = (room : ℕ) → answer room ≡ refuse (number_of f.refusal) f.object f.component
+  Measures answer (Ok v) = Fit v.end v.manifest × ((room : ℕ) → answer room ≡ file_at room)

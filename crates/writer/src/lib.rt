@@ -3,13 +3,13 @@
 #![tactic(auto)]
 
 ghost use Rattle.std.specs.Prelude.{◌≡◌, [], ◌<◌, ◌^◌, length};
+ghost use Rattle.numbers.specs.Numbered.{number_of};
 ghost use Rattle.readback.specs.Lent.{Lent};
 ghost use Rattle.writer.specs.WriterAnswer as is;
 ghost use Rattle.meaning.specs.Write.{written, written_by};
 ghost use Rattle.writer.specs.Sized.{file_at, Fit, Measures};
 
-use foresee::Foreseen;
-use plan::Judged;
+use numbers::{FileFault, Refusal};
 use rows::sound;
 
 // The refusal with its object and component, or 0, 0 and 0; and the file's length, 0 on refusal.
@@ -22,22 +22,22 @@ pub struct Written {
     pub length: u64,
 }
 
-fn refused(number: u64, object: u64, component: u64) -> Written
-    ensures { result ≡ is.refused number object component }
+fn refused(fault: FileFault) -> Written
+    ensures { result ≡ is.refused (number_of fault.refusal) fault.object fault.component }
 {
     Written {
-        number: number,
-        object: object,
-        component: component,
+        number: u64::from(fault.refusal),
+        object: fault.object as u64,
+        component: fault.component as u64,
         length: 0,
     }
 }
 
-// A refusal's number and row; or where the last blob ends, and how long the manifest is.
+// Where the last blob ends, and how long the manifest is.
 #[derive(Clone, Copy)]
-enum Sized {
-    No(u64, u64),
-    Yes(u64, u64),
+struct Sized {
+    end: u64,
+    manifest: u64,
 }
 
 // ROW, COUNT and BIG; and, whatever they say, what the slices are.
@@ -48,23 +48,23 @@ fn measured(
     place: u64,
     size: u64,
     buffer: &[u8],
-) -> Sized
+) -> Result<Sized, FileFault>
     ensures sizes { Measures [] rows.now objects components (record { place = place; size = size }) buffer.now
         (written rows.now objects components (record { place = place; size = size }) buffer.now) result }
     ensures lent { Lent rows.now buffer.now }
 {
     if !sound(rows, objects, components, place, size, buffer) {
-        return Sized::No(numbers::ROW, 0);
+        return Err(FileFault::from(Refusal::Row));
     }
     let end = sizes::last_end(rows, objects, components);
     if numbers::END_MOST < end {
-        return Sized::No(numbers::COUNT, 0);
+        return Err(FileFault::from(Refusal::Count));
     }
     let manifest = sizes::manifest(&rows[0..0], rows, objects, components, place, size);
     if numbers::MANIFEST_MOST < manifest {
-        return Sized::No(numbers::BIG, 0);
+        return Err(FileFault::from(Refusal::Big));
     }
-    Sized::Yes(end, manifest)
+    Ok(Sized { end, manifest })
 }
 
 // ROW, PLAN and BIG, by a plan under a ceiling.
@@ -77,25 +77,21 @@ fn measured_by(
     place: u64,
     size: u64,
     buffer: &[u8],
-) -> Sized
+) -> Result<Sized, FileFault>
     ensures sizes { Measures plan.now rows.now objects components (record { place = place; size = size }) buffer.now
         (written_by rows.now objects components (record { place = place; size = size }) buffer.now plan.now ceiling) result }
     ensures lent { Lent rows.now buffer.now }
 {
     if !sound(rows, objects, components, place, size, buffer) {
-        return Sized::No(numbers::ROW, 0);
+        return Err(FileFault::from(Refusal::Row));
     }
     let first = (columns::OBJECT_64 * objects) as usize;
-    match plan::verdict(plan, &rows[first..], components as usize, ceiling) {
-        Judged::No(row) => Sized::No(numbers::PLAN, row),
-        Judged::Yes(end) => {
-            let manifest = sizes::manifest(plan, rows, objects, components, place, size);
-            if numbers::MANIFEST_MOST < manifest {
-                return Sized::No(numbers::BIG, 0);
-            }
-            Sized::Yes(end, manifest)
-        }
+    let end = plan::verdict(plan, &rows[first..], components as usize, ceiling)?;
+    let manifest = sizes::manifest(plan, rows, objects, components, place, size);
+    if numbers::MANIFEST_MOST < manifest {
+        return Err(FileFault::from(Refusal::Big));
     }
+    Ok(Sized { end, manifest })
 }
 
 // Rows that fit: the refusal that the reader would give the file, ROOM, or the file.
@@ -107,27 +103,24 @@ fn fill(
     place: u64,
     size: u64,
     buffer: &[u8],
-    end: u64,
-    manifest: u64,
+    sized: Sized,
     out: &mut [u8],
 ) -> Written
-    requires { Fit plan.now rows.now objects components (record { place = place; size = size }) buffer.now end manifest }
+    requires { Fit plan.now rows.now objects components (record { place = place; size = size }) buffer.now sized.end sized.manifest }
     ensures { is.Answered (file_at plan.now rows.now objects components (record { place = place; size = size }) buffer.now (length out.old)) result out.old out.new }
 {
-    match foresee::verdict(rows, objects, components, place, size, buffer) {
-        Foreseen::Fault(n, o, c) => refused(n, o as u64, c as u64),
-        Foreseen::Fine => {
-            if (out.len() as u64) < end + manifest + 16 {
-                return refused(numbers::ROOM, 0, 0);
-            }
-            let n = layout::file(plan, rows, objects, components, place, size, buffer, out);
-            Written {
-                number: 0,
-                object: 0,
-                component: 0,
-                length: n as u64,
-            }
-        }
+    if let Err(fault) = foresee::verdict(rows, objects, components, place, size, buffer) {
+        return refused(fault);
+    }
+    if (out.len() as u64) < sized.end + sized.manifest + 16 {
+        return refused(FileFault::from(Refusal::Room));
+    }
+    let n = layout::file(plan, rows, objects, components, place, size, buffer, out);
+    Written {
+        number: 0,
+        object: 0,
+        component: 0,
+        length: n as u64,
     }
 }
 
@@ -145,8 +138,8 @@ pub fn write(
     ensures lent { Lent rows.now buffer.now }
 {
     match measured(rows, objects, components, place, size, buffer) {
-        Sized::No(n, o) => refused(n, o, 0),
-        Sized::Yes(end, manifest) => fill(
+        Err(fault) => refused(fault),
+        Ok(sized) => fill(
             &rows[0..0],
             rows,
             objects,
@@ -154,8 +147,7 @@ pub fn write(
             place,
             size,
             buffer,
-            end,
-            manifest,
+            sized,
             out,
         ),
     }
@@ -179,9 +171,9 @@ pub fn write_planned(
     match measured_by(
         plan, ceiling, rows, objects, components, place, size, buffer,
     ) {
-        Sized::No(n, o) => refused(n, o, 0),
-        Sized::Yes(end, manifest) => fill(
-            plan, rows, objects, components, place, size, buffer, end, manifest, out,
+        Err(fault) => refused(fault),
+        Ok(sized) => fill(
+            plan, rows, objects, components, place, size, buffer, sized, out,
         ),
     }
 }

@@ -2,8 +2,8 @@
 use Rattle.badcomponent.proofs.Stretch as stretch
 use Rattle.badcomponent.proofs.blob.Goals as goal
 
-pub returns-then-n-eq0 : goal.returns-then-n-eq0
-returns-then-n-eq0 c = search stretch.in_place
+pub returns-in-Ok : goal.returns-in-Ok
+returns-in-Ok c = search stretch.in_place
 
-pub returns : goal.returns
-returns c = search stretch.out-of-place
+pub returns-in-Err : goal.returns-in-Err
+returns-in-Err c = search stretch.out-of-place

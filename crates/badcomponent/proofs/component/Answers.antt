@@ -24,8 +24,8 @@ slice_bounds-values-count c = search opens.size-inside
 pub slice_bounds-values-start : goal.slice_bounds-values-start
 slice_bounds-values-start c = search opens.size-inside
 
-pub returns-in-NotOpen : goal.returns-in-NotOpen
-returns-in-NotOpen c = search whole.not-map
+pub returns-in-None : goal.returns-in-None
+returns-in-None c = search whole.not-map
 
 pub returns-else-lacks : goal.returns-else-lacks
 returns-else-lacks c = search whole.has_all

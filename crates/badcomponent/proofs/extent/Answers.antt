@@ -2,11 +2,11 @@
 use Rattle.badcomponent.proofs.Stretch as stretch
 use Rattle.badcomponent.proofs.extent.Goals as goal
 
-pub returns-in-NoNumber : goal.returns-in-NoNumber
-returns-in-NoNumber c = search stretch.no-offset
+pub returns-in-None : goal.returns-in-None
+returns-in-None c = search stretch.no-offset
 
-pub returns-in-NoNumber-number_at : goal.returns-in-NoNumber-number_at
-returns-in-NoNumber-number_at c = search stretch.no_length
+pub returns-in-None-number_at : goal.returns-in-None-number_at
+returns-in-None-number_at c = search stretch.no_length
 
-pub returns-in-Number-number_at : goal.returns-in-Number-number_at
-returns-in-Number-number_at c = search stretch.then-extras
+pub returns-in-Some-number_at : goal.returns-in-Some-number_at
+returns-in-Some-number_at c = search stretch.then-extras

@@ -12,8 +12,8 @@ slice_bounds-first-start c = search opens.size-inside
 pub first-requires : goal.first-requires
 first-requires c = search (whole.ten-places, opens.modes)
 
-pub returns-in-NotOpen : goal.returns-in-NotOpen
-returns-in-NotOpen c = search whole.no_length
+pub returns-in-None : goal.returns-in-None
+returns-in-None c = search whole.no_length
 
-pub returns-in-Opened : goal.returns-in-Opened
-returns-in-Opened c = search whole.length-is
+pub returns-in-Some : goal.returns-in-Some
+returns-in-Some c = search whole.length-is

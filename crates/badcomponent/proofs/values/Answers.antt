@@ -2,11 +2,11 @@
 use Rattle.badcomponent.proofs.Storage as storage
 use Rattle.badcomponent.proofs.values.Goals as goal
 
-pub returns-in-No : goal.returns-in-No
-returns-in-No c = search storage.no-dtype
+pub returns-in-Err : goal.returns-in-Err
+returns-in-Err c = search storage.no-dtype
 
-pub returns-in-No-typed : goal.returns-in-No-typed
-returns-in-No-typed c = search storage.no-type
+pub returns-in-Err-typed : goal.returns-in-Err-typed
+returns-in-Err-typed c = search storage.no-type
 
-pub returns-in-Yes-typed : goal.returns-in-Yes-typed
-returns-in-Yes-typed c = search storage.then-extent
+pub returns-in-Ok-typed : goal.returns-in-Ok-typed
+returns-in-Ok-typed c = search storage.then-extent

@@ -10,4 +10,4 @@ pub returns-then-odd-ne0-2 : goal.returns-then-odd-ne0-2
 returns-then-odd-ne0-2 c = laws.again (slots_at c.args.layout c.args.level) c.args.left c.args.mode c.args.count c.args.s.now _ _ c.entries-odd.ensures _ c.if-odd-ne0.false c.if-odd-ne0-2.true c.at-then-odd-ne0-2.ensures
 
 pub returns : goal.returns
-returns c = laws.all_known (slots_at c.args.layout c.args.level) c.args.left c.args.mode c.args.count c.args.s.now _ _ c.entries-odd.ensures _ c.if-odd-ne0.false c.if-odd-ne0-2.false c.at-2.ensures
+returns c = laws.all_known (slots_at c.args.layout c.args.level) c.args.left c.args.mode c.args.count c.args.s.now _ _ c.entries-odd.ensures _ c.if-odd-ne0.false c.if-odd-ne0-2.false c.none.ensures

@@ -1,5 +1,4 @@
 -- `badnames::entries` meets its contract: a law for each branch.
-use Prim.Native.Nat.{◌-◌}
 use Rattle.badnames.proofs.KeysNoted as noting
 use Rattle.walk.proofs.Passed as walked
 use native.Mathlib.Omega.{arith}

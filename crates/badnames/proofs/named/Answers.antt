@@ -1,9 +1,6 @@
 -- `badnames::named` meets its contract: a law for each branch.
-use borrow.Author.Rules.{part_to_end}
-use lib.ListN.{length}
 use Rattle.badnames.proofs.KeysNoted as noting
 use Rattle.walk.proofs.Opens as opens
-use mathlib.Core.Path.{ap}
 use native.Mathlib.Omega.{arith}
 use Rattle.badnames.proofs.named.Goals as goal
 
@@ -23,8 +20,8 @@ judged-requires c = (
   omega (arith, c.entries-keys.ensures.0, c.requires.2),
 )
 
-pub returns-in-NotOpen : goal.returns-in-NotOpen
-returns-in-NotOpen c = search noting.no-map
+pub returns-in-None : goal.returns-in-None
+returns-in-None c = search noting.no-map
 
-pub returns-in-Opened : goal.returns-in-Opened
-returns-in-Opened c = search noting.of_map
+pub returns-in-Some : goal.returns-in-Some
+returns-in-Some c = search noting.of_map

@@ -6,8 +6,8 @@ use Rattle.badnames.proofs.unread.Goals as goal
 pub overflow_sub-s : goal.overflow_sub-s
 overflow_sub-s c = search (rules, untested.letters-begin)
 
-pub returns-in-NoText : goal.returns-in-NoText
-returns-in-NoText c = search untested.unread-odd
+pub returns-in-None : goal.returns-in-None
+returns-in-None c = search untested.unread-odd
 
-pub returns-in-Text : goal.returns-in-Text
-returns-in-Text c = search untested.unread-text
+pub returns-in-Some : goal.returns-in-Some
+returns-in-Some c = search untested.unread-text

@@ -2,8 +2,8 @@
 use Rattle.badobject.proofs.Sound as sound
 use Rattle.badobject.proofs.values.Goals as goal
 
-pub returns-in-Odd : goal.returns-in-Odd
-returns-in-Odd c = search sound.odd
+pub returns-in-Err : goal.returns-in-Err
+returns-in-Err c = search sound.odd
 
-pub returns-in-Sound : goal.returns-in-Sound
-returns-in-Sound c = search sound.sound
+pub returns-in-Ok : goal.returns-in-Ok
+returns-in-Ok c = search sound.sound

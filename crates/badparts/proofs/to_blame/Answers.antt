@@ -5,8 +5,8 @@ use Rattle.badparts.proofs.to_blame.Goals as goal
 pub returns-then-m-gt16 : goal.returns-then-m-gt16
 returns-then-m-gt16 c = search whole.too_many
 
-pub returns-in-No : goal.returns-in-No
-returns-in-No c = search whole.none_found
+pub returns-in-Err : goal.returns-in-Err
+returns-in-Err c = search whole.none_found
 
 pub returns-else-m-gt16 : goal.returns-else-m-gt16
 returns-else-m-gt16 c = search whole.by_rows

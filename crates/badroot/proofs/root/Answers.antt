@@ -21,8 +21,8 @@ slice_bounds-values-count c = search opens.size-inside
 pub slice_bounds-values-start : goal.slice_bounds-values-start
 slice_bounds-values-start c = search opens.size-inside
 
-pub returns-in-NotOpen : goal.returns-in-NotOpen
-returns-in-NotOpen c = search (roots.no-root, roots.nothing-stands)
+pub returns-in-None : goal.returns-in-None
+returns-in-None c = search (roots.no-root, roots.nothing-stands)
 
 pub returns-else-k-ne0 : goal.returns-else-k-ne0
 returns-else-k-ne0 c = search (roots.keys-pass, roots.objects-stand)

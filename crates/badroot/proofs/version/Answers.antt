@@ -5,7 +5,7 @@ use native.Mathlib.Omega.{arith}
 use Rattle.badroot.proofs.version.Goals as goal
 
 pub overflow_add-e : goal.overflow_add-e
-overflow_add-e c = omega (arith, letters-in (c.args.s.now) _ (c.text.ensures.0) _ _ (c.in-Text.is))
+overflow_add-e c = omega (arith, letters-in (c.args.s.now) _ (c.text.ensures.0) _ _ (c.in-Some.is))
 
 pub slice_bounds-version_shape-end : goal.slice_bounds-version_shape-end
 slice_bounds-version_shape-end c = search letters-in
@@ -19,8 +19,8 @@ returns-then-major_one c = search valued.major-one
 pub returns-then-version_shape : goal.returns-then-version_shape
 returns-then-version_shape c = search valued.other-major
 
-pub returns-in-NoText : goal.returns-in-NoText
-returns-in-NoText c = search valued.no_text
+pub returns-in-None : goal.returns-in-None
+returns-in-None c = search valued.no_text
 
 pub returns-else-version_shape : goal.returns-else-version_shape
 returns-else-version_shape c = search valued.no-version

@@ -2,8 +2,8 @@
 use Rattle.badrules.proofs.Roles as roles
 use Rattle.badrules.proofs.there.Goals as goal
 
-pub returns-in-Absent : goal.returns-in-Absent
-returns-in-Absent c = search roles.not_there
+pub returns-in-None : goal.returns-in-None
+returns-in-None c = search roles.not_there
 
-pub returns-in-At : goal.returns-in-At
-returns-in-At c = search roles.is-there
+pub returns-in-Some : goal.returns-in-Some
+returns-in-Some c = search roles.is-there

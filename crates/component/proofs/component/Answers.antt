@@ -24,8 +24,8 @@ overflow_sub-c c = search opens.size-inside
 pub returns-then-c-size : goal.returns-then-c-size
 returns-then-c-size c = search (maps.ends-faulty, maps.entries-judged)
 
-pub returns-in-NotOpen : goal.returns-in-NotOpen
-returns-in-NotOpen c = search (opens.whole-ends, maps.no-map)
+pub returns-in-None : goal.returns-in-None
+returns-in-None c = search (opens.whole-ends, maps.no-map)
 
 pub returns-else-c-size : goal.returns-else-c-size
 returns-else-c-size c = search (maps.ends-inside, maps.entries-judged)

@@ -25,13 +25,13 @@ pub overflow_sub-c : goal.overflow_sub-c
 overflow_sub-c c = search opens.size-inside
 
 pub returns-then-c-from : goal.returns-then-c-from
-returns-then-c-from c = walks.whole-faulty c.args.c.now (omega (arith, c.type_inv)) c.map.ensures c.in-Opened.is c.entries-w.ensures c.verdict-f.result c.verdict-f.ensures c.if-c-from.true
+returns-then-c-from c = walks.whole-faulty c.args.c.now (omega (arith, c.type_inv)) c.map.ensures c.in-Some.is c.entries-w.ensures c.verdict-f.result c.verdict-f.ensures c.if-c-from.true
 
 pub overflow_add-result : goal.overflow_add-result
-overflow_add-result c = place-fits _ c.args.c.now (omega (arith, c.type_inv)) (opens.entries-inside c.args.c.now _ c.map.ensures _ _ _ c.in-Opened.is _ c.if-c-from.false)
+overflow_add-result c = place-fits _ c.args.c.now (omega (arith, c.type_inv)) (opens.entries-inside c.args.c.now _ c.map.ensures _ c.in-Some.is _ c.if-c-from.false)
 
-pub returns-in-NotOpen : goal.returns-in-NotOpen
-returns-in-NotOpen c = search (opens.whole-ends, walks.no-map, rowing.no-map)
+pub returns-in-None : goal.returns-in-None
+returns-in-None c = search (opens.whole-ends, walks.no-map, rowing.no-map)
 
 pub returns-else-c-from : goal.returns-else-c-from
-returns-else-c-from c = walks.whole-inside c.args.c.now (omega (arith, c.type_inv)) c.map.ensures c.in-Opened.is c.entries-w.ensures c.verdict-f.result c.verdict-f.ensures c.if-c-from.false
+returns-else-c-from c = walks.whole-inside c.args.c.now (omega (arith, c.type_inv)) c.map.ensures c.in-Some.is c.entries-w.ensures c.verdict-f.result c.verdict-f.ensures c.if-c-from.false

@@ -64,5 +64,5 @@ pub loop-e-smaller : goal.loop-e-smaller
 loop-e-smaller c = walked.nearer c.loop-e.invariant.walking c.past_key.ensures c.in-Value.is c.component-w.ensures.0 c.if-s-v.false
 
 pub loop-e-preserved : goal.loop-e-preserved
-loop-e-preserved c = looping.loops-on c.loop-e.invariant c.past_key.ensures c.in-Value.is c.component-w.ensures.0 c.if-s-v.false c.component-w.ensures.1
+loop-e-preserved c = looping.loops-on c.loop-e.invariant c.past_key.ensures c.in-Value.is c.component-w.ensures.0 c.if-s-v.false c.component-w.result.verdict c.component-w.ensures.1
     c.keep-first.ensures.0 c.keep-first.ensures.1 c.put_row.ensures c.put_row.auto.t c.next_row-next.ensures c.note-names.ensures

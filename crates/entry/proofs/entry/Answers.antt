@@ -12,8 +12,8 @@ slice_bounds-entries-start c = search opens.size-inside
 pub entries-requires : goal.entries-requires
 entries-requires c = search opens.modes
 
-pub returns-in-NotOpen : goal.returns-in-NotOpen
-returns-in-NotOpen c = search choosing.no-entry
+pub returns-in-None : goal.returns-in-None
+returns-in-None c = search choosing.no-entry
 
-pub returns-in-Opened : goal.returns-in-Opened
-returns-in-Opened c = search choosing.of_map
+pub returns-in-Some : goal.returns-in-Some
+returns-in-Some c = search choosing.of_map

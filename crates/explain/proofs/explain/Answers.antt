@@ -1,4 +1,6 @@
 -- `explain::explain` meets its contract: a law for each need.
+use mathlib.Core.Path.{subst}
+use Rattle.unread.specs.Unread.{Unframed}
 use Rattle.meaning.proofs.Lengths.{place-fits}
 use Rattle.reader.proofs.Frames as frames
 use Rattle.explaining.proofs.Answers as answers
@@ -11,8 +13,8 @@ overflow_add-end c = search (place-fits, frames.inside)
 pub slice_bounds-manifest-end : goal.slice_bounds-manifest-end
 slice_bounds-manifest-end c = search (rules, frames.inside)
 
-pub returns-in-No : goal.returns-in-No
-returns-in-No c = search answers.no-frame
+pub returns-in-Err : goal.returns-in-Err
+returns-in-Err c = let a = c.args in let h = subst (λ n. Unframed a.layout a.file.now n c.framed.result) c.from.ensures c.framed.ensures in search (answers.no-frame, h)
 
-pub returns-in-At : goal.returns-in-At
-returns-in-At c = search answers.a-frame
+pub returns-in-Ok : goal.returns-in-Ok
+returns-in-Ok c = search answers.a-frame

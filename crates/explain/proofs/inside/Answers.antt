@@ -3,4 +3,4 @@ use Rattle.explain.proofs.OwnCheck as own
 use Rattle.explain.proofs.inside.Goals as goal
 
 pub returns : goal.returns
-returns c = search own.of-object
+returns c = rw (← c.from-n.ensures) (search own.of-object)

@@ -4,10 +4,10 @@ use Rattle.explaining.proofs.Answers as answers
 use Rattle.explain.proofs.manifest.Goals as goal
 
 pub sound-requires : goal.sound-requires
-sound-requires c = own.counted _ _ _ c.manifest.ensures c.in-Yes.is
+sound-requires c = own.counted _ _ _ c.manifest.ensures c.in-Ok.is
 
-pub returns-in-No : goal.returns-in-No
-returns-in-No c = search answers.no-manifest
+pub returns-in-Err : goal.returns-in-Err
+returns-in-Err c = search answers.no-manifest
 
-pub returns-in-Yes : goal.returns-in-Yes
-returns-in-Yes c = search answers.a-manifest
+pub returns-in-Ok : goal.returns-in-Ok
+returns-in-Ok c = search answers.a-manifest

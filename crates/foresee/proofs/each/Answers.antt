@@ -12,8 +12,8 @@ loop-i-init c = law.objects-begin c.requires
 pub object-requires : goal.object-requires
 object-requires c = (law.row-lent c.loop-i.invariant c.loop-i-test.true, law.rank-small c.loop-i.invariant c.loop-i-test.true, law.rows-lent c.loop-i.invariant c.loop-i-test.true)
 
-pub returns-in-Wrong : goal.returns-in-Wrong
-returns-in-Wrong c = law.object-faulty c.loop-i.invariant c.loop-i-test.true _ c.object.ensures c.in-Wrong.is
+pub returns-in-Err : goal.returns-in-Err
+returns-in-Err c = law.object-faulty c.loop-i.invariant c.loop-i-test.true _ c.object.ensures _ c.in-Err.is
 
 pub overflow_mul-from : goal.overflow_mul-from
 overflow_mul-from c = search law.rows_fit
@@ -30,7 +30,7 @@ loop-i-preserved c =
     place-on
     (λ at. law.Judging c.args.buffer.now c.args.rows.now c.args.n c.args.rest.now c.args.components at (c.loop-i.from + component_width * count) (c.loop-i.due - count) (c.loop-i.i + 1))
     object_width c.loop-i.i
-    (law.object-passes c.loop-i.invariant c.loop-i-test.true c.object.result c.object.ensures c.in-Right.is)
+    (law.object-passes c.loop-i.invariant c.loop-i-test.true c.object.result c.object.ensures c.in_default.is)
 
 pub returns : goal.returns
 returns c = law.objects-end c.loop-i.invariant c.loop-i-test.false

@@ -9,8 +9,8 @@ any_deep-requires c = search law.objects-lie
 pub returns-then-deep : goal.returns-then-deep
 returns-then-deep c =
     elim c.then-deep.branch [
-      | then-deep-via-then-deep w ↦ search law.root-deep
-      | then-deep-via-else-deep+then-any_deep w ↦ search law.object-deep
+      | then-deep-via-then-deep w ↦ law.root-deep _ _ _ _ _ _ c.deep.ensures w.if-deep.true _ c.from.ensures
+      | then-deep-via-else-deep+then-any_deep w ↦ law.object-deep _ _ _ _ _ _ c.deep.ensures w.if-deep.false w.any_deep.ensures w.if-any_deep.true _ c.from.ensures
     ]
 
 pub overflow_mul-from : goal.overflow_mul-from

@@ -2,8 +2,5 @@
 use Rattle.formats.proofs.Rules as laws
 use Rattle.formats.proofs.has_role.Goals as goal
 
-pub returns-in-Absent : goal.returns-in-Absent
-returns-in-Absent c = search laws.not_there
-
-pub returns-in-At : goal.returns-in-At
-returns-in-At c = search laws.there
+pub returns : goal.returns
+returns c = search laws.there-or-not

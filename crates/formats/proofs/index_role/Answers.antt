@@ -2,11 +2,11 @@
 use Rattle.formats.proofs.Rules as laws
 use Rattle.formats.proofs.index_role.Goals as goal
 
-pub returns-then-plain-eq1 : goal.returns-then-plain-eq1
-returns-then-plain-eq1 c = search laws.index-plain
+pub returns-in_default : goal.returns-in_default
+returns-in_default c = search laws.index-absent
 
-pub returns-in-Absent : goal.returns-in-Absent
-returns-in-Absent c = search laws.index-absent
+pub returns-then-found-ne1 : goal.returns-then-found-ne1
+returns-then-found-ne1 c = search laws.index-odd
 
-pub returns-else-plain-eq1 : goal.returns-else-plain-eq1
-returns-else-plain-eq1 c = search laws.index-odd
+pub returns : goal.returns
+returns c = search laws.index-plain

@@ -1,5 +1,4 @@
 -- `keys::entries` meets its contract: a law for each branch.
-use Prim.Native.Nat.{◌-◌}
 use native.Mathlib.Omega.{arith}
 use Rattle.walk.proofs.Passed as walked
 use Rattle.keys.proofs.Parts as parts

@@ -6,13 +6,13 @@ use borrow.Author.Rules.{rules}
 use Rattle.keys.proofs.slot.Goals as goal
 
 pub overflow_add-e : goal.overflow_add-e
-overflow_add-e c = omega (arith, texts.letters-in c.args.s.now _ c.text.ensures.0 _ _ c.in-Text.is)
+overflow_add-e c = omega (arith, texts.letters-in c.args.s.now _ c.text.ensures.0 _ _ c.in-Some.is)
 
 pub slice_bounds-named-end : goal.slice_bounds-named-end
 slice_bounds-named-end c = search (rules, texts.letters-in)
 
-pub returns-in-NoText : goal.returns-in-NoText
-returns-in-NoText c = search (parts.odd-within, parts.slot-odd)
+pub returns-in-None : goal.returns-in-None
+returns-in-None c = search (parts.odd-within, parts.slot-odd)
 
-pub returns-in-Text : goal.returns-in-Text
-returns-in-Text c = search (parts.known-within, parts.slot-known)
+pub returns-in-Some : goal.returns-in-Some
+returns-in-Some c = search (parts.known-within, parts.slot-known)

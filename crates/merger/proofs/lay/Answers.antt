@@ -1,10 +1,7 @@
--- `merger::lay` meets its contract: a law for each way out.
-use Rattle.merger.proofs.MergedLaid as laying
+-- `merger::lay` meets its contract: what joining asks, and the merged file.
 use mathlib.Core.Path.{refl}
+use Rattle.merger.proofs.MergedLaid as laying
 use Rattle.merger.proofs.lay.Goals as goal
-
-pub offset_bounds-rows-cut-2 : goal.offset_bounds-rows-cut-2
-offset_bounds-rows-cut-2 c = search laying.cut_fits
 
 pub join-requires : goal.join-requires
 join-requires c = let p = c.requires in let h = laying.join-asks p.0 p.1 c.read_as.ensures.1 refl c.read_as-2.ensures.1 in record { within = h.0; rows = h.1.0; room = h.1.1 }

@@ -15,8 +15,8 @@ slice_bounds-utf8-end c = search noting.inside
 pub returns-then-utf8 : goal.returns-then-utf8
 returns-then-utf8 c = search noting.text-noted
 
-pub returns-in-NoText : goal.returns-in-NoText
-returns-in-NoText c = search (noting.noted-as, noting.noted-odd)
+pub returns-in-None : goal.returns-in-None
+returns-in-None c = search (noting.noted-as, noting.noted-odd)
 
 pub returns-else-utf8 : goal.returns-else-utf8
 returns-else-utf8 c = search noting.no-text-noted

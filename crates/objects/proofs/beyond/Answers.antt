@@ -5,8 +5,8 @@ use Rattle.objects.proofs.beyond.Goals as goal
 pub returns-then-n-gt16 : goal.returns-then-n-gt16
 returns-then-n-gt16 c = search laying.beyond-many
 
-pub returns-in-No : goal.returns-in-No
-returns-in-No c = search laying.beyond-none
+pub returns-in_default : goal.returns-in_default
+returns-in_default c = search laying.beyond-none
 
-pub returns-else-n-gt16 : goal.returns-else-n-gt16
-returns-else-n-gt16 c = search laying.beyond-these
+pub returns : goal.returns
+returns c = search laying.beyond-these

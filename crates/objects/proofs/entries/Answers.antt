@@ -60,5 +60,5 @@ pub loop-e-smaller : goal.loop-e-smaller
 loop-e-smaller c = looping.turn-less c.loop-e.invariant c.past_key.ensures c.in-Value.is c.one-w.ensures.0 c.if-s-v.false
 
 pub loop-e-preserved : goal.loop-e-preserved
-loop-e-preserved c = looping.loops-on c.loop-e.invariant c.past_key.ensures c.in-Value.is c.one-w.ensures.0 c.if-s-v.false c.one-w.ensures.1 c.one-w.ensures.2
+loop-e-preserved c = looping.loops-on c.loop-e.invariant c.past_key.ensures c.in-Value.is c.one-w.ensures.0 c.if-s-v.false c.one-w.result.verdict c.one-w.ensures.1 c.one-w.ensures.2
     c.one-w.auto.t c.one-w.auto.rows c.keep-first.ensures c.next_row-row.ensures c.beyond-next.ensures c.note-names.ensures

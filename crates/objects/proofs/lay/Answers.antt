@@ -12,8 +12,8 @@ slice_bounds-entries-start c = search opens.size-inside
 pub entries-requires : goal.entries-requires
 entries-requires c = search opens.modes
 
-pub returns-in-NotOpen : goal.returns-in-NotOpen
-returns-in-NotOpen c = search objecting.no-map
+pub returns-in_default : goal.returns-in_default
+returns-in_default c = search objecting.no-map
 
-pub returns-in-Opened : goal.returns-in-Opened
-returns-in-Opened c = search objecting.map-written
+pub returns : goal.returns
+returns c = search objecting.map-written

@@ -24,18 +24,18 @@ overflow_sub-c c = search opens.size-inside
 
 pub returns-then-c-from : goal.returns-then-c-from
 returns-then-c-from c = let a = c.args in (
-  opens.ends-faulty a.c.now _ c.map.ensures _ _ _ c.in-Opened.is 30 (omega (arith, c.type_inv)) _ c.entries-w.ensures.0 c.if-c-from.true,
-  walks.entries-judged _ _ a.c.now _ _ c.map.ensures _ _ _ c.in-Opened.is _ _ _ _ c.entries-w.ensures.2 _ c.verdict-f.ensures,
+  opens.ends-faulty a.c.now _ c.map.ensures _ c.in-Some.is 30 (omega (arith, c.type_inv)) _ c.entries-w.ensures.0 c.if-c-from.true,
+  walks.entries-judged _ _ a.c.now _ _ c.map.ensures _ c.in-Some.is _ _ _ _ c.entries-w.ensures.2 _ c.verdict-f.ensures,
 )
 
 pub overflow_add-result : goal.overflow_add-result
-overflow_add-result c = omega (arith, opens.size-inside c.args.c.now _ c.map.ensures _ _ _ c.in-Opened.is, c.if-c-from.false, c.type_inv)
+overflow_add-result c = omega (arith, opens.size-inside c.args.c.now _ c.map.ensures _ c.in-Some.is, c.if-c-from.false, c.type_inv)
 
-pub returns-in-NotOpen : goal.returns-in-NotOpen
-returns-in-NotOpen c = search (walks.ends_so, walks.no-map)
+pub returns-in-None : goal.returns-in-None
+returns-in-None c = search (walks.ends_so, walks.no-map)
 
 pub returns-else-c-from : goal.returns-else-c-from
 returns-else-c-from c = let a = c.args in (
-  opens.ends-inside a.c.now _ c.map.ensures _ _ _ c.in-Opened.is 30 (omega (arith, c.type_inv)) _ c.entries-w.ensures.0 c.if-c-from.false,
-  walks.entries-judged _ _ a.c.now _ _ c.map.ensures _ _ _ c.in-Opened.is _ _ _ _ c.entries-w.ensures.2 _ c.verdict-f.ensures,
+  opens.ends-inside a.c.now _ c.map.ensures _ c.in-Some.is 30 (omega (arith, c.type_inv)) _ c.entries-w.ensures.0 c.if-c-from.false,
+  walks.entries-judged _ _ a.c.now _ _ c.map.ensures _ c.in-Some.is _ _ _ _ c.entries-w.ensures.2 _ c.verdict-f.ensures,
 )

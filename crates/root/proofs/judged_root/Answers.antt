@@ -28,8 +28,8 @@ returns-then-s-size c = search (walks.ends-faulty, walks.entries-judged, walks.o
 pub overflow_add-result : goal.overflow_add-result
 overflow_add-result c = search (place-fits, opens.entries-inside)
 
-pub returns-in-NotOpen : goal.returns-in-NotOpen
-returns-in-NotOpen c = search (opens.whole-ends, walks.no-map, walks.no-objects)
+pub returns-in-None : goal.returns-in-None
+returns-in-None c = search (opens.whole-ends, walks.no-map, walks.no-objects)
 
 pub returns-else-s-size : goal.returns-else-s-size
 returns-else-s-size c = search (walks.ends-inside, walks.entries-judged, walks.objects-stand)

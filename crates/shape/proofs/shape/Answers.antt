@@ -19,7 +19,7 @@ pub loop-n-smaller : goal.loop-n-smaller
 loop-n-smaller c = search elements.fewer-left
 
 pub loop-n-preserved : goal.loop-n-preserved
-loop-n-preserved c = elements.goes_on c.loop-n.invariant c.more.ensures c.loop-n-test.true c.number.ensures c.in-Number.is c.skip-k.ensures c.put.ensures c.if-s-at.false
+loop-n-preserved c = search elements.goes_on
 
 pub returns-then-rank-gt-RANK_MOST : goal.returns-then-rank-gt-RANK_MOST
 returns-then-rank-gt-RANK_MOST c = search elements.many-dimensions

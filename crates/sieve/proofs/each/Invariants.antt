@@ -4,7 +4,7 @@ use Rattle.sieve.proofs.ObjectJudged as sieving
 use Rattle.sieve.proofs.each.Given as goal
 
 abbrev pub invariant-loop-have : goal.invariant-loop-have
-invariant-loop-have l = sieving.Looping l.layout l.start l.end l.mode l.count l.fill l.from l.s l.initial.t l.initial.list l.at l.due l.have l.t l.list
+invariant-loop-have l = sieving.Looping l.pass.layout l.pass.start l.pass.end l.mode l.count l.pass.fill l.pass.from l.s l.initial.t l.initial.list l.at l.due l.have l.t l.list
 
 abbrev pub decreases-loop-have : goal.decreases-loop-have
 decreases-loop-have l = length l.s - l.at

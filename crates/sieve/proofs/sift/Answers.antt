@@ -1,20 +1,9 @@
--- `sieve::sift` meets its contract: a law for each need.
-use Rattle.walk.proofs.Opens as opens
-use Rattle.sieve.proofs.ObjectPut as putting
+-- `sieve::sift` meets its contract: a law for each answer.
 use Rattle.sieve.proofs.ObjectJudged as sieving
 use Rattle.sieve.proofs.sift.Goals as goal
 
-pub slice_bounds-each-count : goal.slice_bounds-each-count
-slice_bounds-each-count c = search opens.size-inside
+pub returns-in-None-clause-sieve : goal.returns-in-None-clause-sieve
+returns-in-None-clause-sieve c = search sieving.no-map
 
-pub slice_bounds-each-start : goal.slice_bounds-each-start
-slice_bounds-each-start c = search opens.size-inside
-
-pub each-requires : goal.each-requires
-each-requires c = search opens.modes
-
-pub returns-in-NotOpen : goal.returns-in-NotOpen
-returns-in-NotOpen c = search (sieving.no-map, putting.none-bounded)
-
-pub returns-in-Opened : goal.returns-in-Opened
-returns-in-Opened c = search sieving.map-sifted
+pub returns-in-Some-clause-sieve : goal.returns-in-Some-clause-sieve
+returns-in-Some-clause-sieve c = search sieving.map-sifted

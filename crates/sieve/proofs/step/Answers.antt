@@ -1,9 +1,9 @@
--- `sieve::step` meets its contract: a law for each need.
+-- `sieve::step` meets its contract: a law for each verdict.
 use Rattle.sieve.proofs.ObjectJudged as sieving
 use Rattle.sieve.proofs.step.Goals as goal
 
-pub returns-in-No : goal.returns-in-No
-returns-in-No c = record { end = search sieving.lent-end; sieve = search sieving.steps-omit; small = search }
+pub returns-in-Err-clause-sieve : goal.returns-in-Err-clause-sieve
+returns-in-Err-clause-sieve c = search sieving.steps-omit
 
-pub returns-in-Yes : goal.returns-in-Yes
-returns-in-Yes c = record { end = search sieving.lent-end; sieve = search sieving.steps-keep; small = search }
+pub returns-in-Ok-clause-sieve : goal.returns-in-Ok-clause-sieve
+returns-in-Ok-clause-sieve c = search sieving.steps-keep

@@ -1,5 +1,6 @@
 -- `stop::pass` meets its contract. Each turn of its loop passes one of the items that are held, or the item stops where that one does. Fewer levels are left for what is held.
 use Rattle.stop.proofs.Held as items
+use Rattle.numbers.proofs.PassedOn.{passed-on}
 use Rattle.stop.proofs.+pass.Goals as goal
 
 pub loop-due-init : goal.loop-due-init
@@ -23,17 +24,17 @@ loop-due-smaller-then-k-s t c = search (items.fewer-left, items.by-light)
 pub loop-due-preserved-then-k-s : goal.loop-due-preserved-then-k-s
 loop-due-preserved-then-k-s t c = search (items.item-passes, items.by-light)
 
-pub overflow_add-at-in-Past : goal.overflow_add-at-in-Past
-overflow_add-at-in-Past t c = search (items.next_fits, items.by-pass)
+pub overflow_add-at-in-loop-due : goal.overflow_add-at-in-loop-due
+overflow_add-at-in-loop-due t c = search (items.next_fits, items.by-pass, c.in_ok-next-in-Holds.was)
 
 pub loop-due-smaller : goal.loop-due-smaller
-loop-due-smaller t c = search (items.fewer-left, items.by-pass)
+loop-due-smaller t c = search (items.fewer-left, items.by-pass, c.in_ok-next-in-Holds.was)
 
 pub loop-due-preserved : goal.loop-due-preserved
-loop-due-preserved t c = search (items.item-passes, items.by-pass)
+loop-due-preserved t c = search (items.item-passes, items.by-pass, c.in_ok-next-in-Holds.was)
 
-pub returns-in-Stopped : goal.returns-in-Stopped
-returns-in-Stopped t c = search items.item-stops
+pub returns-in_err-next-in-Holds : goal.returns-in_err-next-in-Holds
+returns-in_err-next-in-Holds t c = let e = passed-on {r = c.from_residual.result} {e = c.in_err-next-in-Holds.field-0.0} c.from_residual.ensures in search (items.item-stops, c.in_err-next-in-Holds.was)
 
 pub returns-in-Ended : goal.returns-in-Ended
 returns-in-Ended t c = search items.ended

@@ -6,8 +6,8 @@ use Rattle.unread.proofs.left_at.Goals as goal
 pub overflow_sub-result : goal.overflow_sub-result
 overflow_sub-result c = search (rules, stopped.inside)
 
-pub returns-in-Past : goal.returns-in-Past
-returns-in-Past c = search stopped.left_over
+pub returns-in-Ok : goal.returns-in-Ok
+returns-in-Ok c = search stopped.left_over
 
-pub returns-in-Stopped : goal.returns-in-Stopped
-returns-in-Stopped c = search stopped.stops
+pub returns-in-Err : goal.returns-in-Err
+returns-in-Err c = search stopped.stops

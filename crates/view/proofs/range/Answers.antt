@@ -11,17 +11,17 @@ offset_bounds-table-at c = search (extents.bytes_fit, extents.offset-inside)
 pub bounds-table-at : goal.bounds-table-at
 bounds-table-at c = search extents.offset-inside
 
-pub overflow_add-at-in-At : goal.overflow_add-at-in-At
-overflow_add-at-in-At c = search (extents.number_fits, extents.length-inside)
+pub overflow_add-at-in-Some : goal.overflow_add-at-in-Some
+overflow_add-at-in-Some c = search (extents.number_fits, extents.length-inside)
 
-pub offset_bounds-table-at-in-At : goal.offset_bounds-table-at-in-At
-offset_bounds-table-at-in-At c = search (extents.bytes_fit, extents.length-inside)
+pub offset_bounds-table-at-in-Some : goal.offset_bounds-table-at-in-Some
+offset_bounds-table-at-in-Some c = search (extents.bytes_fit, extents.length-inside)
 
-pub bounds-table-at-in-At : goal.bounds-table-at-in-At
-bounds-table-at-in-At c = search extents.length-inside
+pub bounds-table-at-in-Some : goal.bounds-table-at-in-Some
+bounds-table-at-in-Some c = search extents.length-inside
 
-pub returns-in-Nowhere : goal.returns-in-Nowhere
-returns-in-Nowhere c = search extents.no-row-told
+pub returns-in-None : goal.returns-in-None
+returns-in-None c = search extents.no-row-told
 
-pub returns-in-At : goal.returns-in-At
-returns-in-At c = search extents.row_told
+pub returns-in-Some : goal.returns-in-Some
+returns-in-Some c = search extents.row_told

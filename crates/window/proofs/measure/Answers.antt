@@ -1,19 +1,9 @@
--- `window::measure` meets its contract: a law for each need.
-use Rattle.walk.proofs.Opens as opens
+-- `window::measure` meets its contract: a law for each answer.
 use Rattle.window.proofs.Sums as summing
 use Rattle.window.proofs.measure.Goals as goal
 
-pub slice_bounds-each-count : goal.slice_bounds-each-count
-slice_bounds-each-count c = search opens.size-inside
+pub returns-in-None-clause-sum : goal.returns-in-None-clause-sum
+returns-in-None-clause-sum c = search summing.no-map
 
-pub slice_bounds-each-start : goal.slice_bounds-each-start
-slice_bounds-each-start c = search opens.size-inside
-
-pub each-requires : goal.each-requires
-each-requires c = search opens.modes
-
-pub returns-in-NotOpen : goal.returns-in-NotOpen
-returns-in-NotOpen c = search summing.no-map
-
-pub returns-in-Opened : goal.returns-in-Opened
-returns-in-Opened c = search summing.map-measured
+pub returns-in-Some-clause-sum : goal.returns-in-Some-clause-sum
+returns-in-Some-clause-sum c = search summing.map-measured

@@ -5,8 +5,8 @@ use Rattle.writer.proofs.write.Goals as goal
 pub fill-requires : goal.fill-requires
 fill-requires c = search checks.measured-yes
 
-pub returns-in-No : goal.returns-in-No
-returns-in-No c = record { answer = search checks.plain-refused; lent = c.in-No.ensures.lent }
+pub returns-in-Err : goal.returns-in-Err
+returns-in-Err c = record { answer = search checks.plain-refused; lent = c.in-Err.ensures.lent }
 
-pub returns-in-Yes : goal.returns-in-Yes
-returns-in-Yes c = record { answer = search checks.plain-filled; lent = c.in-Yes.ensures.lent }
+pub returns-in-Ok : goal.returns-in-Ok
+returns-in-Ok c = record { answer = search checks.plain-filled; lent = c.in-Ok.ensures.lent }

@@ -2,11 +2,11 @@
 use Rattle.component.proofs.Pieces as pieces
 use Rattle.component.proofs.judge.extent.Goals as goal
 
-pub returns-in-NoNumber : goal.returns-in-NoNumber
-returns-in-NoNumber c = search pieces.no-offset
+pub returns-in_default : goal.returns-in_default
+returns-in_default c = search pieces.no-offset
 
-pub returns-in-NoNumber-number_at : goal.returns-in-NoNumber-number_at
-returns-in-NoNumber-number_at c = search pieces.no_length
+pub returns-in_default-number_at : goal.returns-in_default-number_at
+returns-in_default-number_at c = search pieces.no_length
 
-pub returns-in-Number-number_at : goal.returns-in-Number-number_at
-returns-in-Number-number_at c = search pieces.both-numbers
+pub returns : goal.returns
+returns c = search pieces.both-numbers

@@ -11,8 +11,8 @@ overflow_add-e c = search (place-fits, letters-in)
 pub slice_bounds-component_key-end : goal.slice_bounds-component_key-end
 slice_bounds-component_key-end c = search (rules, letters-in)
 
-pub returns-in-NoText : goal.returns-in-NoText
-returns-in-NoText c = search (rules, entries.slot-odd)
+pub returns-in_default : goal.returns-in_default
+returns-in_default c = search (rules, entries.slot-odd)
 
-pub returns-in-Text : goal.returns-in-Text
-returns-in-Text c = search (entries.slot-few, entries.slot-known)
+pub returns : goal.returns
+returns c = search (entries.slot-few, entries.slot-known)

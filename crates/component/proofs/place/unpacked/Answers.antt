@@ -12,8 +12,8 @@ returns-then-left-eq0 c = search (places.none-there (λ o. passes (optional a_nu
 pub returns-then-null : goal.returns-then-null
 returns-then-null c = search (places.null-there (λ o. passes (optional a_number o)))
 
-pub returns-in-NoNumber : goal.returns-in-NoNumber
-returns-in-NoNumber c = search (places.item-there (λ o. passes (optional a_number o)), values.number-none)
+pub returns-in-None : goal.returns-in-None
+returns-in-None c = search (places.item-there (λ o. passes (optional a_number o)), values.number-none)
 
-pub returns-in-Number : goal.returns-in-Number
-returns-in-Number c = search (places.item-there (λ o. passes (optional a_number o)), values.number-some)
+pub returns-in-Some : goal.returns-in-Some
+returns-in-Some c = search (places.item-there (λ o. passes (optional a_number o)), values.number-some)

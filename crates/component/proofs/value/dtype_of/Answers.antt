@@ -14,8 +14,8 @@ slice_bounds-dtype_code-end c = search (rules, letters-in)
 pub returns-then-code-lt13 : goal.returns-then-code-lt13
 returns-then-code-lt13 c = search values.dtype-some
 
-pub returns-in-NoText : goal.returns-in-NoText
-returns-in-NoText c = search values.dtype-kind
+pub returns-in_default : goal.returns-in_default
+returns-in_default c = search values.dtype-kind
 
-pub returns-else-code-lt13 : goal.returns-else-code-lt13
-returns-else-code-lt13 c = search values.dtype-other
+pub returns : goal.returns
+returns c = search values.dtype-other

@@ -14,8 +14,8 @@ slice_bounds-is_raw-end c = search (rules, letters-in)
 pub returns-then-is_raw : goal.returns-then-is_raw
 returns-then-is_raw c = search values.raw-some
 
-pub returns-in-NoText : goal.returns-in-NoText
-returns-in-NoText c = search values.raw-kind
+pub returns-in_default : goal.returns-in_default
+returns-in_default c = search values.raw-kind
 
-pub returns-else-is_raw : goal.returns-else-is_raw
-returns-else-is_raw c = search values.raw-other
+pub returns : goal.returns
+returns c = search values.raw-other

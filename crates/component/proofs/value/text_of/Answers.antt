@@ -14,8 +14,8 @@ slice_bounds-utf8-end c = search (rules, letters-in)
 pub returns-then-utf8 : goal.returns-then-utf8
 returns-then-utf8 c = search values.text-some
 
-pub returns-in-NoText : goal.returns-in-NoText
-returns-in-NoText c = search values.text-kind
+pub returns-in_default : goal.returns-in_default
+returns-in_default c = search values.text-kind
 
-pub returns-else-utf8 : goal.returns-else-utf8
-returns-else-utf8 c = search values.text-other
+pub returns : goal.returns
+returns c = search values.text-other

@@ -20,8 +20,8 @@ returns-then-type_fits c = search values.type-some
 pub returns-then-utf8 : goal.returns-then-utf8
 returns-then-utf8 c = search values.type-other
 
-pub returns-in-NoText : goal.returns-in-NoText
-returns-in-NoText c = search values.type-kind
+pub returns-in_default : goal.returns-in_default
+returns-in_default c = search values.type-kind
 
-pub returns-else-utf8 : goal.returns-else-utf8
-returns-else-utf8 c = search values.type-text
+pub returns : goal.returns
+returns c = search values.type-text

@@ -10,8 +10,8 @@ overflow_add-e c = search (place-fits, letters-in)
 pub slice_bounds-unit_of-end : goal.slice_bounds-unit_of-end
 slice_bounds-unit_of-end c = search (rules, letters-in)
 
-pub returns-in-NoText : goal.returns-in-NoText
-returns-in-NoText c = search units.unit-kind
+pub returns-in_default : goal.returns-in_default
+returns-in_default c = search units.unit-kind
 
-pub returns-in-Text : goal.returns-in-Text
-returns-in-Text c = search units.unit-word
+pub returns : goal.returns
+returns c = search units.unit-word

@@ -1,20 +1,21 @@
 -- `merger::weigh::file` meets its contract: a law for each need.
+use Rattle.numbers.proofs.PassedOn.{passed-on}
 use Rattle.meaning.proofs.Lengths.{place-fits}
 use Rattle.reader.proofs.Frames as frames
 use Rattle.merger.proofs.WeighedFile as law
 use Rattle.merger.proofs.weigh.file.Goals as goal
 
+pub returns-in_err-framed : goal.returns-in_err-framed
+returns-in_err-framed c = let e = passed-on {r = c.from_residual.result} {e = record { refusal = c.in_err-framed.field-0.0; object = 0; component = 0 }} c.from_residual.ensures in search (law.no-frame, c.in_err-framed.was)
+
 pub overflow_add-end : goal.overflow_add-end
-overflow_add-end c = search (place-fits, frames.inside)
+overflow_add-end c = search (place-fits, frames.inside, c.in_ok-framed.was)
 
 pub slice_bounds-manifest-end : goal.slice_bounds-manifest-end
-slice_bounds-manifest-end c = search frames.inside
+slice_bounds-manifest-end c = search (frames.inside, c.in_ok-framed.was)
 
-pub manifest-requires : goal.manifest-requires
-manifest-requires c = search law.short
+pub manifest-requires-clause-m_bound : goal.manifest-requires-clause-m_bound
+manifest-requires-clause-m_bound c = search (law.short, c.in_ok-framed.was)
 
-pub returns-in-No : goal.returns-in-No
-returns-in-No c = search law.no-frame
-
-pub returns-in-At : goal.returns-in-At
-returns-in-At c = search law.whole
+pub returns : goal.returns
+returns c = search (law.whole, c.in_ok-framed.was)

@@ -17,8 +17,8 @@ slice_bounds-legible-end c = search (rules, letters-in)
 pub returns-then-legible : goal.returns-then-legible
 returns-then-legible c = search places.format-some
 
-pub returns-in-NoText : goal.returns-in-NoText
-returns-in-NoText c = search places.format-kind
+pub returns-in_default : goal.returns-in_default
+returns-in_default c = search places.format-kind
 
-pub returns-else-legible : goal.returns-else-legible
-returns-else-legible c = search places.format-other
+pub returns : goal.returns
+returns c = search places.format-other

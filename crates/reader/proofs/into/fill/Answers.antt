@@ -17,16 +17,16 @@ overflow_mul-objects c = answers.object-rows-fit _ _ _ (ap not c.if-not-fits.fal
 pub offset_bounds-t-first : goal.offset_bounds-t-first
 offset_bounds-t-first c = search answers.before-rows-fit
 
-pub slice_bounds-lay-count-in-Yes : goal.slice_bounds-lay-count-in-Yes
-slice_bounds-lay-count-in-Yes c = answers.before-rows-inside _ _ _ c.before_rows-first.ensures
+pub slice_bounds-lay-count-in-Ok : goal.slice_bounds-lay-count-in-Ok
+slice_bounds-lay-count-in-Ok c = answers.before-rows-inside _ _ _ c.before_rows-first.ensures
 
-pub slice_bounds-lay-start-in-Yes : goal.slice_bounds-lay-start-in-Yes
-slice_bounds-lay-start-in-Yes c = answers.before-rows-inside _ _ _ c.before_rows-first.ensures
+pub slice_bounds-lay-start-in-Ok : goal.slice_bounds-lay-start-in-Ok
+slice_bounds-lay-start-in-Ok c = answers.before-rows-inside _ _ _ c.before_rows-first.ensures
 
-pub returns-in-No : goal.returns-in-No
-returns-in-No c = search answers.filled-not
+pub returns-in-Err : goal.returns-in-Err
+returns-in-Err c = search answers.filled-not
 
 pub returns-else-not-fits : goal.returns-else-not-fits
 returns-else-not-fits c = let a = c.args in answers.filled-so a.layout a.last a.start a.m.now a.t.now
-    _ c.manifest.ensures _ _ _ _ c.in-Yes.is _ c.fits.ensures c.requires (ap not c.if-not-fits.false)
+    _ c.manifest.ensures _ c.in-Ok.is _ c.fits.ensures c.requires (ap not c.if-not-fits.false)
     _ c.before_rows-first.ensures _ c.place_of-place.ensures _ c.lay.ensures _ c.attributes-a.ensures

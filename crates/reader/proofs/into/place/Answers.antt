@@ -13,8 +13,8 @@ slice_bounds-fill-end c = search frames.inside
 pub fill-requires : goal.fill-requires
 fill-requires c = search answers.manifest-short
 
-pub returns-in-No : goal.returns-in-No
-returns-in-No c = let a = c.args in answers.no-frame-read a.layout a.last a.file.now a.t.now _ c.frame.ensures _ c.in-No.is _ c.refused.ensures
+pub returns-in-Err : goal.returns-in-Err
+returns-in-Err c = let a = c.args in answers.no-frame-read a.layout a.last a.file.now a.t.now _ c.frame.ensures _ c.in-Err.is _ c.from.ensures _ c.refused.ensures
 
-pub returns-in-At : goal.returns-in-At
-returns-in-At c = let a = c.args in answers.frame-read a.layout a.last a.file.now a.t.now _ c.frame.ensures _ _ c.in-At.is _ _ c.fill.ensures
+pub returns-in-Ok : goal.returns-in-Ok
+returns-in-Ok c = let a = c.args in answers.frame-read a.layout a.last a.file.now a.t.now _ c.frame.ensures _ c.in-Ok.is _ _ c.fill.ensures

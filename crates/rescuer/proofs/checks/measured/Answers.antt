@@ -1,4 +1,4 @@
--- `rescuer::checks::measured` meets its contract: a law for each need.
+-- `rescuer::checks::measured` meets its contract: the sums of what the first pass keeps.
 use Rattle.rescuer.proofs.BeforeRoom as checking
 use Rattle.rescuer.proofs.checks.measured.Goals as goal
 

@@ -14,14 +14,14 @@ slice_bounds-version_shape-end c = search (rules, letters-in)
 pub slice_bounds-major_one-end : goal.slice_bounds-major_one-end
 slice_bounds-major_one-end c = search (rules, letters-in)
 
-pub returns-then-major_one : goal.returns-then-major_one
-returns-then-major_one c = search versions.major-one
+pub returns : goal.returns
+returns c = search versions.major-one
 
-pub returns-then-version_shape : goal.returns-then-version_shape
-returns-then-version_shape c = search versions.other-major
+pub returns-then-not-major_one : goal.returns-then-not-major_one
+returns-then-not-major_one c = search versions.other-major
 
-pub returns-in-NoText : goal.returns-in-NoText
-returns-in-NoText c = search versions.no_text
+pub returns-in_default : goal.returns-in_default
+returns-in_default c = search versions.no_text
 
-pub returns-else-version_shape : goal.returns-else-version_shape
-returns-else-version_shape c = search versions.no-version
+pub returns-then-not-version_shape : goal.returns-then-not-version_shape
+returns-then-not-version_shape c = search versions.no-version

@@ -11,8 +11,8 @@ overflow_add-e c = search (place-fits, letters-in)
 pub slice_bounds-role_code-end : goal.slice_bounds-role_code-end
 slice_bounds-role_code-end c = search (rules, letters-in)
 
-pub returns-in-NoText : goal.returns-in-NoText
-returns-in-NoText c = search rows.role-odd
+pub returns-in_default : goal.returns-in_default
+returns-in_default c = search rows.role-odd
 
-pub returns-in-Text : goal.returns-in-Text
-returns-in-Text c = search rows.role-named
+pub returns : goal.returns
+returns c = search rows.role-named

@@ -1,0 +1,2 @@
+-- A law of refusals, for those who ask which one it is.
+pub mod Told
