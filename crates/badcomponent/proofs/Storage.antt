@@ -21,7 +21,7 @@ use Rattle.explained.specs.Step.{Step, first, given}
 use Rattle.explained.specs.Order.{dtype_steps, missing}
 use Rattle.explained.proofs.Parts.{agree-dtype, agree-type}
 use Rattle.spot.specs.Shown.{spot, shown}
-use Rattle.spot.specs.declared.Spot.{Spot}
+use Rattle.spot.specs.Shown.{Spot}
 use Rattle.badfields.proofs.Values.{one-dtype, one_type, held-left, present-left, value-stops, value_passes, option-stops, option-passes}
 use Rattle.badfields.proofs.Maps.{missing-here, missing-not}
 use Rattle.badcomponent.specs.Steps.{either_of, value_steps, ExtentIs, ValuesAre}

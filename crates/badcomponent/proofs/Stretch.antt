@@ -23,7 +23,7 @@ use Rattle.explained.specs.Step.{Step, first, given, ◌at◌unless◌}
 use Rattle.explained.specs.Order.{number_steps}
 use Rattle.explained.proofs.Parts.{agree-number, agree-raw, agree-text}
 use Rattle.spot.specs.Shown.{spot, shown}
-use Rattle.spot.specs.declared.Spot.{Spot}
+use Rattle.spot.specs.Shown.{Spot}
 use Rattle.badfields.proofs.Values.{one_number, one-raw, one-text, held-left, present-left, value-stops, value_passes, option-stops, option-passes}
 use Rattle.badcomponent.specs.Steps.{blob_steps, extra_steps, extent_steps, BlobIs, ExtrasAre, ExtentIs}
 use Rattle.std.specs.Prelude.{Some, None, Ok, Err, Result, Option}

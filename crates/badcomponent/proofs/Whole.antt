@@ -30,7 +30,7 @@ use Rattle.explained.specs.Order.{missing, missing_in, component_steps, length_n
 use Rattle.keys.specs.Odd.{slots_at}
 use Rattle.keys.proofs.Parts.{of-component}
 use Rattle.spot.specs.Shown.{spot, shown}
-use Rattle.spot.specs.declared.Spot.{Spot}
+use Rattle.spot.specs.Shown.{Spot}
 use Rattle.badfields.specs.Fields.{entry_steps, FirstIs}
 use Rattle.badfields.proofs.Firsts.{shown-here, shown-past}
 use Rattle.badfields.proofs.Entries.{entries-numbered}
@@ -202,8 +202,8 @@ module _ (layout : ℕ) (c : List ℕ) (x : Optional Opening) (h : MapIs (Here c
     met = opened.met (slots_at layout 2) (layout_of layout).component (slots-of layout) 7 (layout_of layout).component_places 27 c x h op e p k f
 
     module _ (above : Option ℕ) (start : ℕ) where
-      pub stops : (k.number ≡ 0 → ⊥) → ComponentIs (layout_of layout) above c start k
-      stops z t q y n = entries-stop layout above start (drop op.size c) p t n (length c) (whole_is 27 c t q y) k (met t q y) z
+      pub stops : (k.number ≡ 0 → ⊥) → {r : Spot} → r ≡ k → ComponentIs (layout_of layout) above c start r
+      stops z same t q y n = same ∙ entries-stop layout above start (drop op.size c) p t n (length c) (whole_is 27 c t q y) k (met t q y) z
 
       module _ (z : k.number ≡ 0) (b : Bool) (so : b ≡ lacks layout p) where
         pub lacks-one : b ≡ true → (r : Spot) → r ≡ spot 12 (length c) → ComponentIs (layout_of layout) above c start r

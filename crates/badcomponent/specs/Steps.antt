@@ -14,7 +14,7 @@ use Rattle.component.specs.Verdict.{lacks_dtype, Fields, Found}
 use Rattle.explained.specs.Step.{Step, first, ◌at◌unless◌, ◌>>=◌, ◌>>◌, given}
 use Rattle.explained.specs.Order.{number_steps, text_steps, dtype_steps, type_steps, raw_steps, missing, component_steps, length_note}
 use Rattle.spot.specs.Shown.{shown}
-use Rattle.spot.specs.declared.Spot.{Spot}
+use Rattle.spot.specs.Shown.{Spot}
 
 -- a needed field is missing: its slot is empty
 unfoldable pub lacks : ℕ → List ℕ → Bool

@@ -5,37 +5,38 @@
 ghost use Rattle.std.specs.Prelude.{◌≡◌, length};
 ghost use Rattle.meaning.specs.Layouts.{layout_of};
 ghost use Rattle.component.specs.Value.{given};
+ghost use Rattle.spot.specs.Shown.{told};
 ghost use Rattle.badcomponent.specs.Steps as is;
 
 use component::place::{digested, dtype_at, encoded, number_at, typed, unpacked};
 use numbers::Refusal;
-use spot::{Spot, at, none};
+use spot::{Spot, at};
 use walk::Opening;
 
 // A component's map, for `keys::entries`.
 const COMPONENT: u64 = 2;
 
 // Where the bytes lie, by the offset o, which has `left` bytes left, and the length l.
-fn blob(start: u64, o: u64, l: u64, left: usize) -> Spot
-    ensures { is.BlobIs start o l left result }
+fn blob(start: u64, o: u64, l: u64, left: usize) -> Result<(), Spot>
+    ensures { is.BlobIs start o l left (told result) }
 {
     match lengths::place(start, o, l) {
-        Ok(()) => none(),
-        Err(refusal) => at(refusal, left),
+        Ok(()) => Ok(()),
+        Err(refusal) => Err(at(refusal, left)),
     }
 }
 
 // Uncompressed length, encoding, digest; then where the bytes lie.
-fn extras(s: &[u8], start: u64, p: &[usize], o: u64, l: u64) -> Spot
+fn extras(s: &[u8], start: u64, p: &[usize], o: u64, l: u64) -> Result<(), Spot>
     requires { length p.now ≡ 10 }
-    ensures { is.ExtrasAre s.now start p.now o l result }
+    ensures { is.ExtrasAre s.now start p.now o l (told result) }
 {
     match unpacked(s, p[4]) {
-        Err(refusal) => at(refusal, p[4]),
+        Err(refusal) => Err(at(refusal, p[4])),
         Ok(()) => match encoded(s, p[5]) {
-            Err(refusal) => at(refusal, p[5]),
+            Err(refusal) => Err(at(refusal, p[5])),
             Ok(()) => match digested(s, p[6]) {
-                Err(refusal) => at(refusal, p[6]),
+                Err(refusal) => Err(at(refusal, p[6])),
                 Ok(_) => blob(start, o, l, p[2]),
             },
         },
@@ -43,14 +44,14 @@ fn extras(s: &[u8], start: u64, p: &[usize], o: u64, l: u64) -> Spot
 }
 
 // Offset and length; then the others.
-fn extent(s: &[u8], start: u64, p: &[usize]) -> Spot
+fn extent(s: &[u8], start: u64, p: &[usize]) -> Result<(), Spot>
     requires { length p.now ≡ 10 }
-    ensures { is.ExtentIs s.now start p.now result }
+    ensures { is.ExtentIs s.now start p.now (told result) }
 {
     match number_at(s, p[2]) {
-        None => at(Refusal::Kind, p[2]),
+        None => Err(at(Refusal::Kind, p[2])),
         Some(o) => match number_at(s, p[3]) {
-            None => at(Refusal::Kind, p[3]),
+            None => Err(at(Refusal::Kind, p[3])),
             Some(l) => extras(s, start, p, o, l),
         },
     }
@@ -67,14 +68,21 @@ fn either(left: usize, whole: usize) -> usize
 }
 
 // The values of a component that has `whole` bytes left, none that is needed missing.
-fn values(layout: u64, above: u64, s: &[u8], start: u64, p: &[usize], whole: usize) -> Spot
+fn values(
+    layout: u64,
+    above: u64,
+    s: &[u8],
+    start: u64,
+    p: &[usize],
+    whole: usize,
+) -> Result<(), Spot>
     requires { length p.now ≡ 10 }
-    ensures { is.ValuesAre (layout_of layout) (given above) s.now start p.now whole result }
+    ensures { is.ValuesAre (layout_of layout) (given above) s.now start p.now whole (told result) }
 {
     match dtype_at(layout, s, p[0], above) {
-        Err(refusal) => at(refusal, either(p[0], whole)),
+        Err(refusal) => Err(at(refusal, either(p[0], whole))),
         Ok(code) => match typed(s, p[1], code) {
-            Err(refusal) => at(refusal, p[1]),
+            Err(refusal) => Err(at(refusal, p[1])),
             Ok(_) => extent(s, start, p),
         },
     }
@@ -98,14 +106,14 @@ fn lacks(layout: u64, p: &[usize]) -> bool
 }
 
 // The component that begins c, of a file whose manifest begins at `start`. `above` is the code that its object gives it, 13 or more for none.
-pub fn component(layout: u64, above: u64, c: &[u8], start: u64) -> Spot
-    ensures { is.ComponentIs (layout_of layout) (given above) c.now start result }
+pub fn component(layout: u64, above: u64, c: &[u8], start: u64) -> Result<(), Spot>
+    ensures { is.ComponentIs (layout_of layout) (given above) c.now start (told result) }
 {
     let mut p = [0usize; 10];
     match walk::map(&c[0..]) {
-        None => at(Refusal::Kind, c.len()),
+        None => Err(at(Refusal::Kind, c.len())),
         Some(Opening { mode, count, size }) => {
-            let k = badfields::first(
+            badfields::first(
                 layout,
                 COMPONENT,
                 numbers::IN_COMPONENT,
@@ -113,12 +121,9 @@ pub fn component(layout: u64, above: u64, c: &[u8], start: u64) -> Spot
                 mode,
                 count,
                 &mut p,
-            );
-            if k.number != 0 {
-                return k;
-            }
+            )?;
             if lacks(layout, &p) {
-                return at(Refusal::Missing, c.len());
+                return Err(at(Refusal::Missing, c.len()));
             }
             values(layout, above, &c[size..], start, &p, c.len())
         }
@@ -133,7 +138,7 @@ pub fn length_at(layout: u64, c: &[u8]) -> usize
     match walk::map(&c[0..]) {
         None => c.len(),
         Some(Opening { mode, count, size }) => {
-            badfields::first(
+            let _ = badfields::first(
                 layout,
                 COMPONENT,
                 numbers::IN_COMPONENT,

@@ -18,7 +18,7 @@ use Rattle.keys.specs.declared.Odd.{Odd}
 use Rattle.keys.proofs.Leftmost.{KeysSome}
 use Rattle.keys.proofs.Parts.{chain-some}
 use Rattle.spot.specs.Shown.{spot, shown}
-use Rattle.spot.specs.declared.Spot.{Spot}
+use Rattle.spot.specs.Shown.{Spot}
 use Rattle.badfields.specs.Fields.{entry_steps, FirstIs}
 use Rattle.badfields.proofs.Firsts.{Each, no_more, and_so, each_first, each-++, Numbered, none_first, shown-here}
 

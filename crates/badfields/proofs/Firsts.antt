@@ -10,7 +10,7 @@ use Rattle.explained.specs.Step as steps
 use Rattle.explained.specs.Step.{Step, first, every, each_of}
 use Rattle.explained.proofs.Why.{or_else, first-++}
 use Rattle.spot.specs.Shown.{shown}
-use Rattle.spot.specs.declared.Spot.{Spot}
+use Rattle.spot.specs.Shown.{Spot}
 
 -- something holds of every check of a list
 pub data Each {P : Type 0} (Q : Step P → Type 0) : List (Step P) → Type 0 where

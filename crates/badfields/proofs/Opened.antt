@@ -16,7 +16,7 @@ use Rattle.walk.proofs.Opens as opens
 use Rattle.fields.specs.Slots.{marks}
 use Rattle.explained.specs.Step.{first}
 use Rattle.spot.specs.Shown.{shown}
-use Rattle.spot.specs.declared.Spot.{Spot}
+use Rattle.spot.specs.Shown.{Spot}
 use Rattle.badfields.specs.Fields.{entry_steps, FirstIs}
 use Rattle.std.specs.Prelude.{Some, Option}
 

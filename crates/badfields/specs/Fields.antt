@@ -8,7 +8,7 @@ use Rattle.fields.specs.Slots.{marks}
 use Rattle.explained.specs.Step.{Step, first}
 use Rattle.explained.specs.Order.{key_steps, repeat_steps}
 use Rattle.spot.specs.Shown.{spot, shown}
-use Rattle.spot.specs.declared.Spot.{Spot}
+use Rattle.spot.specs.Shown.{Spot}
 
 -- keys, then repeats
 abbrev pub entry_steps : {P : Type 0} → Slots → List (Pair P) → List (Step P)

@@ -12,7 +12,7 @@ use Rattle.naming.proofs.NameNoted.{all_snoc}
 use Rattle.explained.specs.Step.{Step, first, every}
 use Rattle.explained.proofs.Why.{or_else}
 use Rattle.spot.specs.Shown.{spot, shown}
-use Rattle.spot.specs.declared.Spot.{Spot}
+use Rattle.spot.specs.Shown.{Spot}
 
 -- a check that breaks hides what follows
 pub shown-here : (f g : Option (Step Ends)) {n l : ℕ} → 0 < n → shown f ≡ spot n l → shown (or_else f g) ≡ spot n l

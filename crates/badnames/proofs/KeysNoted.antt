@@ -40,7 +40,7 @@ use Rattle.explained.proofs.Why.{refused}
 use Rattle.entry.specs.Nth.{nth, left_both, in_table, EntryIs}
 use Rattle.entry.specs.declared.Places.{Places}
 use Rattle.spot.specs.Shown.{spot, shown}
-use Rattle.spot.specs.declared.Spot.{Spot}
+use Rattle.spot.specs.Shown.{Spot}
 use Rattle.badnames.specs.declared.Keys.{Keys}
 use Rattle.badnames.specs.Keys.{ByNumber, Tells, utf8_steps, legible, NotedIf, Kept, Walked, Repeated, Judged, NamesAt}
 use Rattle.badnames.proofs.Firsts.{shown-here, broken-first, step_of, found_first}

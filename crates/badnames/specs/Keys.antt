@@ -12,7 +12,7 @@ use Rattle.explained.specs.Step.{Step, first, every}
 use Rattle.explained.specs.Order.{key_steps, same_name_steps, name_steps}
 use Rattle.names.specs.Names.{name, listed}
 use Rattle.spot.specs.Shown.{spot, shown}
-use Rattle.spot.specs.declared.Spot.{Spot}
+use Rattle.spot.specs.Shown.{Spot}
 use Rattle.badnames.specs.declared.Keys.{Keys}
 
 -- the check that breaks, if one does, has the number n

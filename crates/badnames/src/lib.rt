@@ -3,12 +3,13 @@
 #![tactic(auto)]
 
 ghost use Rattle.std.specs.Prelude.{◌≡◌, cond, false, ◌≤◌, ◌<◌, length};
+ghost use Rattle.spot.specs.Shown.{told};
 ghost use Rattle.badnames.specs.Keys as is;
 ghost use Rattle.walk.specs.Places.{Modes};
 
 use naming::Tally;
 use numbers::Refusal;
-use spot::{Spot, at, none};
+use spot::{Spot, at};
 use walk::{Entry, Letters, Opening};
 
 const TEXT: u64 = Refusal::Text as u64;
@@ -131,16 +132,16 @@ fn repeated(
     left: &[usize],
     size: &[usize],
     ix: &mut [u16],
-) -> Spot
+) -> Result<(), Spot>
     requires { (from ≤ length s.now) × (n ≤ length ix.old) × (n ≤ 65536) }
-    ensures { is.Repeated s.now from levels n left.now size.now result }
+    ensures { is.Repeated s.now from levels n left.now size.now (told result) }
 {
     let k = names::leading(&s[from..], left, size, n, ix);
     if k == n {
-        return none();
+        return Ok(());
     }
     let e = entry::entry(s, levels, k);
-    at(Refusal::Twice, e.key)
+    Err(at(Refusal::Twice, e.key))
 }
 
 // Keys, UTF-8, count, repeats, of the map that begins s and has its entries `from` bytes on.
@@ -153,22 +154,22 @@ fn judged(
     left: &[usize],
     size: &[usize],
     ix: &mut [u16],
-) -> Spot
+) -> Result<(), Spot>
     requires { (from ≤ length s.now) × (length left.now ≤ length ix.old) × (length left.now ≤ 65536) }
-    ensures { is.Judged s.now from levels n keys left.now size.now result }
+    ensures { is.Judged s.now from levels n keys left.now size.now (told result) }
 {
     if keys.tally.odd {
-        return at(Refusal::Key, keys.key);
+        return Err(at(Refusal::Key, keys.key));
     }
     if keys.tally.bad {
-        return at(Refusal::Text, keys.text);
+        return Err(at(Refusal::Text, keys.text));
     }
     let count = keys.tally.count;
     if left.len() < count {
-        return at(Refusal::Count, s.len());
+        return Err(at(Refusal::Count, s.len()));
     }
     if n != TWICE {
-        return none();
+        return Ok(());
     }
     repeated(s, from, levels, count, left, size, ix)
 }
@@ -183,13 +184,13 @@ pub fn named(
     left: &mut [usize],
     size: &mut [usize],
     ix: &mut [u16],
-) -> Spot
+) -> Result<(), Spot>
     requires { (length size.old ≡ length left.old) × (length left.old ≤ length ix.old) × (length left.old ≤ 65536) }
-    ensures { is.NamesAt levels s.now (length left.old) n result }
+    ensures { is.NamesAt levels s.now (length left.old) n (told result) }
 {
     let tested = n == TEXT;
     match walk::map(&s[0..]) {
-        None => at(Refusal::Kind, s.len()),
+        None => Err(at(Refusal::Kind, s.len())),
         Some(
             Opening {
                 mode,

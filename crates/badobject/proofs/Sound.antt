@@ -17,11 +17,12 @@ use Rattle.walk.specs.Reading.{Ends}
 use Rattle.component.specs.Value as value
 use Rattle.object.specs.Verdict.{Fields, Standing}
 use Rattle.explained.specs.Step.{Step, first}
-use Rattle.spot.specs.declared.Spot.{Spot}
+use Rattle.spot.specs.Shown.{looks}
+use Rattle.spot.specs.declared.Spot as own
 use Rattle.badvalues.specs.Steps as values
 use Rattle.badvalues.specs.Steps.{Alone, Known}
 use Rattle.badvalues.specs.declared.Valued.{Valued}
-use Rattle.badparts.specs.declared.Owned.{Owned}
+use Rattle.badparts.specs.Parts.{Owned}
 use Rattle.badparts.specs.Parts.{owned, part_steps, Fits, WithinIs}
 use Rattle.badobject.specs.Owner.{owned_of, rest_steps, ValuesAre}
 use Rattle.badobject.proofs.Missing.{alone-owned}
@@ -57,15 +58,15 @@ fits-so layout s p f code st e = record {
     none_so none h e = let z : none ≡ value.given code = cc in sym z
     none_so (some d) h e = absurd (let z : ◌≡◌ {A = ℕ} 0 1 = cc in omega arith)
 
-module _ (layout : ℕ) (s : List ℕ) (start : ℕ) (p : List ℕ) (n c : ℕ) (v : Result Valued Spot) (h : values.ValuesAre layout s p v) (r : Owned) where
+module _ (layout : ℕ) (s : List ℕ) (start : ℕ) (p : List ℕ) (n c : ℕ) (v : Result Valued own.Spot) (h : values.ValuesAre layout s p v) (r : Owned) where
   abbrev next : Fields → Option ℕ → List ℕ → Word Ends → List (Step Ends)
   next f d l m = part_steps (layout_of layout) start f.shape f.components d l m
 
-  pub odd : (z : Spot) → v ≡ Err z → r ≡ owned z 0 → ValuesAre layout s start p n c r
+  pub odd : (z : own.Spot) → v ≡ Err z → r ≡ owned (looks z) 0 → ValuesAre layout s start p n c r
   unfolding owned_of
   odd z e j f st x b nn cc' =
-      let a : Alone z.number z.left (first (rest_steps layout start f)) = subst (λ u. values.Answered (layout_of layout) f (next f) u) e (h f st (next f)) in
-      j ∙ alone-owned z.number z.left (first (rest_steps layout start f)) a ∙ ap owned_of b
+      let a : Alone (looks z).number (looks z).left (first (rest_steps layout start f)) = subst (λ u. values.Answered (layout_of layout) f (next f) u) e (h f st (next f)) in
+      j ∙ alone-owned (looks z).number (looks z).left (first (rest_steps layout start f)) a ∙ ap owned_of b
 
   pub sound : (code format : ℕ) → v ≡ Ok (record { code = code; format = format }) → WithinIs layout format code s start (get_or p 1 0) (get_or p 4 0) n c r → ValuesAre layout s start p n c r
   sound code format e w f st x b i j =

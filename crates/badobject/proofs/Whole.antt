@@ -34,7 +34,7 @@ use Rattle.explained.proofs.Why.{Refused, refused}
 use Rattle.keys.specs.Odd.{slots_at}
 use Rattle.keys.proofs.Parts.{of-object}
 use Rattle.spot.specs.Shown.{spot}
-use Rattle.spot.specs.declared.Spot.{Spot}
+use Rattle.spot.specs.Shown.{Spot}
 use Rattle.badfields.specs.Fields.{entry_steps, FirstIs}
 use Rattle.badfields.proofs.Firsts.{shown-past}
 use Rattle.badfields.proofs.Entries.{entries-numbered}
@@ -43,7 +43,7 @@ use Rattle.badfields.proofs.Opened.{Met, whole_is}
 use Rattle.badfields.proofs.Maps.{table_is, map-entries, missing-not, missing-in-not}
 use Rattle.badvalues.specs.Steps.{Alone, described_steps, value_steps}
 use Rattle.badvalues.proofs.Alone.{spot-alone}
-use Rattle.badparts.specs.declared.Owned.{Owned}
+use Rattle.badparts.specs.Parts.{Owned}
 use Rattle.badparts.specs.Parts.{owned, owned_by, rule_steps, part_steps}
 use Rattle.badobject.specs.Owner.{lacks, owned_of, rest_steps, ValuesAre, ObjectIs}
 use Rattle.badobject.proofs.Missing as gone
@@ -211,9 +211,9 @@ module _ (layout : ℕ) (s : List ℕ) (start n c : ℕ) (v : Optional Opening) 
     met : (t : Node Ends) (q : List ℕ) → Reads 30 s t q → Met (layout_of layout).object 5 29 (drop op.size s) p k t
     met = opened.met (slots_at layout 1) (layout_of layout).object (slots-of layout) 5 (layout_of layout).object_places 29 s v h op e p k f
 
-    pub stops : (k.number ≡ 0 → ⊥) → (r : Owned) → r ≡ owned k 0 → ObjectIs layout s start n c r
-    stops z r j t q y w o x =
-        alone k.number k.left _ (entries-stop layout start (drop op.size s) p t w k (met t q y) z) k refl r j
+    pub stops : (k.number ≡ 0 → ⊥) → (u : Spot) → u ≡ k → (r : Owned) → r ≡ owned u 0 → ObjectIs layout s start n c r
+    stops z u same r j t q y w o x =
+        alone k.number k.left _ (entries-stop layout start (drop op.size s) p t w k (met t q y) z) u same r j
 
     module _ (z : k.number ≡ 0) (b : Bool) (so : b ≡ lacks layout p) where
       pub lacks-one : b ≡ true → (u : Spot) → u ≡ spot 12 (length s) → (r : Owned) → r ≡ owned u 0 → ObjectIs layout s start n c r

@@ -12,7 +12,7 @@ use Rattle.explained.specs.Step.{Step, first}
 use Rattle.explained.specs.Order.{object_steps}
 use Rattle.spot.specs.Shown.{spot}
 use Rattle.badvalues.specs.Steps.{value_steps}
-use Rattle.badparts.specs.declared.Owned.{Owned}
+use Rattle.badparts.specs.Parts.{Owned}
 use Rattle.badparts.specs.Parts.{owned, owned_by, part_steps}
 
 -- a needed field is missing: its slot is empty

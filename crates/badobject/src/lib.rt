@@ -3,6 +3,7 @@
 #![tactic(auto)]
 
 ghost use Rattle.std.specs.Prelude.{◌≡◌, length};
+ghost use Rattle.badparts.specs.Parts.{owning};
 ghost use Rattle.badobject.specs.Owner as is;
 
 use badparts::{Owned, told};
@@ -36,10 +37,10 @@ fn lacks(layout: u64, p: &[usize]) -> bool
 // The values, then the components and the rules, none that is needed missing.
 fn values(layout: u64, s: &[u8], start: u64, p: &[usize], n: u64, c: usize) -> Owned
     requires { length p.now ≡ 8 }
-    ensures { is.ValuesAre layout s.now start p.now n c result }
+    ensures { is.ValuesAre layout s.now start p.now n c (owning result) }
 {
     match badvalues::values(layout, s, p) {
-        Err(odd) => told(odd, 0),
+        Err(odd) => told(Err(odd), 0),
         Ok(Valued { code, format }) => badparts::within(
             layout, format, code, s, start, p[1], p[4], n, c,
         ),
@@ -49,13 +50,13 @@ fn values(layout: u64, s: &[u8], start: u64, p: &[usize], n: u64, c: usize) -> O
 // The object that begins s, of a file whose manifest begins at `start`, refused with number n for component c.
 // By its number: a caller may give any, and document 02's notes name this function.
 pub fn object(layout: u64, s: &[u8], start: u64, n: u64, c: usize) -> Owned
-    ensures { is.ObjectIs layout s.now start n c result }
+    ensures { is.ObjectIs layout s.now start n c (owning result) }
 {
     let mut p = [0usize; 8];
     match walk::map(&s[0..]) {
-        None => told(spot::at(Refusal::Kind, s.len()), 0),
+        None => told(Err(spot::at(Refusal::Kind, s.len())), 0),
         Some(Opening { mode, count, size }) => {
-            let k = badfields::first(
+            let known = badfields::first(
                 layout,
                 OBJECT,
                 numbers::IN_OBJECT,
@@ -64,13 +65,15 @@ pub fn object(layout: u64, s: &[u8], start: u64, n: u64, c: usize) -> Owned
                 count,
                 &mut p,
             );
-            if k.number != 0 {
-                return told(k, 0);
+            match known {
+                Err(spot) => told(Err(spot), 0),
+                Ok(()) => {
+                    if lacks(layout, &p) {
+                        return told(Err(spot::at(Refusal::Missing, s.len())), 0);
+                    }
+                    values(layout, &s[size..], start, &p, n, c)
+                }
             }
-            if lacks(layout, &p) {
-                return told(spot::at(Refusal::Missing, s.len()), 0);
-            }
-            values(layout, &s[size..], start, &p, n, c)
         }
     }
 }

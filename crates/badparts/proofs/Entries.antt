@@ -21,10 +21,10 @@ use Rattle.explained.specs.Breaks.{At}
 use Rattle.indexed.specs.Entry.{EntryAt}
 use Rattle.indexed.proofs.Named.{named-entry}
 use Rattle.spot.specs.Shown.{spot}
-use Rattle.spot.specs.declared.Spot.{Spot}
+use Rattle.spot.specs.Shown.{Spot}
 use Rattle.badnames.proofs.NameChecks.{word-noted}
 use Rattle.badcomponent.specs.Steps as component
-use Rattle.badparts.specs.declared.Owned.{Owned}
+use Rattle.badparts.specs.Parts.{Owned}
 use Rattle.badparts.specs.Parts.{owned, key_of, InsideIs, ValueIs, LengthIs}
 
 passed-word-noted : (t : Node Ends) (w : Word Ends) → a_word t ≡ pass w → w.note ≡ note_of t

@@ -34,14 +34,14 @@ use Rattle.explained.specs.Breaks.{At}
 use Rattle.explained.proofs.Parts.{agree-names}
 use Rattle.explained.proofs.Why.{or_else, first-++}
 use Rattle.spot.specs.Shown.{spot, shown}
-use Rattle.spot.specs.declared.Spot.{Spot}
+use Rattle.spot.specs.Shown.{Spot}
 use Rattle.badnames.specs.Keys.{Tells, NamesAt}
 use Rattle.badfields.proofs.Firsts.{each_first, shown-none}
 use Rattle.badvalues.proofs.Alone.{numbered, spot-alone, passes-so}
 use Rattle.badrules.specs.Blame.{blames}
 use Rattle.badrules.proofs.Rules as rules
 use Rattle.badrules.proofs.Blamed as ruled
-use Rattle.badparts.specs.declared.Owned.{Owned}
+use Rattle.badparts.specs.Parts.{Owned}
 use Rattle.badparts.specs.Parts.{owned, owned_by, rule_steps, part_steps, InsideIs, ValueIs, LengthIs, Passing, BlameIs, Rule, RoleIs, RuledIs, WithinIs}
 use Rattle.badparts.proofs.Early.{each-low, names-plain}
 use Rattle.badparts.proofs.Alike.{given-alike}
@@ -233,13 +233,13 @@ module _ (layout format code : ℕ) (s : List ℕ) (start a b n c : ℕ) (from :
     names-are : x.number ≡ n → Stands 29 s b t → z ≡ shown (first (name_steps component_limit t))
     names-are i st = names-shown t st (λ y q. ap (λ u. u.number) (names-this y q) ∙ i)
 
-  pub odd-names : (z.number ≡ 0 → ⊥) → (r : Owned) → r ≡ owned z 0 → WithinIs layout format code s start a b n c r
+  pub odd-names : (z.number ≡ 0 → ⊥) → (u : Spot) → u ≡ z → (r : Owned) → r ≡ owned u 0 → WithinIs layout format code s start a b n c r
   unfolding or_else
-  odd-names m r k shape t f dims left st fm fits x e i j =
+  odd-names m u same r k shape t f dims left st fm fits x e i j =
       let y = spot-alone (name_steps component_limit t) (names-plain component_limit t) z (names-are shape t f dims x e i st) m [] in
       let q : first (name_steps component_limit t) ≡ some y.this = sym (append-none (name_steps component_limit t)) ∙ y.is in
       let v : y.this ≡ x = names-this shape t f dims x e y.this q in
-      k ∙ ap (λ (u : Spot). owned u 0) (spot_is z y.this y.number y.place) ∙ owns y.this.number y.this refl y.this.place refl none y.owner ∙ ap owned_by v
+      k ∙ ap (λ (u : Spot). owned u 0) (same ∙ spot_is z y.this y.number y.place) ∙ owns y.this.number y.this refl y.this.place refl none y.owner ∙ ap owned_by v
     where
       append-none : (l : List (Step Ends)) → first (l ++ []) ≡ first l
       append-none l = first-++ l [] ∙ go (first l)

@@ -16,12 +16,22 @@ use Rattle.explained.specs.Step.{Step, first, ◌>>=◌, ◌>>◌, given}
 use Rattle.explained.specs.Order.{all_of, component_steps, components_steps, format_steps, length_note}
 use Rattle.explained.specs.Breaks.{At}
 use Rattle.spot.specs.Shown.{spot, shown}
-use Rattle.spot.specs.declared.Spot.{Spot}
+use Rattle.spot.specs.Shown.{Spot}
 use Rattle.badrules.specs.Blame.{blames}
-use Rattle.badparts.specs.declared.Owned.{Owned}
+use Rattle.spot.specs.Shown.{told}
+use Rattle.badparts.specs.declared.Owned as code
+
+-- a spot, and the bytes left at the name of the component that it belongs to, 0 for none
+pub record Owned : Type 0 where
+  pub spot : Spot
+  pub key : ℕ
 
 abbrev pub owned : Spot → ℕ → Owned
 owned z k = record { spot = z; key = k }
+
+-- what an answer of the code tells
+abbrev pub owning : code.Owned → Owned
+owning r = owned (told r.spot) r.key
 
 -- what is told of a check that breaks: its spot, and the bytes left at the name of its component
 unfoldable pub owned_by : Step Ends → Owned

@@ -4,6 +4,7 @@
 
 ghost use Rattle.std.specs.Prelude.{◌≡◌};
 ghost use Rattle.badnames.specs.Keys.{NamesAt};
+ghost use Rattle.spot.specs.Shown as shown;
 ghost use Rattle.badparts.specs.Parts as is;
 
 use fields::place_of;
@@ -20,19 +21,19 @@ const LENGTH: u64 = Refusal::Length as u64;
 // A spot, and the bytes left at the name of the component that it belongs to, 0 for none.
 #[derive(Clone, Copy)]
 pub struct Owned {
-    pub spot: Spot,
+    pub spot: Result<(), Spot>,
     pub key: usize,
 }
 
-pub fn told(z: Spot, key: usize) -> Owned
-    ensures { result ≡ is.owned z key }
+pub fn told(spot: Result<(), Spot>, key: usize) -> Owned
+    ensures { is.owning result ≡ is.owned (shown.told spot) key }
 {
-    Owned { spot: z, key: key }
+    Owned { spot, key }
 }
 
 // The names of the map that begins s; if a check of theirs breaks, n is its number.
-fn names(s: &[u8], n: u64) -> Spot
-    ensures { NamesAt 28 s.now 16 n result }
+fn names(s: &[u8], n: u64) -> Result<(), Spot>
+    ensures { NamesAt 28 s.now 16 n (shown.told result) }
 {
     let mut left = [0usize; 16];
     let mut size = [0usize; 16];
@@ -42,7 +43,7 @@ fn names(s: &[u8], n: u64) -> Spot
 
 // What breaks in component c of the map that begins s, whose object has the code `code`.
 fn inside(layout: u64, code: u64, s: &[u8], start: u64, c: usize) -> Owned
-    ensures { is.InsideIs layout code s.now start c result }
+    ensures { is.InsideIs layout code s.now start c (is.owning result) }
 {
     let e = entry::entry(s, numbers::IN_COMPONENTS, c);
     let v = place_of(s.len(), e.value);
@@ -51,20 +52,20 @@ fn inside(layout: u64, code: u64, s: &[u8], start: u64, c: usize) -> Owned
 
 // ROLE, at component c of the map that begins s.
 fn at_value(s: &[u8], c: usize) -> Owned
-    ensures { is.ValueIs s.now c result }
+    ensures { is.ValueIs s.now c (is.owning result) }
 {
     let e = entry::entry(s, numbers::IN_COMPONENTS, c);
-    told(spot::at(Refusal::Role, e.value), e.key)
+    told(Err(spot::at(Refusal::Role, e.value)), e.key)
 }
 
 // LENGTH, at that of component c of the map that begins s.
 fn at_length(layout: u64, s: &[u8], c: usize) -> Owned
-    ensures { is.LengthIs layout s.now c result }
+    ensures { is.LengthIs layout s.now c (is.owning result) }
 {
     let e = entry::entry(s, numbers::IN_COMPONENTS, c);
     let v = place_of(s.len(), e.value);
     told(
-        spot::at(Refusal::Length, badcomponent::length_at(layout, &s[v..])),
+        Err(spot::at(Refusal::Length, badcomponent::length_at(layout, &s[v..]))),
         e.key,
     )
 }
@@ -97,12 +98,12 @@ fn to_blame(layout: u64, format: u64, code: u64, s: &[u8], start: u64) -> bool
 
 // ROLE: the component of the index role that is to blame, else the map that begins s.
 fn role(layout: u64, format: u64, code: u64, s: &[u8], start: u64, c: usize) -> Owned
-    ensures { is.RoleIs layout format code s.now start c result }
+    ensures { is.RoleIs layout format code s.now start c (is.owning result) }
 {
     if to_blame(layout, format, code, s, start) {
         return at_value(s, c);
     }
-    told(spot::at(Refusal::Role, s.len()), 0)
+    told(Err(spot::at(Refusal::Role, s.len())), 0)
 }
 
 // Of an object that is refused with number n for component c, its values up to its attributes sound: its shape has `a` bytes of s left, its components b.
@@ -118,21 +119,22 @@ pub fn within(
     n: u64,
     c: usize,
 ) -> Owned
-    ensures { is.WithinIs layout format code s.now start a b n c result }
+    ensures { is.WithinIs layout format code s.now start a b n c (is.owning result) }
 {
     let from = place_of(s.len(), b);
-    let z = names(&s[from..], n);
-    if z.number != 0 {
-        return told(z, 0);
+    match names(&s[from..], n) {
+        Err(spot) => told(Err(spot), 0),
+        Ok(()) => {
+            if n == RANK {
+                return told(Err(spot::at(Refusal::Rank, a)), 0);
+            }
+            if n == ROLE {
+                return role(layout, format, code, &s[from..], start, c);
+            }
+            if n == LENGTH {
+                return at_length(layout, &s[from..], c);
+            }
+            inside(layout, code, &s[from..], start, c)
+        }
     }
-    if n == RANK {
-        return told(spot::at(Refusal::Rank, a), 0);
-    }
-    if n == ROLE {
-        return role(layout, format, code, &s[from..], start, c);
-    }
-    if n == LENGTH {
-        return at_length(layout, &s[from..], c);
-    }
-    inside(layout, code, &s[from..], start, c)
 }

@@ -30,7 +30,7 @@ use Rattle.badfields.proofs.Opened as opened
 use Rattle.badfields.proofs.Opened.{Met, whole_is}
 use Rattle.badfields.proofs.Firsts.{shown-here, shown-past}
 use Rattle.spot.specs.Shown.{spot, shown}
-use Rattle.spot.specs.declared.Spot.{Spot}
+use Rattle.spot.specs.Shown.{Spot}
 use Rattle.badnames.specs.Keys.{Tells}
 use Rattle.badroot.specs.Opening.{value_steps, opening_steps, Stood, ValuesIs, RootIs, ObjectsAt}
 use Rattle.std.specs.Prelude.{Some, None, Option}
@@ -71,10 +71,10 @@ module _ (layout : ℕ) (s : List ℕ) (x : Option Opening) (h : MapIs (Here s 0
         let f = subst (λ ps. Holds 31 (drop op.size s) (get_or p 2 0) (field (objects_field L) ps)) y (stood t q reads 2 (omega arith)) in
         holds-whole 31 s op.size (opens.size-inside s x h op is) left (field (objects_field L) ps) (subst (λ l. Holds 31 (drop op.size s) l (field (objects_field L) ps)) (sym e) f)
 
-    pub keys-break : {n : ℕ} → (k.number ≡ 0 → ⊥) → RootIs L s n k
-    keys-break broken t q reads by =
+    pub keys-break : {n : ℕ} → (k.number ≡ 0 → ⊥) → {r : Spot} → r ≡ k → RootIs L s n r
+    keys-break broken same t q reads by =
         let m = met t q reads in
-        shown-here (entry_steps L.root m.pairs) k m.first-is (value_steps L t m.pairs) broken ∙ ap shown (sym (opening-first L t m.pairs m.kind-is))
+        same ∙ shown-here (entry_steps L.root m.pairs) k m.first-is (value_steps L t m.pairs) broken ∙ ap shown (sym (opening-first L t m.pairs m.kind-is))
 
     pub keys-pass : {n : ℕ} {r : Spot} → k.number ≡ 0 → ValuesIs (Here s op.size) p (length s) n r → RootIs L s n r
     keys-pass {n} {r} fine values t q reads =

@@ -33,7 +33,7 @@ use Rattle.badfields.proofs.Firsts.{Each, no_more, and_so, each-++, each-found, 
 use Rattle.badfields.proofs.Values.{one_table, one-version, held-left, value-shown, option-stops, option-passes}
 use Rattle.badnames.specs.Keys.{Tells, NamesAt}
 use Rattle.spot.specs.Shown.{spot, shown}
-use Rattle.spot.specs.declared.Spot.{Spot}
+use Rattle.spot.specs.Shown.{Spot}
 use Rattle.badroot.specs.Opening.{later_steps, value_steps, VersionIs, Stood, LaterIs, ValuesIs}
 use Rattle.std.specs.Prelude.{Some, None, Option as Optional}
 
@@ -129,9 +129,9 @@ module _ (s p : List ℕ) (whole n : ℕ) where
       unfolding value_steps missing is_some
       values-first t = rw item.is refl
 
-    pub version-breaks : (r.number ≡ 0 → ⊥) → ValuesIs s p whole n r
-    version-breaks broken L t ps w stood by =
-        shown-here (version_steps (item L ps stood).item) r (version-shown L ps stood) (later_steps L t ps) broken ∙ ap shown (sym (values-first L ps stood t))
+    pub version-breaks : (r.number ≡ 0 → ⊥) → {x : Spot} → x ≡ r → ValuesIs s p whole n x
+    version-breaks broken same L t ps w stood by =
+        same ∙ shown-here (version_steps (item L ps stood).item) r (version-shown L ps stood) (later_steps L t ps) broken ∙ ap shown (sym (values-first L ps stood t))
 
     pub version-passes : {x : Spot} → r.number ≡ 0 → LaterIs s p whole n x → ValuesIs s p whole n x
     version-passes {x} fine later L t ps w stood =

@@ -15,7 +15,7 @@ use Rattle.explained.specs.Fields.{root, version_of, attributes_on, objects_fiel
 use Rattle.explained.specs.Step.{Step, ◌>>=◌, ◌>>◌, first, in_object, given, each_of}
 use Rattle.explained.specs.Order.{mapping_steps, version_steps, field_steps, missing, name_steps, object_steps, manifest_steps}
 use Rattle.spot.specs.Shown.{shown}
-use Rattle.spot.specs.declared.Spot.{Spot}
+use Rattle.spot.specs.Shown.{Spot}
 use Rattle.badnames.specs.Keys.{Tells}
 
 module _ {P : Type 0} (L : Layout) where

@@ -31,7 +31,7 @@ use Rattle.explained.specs.Step.{Step, first, given, passes, every}
 use Rattle.explained.specs.Order.{shape_steps}
 use Rattle.explained.proofs.Why.{or_else, first-++}
 use Rattle.spot.specs.Shown.{spot, shown}
-use Rattle.spot.specs.declared.Spot.{Spot}
+use Rattle.spot.specs.Shown.{Spot}
 use Rattle.badshape.specs.Steps.{ShapeIs}
 use Rattle.std.specs.Prelude.{Some, None, Option as Optional}
 

@@ -17,7 +17,7 @@ use Rattle.explained.specs.Order.{shape_steps}
 use Rattle.explained.proofs.Agree.{Agree, verdict}
 use Rattle.explained.proofs.Jump.{OnePlace, broken, one_place, first-here}
 use Rattle.spot.specs.Shown.{shown}
-use Rattle.spot.specs.declared.Spot.{Spot}
+use Rattle.spot.specs.Shown.{Spot}
 use Rattle.badfields.proofs.Firsts.{Each, no_more, and_so, each_first, each-++, each-found, each-every, broken-first}
 use Rattle.badfields.proofs.Values.{LeftOf}
 use Rattle.badvalues.specs.Steps.{Alone}

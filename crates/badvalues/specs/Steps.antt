@@ -14,6 +14,7 @@ use Rattle.object.specs.Place.{format_code}
 use Rattle.object.specs.Verdict.{Fields, Standing}
 use Rattle.explained.specs.Step.{Step, first, ◌>>=◌, ◌>>◌, given}
 use Rattle.explained.specs.Order.{mapping_steps, text_steps, dtype_steps, shape_steps}
+use Rattle.spot.specs.Shown.{looks}
 use Rattle.spot.specs.declared.Spot.{Spot}
 use Rattle.badvalues.specs.declared.Valued.{Valued}
 
@@ -54,7 +55,7 @@ pub record Known (L : Layout) (f : Fields) (code format : ℕ) (next : Option �
 -- ---------------------------------------------------------------- what is answered
 
 abbrev pub Described : ℕ → Node Ends → (Word Ends → List (Step Ends)) → Option (Step Ends) → Result Valued Spot → Type 0
-Described code format next f (Err f1) = Alone f1.number f1.left f
+Described code format next f (Err f1) = Alone (looks f1).number (looks f1).left f
 Described code format next f (Ok v) = (v.code ≡ code) × ((w : Word Ends) × (a_text format ≡ pass w) × (v.format ≡ format_code w) × (f ≡ first (next w)))
 
 abbrev pub DescribedIs : List ℕ → ℕ → ℕ → ℕ → Result Valued Spot → Type 0
@@ -62,7 +63,7 @@ DescribedIs s a b code r =
     (x : Node Ends) (y : Option (Node Ends)) → Stands 29 s a x → Holds 29 s b y → (next : Word Ends → List (Step Ends)) → Described code x next (first (described_steps x y next)) r
 
 abbrev pub Answered : Layout → Fields → (Option ℕ → List ℕ → Word Ends → List (Step Ends)) → Result Valued Spot → Type 0
-Answered L f next (Err f1) = Alone f1.number f1.left (first (value_steps L f next))
+Answered L f next (Err f1) = Alone (looks f1).number (looks f1).left (first (value_steps L f next))
 Answered L f next (Ok v) = Known L f v.code v.format next
 
 abbrev pub ValuesAre : ℕ → List ℕ → List ℕ → Result Valued Spot → Type 0

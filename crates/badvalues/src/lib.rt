@@ -41,10 +41,7 @@ pub fn values(layout: u64, s: &[u8], p: &[usize]) -> Result<Valued, Spot>
         Err(refusal) => Err(spot::at(refusal, p[0])),
         Ok(code) => {
             let from = place_of(s.len(), p[1]);
-            let z = badshape::shape(&s[from..]);
-            if z.number != 0 {
-                return Err(z);
-            }
+            badshape::shape(&s[from..])?;
             described(s, p[2], p[3], code)
         }
     }

@@ -5,7 +5,7 @@ use mathlib.Core.List.{List}
 use mathlib.Core.Bool.{Bool, true, not}
 use mathlib.Core.Logic.{◌⊎◌, inl, inr}
 use mathlib.Core.Option.{some}
-use mathlib.Core.Path.{◌≡◌, sym, ap, ◌∙◌, subst}
+use mathlib.Core.Path.{◌≡◌, sym, ap, subst, ◌∙◌}
 use lib.ListN.{length}
 use lib.Dec.{eqb, ltb}
 use borrow.Author.Tests.{ne_eqb, lt-ltb, ltb-true}
@@ -29,7 +29,7 @@ use Rattle.sentence.specs.declared.Explanation.{Explanation}
 use Rattle.unread.specs.Unread.{Unread}
 use Rattle.badroot.specs.Opening.{ObjectsAt}
 use Rattle.badparts.specs.Parts.{owned_by}
-use Rattle.badparts.specs.declared.Owned.{Owned}
+use Rattle.badparts.specs.Parts.{Owned}
 use Rattle.badobject.specs.Owner.{owned_of, ObjectIs}
 use Rattle.pointed.specs.Pointed.{Pointed}
 use Rattle.explaining.specs.Judged as is
@@ -63,9 +63,9 @@ owned-so layout s start n c r h it q o reads says y e =
 
 module _ (layout : ℕ) (m : List ℕ) (start end n o c : ℕ) (r : Explanation) where
   pub of-object : (objects from : ℕ) → from ≡ length m - objects → (e : Places) → EntryIs 30 (Here m from) o e → (v : ℕ) → v ≡ length m - e.value → (w : Owned) → ObjectIs layout (Here m v) start n c w
-      → Pointed m end n o c e.key w.key w.spot.left r → is.InsideIs (layout_of layout) m start end n o c objects r
-  of-object objects from from_is e found v v-is w owned point =
-      answers.of-object (layout_of layout) m start end n o c r (sided layout) objects from from_is e found v v-is w.spot w.key (owned-so layout (Here m v) start n c w owned) point
+      → {left : ℕ} → left ≡ w.spot.left → Pointed m end n o c e.key w.key left r → is.InsideIs (layout_of layout) m start end n o c objects r
+  of-object objects from from_is e found v v-is w owned same point =
+      answers.of-object (layout_of layout) m start end n o c r (sided layout) objects from from_is e found v v-is w.spot w.key (owned-so layout (Here m v) start n c w owned) (subst (λ (i : ℕ). Pointed m end n o c e.key w.key i r) same point)
 
   pub beyond-the-root : {b : Bool} → b ≡ ltb 0 (o + c) → b ≡ true → (objects : ℕ) → ObjectsAt (layout_of layout) m objects → is.InsideIs (layout_of layout) m start end n o c objects r
       → is.JudgedIs (layout_of layout) m start end n o c r

@@ -41,7 +41,7 @@ fn inside(
         fault.component as u64,
         e.key,
         w.key,
-        w.spot.left,
+        spot::left(w.spot),
     )
 }
 
@@ -62,20 +62,19 @@ fn judged(layout: u64, m: &[u8], start: u64, end: usize, fault: FileFault) -> Ex
     }
     let n = u64::from(fault.refusal);
     let r = badroot::root(layout, m, n);
-    let spot = r.spot;
-    if spot.number == 0 {
-        return inside(layout, m, start, end, fault, r.objects);
+    match r.spot {
+        Ok(()) => inside(layout, m, start, end, fault, r.objects),
+        Err(spot) => pointed(
+            m,
+            end,
+            n,
+            fault.object as u64,
+            fault.component as u64,
+            0,
+            0,
+            spot.left,
+        ),
     }
-    pointed(
-        m,
-        end,
-        n,
-        fault.object as u64,
-        fault.component as u64,
-        0,
-        0,
-        spot.left,
-    )
 }
 
 // A manifest that is refused: as it is read, or for what it says. The refusal tells which: the reading refuses with CBOR or DEEP only, the judgement with neither.

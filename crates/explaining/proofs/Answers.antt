@@ -22,7 +22,7 @@ use Rattle.explained.specs.Fields.{Sided}
 use Rattle.explained.specs.Notes.{map_step}
 use Rattle.explained.specs.Explain as explain
 use Rattle.explained.specs.Explain.{span, alone}
-use Rattle.spot.specs.declared.Spot.{Spot}
+use Rattle.spot.specs.Shown.{Spot}
 use Rattle.entry.specs.declared.Places.{Places}
 use Rattle.entry.specs.Nth.{EntryIs}
 use Rattle.unread.specs.Unread.{Unframed, Unread}
@@ -61,10 +61,10 @@ module _ (L : Layout) (m : List ℕ) (start end n o c : ℕ) (r : Explanation) w
     past-the-root z objects stand inside t q reads refused =
         inside t q reads refused (within.past-opening L m start t q reads n o c refused sp (root t q reads (within.opening-by-number L m start t q reads n o c refused)) z) stand
 
-    pub in-the-root : (sp.number ≡ 0 → ⊥) → Pointed m end n o c 0 0 sp.left r → is.JudgedIs L m start end n o c r
-    in-the-root nz point t q reads refused =
+    pub in-the-root : (sp.number ≡ 0 → ⊥) → {z : Spot} → z ≡ sp → Pointed m end n o c 0 0 z.left r → is.JudgedIs L m start end n o c r
+    in-the-root nz same point t q reads refused =
         let z = within.why L m start t q reads n o c refused in
-        point z.this (within.met-opening L m start t q reads n o c refused sp (root t q reads (within.opening-by-number L m start t q reads n o c refused)) nz) ∙ ap (λ f. explain.explanation (map_option (map_step (span_of end)) f) 0) (sym z.shown)
+        subst (λ (u : Spot). Pointed m end n o c 0 0 u.left r) same point z.this (within.met-opening L m start t q reads n o c refused sp (root t q reads (within.opening-by-number L m start t q reads n o c refused)) nz) ∙ ap (λ f. explain.explanation (map_option (map_step (span_of end)) f) 0) (sym z.shown)
 
   module _ (framing : Framing L) where
     pub by-its-bytes : n ≤ DEEP → Unread m end n r → is.RefusedIs L m start end n o c r

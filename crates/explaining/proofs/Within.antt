@@ -29,7 +29,7 @@ use Rattle.explained.proofs.Agree.{Agree, verdict, agree-each, agree-in_object}
 use Rattle.explained.proofs.Whole.{agree-object}
 use Rattle.explained.proofs.Why.{Refused, manifest-refused}
 use Rattle.explained.proofs.Jump.{ObjectBlamed, object-blamed}
-use Rattle.spot.specs.declared.Spot.{Spot}
+use Rattle.spot.specs.Shown.{Spot}
 use Rattle.spot.specs.Shown.{shown}
 use Rattle.entry.specs.declared.Places.{Places}
 use Rattle.entry.specs.Nth.{EntryIs}

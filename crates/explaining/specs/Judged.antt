@@ -11,7 +11,7 @@ use Rattle.meaning.specs.Frame.{frame}
 use Rattle.meaning.specs.Judge.{object, judge}
 use Rattle.meaning.specs.Model.{Named}
 use Rattle.component.specs.Value.{left_word}
-use Rattle.spot.specs.declared.Spot.{Spot}
+use Rattle.spot.specs.Shown.{Spot}
 use Rattle.walk.specs.Reading.{Ends, Reads}
 use Rattle.reader.specs.Verdict.{manifest_reading}
 use Rattle.table.specs.Spans.{span_of}

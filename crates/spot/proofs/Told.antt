@@ -1,12 +1,15 @@
 -- A refusal is told by its number: two are one where their numbers are.
 use Prim.Native.Nat.{ℕ, ◌+◌}
 use mathlib.Core.Bool.{Bool, true, false, not}
-use mathlib.Core.Path.{◌≡◌, refl, sym, ◌∙◌}
+use mathlib.Core.Path.{◌≡◌, refl, sym, ap, ◌∙◌}
 use native.Mathlib.Omega.{arith}
 use lib.Dec.{eqb}
 use borrow.Author.Tests.{eq-eqb, ne_eqb, eqb-true, eqb-false}
 use denote.Enum.Bare.{sameb, tag_one}
 use denote.Enum.Declared.{tag_of}
+use Rattle.std.specs.Prelude.{Result, Ok, Err}
+use Rattle.spot.specs.Shown.{told, looks}
+use Rattle.spot.specs.declared.Spot as code
 use Rattle.numbers.specs.Numbered.{number_of}
 use Rattle.numbers.specs.contracts.refusal.Refusal.{the_type}
 use Rattle.numbers.specs.declared.refusal.Refusal.{Refusal}
@@ -68,3 +71,18 @@ module _ (r q : Refusal) where
   -- and what the other arms tell
   pub apart : (r ≡ q → ⊥) → number_of r ≡ number_of q → ⊥
   apart f n = f (tag_one the_type tt r q (let a = tagged r in let b = tagged q in omega (arith, a, b, n)))
+
+-- an answer that names a check has a number, and one that names none has none
+module _ {x : Result (Unit {0}) code.Spot} where
+  pub odd : {z : code.Spot} → x ≡ Err z → (told x).number ≡ 0 → ⊥
+  odd {z} e n = let a = tagged z.refusal in let b : number_of z.refusal ≡ 0 = sym (ap (λ (y : Result (Unit {0}) code.Spot). (told y).number) e) ∙ n in omega (arith, a, b)
+
+  pub sound : {u : Unit {0}} → x ≡ Ok u → (told x).number ≡ 0
+  sound e = ap (λ (y : Result (Unit {0}) code.Spot). (told y).number) e
+
+  -- and passed on it tells the same
+  pub the-same : {z : code.Spot} → x ≡ Err z → {q : Result (Unit {0}) code.Spot} → q ≡ Err z → told q ≡ told x
+  the-same e f = ap told (f ∙ sym e)
+
+  pub told-as : {z : code.Spot} → x ≡ Err z → looks z ≡ told x
+  told-as e = sym (ap told e)

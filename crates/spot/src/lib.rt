@@ -7,25 +7,25 @@ ghost use Rattle.spot.specs.Shown as is;
 
 use numbers::Refusal;
 
-// A refusal number, 0 for none, and the bytes left at what it refuses.
+// What it refuses, and the bytes left there.
 #[derive(Clone, Copy)]
 pub struct Spot {
-    pub number: u64,
+    pub refusal: Refusal,
     pub left: usize,
 }
 
 pub fn at(refusal: Refusal, left: usize) -> Spot
-    ensures { result ≡ is.spot (number_of refusal) left }
+    ensures { is.looks result ≡ is.spot (number_of refusal) left }
 {
-    Spot {
-        number: u64::from(refusal),
-        left: left,
-    }
+    Spot { refusal, left }
 }
 
-// No check breaks.
-pub fn none() -> Spot
-    ensures { result ≡ is.spot 0 0 }
+// The bytes left where it looks; 0 for none.
+pub fn left(answer: Result<(), Spot>) -> usize
+    ensures { result ≡ (is.told answer).left }
 {
-    Spot { number: 0, left: 0 }
+    match answer {
+        Ok(()) => 0,
+        Err(spot) => spot.left,
+    }
 }

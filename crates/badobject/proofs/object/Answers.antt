@@ -1,6 +1,7 @@
 -- `badobject::object` meets its contract: a law for each branch.
 use Rattle.walk.proofs.Opens as opens
 use Rattle.badobject.proofs.Whole as whole
+use Rattle.spot.proofs.Told.{odd, sound, told-as}
 use Rattle.badobject.proofs.object.Goals as goal
 
 pub slice_bounds-first-count : goal.slice_bounds-first-count
@@ -9,14 +10,14 @@ slice_bounds-first-count c = search opens.size-inside
 pub slice_bounds-first-start : goal.slice_bounds-first-start
 slice_bounds-first-start c = search opens.size-inside
 
-pub first-k-requires : goal.first-k-requires
-first-k-requires c = search (whole.eight-places, opens.modes)
+pub first-known-requires : goal.first-known-requires
+first-known-requires c = search (whole.eight-places, opens.modes)
 
-pub returns-then-k-ne0 : goal.returns-then-k-ne0
-returns-then-k-ne0 c = search whole.stops
+pub returns-in-Err : goal.returns-in-Err
+returns-in-Err c = let o = odd c.in-Err.is in let s = told-as c.in-Err.is in search (whole.stops, o, s)
 
 pub returns-then-lacks : goal.returns-then-lacks
-returns-then-lacks c = search whole.lacks-one
+returns-then-lacks c = let z = sound c.in-Ok.is in search (whole.lacks-one, z)
 
 pub slice_bounds-values-count : goal.slice_bounds-values-count
 slice_bounds-values-count c = search opens.size-inside
@@ -28,4 +29,4 @@ pub returns-in-None : goal.returns-in-None
 returns-in-None c = search whole.not-map
 
 pub returns-else-lacks : goal.returns-else-lacks
-returns-else-lacks c = search whole.has_all
+returns-else-lacks c = let z = sound c.in-Ok.is in search (whole.has_all, z)

@@ -2,6 +2,7 @@
 use Rattle.badshape.proofs.Elements as elements
 use native.Mathlib.Omega.{arith}
 use Rattle.badshape.proofs.shape.Goals as goal
+use mathlib.Core.Path.{refl}
 
 pub returns-in_default : goal.returns-in_default
 returns-in_default c = elements.no-list c.args.s.now c.list.ensures c.in_default.is c.at.ensures
@@ -25,4 +26,4 @@ pub returns-then-rank-gt8 : goal.returns-then-rank-gt8
 returns-then-rank-gt8 c = elements.many-dimensions c.loop-mode.invariant c.more.ensures c.loop-mode-test.false c.if-rank-gt8.true c.at-then-rank-gt8.ensures
 
 pub returns : goal.returns
-returns c = elements.dimensions-are c.loop-mode.invariant c.more.ensures c.loop-mode-test.false c.if-rank-gt8.false c.none.ensures
+returns c = elements.dimensions-are c.loop-mode.invariant c.more.ensures c.loop-mode-test.false c.if-rank-gt8.false refl
