@@ -13,28 +13,35 @@ use layout::components::blobs_at;
 use layout::framing::root;
 use layout::objects::objects_at;
 
-// Header, the first's blobs and then the second's, of c and d components; where they end. The second's stand where the turn `turn` is reached.
+// How many objects and components the first has, and the second; the second's blobs stand where a turn is reached.
+#[derive(Clone, Copy)]
+pub struct Counts {
+    pub objects: u64,
+    pub components: u64,
+    pub others: u64,
+    pub parts: u64,
+    pub turn: u64,
+}
+
+// Header, the first's blobs and then the second's; where they end.
 fn front(
     out: &mut [u8],
     first: &[u8],
     rows: &[u64],
-    n: u64,
-    c: u64,
     second: &[u8],
     others: &[u64],
-    k: u64,
-    d: u64,
-    turn: u64,
+    counts: Counts,
 ) -> usize
-    requires n_bound { (n ≤ 1024) × (k ≤ 1024) }
-    requires rows { Rows first.now rows.now n c 8 }
-    requires rows_2 { Rows second.now others.now k d turn }
-    requires room { Room (is.front_of first.now rows.now n c second.now others.now k d turn) 0 out.old }
-    ensures { Laid (is.front_of first.now rows.now n c second.now others.now k d turn) 0 out.old out.new result }
+    requires n_bound { (counts.objects ≤ 1024) × (counts.others ≤ 1024) }
+    requires rows { Rows first.now rows.now counts.objects counts.components 8 }
+    requires rows_2 { Rows second.now others.now counts.others counts.parts counts.turn }
+    requires room { Room (is.front_of first.now rows.now counts.objects counts.components second.now others.now counts.others counts.parts counts.turn) 0 out.old }
+    ensures { Laid (is.front_of first.now rows.now counts.objects counts.components second.now others.now counts.others counts.parts counts.turn) 0 out.old out.new result }
 {
-    let from = columns::OBJECT * n as usize;
-    let then = columns::OBJECT * k as usize;
+    let from = columns::OBJECT * counts.objects as usize;
+    let then = columns::OBJECT * counts.others as usize;
     let start = magic_at(out, 0);
+    let (c, d, turn) = (counts.components, counts.parts, counts.turn);
     let mid = blobs_at(out, start, first, &rows[0..0], rows, c, from, 8);
     blobs_at(out, mid, second, &rows[0..0], others, d, then, turn)
 }
@@ -47,26 +54,25 @@ fn manifest(
     size: u64,
     first: &[u8],
     rows: &[u64],
-    n: u64,
     second: &[u8],
     others: &[u64],
-    k: u64,
-    turn: u64,
+    counts: Counts,
 ) -> usize
-    requires room { Room (is.manifest_of attributes.now place size first.now rows.now n second.now others.now k turn) 0 out.old }
-    requires within { Within attributes.now place size × (n ≤ 1024) × (k ≤ 1024) }
-    requires object_rows { ObjectRows first.now [] rows.now n 0 (object_width * n) 8 }
-    requires object_rows_2 { ObjectRows second.now [] others.now k 0 (object_width * k) turn }
-    ensures { Laid (is.manifest_of attributes.now place size first.now rows.now n second.now others.now k turn) 0 out.old out.new result }
+    requires room { Room (is.manifest_of attributes.now place size first.now rows.now counts.objects second.now others.now counts.others counts.turn) 0 out.old }
+    requires within { Within attributes.now place size × (counts.objects ≤ 1024) × (counts.others ≤ 1024) }
+    requires object_rows { ObjectRows first.now [] rows.now counts.objects 0 (object_width * counts.objects) 8 }
+    requires object_rows_2 { ObjectRows second.now [] others.now counts.others 0 (object_width * counts.others) counts.turn }
+    ensures { Laid (is.manifest_of attributes.now place size first.now rows.now counts.objects second.now others.now counts.others counts.turn) 0 out.old out.new result }
 {
-    let from = columns::OBJECT * n as usize;
-    let then = columns::OBJECT * k as usize;
+    let from = columns::OBJECT * counts.objects as usize;
+    let then = columns::OBJECT * counts.others as usize;
+    let (n, k, turn) = (counts.objects, counts.others, counts.turn);
     let a = root(out, attributes, n + k, place, size);
     let b = objects_at(out, a, first, &rows[0..0], rows, n, from, 8);
     objects_at(out, b, second, &rows[0..0], others, k, then, turn)
 }
 
-// The whole file, of n objects with c components in the first's rows and k with d in the second's; its length. What lies beyond stays.
+// The whole file, of so many objects and components in the first's rows and in the second's; its length. What lies beyond stays.
 pub fn both(
     out: &mut [u8],
     attributes: &[u8],
@@ -74,21 +80,17 @@ pub fn both(
     size: u64,
     first: &[u8],
     rows: &[u64],
-    n: u64,
-    c: u64,
     second: &[u8],
     others: &[u64],
-    k: u64,
-    d: u64,
-    turn: u64,
+    counts: Counts,
 ) -> usize
-    requires room { Room (is.whole_of attributes.now place size first.now rows.now n c second.now others.now k d turn) 0 out.old }
-    requires within { Within attributes.now place size × (n ≤ 1024) × (k ≤ 1024) }
-    requires rows { Rows first.now rows.now n c 8 }
-    requires rows_2 { Rows second.now others.now k d turn }
-    ensures { Laid (is.whole_of attributes.now place size first.now rows.now n c second.now others.now k d turn) 0 out.old out.new result }
+    requires room { Room (is.whole_of attributes.now place size first.now rows.now counts.objects counts.components second.now others.now counts.others counts.parts counts.turn) 0 out.old }
+    requires within { Within attributes.now place size × (counts.objects ≤ 1024) × (counts.others ≤ 1024) }
+    requires rows { Rows first.now rows.now counts.objects counts.components 8 }
+    requires rows_2 { Rows second.now others.now counts.others counts.parts counts.turn }
+    ensures { Laid (is.whole_of attributes.now place size first.now rows.now counts.objects counts.components second.now others.now counts.others counts.parts counts.turn) 0 out.old out.new result }
 {
-    let end = front(out, first, rows, n, c, second, others, k, d, turn);
+    let end = front(out, first, rows, second, others, counts);
     let m = manifest(
         &mut out[end..],
         attributes,
@@ -96,11 +98,9 @@ pub fn both(
         size,
         first,
         rows,
-        n,
         second,
         others,
-        k,
-        turn,
+        counts,
     );
     size_and_footer_at(out, end + m, m as u64)
 }

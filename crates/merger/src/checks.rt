@@ -92,13 +92,9 @@ pub fn checked(one: u64, first: &[u8], two: u64, second: &[u8]) -> Result<Verdic
     if numbers::OBJECTS_MOST_64 < n {
         return Err(MergeFault::from(Refusal::Count));
     }
-    if !unshared::unshared(
-        first,
-        second,
-        &names,
-        a.objects as usize,
-        b.objects as usize,
-    ) {
+    let objects = a.objects as usize;
+    let others = b.objects as usize;
+    if !unshared::unshared(first, second, &names, objects, others) {
         return Err(MergeFault::from(Refusal::Twice));
     }
     Ok(Verdict {

@@ -15,6 +15,7 @@ ghost use Rattle.merger.specs.Checked.{Ready};
 ghost use Rattle.merger.specs.MergedFile.{answer, answered, joined_of, Enough};
 
 use checks::Verdict;
+use joint::Counts;
 use numbers::Refusal;
 
 // A refusal's number, which file it is about (1 or 2, or 0 for the merged one), object and component; or 0, or ROOM, and the merged file's length.
@@ -66,13 +67,15 @@ fn join(
         size,
         first,
         rows,
-        v.objects,
-        v.components,
         second,
         others,
-        v.others,
-        v.parts,
-        v.turn,
+        Counts {
+            objects: v.objects,
+            components: v.components,
+            others: v.others,
+            parts: v.parts,
+            turn: v.turn,
+        },
     )
 }
 
