@@ -9,6 +9,7 @@ use lib.ListN.{take, drop, get_or}
 use lib.Seq.{get_or-drop}
 use lib.Dec.{eqb}
 use lib.Pointwise.{pointwise}
+use Rattle.text.proofs.SameIsEqual.{pointwise-same}
 use Rattle.meaning.specs.Text.{same}
 use Rattle.meaning.specs.Columns.{type_column, type_length_column, dtype_column, offset_column, length_column, rank_column, shape_column}
 use Rattle.meaning.specs.Asked.{asked_component, present_at}
@@ -74,13 +75,6 @@ module _ (first a : List ℕ) (p : ℕ) (second b : List ℕ) (q : ℕ) where
 pub shape_is : (a : List ℕ) (p : ℕ) → take (p + shape_column + get_or a (p + rank_column) 0 - (p + shape_column)) (drop (p + shape_column) a) ≡ shape_at a p
 unfolding shape_at
 shape_is a p = let z : p + shape_column + get_or a (p + rank_column) 0 - (p + shape_column) ≡ get_or a (p + rank_column) 0 = omega arith in rw z
-
--- `==` of two lists of numbers
-pointwise-same : (x y : List ℕ) → pointwise eqb x y ≡ same x y
-pointwise-same [] [] = refl
-pointwise-same [] (b ∷ y) = refl
-pointwise-same (a ∷ x) [] = refl
-pointwise-same (a ∷ x) (b ∷ y) = rw (pointwise-same x y) refl
 
 -- u and v say whether the shapes and the formats are the same
 pub own_is : {f g h k : List ℕ} {s t x y : List ℕ} {u v : Bool} {m n : ℕ} → s ≡ f → t ≡ g → u ≡ not (pointwise eqb s t) → x ≡ h → y ≡ k → v ≡ same x y

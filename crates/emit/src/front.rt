@@ -35,10 +35,14 @@ pub fn zeros(out: &mut [u8], n: usize) -> usize
     n
 }
 
+// A plain loop, which the compiler makes move many bytes at once: copy_from_slice calls the C library's memmove, which a library for boxes then needs from outside, and for the few bytes of a
+// key the call costs more.
 pub fn copy(out: &mut [u8], s: &[u8]) -> usize
     requires { length s.now ≤ length out.old }
     ensures { Laid s.now 0 out.old out.new result }
 {
-    out[..s.len()].copy_from_slice(s);
+    for i in 0..s.len() {
+        out[i] = s[i];
+    }
     s.len()
 }

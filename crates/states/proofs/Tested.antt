@@ -5,8 +5,8 @@ use mathlib.Core.List.{List, [], ◌∷◌}
 use mathlib.Core.Bool.{Bool, true, false, cond, not, ◌&&◌}
 use mathlib.Core.Path.{◌≡◌, refl, sym, ap, ◌∙◌}
 use lib.Dec.{eqb}
-use lib.Pointwise.{pointwise}
-use Rattle.std.proofs.Common.{nat_eq, replicate}
+use Rattle.std.specs.Bool.{MatchBool}
+use Rattle.std.specs.List.{AllWithin, HoldsAt}
 use lib.ListN.{length, take, drop, get_or, length-drop}
 use lib.Seq.{drop-drop, take_all, length-take-le}
 use borrow.Author.Tests.{eq-eqb, ne_eqb, le-leb, lt-leb, eqb-true, not-true, not-false}
@@ -46,10 +46,25 @@ module _ (h o c : ℕ) where
 
 -- ---- zeros
 
--- eight numbers against eight zeros
-pub eight-zeros : (s : List ℕ) {u : List ℕ} → length s ≡ 8 → u ≡ replicate 8 0 → pointwise nat_eq s u ≡ all (λ n. eqb n 0) s
-eight-zeros (a ∷ b ∷ c ∷ d ∷ e ∷ f ∷ g ∷ h ∷ []) l q = rw q refl
-eight-zeros s l q = absurd (omega arith)
+-- what `all` answered of the numbers
+all-zeros : (s : List ℕ) → ((k : ℕ) → k < length s → eqb (get_or s k 0) 0 ≡ true) → all (λ n. eqb n 0) s ≡ true
+all-zeros [] h = refl
+all-zeros (a ∷ s) h = rw (h 0 (omega arith)) (all-zeros s (λ k l. h (suc k) (omega arith)))
+
+one-other : (s : List ℕ) (k : ℕ) → k < length s → eqb (get_or s k 0) 0 ≡ false → all (λ n. eqb n 0) s ≡ false
+one-other [] k l e = absurd (omega arith)
+one-other (a ∷ s) zero l e = rw e refl
+one-other (a ∷ s) (suc k) l e = by (eqb a 0) (one-other s k (omega arith) e)
+  where
+    by : (b : Bool) → all (λ n. eqb n 0) s ≡ false → b && all (λ n. eqb n 0) s ≡ false
+    by true q = q
+    by false q = refl
+
+pub zeros-asked : (s : List ℕ) (r : Bool)
+    → MatchBool r (AllWithin (λ n. eqb n 0 ≡ true) s 0 (length s)) ((k : ℕ) × (k < length s) × HoldsAt (λ n. eqb n 0 ≡ false) s k)
+    → r ≡ all (λ n. eqb n 0) s
+zeros-asked s true h = sym (all-zeros s (λ k l. h k 0 (omega arith) l))
+zeros-asked s false h = sym (one-other s h.0 h.1 (h.2 0))
 
 -- ---- a state
 

@@ -61,7 +61,7 @@ fn sound(s: &[u64]) -> bool
         return false;
     }
     if s[0] == 0 {
-        return s == [0; STATE].as_slice();
+        return s.iter().all(|n| *n == 0);
     }
     true
 }

@@ -4,13 +4,15 @@ ghost use Rattle.meaning.specs.Text as texts;
 ghost use Rattle.meaning.specs.Frame as meant;
 ghost use Rattle.meaning.specs.Layouts as layouts;
 
-use crate::compare::same;
-
 // The part is the byte string that begins and ends a file.
 pub fn is_magic(part: &[u8]) -> bool
     ensures { result ≡ texts.same layouts.magic part.now }
 {
-    same(b"ZTEN1000", part)
+    // As an array of known length: two slices are compared by a call.
+    match part.as_array::<8>() {
+        Some(bytes) => b"ZTEN1000" == bytes,
+        None => false,
+    }
 }
 
 // The number that eight bytes make, the first byte the lowest.
