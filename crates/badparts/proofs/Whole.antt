@@ -100,6 +100,15 @@ owns : (n : ℕ) (x : Step Ends) → x.number ≡ n → (e : Ends) → x.place �
 unfolding owned_by
 owns n x i e j w k = rw (← i, ← j, ← k) refl
 
+-- a number from 21 to 23 that is neither 21 nor 22
+three : (n : ℕ) → 21 ≤ n → n ≤ 23 → (n ≡ 21 → ⊥) → (n ≡ 22 → ⊥) → n ≡ 23
+three n a b c d = go (ltb n 22) refl (ltb n 23) refl
+  where
+    go : (x : Bool) → ltb n 22 ≡ x → (y : Bool) → ltb n 23 ≡ y → n ≡ 23
+    go true e y f = let k = ltb-true n 22 e in absurd (c (omega (arith, k, a)))
+    go false e true f = let k = ltb-false n 22 e in let l = ltb-true n 23 f in absurd (d (omega (arith, k, l)))
+    go false e false f = let l = ltb-false n 23 f in omega (arith, l, b)
+
 module _ (layout format code : ℕ) (s : List ℕ) (start c : ℕ) (r : Owned) where
   whole_is : (t : Node Ends) (q : List ℕ) → Reads 29 s t q → length (note_of t).start ≡ length s
   whole_is t q y = ap (λ (e : Ends). length e.start) (note-of 29 s t q y)
@@ -134,11 +143,12 @@ module _ (layout format code : ℕ) (s : List ℕ) (start c : ℕ) (r : Owned) w
       k ∙ ap (λ (u : Spot). owned u 0) (e ∙ ap (spot 21) left) ∙ owns 21 x (y.number ∙ is) (note_of shape) w.0 none w.1
 
   -- its length
-  pub length-shows : (n : ℕ) → n ≡ 23 → LengthIs layout s c r → (a : ℕ) → RuledIs layout format code s start a n c r
+  pub length-shows : (n : ℕ) → (n ≡ 21 → ⊥) → (n ≡ 22 → ⊥) → LengthIs layout s c r → (a : ℕ) → RuledIs layout format code s start a n c r
   unfolding owned_by
-  length-shows n is-length h a t f cs p shape left dims x l y =
+  length-shows n no21 no22 h a t f cs p shape left dims x l y =
       let i = rule-is t f cs p shape dims n x y in
-      let is : x.number ≡ 23 = y.number ∙ is-length in
+      let m = i.most in let q = y.number in
+      let is : x.number ≡ 23 = q ∙ three n l (let z : n ≤ 23 = omega (arith, m, q) in z) no21 no22 in
       let w = i.length is in
       let o = owner t f cs p shape dims n x y w.2 in
       let place : x.place ≡ length_note (layout_of layout) o.0 = w.0 ∙ ap (λ (j : ℕ). get_or (map (length_note (layout_of layout)) (ns t f cs p)) j (note_of t)) y.component ∙ got (length_note (layout_of layout)) (note_of t) (ns t f cs p) c o.0 o.1 in
@@ -182,15 +192,6 @@ module _ (layout format code : ℕ) (s : List ℕ) (start c : ℕ) (r : Owned) w
       h t f cs p shape dims x (record { breaks = y.breaks; number = y.number ∙ is; component = y.component })
 
 -- ---------------------------------------------------------------- names, components, rules
-
--- a number from 21 to 23 that is neither 21 nor 22
-three : (n : ℕ) → 21 ≤ n → n ≤ 23 → (n ≡ 21 → ⊥) → (n ≡ 22 → ⊥) → n ≡ 23
-three n a b c d = go (ltb n 22) refl (ltb n 23) refl
-  where
-    go : (x : Bool) → ltb n 22 ≡ x → (y : Bool) → ltb n 23 ≡ y → n ≡ 23
-    go true e y f = let k = ltb-true n 22 e in absurd (c (omega (arith, k, a)))
-    go false e true f = let k = ltb-false n 22 e in let l = ltb-true n 23 f in absurd (d (omega (arith, k, l)))
-    go false e false f = let l = ltb-false n 23 f in omega (arith, l, b)
 
 -- a check of a component
 inner-owned : (y x : Step Ends) (j : ℕ) (it : Named Ends) → x ≡ steps.in_component j (some it.name) y → owned (shown (some y)) (length it.name.note.start) ≡ owned_by x
@@ -316,4 +317,4 @@ module _ (layout format code : ℕ) (s : List ℕ) (start a b n c : ℕ) (from :
     by-role is r h = by-rule (omega (arith, is)) r (role-ruled layout format code (Here s from) start c r n is h a)
 
     pub by-length : n ≡ 23 → (r : Owned) → LengthIs layout (Here s from) c r → WithinIs layout format code s start a b n c r
-    by-length is r h = by-rule (omega (arith, is)) r (length-shows layout format code (Here s from) start c r n is h a)
+    by-length is r h = by-rule (omega (arith, is)) r (length-shows layout format code (Here s from) start c r n (λ e. omega (arith, is, e)) (λ e. omega (arith, is, e)) h a)

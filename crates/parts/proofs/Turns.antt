@@ -165,3 +165,8 @@ module _ {file table : List ℕ} {p m : ℕ} {cs : List DescribedComponent} {i j
 
   pub all-seconds : m ≤ l → {q : ℕ} → q ≡ capped past → LonesSeen (parts_at file table p m) cs i j at xs ys (record { at = q; names = n })
   all-seconds end e = record { wrote = turned_none w.turned end e; names = turned-names w.turned end }
+
+-- what differs adds at most its number
+pub bit-small : (n : ℕ) (t : Bool) → bit n t ≤ n
+bit-small n true = omega arith
+bit-small n false = omega arith
